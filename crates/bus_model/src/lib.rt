@@ -1,0 +1,6 @@
+//! What a module's two-wire bus carries.
+#![tactic(auto)]
+
+mod device;
+
+pub use device::Dev;

@@ -1,0 +1,4 @@
+pub mod Keys
+pub mod KeyOrder
+pub mod KeyCode
+pub mod Images

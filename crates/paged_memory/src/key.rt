@@ -1,0 +1,63 @@
+ghost use Rattle.std.specs.Prelude.{◌≡◌};
+ghost use Rattle.paged_memory.specs.declared.key.Half.TheVariants.{Lower};
+
+use bus_model::Dev;
+
+/// The two halves of a device's 256 addresses: bytes 0 to 127 stand alone, 128 to 255 show one page of a bank.
+#[derive(Clone, Copy, Debug, PartialEq, Eq, PartialOrd, Ord, Hash)]
+pub enum Half {
+    Lower,
+    Upper,
+}
+
+/// Where 128 bytes of a module's memory stand. Keys are ordered by device, half, bank and page.
+#[derive(Clone, Copy, Debug, PartialEq, Eq, PartialOrd, Ord, Hash)]
+pub struct Key {
+    pub dev: Dev,
+    pub half: Half,
+    /// 0 for a lower half.
+    pub bank: u8,
+    /// 0 for a lower half.
+    pub page: u8,
+    ghost one_lower_half: { half ≡ Lower → (bank ≡ 0) × (page ≡ 0) },
+}
+
+impl Key {
+    ghost use Rattle.paged_memory.specs.Keys.{lower_key, upper_key};
+
+    /// The lower half of a device.
+    pub fn lower(dev: Dev) -> Self
+        ensures { result ≡ lower_key dev }
+    {
+        Key {
+            dev,
+            half: Half::Lower,
+            bank: 0,
+            page: 0,
+        }
+    }
+
+    /// A page of a bank in the upper half of a device.
+    pub fn upper(dev: Dev, bank: u8, page: u8) -> Self
+        ensures { result ≡ upper_key dev bank page }
+    {
+        Key {
+            dev,
+            half: Half::Upper,
+            bank,
+            page,
+        }
+    }
+}
+
+impl Default for Key {
+    ghost use Rattle.bus_model.specs.declared.device.Dev.TheVariants.{A0};
+    ghost use Rattle.paged_memory.specs.Keys.{lower_key};
+
+    ghost is_default = { λ key. key ≡ lower_key A0 };
+
+    /// The lower half of the module.
+    fn default() -> Key {
+        Key::lower(Dev::A0)
+    }
+}

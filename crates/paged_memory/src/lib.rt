@@ -1,0 +1,14 @@
+//! A module's memory as pages under keys, and its text.
+#![tactic(auto)]
+
+mod entries;
+mod fault;
+mod image;
+mod key;
+mod page;
+
+pub use bus_model::Dev;
+pub use fault::ImageFault;
+pub use image::{Image, MAX_PAGES};
+pub use key::{Half, Key};
+pub use page::{PAGE_LEN, Page};

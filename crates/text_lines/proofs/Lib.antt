@@ -1,0 +1,4 @@
+pub mod LineEnds
+pub mod WordCuts
+pub mod Decimals
+pub mod HexDigits

@@ -1,0 +1,6 @@
+pub mod Decimal
+pub mod Hexadecimal
+pub mod Lines
+pub mod LinesLeft
+pub mod Words
+pub mod WordsLeft

@@ -1,0 +1,16 @@
+-- The lines of a text: an LF ends a line, bytes after the last LF are a line too, and an empty text has none.
+-- Any other byte, a CR too, is a byte of its line. (docs/formats.md, "Lines")
+use Rattle.std.specs.Prelude.{ℕ, Bool, ◌==◌, List, [], ◌∷◌, map, if◌then◌else◌}
+use Rattle.std.specs.List.{onto_first, before_first}
+
+abbrev pub is_lf : ℕ → Bool
+is_lf byte = byte == 10
+
+-- each line with the LF that ends it
+abbrev pub ended_lines : List ℕ → List (List ℕ)
+ended_lines [] = []
+ended_lines (byte ∷ text) = if is_lf byte then (byte ∷ []) ∷ ended_lines text else onto_first byte (ended_lines text)
+
+-- each line, without its LF
+abbrev pub lines_of : List ℕ → List (List ℕ)
+lines_of text = map (before_first is_lf) (ended_lines text)

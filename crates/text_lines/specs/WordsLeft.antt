@@ -1,0 +1,8 @@
+-- What the iterator over the words of a line has left.
+use Rattle.std.specs.Prelude.{ℕ, List, []}
+use Rattle.std.specs.Option.{option_map_or}
+use Rattle.text_lines.specs.Words.{words_of}
+use Rattle.text_lines.specs.declared.words.Pieces.{Pieces}
+
+abbrev pub words_left : Pieces → List (List ℕ)
+words_left words = option_map_or (λ line. words_of line.now) words.rest []

@@ -1,0 +1,13 @@
+//! What all texts of Dovecounter are made of: lines, words, decimal numbers and hexadecimal bytes.
+//! Nothing here allocates.
+#![tactic(auto)]
+
+mod decimal;
+mod hexadecimal;
+mod lines;
+mod words;
+
+pub use decimal::read_decimal;
+pub use hexadecimal::read_hexadecimal;
+pub use lines::{LF, Lines, split_ended_line, split_line};
+pub use words::split_words;
