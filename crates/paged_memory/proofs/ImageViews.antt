@@ -20,7 +20,7 @@ image_of es = map.from_sorted es
 test_of : (b : Bool) → b ≡ true → T b
 test_of b h = subst T (sym h) tt
 
-true_of : (b : Bool) → T b → b ≡ true
+pub true_of : (b : Bool) → T b → b ≡ true
 true_of true h = refl
 true_of false h = absurd h
 

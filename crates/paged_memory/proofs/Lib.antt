@@ -1,3 +1,8 @@
 pub mod KeyLaws
 pub mod Places
 pub mod ImageViews
+pub mod PageLines
+pub mod Reading
+pub mod Writing
+pub mod PageLineLaws
+pub mod OneAnswer

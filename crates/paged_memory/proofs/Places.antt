@@ -1,5 +1,5 @@
 -- Where a key is, or goes, in entries that are in the order of their keys.
-use Rattle.std.proofs.Common.{◌≡◌, ℕ, zero, suc, ◌+◌, ◌<◌, Bool, true, false, cond, ◌&&◌, List, [], ◌∷◌, ◌++◌, length, get_or, take, drop, set, Some, None, Ordering, refl, sym, ap, ◌∙◌, append_assoc, add-one, arith}
+use Rattle.std.proofs.Common.{◌≡◌, ℕ, zero, suc, ◌+◌, ◌<◌, true, cond, List, [], ◌∷◌, ◌++◌, length, get_or, take, drop, set, Some, None, Ordering, refl, sym, ap, ◌∙◌, append_assoc, add-one, arith}
 use Rattle.std.specs.Ordering.{is_lt, is_eq}
 use Rattle.std.specs.Cmp.{IsTotalOrder}
 use Rattle.std.specs.declared.cmp.Ordering.TheVariants.{Less, Equal, Greater}
@@ -7,12 +7,9 @@ use Rattle.std.specs.FinMap.{find, is_sorted, IsAntisymmetric}
 use Rattle.std.specs.FinMap.Entries.{put, below_all, by_order}
 use Rattle.std.proofs.Math.Seq.{drop-cons}
 use Rattle.std.proofs.lemmas.List.{take_more, get_or_default}
+use Rattle.std.proofs.lemmas.Bool.{and_parts}
 
-both : (a b : Bool) → a && b ≡ true → (a ≡ true) × (b ≡ true)
-both true b e = (refl, e)
-both false b e = absurd cc
-
-is_less : (o : Ordering) → is_lt o ≡ true → o ≡ Less
+pub is_less : (o : Ordering) → is_lt o ≡ true → o ≡ Less
 is_less Less e = refl
 is_less Equal e = absurd cc
 is_less Greater e = absurd cc
@@ -22,20 +19,20 @@ module _ {K X : Type 0} (R : K → K → Ordering) where
   find_below : (q : K) (es : List (K × X)) → below_all R q es ≡ true → find R q es ≡ None
   find_below q [] h = refl
   find_below q (e ∷ es) h =
-      let first = both _ _ h in
+      let first = and_parts _ _ h in
       ap (λ o. cond (is_eq o) (Some e.1) (find R q es)) (is_less _ first.0) ∙ find_below q es first.1
 
   module _ (total : IsTotalOrder R) where
     below_more : (q k : K) (es : List (K × X)) → R q k ≡ Less → below_all R k es ≡ true → below_all R q es ≡ true
     below_more q k [] less h = refl
     below_more q k (e ∷ es) less h =
-        let first = both _ _ h in
+        let first = and_parts _ _ h in
         rw (total.trans q k e.0 less (is_less _ first.0)) (below_more q k es less first.1)
 
   sorted_drop : (i : ℕ) (es : List (K × X)) → is_sorted R es ≡ true → is_sorted R (drop i es) ≡ true
   sorted_drop zero es h = h
   sorted_drop (suc i) [] h = refl
-  sorted_drop (suc i) (e ∷ es) h = sorted_drop i es (both _ _ h).1
+  sorted_drop (suc i) (e ∷ es) h = sorted_drop i es (and_parts _ _ h).1
 
 set_in_place : {A : Type 0} (xs : List A) (i : ℕ) (y : A) → i < length xs → set xs i y ≡ take i xs ++ y ∷ drop (suc i) xs
 set_in_place [] i y lt = absurd (omega arith)
@@ -50,7 +47,7 @@ module _ {K X : Type 0} (R : K → K → Ordering) (q : K) (es : List (K × X)) 
   pub absent_below : IsTotalOrder R → is_sorted R es ≡ true → R q e.0 ≡ Less → find R q (drop i es) ≡ find R q es → find R q es ≡ None
   absent_below total sorted less passed =
       let here : is_sorted R (e ∷ drop (i + 1) es) ≡ true = ap (is_sorted R) (sym from_here) ∙ sorted_drop R i es sorted in
-      let below : below_all R q (e ∷ drop (i + 1) es) ≡ true = rw less (below_more R total q e.0 (drop (i + 1) es) less (both _ _ here).0) in
+      let below : below_all R q (e ∷ drop (i + 1) es) ≡ true = rw less (below_more R total q e.0 (drop (i + 1) es) less (and_parts _ _ here).0) in
       sym passed ∙ ap (find R q) from_here ∙ find_below R q (e ∷ drop (i + 1) es) below
 
   pub found_here : R q e.0 ≡ Equal → find R q (drop i es) ≡ find R q es → (d : K × X) → find R q es ≡ Some (get_or es i d).1

@@ -2,6 +2,7 @@
 ghost use Rattle.std.specs.Prelude.{◌≡◌, ◌<◌, ◌≤◌, ℕ, List, length, slice_index_or, slice_set, IsTrue, ◌↔◌, IfOk, IfErr, Some, None, false};
 ghost use Rattle.std.specs.Bool.{OnTrue, OnFalse};
 ghost use Rattle.std.specs.List.{insert};
+ghost use Rattle.std.specs.declared.cmp.Ordering.TheVariants.{Less};
 ghost use Rattle.std.specs.FinMap.{find, is_sorted};
 ghost use Rattle.std.specs.FinMap.Entries.{put};
 ghost use Rattle.paged_memory.specs.declared.key.Key.{Key};
@@ -53,4 +54,10 @@ fn order_of(a: Key, b: Key) -> Ordering
     ensures { result ≡ key_cmp a b }
 {
     a.cmp(&b)
+}
+
+pub fn is_below(a: Key, b: Key) -> bool
+    ensures { IsTrue result ↔ (key_cmp a b ≡ Less) }
+{
+    a < b
 }

@@ -1,3 +1,5 @@
+mod text;
+
 use crate::entries::{place_of, put_entry};
 use crate::fault::ImageFault;
 use crate::key::Key;

@@ -2,6 +2,8 @@ ghost use Rattle.std.specs.Prelude.{◌≡◌};
 ghost use Rattle.paged_memory.specs.declared.key.Half.TheVariants.{Lower};
 
 use bus_model::Dev;
+use std::fmt;
+use text_lines::HexByte;
 
 /// The two halves of a device's 256 addresses: bytes 0 to 127 stand alone, 128 to 255 show one page of a bank.
 #[derive(Clone, Copy, Debug, PartialEq, Eq, PartialOrd, Ord, Hash)]
@@ -59,5 +61,24 @@ impl Default for Key {
     /// The lower half of the module.
     fn default() -> Key {
         Key::lower(Dev::A0)
+    }
+}
+
+/// Prints the words of a page line before the page: `lower A0`, or `upper A0 00 01` with the bank and the page.
+impl fmt::Display for Key {
+    ghost use Rattle.std.specs.Prelude.{Some};
+    ghost use Rattle.paged_memory.specs.ImageText.{key_text};
+
+    ghost output = { λ key. Some (key_text key) };
+
+    fn fmt<W: fmt::Write>(&self, f: &mut fmt::Formatter<W>) -> fmt::Result {
+        let dev = self.dev;
+        match self.half {
+            Half::Lower => write!(f, "lower {dev}"),
+            Half::Upper => {
+                let (bank, page) = (HexByte(self.bank), HexByte(self.page));
+                write!(f, "upper {dev} {bank} {page}")
+            }
+        }
     }
 }

@@ -5,7 +5,9 @@ mod entries;
 mod fault;
 mod image;
 mod key;
+pub mod laws;
 mod page;
+mod page_line;
 
 pub use bus_model::Dev;
 pub use fault::ImageFault;

@@ -1,12 +1,15 @@
 -- Digits that are read, and have no upper-case letter, are those that the bytes are written with.
-use Rattle.std.proofs.Common.{◌≡◌, ◌≢◌, ℕ, suc, ◌+◌, ◌*◌, ◌/◌, ◌%◌, ◌<◌, ◌≤◌, ◌⊎◌, Bool, true, false, ◌&&◌, List, [], ◌∷◌, length, get_or, Option, Some, None, Result, Ok, Err, MatchResult, refl, sym, ◌∙◌, inl, inr, arith}
+use Rattle.std.proofs.Common.{◌≡◌, ◌≢◌, ℕ, suc, ◌+◌, ◌*◌, ◌/◌, ◌%◌, ◌<◌, ◌≤◌, ◌⊎◌, Bool, true, not, ◌&&◌, List, [], ◌∷◌, ◌++◌, length, get_or, take, Option, Some, None, Result, Ok, Err, MatchResult, refl, sym, ap, ◌∙◌, inl, inr, arith}
 use Rattle.std.specs.List.{list_all, AllPass}
+use Rattle.std.proofs.lemmas.List.{take_more}
 use Rattle.std.proofs.lemmas.Bool.Decides.{nat_tests}
 use Rattle.std.proofs.lemmas.List.Sums.{AllPass-from_list_all, list_all-from_AllPass}
+use Rattle.std.proofs.lemmas.Bool.{and_parts}
 use Rattle.hex.specs.Hex.{decode_pairs, decode_of, decode_sized, encode_lower, encode_with, lower_digits, value_at, digit_or_error, hex_digit_value, pair_value, ◌>>=◌, IsBytes}
 use Rattle.hex.specs.declared.error.FromHexError.{FromHexError}
 use Rattle.hex.proofs.HexLemmas.{IsDigits-lower_digits, decode_of-even, decode_of-ok, decode_sized-ok, decode_sized-twice, decode_sized-encode_lower}
 use Rattle.text_lines.specs.Hexadecimal.{is_no_upper}
+use Rattle.text_lines.specs.Words.{is_space, IsWord}
 
 -- a decimal digit, or a letter from a to f
 abbrev IsLower : ℕ → ℕ → Type 0
@@ -15,13 +18,13 @@ IsLower digit value = ((48 ≤ digit) × (digit ≤ 57) × (value + 48 ≡ digit
 lower_value : (digit value : ℕ) → is_no_upper digit ≡ true → hex_digit_value digit ≡ Some value → IsLower digit value
 lower_value digit value lower read = grind (arith, nat_tests)
 
--- no digit that is written is an upper-case letter
-not_upper : (value : ℕ) → value < 16 → is_no_upper (get_or lower_digits value 0) ≡ true
-not_upper value fits = AllPass-from_list_all is_no_upper lower_digits refl value 0 fits
+-- each digit that is written passes a test that the sixteen pass
+digit_passes : (p : ℕ → Bool) → list_all p lower_digits ≡ true → (value : ℕ) → value < 16 → p (get_or lower_digits value 0) ≡ true
+digit_passes p all value fits = AllPass-from_list_all p lower_digits all value 0 fits
 
 -- the digit that a value is written with
 written_lower : (value : ℕ) → value < 16 → IsLower (get_or lower_digits value 0) value
-written_lower value fits = lower_value _ value (not_upper value fits) (IsDigits-lower_digits value fits)
+written_lower value fits = lower_value _ value (digit_passes is_no_upper refl value fits) (IsDigits-lower_digits value fits)
 
 one_digit : (value a b : ℕ) → IsLower a value → IsLower b value → a ≡ b
 one_digit value a b (inl p) (inl q) = omega (arith, p.2, q.2)
@@ -48,10 +51,6 @@ bind_ok : {A B : Type 0} (r : Result A FromHexError) (f : A → Result B FromHex
 bind_ok (Ok x) f y e = (x, refl, e)
 bind_ok (Err d) f y e = absurd cc
 
-both : (a b : Bool) → a && b ≡ true → (a ≡ true) × (b ≡ true)
-both true b e = (refl, e)
-both false b e = absurd cc
-
 abbrev done : {A : Type 0} → A → Result A FromHexError
 done x = Ok x
 
@@ -76,8 +75,8 @@ unfolding decode_pairs encode_with
 pairs_back i [] bytes lower e = rw (← same_ok _ _ e) refl
 pairs_back i (digit ∷ []) bytes lower e = absurd cc
 pairs_back i (high ∷ low ∷ rest) bytes lower e =
-    let h = both (is_no_upper high) (is_no_upper low && list_all is_no_upper rest) lower in
-    let l = both (is_no_upper low) (list_all is_no_upper rest) h.1 in
+    let h = and_parts (is_no_upper high) (is_no_upper low && list_all is_no_upper rest) lower in
+    let l = and_parts (is_no_upper low) (list_all is_no_upper rest) h.1 in
     let a = bind_ok (pair_value high low i) (λ byte. decode_pairs (i + 2) rest >>= λ more. Ok (byte ∷ more)) bytes e in
     let b = bind_ok (decode_pairs (i + 2) rest) (λ more. Ok (a.0 ∷ more)) bytes a.2 in
     let digits = pair_back high low i a.0 h.0 l.0 a.1 in
@@ -88,16 +87,16 @@ pairs_back i (high ∷ low ∷ rest) bytes lower e =
 pub written_back : (text bytes : List ℕ) → AllPass is_no_upper text → decode_of text ≡ Ok bytes → text ≡ encode_lower bytes
 written_back text bytes lower e = pairs_back 0 text bytes (list_all-from_AllPass is_no_upper text lower) (sym (decode_of-even text (decode_of-ok text bytes e).0) ∙ e)
 
-no_upper_written : (bytes : List ℕ) → IsBytes bytes → list_all is_no_upper (encode_with lower_digits bytes) ≡ true
+written_pass : (p : ℕ → Bool) → list_all p lower_digits ≡ true → (bytes : List ℕ) → IsBytes bytes → list_all p (encode_with lower_digits bytes) ≡ true
 unfolding encode_with
-no_upper_written [] fits = refl
-no_upper_written (byte ∷ bytes) fits =
+written_pass p all [] fits = refl
+written_pass p all (byte ∷ bytes) fits =
     let fit : byte < 256 = fits 0 in
-    rw (not_upper (byte / 16) (omega arith), not_upper (byte % 16) (omega arith), no_upper_written bytes (λ i. fits (suc i))) refl
+    rw (digit_passes p all (byte / 16) (omega arith), digit_passes p all (byte % 16) (omega arith), written_pass p all bytes (λ i. fits (suc i))) refl
 
--- and each byte is written so
-pub lower_written : (bytes : List ℕ) → IsBytes bytes → AllPass is_no_upper (encode_lower bytes)
-lower_written bytes fits = AllPass-from_list_all is_no_upper (encode_lower bytes) (no_upper_written bytes fits)
+-- so do the digits of bytes
+pub digits_pass : (p : ℕ → Bool) → list_all p lower_digits ≡ true → (bytes : List ℕ) → IsBytes bytes → AllPass p (encode_lower bytes)
+digits_pass p all bytes fits = AllPass-from_list_all p (encode_lower bytes) (written_pass p all bytes fits)
 
 -- what decoding such a text into room for n bytes answers
 pub decoded : (text out : List ℕ) (n : ℕ) (r : Result Unit FromHexError) → AllPass is_no_upper text
@@ -114,3 +113,16 @@ decoded text out n r lower gives = decoded_as (decode_sized text n) refl gives
         let found : decode_sized text n ≡ Ok bytes = rw spelled (decode_sized-encode_lower bytes n len fits) in
         let lost : Ok bytes ≡ Err f = sym found ∙ e in
         cc)
+
+encode_append : (digits xs ys : List ℕ) → encode_with digits (xs ++ ys) ≡ encode_with digits xs ++ encode_with digits ys
+unfolding encode_with
+encode_append digits [] ys = refl
+encode_append digits (x ∷ xs) ys = ap (λ rest. get_or digits (x / 16) 0 ∷ get_or digits (x % 16) 0 ∷ rest) (encode_append digits xs ys)
+
+-- the digits of one more byte
+pub encode_more : (xs : List ℕ) (i : ℕ) → i < length xs → encode_lower (take i xs) ++ encode_lower (get_or xs i 0 ∷ []) ≡ encode_lower (take (i + 1) xs)
+encode_more xs i lt = sym (encode_append lower_digits (take i xs) (get_or xs i 0 ∷ [])) ∙ ap encode_lower (sym (take_more xs i 0 lt))
+
+-- hexadecimal digits are one word
+pub hex_word : (bytes : List ℕ) → IsBytes bytes → IsWord (encode_lower bytes)
+hex_word bytes fits = digits_pass (λ byte. not (is_space byte)) refl bytes fits

@@ -1,7 +1,7 @@
 -- The lines of a text: an LF ends a line, bytes after the last LF are a line too, and an empty text has none.
 -- Any other byte, a CR too, is a byte of its line. (docs/formats.md, "Lines")
-use Rattle.std.specs.Prelude.{ℕ, Bool, ◌==◌, List, [], ◌∷◌, map, if◌then◌else◌}
-use Rattle.std.specs.List.{onto_first, before_first}
+use Rattle.std.specs.Prelude.{ℕ, Bool, ◌==◌, List, [], ◌∷◌, ◌++◌, map, not, if◌then◌else◌}
+use Rattle.std.specs.List.{onto_first, before_first, flat_map, AllPass}
 
 abbrev pub is_lf : ℕ → Bool
 is_lf byte = byte == 10
@@ -14,3 +14,10 @@ ended_lines (byte ∷ text) = if is_lf byte then (byte ∷ []) ∷ ended_lines t
 -- each line, without its LF
 abbrev pub lines_of : List ℕ → List (List ℕ)
 lines_of text = map (before_first is_lf) (ended_lines text)
+
+-- the written text of some lines: an LF ends each
+abbrev pub text_of : List (List ℕ) → List ℕ
+text_of lines = flat_map (λ line. line ++ 10 ∷ []) lines
+
+abbrev pub HasNoLf : List ℕ → Type 0
+HasNoLf line = AllPass (λ byte. not (is_lf byte)) line

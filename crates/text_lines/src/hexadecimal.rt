@@ -1,9 +1,10 @@
-ghost use Rattle.std.specs.Prelude.{ℕ, List, ◌≡◌, ◌≢◌, ◌↔◌, length, IsTrue, MatchOption};
+ghost use Rattle.std.specs.Prelude.{ℕ, List, ◌≡◌, ◌≢◌, ◌↔◌, length, [], ◌∷◌, ◌<◌, slice_index, IsTrue, MatchOption, Some};
 ghost use Rattle.std.specs.List.{AllPass};
-ghost use Rattle.hex.specs.Hex.{IsBytes, encode_lower};
+ghost use Rattle.hex.specs.Hex.{IsBytes, encode_lower, lower_digits};
 ghost use Rattle.text_lines.specs.Hexadecimal.{is_no_upper};
 
 use hex::decode_to_slice;
+use std::fmt;
 
 /// The `N` bytes that a word of `2 * N` lower-case hexadecimal digits spells, the high half of each byte first.
 pub fn read_hexadecimal<const N: usize>(word: &[u8]) -> Option<[u8; N]>
@@ -19,8 +20,56 @@ pub fn read_hexadecimal<const N: usize>(word: &[u8]) -> Option<[u8; N]>
     }
 }
 
+/// The byte that a word of two lower-case hexadecimal digits spells.
+pub fn read_hex_byte(word: &[u8]) -> Option<u8>
+    ensures { MatchOption result ((byte : ℕ) → byte < 256 → word.now ≢ encode_lower (byte ∷ [])) (λ byte. word.now ≡ encode_lower (byte ∷ [])) }
+{
+    let Some(bytes) = read_hexadecimal::<1>(word) else {
+        return None;
+    };
+    Some(bytes[0])
+}
+
 fn has_no_upper(word: &[u8]) -> bool
     ensures { IsTrue result ↔ AllPass is_no_upper word.now }
 {
     word.iter().all(|digit| *digit < b'A' || b'F' < *digit)
+}
+
+/// A byte that prints as two lower-case hexadecimal digits.
+#[derive(Clone, Copy, Debug)]
+pub struct HexByte(pub u8);
+
+impl fmt::Display for HexByte {
+    ghost output = { λ shown. Some (encode_lower (shown.0 ∷ [])) };
+
+    #[tactic(auto, unfolding(hex::specs::Hex::encode_with))]
+    fn fmt<W: fmt::Write>(&self, f: &mut fmt::Formatter<W>) -> fmt::Result {
+        let (high, low) = (digit(self.0 / 16), digit(self.0 % 16));
+        write!(f, "{high}{low}")
+    }
+}
+
+/// Bytes that print as lower-case hexadecimal digits, the high half of each byte first.
+#[derive(Clone, Copy, Debug)]
+pub struct Hexadecimal<'a>(pub &'a [u8]);
+
+impl fmt::Display for Hexadecimal<'_> {
+    ghost output = { λ shown. Some (encode_lower shown.0.now) };
+
+    fn fmt<W: fmt::Write>(&self, f: &mut fmt::Formatter<W>) -> fmt::Result {
+        for byte in self.0 {
+            let shown = HexByte(*byte);
+            write!(f, "{shown}")?;
+        }
+        Ok(())
+    }
+}
+
+fn digit(value: u8) -> char
+    requires { value < 16 }
+    ensures glyph { result ≡ slice_index lower_digits value }
+    ensures ascii { result < 128 }
+{
+    char::from(b"0123456789abcdef"[usize::from(value)])
 }

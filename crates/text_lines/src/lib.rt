@@ -8,6 +8,6 @@ mod lines;
 mod words;
 
 pub use decimal::read_decimal;
-pub use hexadecimal::read_hexadecimal;
+pub use hexadecimal::{HexByte, Hexadecimal, read_hex_byte, read_hexadecimal};
 pub use lines::{LF, Lines, split_ended_line, split_line};
 pub use words::split_words;

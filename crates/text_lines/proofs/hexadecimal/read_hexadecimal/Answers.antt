@@ -1,11 +1,12 @@
-use Rattle.std.proofs.Common.{rules}
+use Rattle.std.proofs.Common.{refl, rules}
 use Rattle.std.proofs.lemmas.List.{length-replicate}
-use Rattle.text_lines.proofs.HexDigits.{lower_written, decoded}
+use Rattle.text_lines.specs.Hexadecimal.{is_no_upper}
+use Rattle.text_lines.proofs.HexDigits.{digits_pass, decoded}
 use Rattle.text_lines.proofs.hexadecimal.read_hexadecimal.Goals as goal
 
 pub returns-then-not-has_no_upper : goal.returns-then-not-has_no_upper
 returns-then-not-has_no_upper g c = λ bytes len fits spelled.
-    let yes = c.has_no_upper.ensures.1 (rw spelled (lower_written bytes fits)) in
+    let yes = c.has_no_upper.ensures.1 (rw spelled (digits_pass is_no_upper refl bytes fits)) in
     search rules
 
 pub returns-in-Ok : goal.returns-in-Ok

@@ -1,0 +1,181 @@
+-- Lines have one answer at most.
+use Rattle.std.proofs.Common.{◌≡◌, ◌≢◌, ℕ, ◌<◌, true, List, [], ◌∷◌, ◌++◌, length, map, Result, Ok, Err, refl, sym, ap, subst, ◌∙◌, ◌⊎◌, inl, inr, arith}
+use Rattle.std.specs.Ordering.{is_lt}
+use Rattle.std.specs.declared.cmp.Ordering.TheVariants.{Less}
+use Rattle.std.specs.List.{AllByRecursion}
+use Rattle.std.specs.FinMap as finmap
+use Rattle.std.specs.FinMap.Entries.{below_all}
+use Rattle.std.proofs.lemmas.List.{append-nil, length-append}
+use Rattle.std.proofs.lemmas.List.Elements.{All-from_recursion}
+use Rattle.std.proofs.lemmas.Bool.{and_parts}
+use Rattle.paged_memory.specs.declared.key.Key.{Key}
+use Rattle.paged_memory.specs.declared.fault.ImageFault.{ImageFault}
+use Rattle.paged_memory.specs.declared.fault.ImageFault.TheVariants.{BadHeader, BadLine, OutOfOrder, TooManyPages, NoEnd, AfterEnd}
+use Rattle.paged_memory.specs.Images.{Memory}
+use Rattle.paged_memory.specs.KeyOrder.{key_cmp}
+use Rattle.paged_memory.specs.ImageText.{header, end_line, IsImage}
+use Rattle.paged_memory.specs.ImageFaults.{Begins, IsAboveAll, IsLineFault, IsAnswer}
+use Rattle.paged_memory.proofs.ImageViews.{Entries, Sorted, true_of}
+use Rattle.paged_memory.proofs.Reading.{line_of, Fits}
+use Rattle.paged_memory.proofs.Places.{is_less}
+use Rattle.paged_memory.proofs.PageLineLaws.{same_entry, not_end}
+
+abbrev Lines : Type 0
+Lines = List (List ℕ)
+
+abbrev Answer : Type 0
+Answer = Result Memory ImageFault
+
+abbrev failed : ImageFault → Answer
+failed fault = Err fault
+
+-- ---- how reading stops behind the page lines of an image
+
+abbrev Ends : Memory → Lines → Answer → Type 0
+Ends m [] a = a ≡ Ok m
+Ends m (line ∷ rest) a = a ≡ Err AfterEnd
+
+abbrev Stop : Memory → Lines → Answer → Type 0
+Stop m [] a = a ≡ Err NoEnd
+Stop m (line ∷ rest) a = ((line ≡ end_line) × Ends m rest a) ⊎ ((fault : ImageFault) × IsLineFault m line fault × (a ≡ Err fault))
+
+end_has_no_fault : (m : Memory) (line : List ℕ) (fault : ImageFault) → line ≡ end_line → IsLineFault m line fault → ⊥
+end_has_no_fault m line (BadLine n) e h = h.1 e
+end_has_no_fault m line (OutOfOrder n) e h = not_end h.1 h.2 h.3.0 (sym h.3.1 ∙ e)
+end_has_no_fault m line TooManyPages e h = not_end h.1 h.2 h.3.0 (sym h.3.1 ∙ e)
+end_has_no_fault m line BadHeader e h = h
+end_has_no_fault m line NoEnd e h = h
+end_has_no_fault m line AfterEnd e h = h
+
+same_fault : (m : Memory) (line : List ℕ) (f g : ImageFault) → IsLineFault m line f → IsLineFault m line g → f ≡ g
+same_fault m line (BadLine n) (BadLine k) p q = ap BadLine (p.0 ∙ sym q.0)
+same_fault m line (BadLine n) (OutOfOrder k) p q = absurd (p.2 q.1 q.2 q.3)
+same_fault m line (BadLine n) TooManyPages p q = absurd (p.2 q.1 q.2 q.3)
+same_fault m line (OutOfOrder n) (BadLine k) p q = absurd (q.2 p.1 p.2 p.3)
+same_fault m line (OutOfOrder n) (OutOfOrder k) p q = ap OutOfOrder (p.0 ∙ sym q.0)
+same_fault m line (OutOfOrder n) TooManyPages p q =
+    let same = same_entry p.1 q.1 p.2 q.2 p.3.0 q.3.0 (sym p.3.1 ∙ q.3.1) in
+    absurd (p.4 (subst (IsAboveAll m) (sym same.0) q.4))
+same_fault m line TooManyPages (BadLine k) p q = absurd (q.2 p.1 p.2 p.3)
+same_fault m line TooManyPages (OutOfOrder k) p q =
+    let same = same_entry p.1 q.1 p.2 q.2 p.3.0 q.3.0 (sym p.3.1 ∙ q.3.1) in
+    absurd (q.4 (subst (IsAboveAll m) same.0 p.4))
+same_fault m line TooManyPages TooManyPages p q = refl
+same_fault m line BadHeader g p q = absurd p
+same_fault m line NoEnd g p q = absurd p
+same_fault m line AfterEnd g p q = absurd p
+same_fault m line f BadHeader p q = absurd q
+same_fault m line f NoEnd p q = absurd q
+same_fault m line f AfterEnd p q = absurd q
+
+same_end : (m : Memory) (rest : Lines) (a b : Answer) → Ends m rest a → Ends m rest b → a ≡ b
+same_end m [] a b p q = p ∙ sym q
+same_end m (line ∷ rest) a b p q = p ∙ sym q
+
+same_stop : (m : Memory) (rest : Lines) (a b : Answer) → Stop m rest a → Stop m rest b → a ≡ b
+same_stop m [] a b p q = p ∙ sym q
+same_stop m (line ∷ rest) a b (inl p) (inl q) = same_end m rest a b p.1 q.1
+same_stop m (line ∷ rest) a b (inl p) (inr q) = absurd (end_has_no_fault m line q.0 p.0 q.1)
+same_stop m (line ∷ rest) a b (inr p) (inl q) = absurd (end_has_no_fault m line p.0 q.0 p.1)
+same_stop m (line ∷ rest) a b (inr p) (inr q) = p.2 ∙ ap failed (same_fault m line p.0 q.0 p.1 q.1) ∙ sym q.2
+
+-- ---- reading doesn't stop before a page line that goes on
+
+goes_on : (m : Memory) (e : Key × List ℕ) (rest : Lines) (a : Answer) → Fits e → IsAboveAll m e.0 → finmap.len m < 16 → Stop m (line_of e ∷ rest) a → ⊥
+goes_on m e rest a fits above room (inl end) = not_end e.0 e.1 fits end.0
+goes_on m e rest a fits above room (inr stop) = no_fault stop.0 stop.1
+  where
+    no_fault : (fault : ImageFault) → IsLineFault m (line_of e) fault → ⊥
+    no_fault (BadLine n) h = h.2 e.0 e.1 (fits, refl)
+    no_fault (OutOfOrder n) h =
+        let same = same_entry e.0 h.1 e.1 h.2 fits h.3.0 h.3.1 in
+        h.4 (subst (IsAboveAll m) same.0 above)
+    no_fault TooManyPages h = omega (arith, h.0)
+    no_fault BadHeader h = h
+    no_fault NoEnd h = h
+    no_fault AfterEnd h = h
+
+-- ---- two ways to read the same lines as page lines and a rest
+
+abbrev Longer : Entries → Lines → Entries → Lines → Type 0
+Longer es r fs s = (more : Entries) × (fs ≡ es ++ more) × (r ≡ map line_of more ++ s)
+
+longer_more : (e : Key × List ℕ) (es fs : Entries) (r s : Lines) → Longer es r fs s → Longer (e ∷ es) r (e ∷ fs) s
+longer_more e es fs r s l = (l.0, ap (λ x. e ∷ x) l.1, l.2)
+
+compare : (es fs : Entries) (r s : Lines) → AllByRecursion Fits es → AllByRecursion Fits fs → map line_of es ++ r ≡ map line_of fs ++ s → Longer es r fs s ⊎ Longer fs s es r
+compare [] fs r s a b e = inl (fs, refl, e)
+compare (x ∷ es) [] r s a b e = inr (x ∷ es, refl, sym e)
+compare (x ∷ es) (y ∷ fs) r s a b e =
+    let firsts : line_of x ≡ line_of y = cc in
+    let rests : map line_of es ++ r ≡ map line_of fs ++ s = cc in
+    let same = same_entry x.0 y.0 x.1 y.1 a.0 b.0 firsts in
+    let one : x ≡ y = λ i. (same.0 i, same.1 i) in
+    elim (compare es fs r s a.1 b.1 rests) [
+      | inl l ↦ inl (subst (λ (z : Key × List ℕ). Longer (x ∷ es) r (z ∷ fs) s) one (longer_more x es fs r s l))
+      | inr l ↦ inr (subst (λ (z : Key × List ℕ). Longer (z ∷ fs) s (x ∷ es) r) one (longer_more x fs es s r l))
+    ]
+
+below_at : (k : Key) (es more : Entries) (e : Key × List ℕ) → below_all key_cmp k (es ++ e ∷ more) ≡ true → key_cmp k e.0 ≡ Less
+below_at k [] more e h = is_less _ (and_parts (is_lt (key_cmp k e.0)) (below_all key_cmp k more) h).0
+below_at k (x ∷ es) more e h = below_at k es more e (and_parts (is_lt (key_cmp k x.0)) (below_all key_cmp k (es ++ e ∷ more)) h).1
+
+above_at : (es more : Entries) (e : Key × List ℕ) → Sorted (es ++ e ∷ more) → AllByRecursion (λ x. key_cmp x.0 e.0 ≡ Less) es
+above_at [] more e h = tt
+above_at (x ∷ es) more e h =
+    let parts = and_parts (below_all key_cmp x.0 (es ++ e ∷ more)) (finmap.is_sorted key_cmp (es ++ e ∷ more)) h in
+    (below_at x.0 es more e parts.0, above_at es more e parts.1)
+
+fits_at : (es more : Entries) (e : Key × List ℕ) → AllByRecursion Fits (es ++ e ∷ more) → Fits e
+fits_at [] more e h = h.0
+fits_at (x ∷ es) more e h = fits_at es more e h.1
+
+sorted_entries : (m : Memory) → Sorted (finmap.entries m)
+sorted_entries m = true_of _ (finmap.entries_sorted m)
+
+-- one way that goes further has stopped too late, or and_parts stop at one place
+later : (m n : Memory) (r s : Lines) (a b : Answer) → IsImage n → Stop m r a → Stop n s b → Longer (finmap.entries m) r (finmap.entries n) s → a ≡ b
+later m n r s a b image p q ([], same, rest) =
+    let one : n ≡ m = finmap.same_entries_map n m (same ∙ append-nil (finmap.entries m)) in
+    same_stop m s a b (subst (λ x. Stop m x a) rest p) (subst (λ x. Stop x s b) one q)
+later m n r s a b image p q (e ∷ more, same, rest) =
+    let es = finmap.entries m in
+    let sorted : Sorted (es ++ e ∷ more) = subst Sorted same (sorted_entries n) in
+    let fits : Fits e = fits_at es more e (subst (AllByRecursion Fits) same image.each) in
+    let above : IsAboveAll m e.0 = All-from_recursion (λ x. key_cmp x.0 e.0 ≡ Less) es (above_at es more e sorted) in
+    let room : finmap.len m < 16 = omega (arith, finmap.len-entries m, finmap.len-entries n, ap (λ (l : Entries). length l) same, length-append es (e ∷ more), image.room) in
+    absurd (goes_on m e (map line_of more ++ s) a fits above room (subst (λ x. Stop m x a) rest p))
+
+tails : (x : List ℕ) (a b : Lines) → x ∷ a ≡ x ∷ b → a ≡ b
+tails x a b e = cc
+
+-- ---- every answer is one of these two
+
+abbrev Stopped : Lines → Answer → Type 0
+Stopped lines a = (m : Memory) × (rest : Lines) × Begins lines m rest × Stop m rest a
+
+abbrev NoHeader : Lines → Answer → Type 0
+NoHeader lines a = (a ≡ Err BadHeader) × ((rest : Lines) → lines ≢ header ∷ rest)
+
+shown : (lines : Lines) (a : Answer) → IsAnswer lines a → Stopped lines a ⊎ NoHeader lines a
+shown lines (Ok m) h = inl (m, end_line ∷ [], record { lines_are = h.lines_are; image = h.image }, inl (refl, refl))
+shown lines (Err BadHeader) h = inr (refl, h)
+shown lines (Err (BadLine n)) h = inl (h.0, h.1 ∷ h.2, h.3, inr (BadLine n, h.4, refl))
+shown lines (Err (OutOfOrder n)) h = inl (h.0, h.1 ∷ h.2, h.3, inr (OutOfOrder n, h.4, refl))
+shown lines (Err TooManyPages) h = inl (h.0, h.1 ∷ h.2, h.3, inr (TooManyPages, h.4, refl))
+shown lines (Err NoEnd) h = inl (h.0, [], h.1, refl)
+shown lines (Err AfterEnd) h = inl (h.0, end_line ∷ h.1 ∷ h.2, h.3, inl (refl, refl))
+
+agree : (lines : Lines) (a b : Answer) → Stopped lines a ⊎ NoHeader lines a → Stopped lines b ⊎ NoHeader lines b → a ≡ b
+agree lines a b (inl p) (inl q) =
+    let same = tails header (map line_of (finmap.entries p.0) ++ p.1) (map line_of (finmap.entries q.0) ++ q.1) (sym p.2.lines_are ∙ q.2.lines_are) in
+    elim (compare (finmap.entries p.0) (finmap.entries q.0) p.1 q.1 p.2.image.each q.2.image.each same) [
+      | inl l ↦ later p.0 q.0 p.1 q.1 a b q.2.image p.3 q.3 l
+      | inr l ↦ sym (later q.0 p.0 q.1 p.1 b a p.2.image q.3 p.3 l)
+    ]
+agree lines a b (inl p) (inr q) = absurd (q.1 _ p.2.lines_are)
+agree lines a b (inr p) (inl q) = absurd (p.1 _ q.2.lines_are)
+agree lines a b (inr p) (inr q) = p.0 ∙ sym q.0
+
+pub same_answer : (lines : Lines) (a b : Answer) → IsAnswer lines a → IsAnswer lines b → a ≡ b
+same_answer lines a b p q = agree lines a b (shown lines a p) (shown lines b q)

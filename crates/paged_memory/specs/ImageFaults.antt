@@ -1,0 +1,48 @@
+-- The first fault of lines that are no image's text. (docs/formats.md, "Image")
+use Rattle.std.specs.Prelude.{◌≡◌, ◌≢◌, ℕ, ◌+◌, List, [], ◌∷◌, ◌++◌, Result, Ok, Err}
+use Rattle.std.specs.List.{All}
+use Rattle.std.specs.FinMap as finmap
+use Rattle.std.specs.declared.cmp.Ordering.TheVariants.{Less}
+use Rattle.paged_memory.specs.declared.key.Key.{Key}
+use Rattle.paged_memory.specs.declared.fault.ImageFault.{ImageFault}
+use Rattle.paged_memory.specs.declared.fault.ImageFault.TheVariants.{BadHeader, BadLine, OutOfOrder, TooManyPages, NoEnd, AfterEnd}
+use Rattle.paged_memory.specs.Images.{Memory}
+use Rattle.paged_memory.specs.KeyOrder.{key_cmp}
+use Rattle.paged_memory.specs.ImageText.{header, end_line, page_line, page_lines, IsEntry, IsImage, IsTextOf}
+
+-- the lines begin with the header and the page lines of an image, and these are left
+pub record Begins (lines : List (List ℕ)) (memory : Memory) (rest : List (List ℕ)) : Type 0 where
+  pub lines_are : lines ≡ header ∷ page_lines memory ++ rest
+  pub image : IsImage memory
+
+abbrev pub IsPageLine : List ℕ → Key → List ℕ → Type 0
+IsPageLine line key page = IsEntry key page × (line ≡ page_line key page)
+
+-- the key is above all that the image has
+abbrev pub IsAboveAll : Memory → Key → Type 0
+IsAboveAll memory key = All (λ entry. key_cmp entry.0 key ≡ Less) (finmap.entries memory)
+
+-- the number of the line that follows the header and the image's page lines
+abbrev pub next_number : Memory → ℕ
+next_number memory = finmap.len memory + 2
+
+-- what is wrong with the line that follows an image's page lines
+abbrev pub IsLineFault : Memory → List ℕ → ImageFault → Type 0
+IsLineFault memory line (BadLine n) = (n ≡ next_number memory) × (line ≢ end_line) × ((key : Key) (page : List ℕ) → IsPageLine line key page → ⊥)
+IsLineFault memory line (OutOfOrder n) = (n ≡ next_number memory) × (key : Key) × (page : List ℕ) × IsPageLine line key page × ¬ (IsAboveAll memory key)
+IsLineFault memory line TooManyPages = (finmap.len memory ≡ 16) × (key : Key) × (page : List ℕ) × IsPageLine line key page × IsAboveAll memory key
+IsLineFault memory line _ = ⊥
+
+abbrev pub IsFaultAfter : List (List ℕ) → ImageFault → Type 0
+IsFaultAfter lines fault = (memory : Memory) × (line : List ℕ) × (rest : List (List ℕ)) × Begins lines memory (line ∷ rest) × IsLineFault memory line fault
+
+abbrev pub IsFirstFault : List (List ℕ) → ImageFault → Type 0
+IsFirstFault lines BadHeader = (rest : List (List ℕ)) → lines ≢ header ∷ rest
+IsFirstFault lines NoEnd = (memory : Memory) × Begins lines memory []
+IsFirstFault lines AfterEnd = (memory : Memory) × (line : List ℕ) × (rest : List (List ℕ)) × Begins lines memory (end_line ∷ line ∷ rest)
+IsFirstFault lines fault = IsFaultAfter lines fault
+
+-- what reading these lines answers
+abbrev pub IsAnswer : List (List ℕ) → Result Memory ImageFault → Type 0
+IsAnswer lines (Ok memory) = IsTextOf lines memory
+IsAnswer lines (Err fault) = IsFirstFault lines fault

@@ -1,0 +1,18 @@
+//! What holds of images and their texts, over all of them.
+ghost use Rattle.std.specs.Prelude.{◌≡◌, ℕ, List, Result};
+ghost use Rattle.text_lines.specs.Lines.{lines_of, text_of};
+ghost use Rattle.paged_memory.specs.declared.fault.ImageFault.{ImageFault};
+ghost use Rattle.paged_memory.specs.Images.{Memory};
+ghost use Rattle.paged_memory.specs.ImageText.{image_lines, IsImage, IsTextOf};
+ghost use Rattle.paged_memory.specs.ImageFaults.{IsAnswer};
+
+/// Lines have one answer at most: two images share no text, no text has both an image and a fault, and the
+/// first fault of a text is one.
+pub fn one_answer()
+    ensures { (lines : List (List ℕ)) (a b : Result Memory ImageFault) → IsAnswer lines a → IsAnswer lines b → a ≡ b }
+{}
+
+/// The written text of an image is read as this image.
+pub fn written_is_read()
+    ensures { (memory : Memory) → IsImage memory → IsTextOf (lines_of (text_of (image_lines memory))) memory }
+{}
