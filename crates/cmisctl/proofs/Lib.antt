@@ -1,0 +1,4 @@
+mod CommandLineLemmas
+mod FoldLemmas
+mod PartCuts
+mod InventoryAnswers

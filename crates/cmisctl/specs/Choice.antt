@@ -1,0 +1,66 @@
+-- The command line `cmisctl COMMAND [FLAGS]`, as `clap` reads it (docs/formats.md): one level of
+-- subcommands, one of them required, each with its own flags.
+use Rattle.std.specs.Prelude.{true, List, [], ◌∷◌, fold, Option, Some}
+use Rattle.std.specs.Prelude.{codes, find, option_map, option_and_then}
+use Rattle.std.specs.Str.{bytes_eq}
+use Rattle.clap.specs.Words.{App, Row, Rule, Text, new_app, new_rule, subcommand_of}
+use Rattle.clap.specs.Words.{fault_of, with_rule, with_subcommand, Kinds}
+use Rattle.clap.specs.Simple.{on_top}
+use Rattle.clap.specs.declared.builder.action.ArgAction.TheVariants.{SetTrue}
+use Rattle.cmisctl.specs.declared.choice.commands.CommandName.{CommandName}
+use Rattle.cmisctl.specs.declared.choice.commands.CommandName.TheVariants.{Inventory}
+use Rattle.cmisctl.specs.declared.choice.commands.Choice.{Choice}
+
+-- a command, by its name among the words, and the names of its flags
+pub record Entry : Type 0 where
+  pub name : Text
+  pub command : CommandName
+  pub flags : List Text
+
+unfoldable pub commands : List Entry
+commands =
+    record { name = codes "inventory"; command = Inventory; flags = [] }
+    ∷ []
+
+-- `--name`, without a value and at most once
+abbrev pub flag_rule : Text → Rule
+flag_rule name = record (new_rule name) { long = Some name; action = Some SetTrue }
+
+-- a command and its flags
+abbrev pub command_app : Entry → App
+command_app entry =
+    fold (λ app flag. with_rule app (flag_rule flag)) (new_app entry.name) entry.flags
+
+-- the program before its commands: one of them is required, and `help` is none of them
+abbrev pub bare_program : App
+bare_program = on_top (λ s. record s {
+  subcommand_required = true;
+  disable_help_subcommand = true;
+}) (new_app (codes "cmisctl"))
+
+-- the program with these commands
+abbrev pub program_of : List Entry → App
+program_of entries =
+    fold (λ app entry. with_subcommand app (command_app entry).top) bare_program entries
+
+unfoldable pub program : App
+unfolding commands
+program = program_of commands
+
+-- the command of this name
+abbrev pub entry_named : Text → Option Entry
+entry_named name = find (λ entry. bytes_eq entry.name name) commands
+
+-- the choice that a subcommand and its matches make, where there is one
+abbrev pub choice_in : Option (Text × List Row) → Option Choice
+choice_in = option_and_then (λ found. option_map (λ entry. record {
+  name = entry.command;
+}) (entry_named found.0))
+
+-- the choice that the words make
+abbrev pub choice_of : List Text → Option Choice
+choice_of words = choice_in (subcommand_of program words)
+
+-- the kinds of error that `clap` may answer to the words, none where it takes them
+abbrev pub faults_of : List Text → Kinds
+faults_of words = fault_of program words

@@ -1,0 +1,60 @@
+-- How the program names the faults of its input: a code, and then its values. (docs/formats.md, "Faults")
+use Rattle.std.specs.Prelude.{ℕ, List, [], ◌∷◌, ◌++◌, codes}
+use Rattle.std.specs.Fmt.{decimal}
+use Rattle.paged_memory.specs.declared.fault.ImageFault.{ImageFault}
+use Rattle.paged_memory.specs.declared.fault.ImageFault.TheVariants.{BadHeader, BadLine, OutOfOrder, TooManyPages, NoEnd, AfterEnd}
+use Rattle.paged_memory.specs.ImageText.{key_text}
+use Rattle.reports.specs.declared.fault.ReportFault.{ReportFault}
+use Rattle.reports.specs.declared.fault.ReportFault.TheVariants as report
+use Rattle.cmisctl.specs.declared.input.InputFault.{InputFault}
+use Rattle.cmisctl.specs.declared.input.InputFault.TheVariants as input
+use Rattle.cmisctl.specs.declared.fault.Fault.{Fault}
+use Rattle.cmisctl.specs.declared.fault.Fault.TheVariants as fault
+use Rattle.cmisctl.specs.declared.status.Status.{Status}
+use Rattle.cmisctl.specs.declared.status.Status.TheVariants as status
+
+-- a code and a number
+abbrev pub with_number : List ℕ → ℕ → List ℕ
+with_number code n = code ++ 32 ∷ decimal n
+
+unfoldable pub image_fault_text : ImageFault → List ℕ
+image_fault_text BadHeader = codes "IM1"
+image_fault_text (BadLine n) = with_number (codes "IM2") n
+image_fault_text (OutOfOrder n) = with_number (codes "IM3") n
+image_fault_text TooManyPages = codes "IM4"
+image_fault_text NoEnd = codes "IM5"
+image_fault_text AfterEnd = codes "IM6"
+
+unfoldable pub report_fault_text : ReportFault → List ℕ
+report_fault_text report.Memory = codes "memory"
+report_fault_text (report.Absent key) = codes "RP6 " ++ key_text key
+report_fault_text (report.Unknown identifier) = with_number (codes "RP1") identifier
+report_fault_text (report.Revision revision) = with_number (codes "RP4") revision
+
+unfoldable pub fault_text : Fault → List ℕ
+fault_text fault.Memory = codes "memory"
+fault_text fault.Io = codes "IO"
+fault_text fault.TooLong = codes "PT2"
+fault_text (fault.Parts n) = with_number (codes "PT1") n
+fault_text (fault.Image f) = image_fault_text f
+fault_text (fault.Report f) = report_fault_text f
+
+-- the line that the program writes
+unfoldable pub fault_line : Fault → List ℕ
+fault_line f = codes "fault " ++ fault_text f ++ 10 ∷ []
+
+-- how the program ends
+abbrev pub status_of : Fault → Status
+status_of fault.Memory = status.Memory
+status_of fault.Io = status.ReadOrWrite
+status_of _ = status.Refused
+
+abbrev pub fault_of_input : InputFault → Fault
+fault_of_input input.Memory = fault.Memory
+fault_of_input input.Io = fault.Io
+fault_of_input input.TooLong = fault.TooLong
+
+-- want of memory is the program's
+abbrev pub fault_of_report : ReportFault → Fault
+fault_of_report report.Memory = fault.Memory
+fault_of_report f = fault.Report f

@@ -1,0 +1,12 @@
+pub mod Choice
+pub mod ChoiceFault
+pub mod Entries
+pub mod Status
+pub mod Limits
+pub mod CountedReader
+pub mod Input
+pub mod Parts
+pub mod PartsLeft
+pub mod Faults
+pub mod Runs
+pub mod Inventory

@@ -1,0 +1,13 @@
+-- The parts of the program's input: what stands between lines that are exactly `---`. (docs/formats.md, "Input")
+use Rattle.std.specs.Prelude.{ℕ, Bool, ◌||◌, List, map, codes}
+use Rattle.std.specs.List.{concat, slice_split}
+use Rattle.std.specs.Str.{bytes_eq}
+use Rattle.text_lines.specs.Lines.{ended_lines}
+
+-- the line `---`, with or without an LF
+abbrev pub is_separator_line : List ℕ → Bool
+is_separator_line line = bytes_eq line (codes "---") || bytes_eq line (codes "---\n")
+
+-- the lines between separators, put together again
+unfoldable pub parts_of : List ℕ → List (List ℕ)
+parts_of input = map concat (slice_split is_separator_line (ended_lines input))

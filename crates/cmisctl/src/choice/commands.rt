@@ -1,0 +1,63 @@
+//! The commands of the program and their flags, one line each.
+ghost use Rattle.std.specs.Prelude.{◌≡◌, map, option_copied, option_map};
+ghost use Rattle.cmisctl.specs.Choice.{commands, entry_named};
+ghost use Rattle.cmisctl.specs.Entries.{entry_of};
+
+/// What the program is asked to do.
+#[derive(Clone, Copy, Debug, PartialEq, Eq)]
+pub enum CommandName {
+    Inventory,
+}
+
+/// What the command line asks for.
+#[derive(Clone, Copy, Debug, PartialEq, Eq)]
+pub struct Choice {
+    pub name: CommandName,
+}
+
+/// A flag, given as `--name`.
+#[derive(Clone, Copy, Debug)]
+pub struct Flag {
+    pub name: &'static str,
+    /// What help says of it.
+    pub help: &'static str,
+}
+
+/// A command of the command line.
+#[derive(Clone, Copy, Debug)]
+pub struct CommandEntry {
+    pub name: &'static str,
+    pub command: CommandName,
+    pub flags: &'static [Flag],
+    /// What help says of it.
+    pub about: &'static str,
+}
+
+// The table: a command's name, its variant, its flags and what help says of it.
+macro_rules! table {
+    ($($name:literal $command:ident [$($flag:ident)*] $about:literal;)*) => {
+        &[$(CommandEntry {
+            name: $name,
+            command: CommandName::$command,
+            flags: &[$($flag),*],
+            about: $about,
+        }),*]
+    };
+}
+
+/// The commands, in the order in which help shows them.
+#[tactic(auto, unfolding(crate::specs::Choice::commands))]
+pub fn commands() -> &'static [CommandEntry]
+    ensures { map entry_of result.now ≡ commands }
+{
+    table! {
+        "inventory" Inventory [] "Print what the module is";
+    }
+}
+
+/// The command of this name.
+pub fn command_named(name: &str) -> Option<&'static CommandEntry>
+    ensures { option_map entry_of (option_copied result) ≡ entry_named name.now }
+{
+    commands().iter().find(|entry| entry.name == name)
+}

@@ -1,0 +1,72 @@
+//! Why a command line gives no choice, and what the program then says.
+ghost use Rattle.std.specs.Prelude.{◌≡◌, ◌≢◌, ◌⊎◌};
+ghost use Rattle.std.specs.Io.KnownBytes.{Appends};
+ghost use Rattle.cmisctl.specs.ChoiceFault.{fault_of_error, memory_line, status_of_fault};
+ghost use Rattle.cmisctl.specs.declared.choice.fault.ChoiceFault.TheVariants.{Memory};
+
+use crate::status::Status;
+use clap::error::ErrorKind;
+use std::alloc::AllocError;
+use std::io::Write;
+use thiserror::Error;
+
+/// Why the words give no choice.
+#[derive(Debug, Drop, Error)]
+pub enum ChoiceFault {
+    /// An allocation was refused.
+    #[error("out of memory")]
+    Memory,
+    /// The words are refused, or ask for help.
+    #[error(transparent)]
+    Line(clap::Error),
+}
+
+impl From<clap::Error> for ChoiceFault {
+    ghost from_gives = { λ error fault. fault ≡ fault_of_error error };
+
+    fn from(error: clap::Error) -> ChoiceFault {
+        match error.kind() {
+            ErrorKind::OutOfMemory => ChoiceFault::Memory,
+            _ => ChoiceFault::Line(error),
+        }
+    }
+}
+
+impl From<AllocError> for ChoiceFault {
+    ghost from_gives = { λ _ fault. fault ≡ Memory };
+
+    fn from(_error: AllocError) -> ChoiceFault {
+        ChoiceFault::Memory
+    }
+}
+
+impl ChoiceFault {
+    /// How the program ends: help is an answer, and all else a fault.
+    fn status(&self) -> Status
+        ensures { result ≡ status_of_fault self.now }
+    {
+        match self {
+            ChoiceFault::Memory => Status::Memory,
+            ChoiceFault::Line(error) => match error.kind() {
+                ErrorKind::DisplayHelp | ErrorKind::DisplayVersion => Status::Done,
+                _ => Status::CommandLine,
+            },
+        }
+    }
+}
+
+/// Writes why there is no choice, as `clap` puts it, and answers how the program ends.
+pub fn choice_refused<W: Write>(fault: &ChoiceFault, writer: &mut W) -> Status
+    ensures status { (result ≡ status_of_fault fault.now) ⊎ (result ≡ Status.ReadOrWrite) }
+    ensures memory { fault.now ≡ Memory → result ≢ Status.ReadOrWrite
+        → Appends (W.contents writer.old) (W.contents writer.new) memory_line }
+{
+    let written = match fault {
+        ChoiceFault::Memory => writeln!(writer, "fault memory"),
+        ChoiceFault::Line(error) => write!(writer, "{error}"),
+    };
+    match written {
+        Ok(()) => fault.status(),
+        Err(_) => Status::ReadOrWrite,
+    }
+}

@@ -1,0 +1,129 @@
+use super::choice;
+use super::commands::CommandName;
+use super::fault::{ChoiceFault, choice_refused};
+use crate::status::Status;
+use std::alloc::{AllocError, Global};
+use std::io;
+use std::test::Fail;
+
+fn strings(alloc: Global, words: &[&str]) -> Result<Vec<String>, AllocError> {
+    let mut strings = Vec::new(alloc);
+    for word in words {
+        strings.push(String::from_str(alloc, *word)?)?;
+    }
+    Ok(strings)
+}
+
+/// How the program ends on words that name no command, and what it writes.
+fn refused(alloc: Global, words: &[&str]) -> Result<(Status, String), Fail> {
+    let words = strings(alloc, words)?;
+    let Err(fault) = choice(alloc, words.as_slice()) else {
+        return Ok((Status::Done, String::from_str(alloc, "a choice")?));
+    };
+    let mut written = Vec::new(alloc);
+    let status = choice_refused(&fault, &mut written);
+    Ok((status, String::from_utf8(written)?))
+}
+
+#[test]
+fn chooses_the_inventory(rt: HostRuntime) -> Result<(), Fail> {
+    let words = strings(rt.alloc(), &["cmisctl", "inventory"])?;
+    let choice = choice(rt.alloc(), words.as_slice())?;
+    assert_eq!(rt; choice.name, CommandName::Inventory);
+    Ok(())
+}
+
+const HELP: &str = "Manages pluggable optical modules through their memory map
+
+Usage: cmisctl <COMMAND>
+
+Commands:
+  inventory  Print what the module is
+
+Options:
+  -h, --help  Print help
+";
+
+#[test]
+fn shows_help(rt: HostRuntime) -> Result<(), Fail> {
+    for flag in ["--help", "-h"] {
+        let (status, text) = refused(rt.alloc(), &["cmisctl", flag])?;
+        assert_eq!(rt; status, Status::Done);
+        assert_eq!(rt; text.as_str(), HELP);
+    }
+    Ok(())
+}
+
+#[test]
+fn shows_the_help_of_a_command(rt: HostRuntime) -> Result<(), Fail> {
+    let (status, text) = refused(rt.alloc(), &["cmisctl", "inventory", "--help"])?;
+    assert_eq!(rt; status, Status::Done);
+    assert!(rt;
+        text.as_str()
+            .starts_with("Print what the module is\n\nUsage: cmisctl inventory\n")
+    );
+    Ok(())
+}
+
+#[test]
+fn refuses_other_words(rt: HostRuntime) -> Result<(), Fail> {
+    let cases: [(&[&str], &str); 5] = [
+        (
+            &["cmisctl"],
+            "error: 'cmisctl' requires a subcommand but one was not provided\n",
+        ),
+        (
+            &["cmisctl", "help"],
+            "error: unrecognized subcommand 'help'\n",
+        ),
+        (
+            &["cmisctl", "inspect"],
+            "error: unrecognized subcommand 'inspect'\n",
+        ),
+        (
+            &["cmisctl", "inventory", "twice"],
+            "error: unexpected argument 'twice' found\n",
+        ),
+        (
+            &["cmisctl", "--version"],
+            "error: unexpected argument '--version' found\n",
+        ),
+    ];
+    for (words, first_line) in cases {
+        let (status, text) = refused(rt.alloc(), words)?;
+        assert_eq!(rt; status, Status::CommandLine);
+        assert!(rt; text.as_str().starts_with(first_line), "{text}");
+    }
+    Ok(())
+}
+
+#[test]
+fn says_that_memory_is_wanting(rt: HostRuntime) -> Result<(), Fail> {
+    let mut written = Vec::new(rt.alloc());
+    let status = choice_refused(&ChoiceFault::Memory, &mut written);
+    assert_eq!(rt; status, Status::Memory);
+    assert_eq!(rt; written.as_slice(), b"fault memory\n".as_slice());
+    Ok(())
+}
+
+/// A writer that takes nothing.
+#[derive(Drop)]
+struct Full;
+
+impl io::Write for Full {
+    fn write(&mut self, _bytes: &[u8]) -> io::Result<usize> {
+        Ok(0)
+    }
+
+    fn flush(&mut self) -> io::Result<()> {
+        Ok(())
+    }
+}
+
+#[test]
+fn answers_a_failed_write(rt: HostRuntime) {
+    assert_eq!(rt;
+        choice_refused(&ChoiceFault::Memory, &mut Full),
+        Status::ReadOrWrite
+    );
+}

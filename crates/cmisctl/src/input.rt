@@ -1,0 +1,89 @@
+//! Reading the program's input within its limits.
+ghost use Rattle.std.specs.Prelude.{◌≡◌, ◌≤◌, ◌<◌, length, IfSome, IfOk, IfErr, OnOk, vec_len};
+ghost use Rattle.std.specs.Io.{ReadsAtMost};
+ghost use Rattle.std.specs.Io.KnownBytes.{ReadConsumes, IsAtEnd};
+ghost use Rattle.cmisctl.specs.CountedReader.{reads_of, has_failed, remaining_of};
+ghost use Rattle.cmisctl.specs.Limits.{input_limit, read_limit};
+ghost use Rattle.cmisctl.specs.Input.{IsReadOf, TakesWithinLimit, AnswersFailure};
+
+mod counted_reader;
+
+pub use counted_reader::{CountedReader, MAX_READS};
+use std::alloc::Global;
+use std::io::{ErrorKind, Read};
+use thiserror::Error;
+
+/// The most bytes of an input.
+pub const MAX_INPUT: usize = 1_048_576;
+
+/// How many bytes are asked of the reader at once.
+const CHUNK: usize = 4096;
+
+/// Why the input was not read.
+#[derive(Clone, Copy, Debug, PartialEq, Eq, Drop, Error)]
+pub enum InputFault {
+    #[error("out of memory")]
+    Memory,
+    #[error("a read failed")]
+    Io,
+    #[error("the input is too long")]
+    TooLong,
+}
+
+/// Reads to the end of the input, within [`MAX_INPUT`] bytes and [`MAX_READS`] reads.
+///
+/// `TooLong` is answered as soon as one byte more than the limit has come, and the reader is asked
+/// for no more. An interrupted read is made again; another error, and an input that has not ended
+/// after [`MAX_READS`] reads, is `Io`. A new reader that is never interrupted meets no such limit,
+/// since each of its reads gives a byte. `Memory` is answered only where a growth was refused.
+pub fn read_input<R: Read>(
+    alloc: Global,
+    reader: &mut CountedReader<R>,
+) -> Result<Vec<u8>, InputFault>
+    ensures limit { IfOk result (λ bytes. vec_len bytes ≤ input_limit) }
+    ensures reads { reads_of reader.new ≤ read_limit }
+    ensures failure { AnswersFailure (has_failed reader.old) (has_failed reader.new) result }
+
+    // Where the reader's bytes are known.
+    ensures input { IfSome (remaining_of R.remaining reader.old) (λ input. IsReadOf input result) }
+    ensures end { OnOk result (IsAtEnd (remaining_of R.remaining reader.new)) }
+    ensures taken { TakesWithinLimit (remaining_of R.remaining reader.old) (remaining_of R.remaining reader.new) }
+{
+    let mut bytes = Vec::new(alloc);
+    let mut chunk = [0u8; CHUNK];
+    loop {
+        let room = (MAX_INPUT + 1 - bytes.len()).min(CHUNK);
+        let count = read_retrying(reader, &mut chunk[..room])?;
+        if count == 0 {
+            return Ok(bytes);
+        }
+        if count > MAX_INPUT - bytes.len() {
+            return Err(InputFault::TooLong);
+        }
+        bytes
+            .extend_from_slice(&chunk[..count])
+            .map_err(|_| InputFault::Memory)?;
+    }
+}
+
+/// One read, made again where it was interrupted.
+fn read_retrying<R: Read>(
+    reader: &mut CountedReader<R>,
+    buffer: &mut [u8],
+) -> Result<usize, InputFault>
+    ensures bound { ReadsAtMost result buffer.new }
+    ensures bytes { ReadConsumes (remaining_of R.remaining reader.old) (remaining_of R.remaining reader.new) result buffer.new }
+    ensures failure { AnswersFailure (has_failed reader.old) (has_failed reader.new) result }
+    ensures fault { IfErr result (λ fault. fault ≡ InputFault.Io) }
+{
+    loop {
+        match reader.read(buffer) {
+            Ok(count) => return Ok(count),
+            Err(e) if e.kind() == ErrorKind::Interrupted => {}
+            Err(_) => return Err(InputFault::Io),
+        }
+    }
+}
+
+#[cfg(test)]
+mod tests;

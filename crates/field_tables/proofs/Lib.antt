@@ -1,0 +1,4 @@
+mod PlaceNumbers
+mod RowPlaceLaws
+mod FieldAnswers
+mod PlaceWidths

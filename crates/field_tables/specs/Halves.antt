@@ -1,0 +1,22 @@
+-- Halves of a module's memory by device, half and page: rows name pages of bank 0 alone.
+-- (OIF-CMIS-05.0, "Management Memory Map"; SFF-8636, "Memory Map"; SFF-8472, "Memory Organization")
+use Rattle.std.specs.Prelude.{ℕ, List, slice_index}
+use Rattle.bus_model.specs.declared.device.Dev.{Dev}
+use Rattle.paged_memory.specs.declared.key.Half.{Half}
+use Rattle.paged_memory.specs.declared.key.Half.TheVariants.{Lower, Upper}
+use Rattle.paged_memory.specs.declared.key.Key.{Key}
+use Rattle.paged_memory.specs.Images.{place_in_half}
+use Rattle.paged_memory.specs.Keys.{lower_key, upper_key}
+use Rattle.field_tables.specs.declared.fault.FieldFault.{FieldFault}
+
+abbrev pub half_key : Dev → Half → ℕ → Key
+half_key device Lower page = lower_key device
+half_key device Upper page = upper_key device 0 page
+
+-- the byte that a half shows at an address
+abbrev pub byte_in : List ℕ → ℕ → ℕ
+byte_in bytes address = slice_index bytes (place_in_half address)
+
+-- the fault where a half isn't there
+abbrev pub absent : Key → FieldFault
+absent key = record { absent = key }

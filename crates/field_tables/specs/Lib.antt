@@ -1,0 +1,12 @@
+pub mod Layouts
+pub mod Numbers
+pub mod Parts
+pub mod Halves
+pub mod FieldRows
+pub mod RowPlaces
+pub mod FieldValues
+pub mod RowFits
+pub mod Spans
+pub mod Texts
+pub mod Sums
+pub mod Units

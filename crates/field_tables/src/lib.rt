@@ -1,0 +1,23 @@
+//! What the bytes of a module's memory mean: fields, text fields and sums.
+#![tactic(auto)]
+
+mod bits;
+mod fault;
+mod field;
+mod halves;
+mod layout;
+mod spans;
+mod sums;
+mod table;
+mod texts;
+mod units;
+mod values;
+
+pub use fault::FieldFault;
+pub use field::{Field, Sum, TextField};
+pub use layout::{Layout, Part, Row, Sign};
+pub use sums::sum_right;
+pub use table::row;
+pub use texts::text_field;
+pub use units::{Unit, millis};
+pub use values::{lane, value};

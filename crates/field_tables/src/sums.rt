@@ -1,0 +1,56 @@
+ghost use Rattle.std.specs.Prelude.{◌≡◌, ◌≤◌, ◌%◌, IsTrue, length, ok_or, sum};
+ghost use Rattle.field_tables.specs.Halves.{absent};
+ghost use Rattle.field_tables.specs.Sums.{sum_fits, sum_key, sum_right_of};
+ghost use Rattle.field_tables.specs.Sums as spec;
+
+use crate::fault::FieldFault;
+use crate::field::Sum;
+use crate::halves::{half_of, key_of, place_of};
+use crate::spans::{Span, bytes_of};
+use bus_model::Dev;
+use paged_memory::{Half, Image, PAGE_LEN};
+
+macro_rules! sums {
+    ($sum:ident; $($name:ident: $device:ident $half:ident $page:literal, $first:literal - $last:literal at $address:literal;)*) => {
+        match $sum {
+            $(Sum::$name => (
+                Span {
+                    device: Dev::$device,
+                    half: Half::$half,
+                    page: $page,
+                    first: $first,
+                    last: $last,
+                },
+                $address,
+            ),)*
+        }
+    };
+}
+
+/// Whether a sum is right.
+pub fn sum_right(image: &Image, sum: Sum) -> Result<bool, FieldFault>
+    ensures { result ≡ ok_or (sum_right_of image.now sum) (absent (sum_key sum)) }
+{
+    let (span, address) = row_of(sum);
+    let page = half_of(image, key_of(span.device, span.half, span.page))?;
+    let bytes = page.bytes();
+    Ok(low_byte_of_sum(bytes_of(bytes, span)) == bytes[place_of(usize::from(address))])
+}
+
+fn low_byte_of_sum(bytes: &[u8]) -> u8
+    requires { length bytes.now ≤ PAGE_LEN }
+    ensures { result ≡ sum bytes.now % 256 }
+{
+    let total: u32 = bytes.iter().map(|byte| u32::from(*byte)).sum();
+    (total % 256) as u8
+}
+
+fn row_of(sum: Sum) -> (Span, u8)
+    ensures row { result ≡ spec.sum_row sum }
+    ensures fits { IsTrue (sum_fits result) }
+{
+    // device, half and page, first and last byte, address
+    sums! { sum;
+        CSum00: A0 Upper 0x00, 128-221 at 222;
+    }
+}

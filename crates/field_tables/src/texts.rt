@@ -1,0 +1,51 @@
+ghost use Rattle.std.specs.Prelude.{◌≡◌, IsTrue, ok_or};
+ghost use Rattle.std.specs.Result.{result_map_both};
+ghost use Rattle.field_tables.specs.Halves.{absent};
+ghost use Rattle.field_tables.specs.Texts.{text_fits, text_key, text_of, text_span};
+
+use crate::fault::FieldFault;
+use crate::field::TextField;
+use crate::halves::{half_of, key_of};
+use crate::spans::{Span, bytes_of};
+use arrayvec::ArrayVec;
+use bus_model::Dev;
+use paged_memory::{Half, Image};
+
+macro_rules! texts {
+    ($text:ident; $($name:ident: $device:ident $half:ident $page:literal, $first:literal - $last:literal;)*) => {
+        match $text {
+            $(TextField::$name => Span {
+                device: Dev::$device,
+                half: Half::$half,
+                page: $page,
+                first: $first,
+                last: $last,
+            },)*
+        }
+    };
+}
+
+/// The bytes of a text as they stand, its padding too.
+pub fn text_field(image: &Image, text: TextField) -> Result<ArrayVec<u8, 16>, FieldFault>
+    ensures { result_map_both (λ bytes. bytes.items) (λ fault. fault) result ≡ ok_or (text_of image.now text) (absent (text_key text)) }
+{
+    let span = span_of(text);
+    let page = half_of(image, key_of(span.device, span.half, span.page))?;
+    let mut bytes = ArrayVec::new();
+    bytes.try_extend_from_slice(bytes_of(page.bytes(), span)).unwrap();
+    Ok(bytes)
+}
+
+fn span_of(text: TextField) -> Span
+    ensures span { result ≡ text_span text }
+    ensures fits { IsTrue (text_fits result) }
+{
+    // device, half and page, first and last byte
+    texts! { text;
+        CVendor: A0 Upper 0x00, 129-144;
+        CPart: A0 Upper 0x00, 148-163;
+        CPartRevision: A0 Upper 0x00, 164-165;
+        CSerial: A0 Upper 0x00, 166-181;
+        CDate: A0 Upper 0x00, 182-189;
+    }
+}

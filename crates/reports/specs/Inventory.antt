@@ -1,0 +1,87 @@
+-- The inventory of a CMIS module. (docs/formats.md, "inventory"; OIF-CMIS-05.0, "Lower Memory" and "Administrative
+-- Information (Page 00h)")
+use Rattle.std.specs.Prelude.{ℕ, ◌+◌, ◌*◌, ◌/◌, ◌%◌, ◌^◌, ◌==◌, ◌||◌, ◌++◌, Bool, not, is_some, if◌then◌else◌, ℤ, pos, List, [], ◌∷◌, Option, find, codes, map}
+use Rattle.std.specs.Option.{option_map}
+use Rattle.std.specs.Fmt.{decimal}
+use Rattle.std.specs.FinMap as finmap
+use Rattle.hex.specs.Hex.{encode_lower}
+use Rattle.bus_model.specs.declared.device.Dev.TheVariants.{A0}
+use Rattle.paged_memory.specs.declared.key.Key.{Key}
+use Rattle.paged_memory.specs.Keys.{lower_key, upper_key}
+use Rattle.paged_memory.specs.Images.{Memory}
+use Rattle.field_tables.specs.declared.field.Field.TheVariants as fields
+use Rattle.field_tables.specs.declared.field.TextField.TheVariants as texts
+use Rattle.field_tables.specs.declared.field.Sum.TheVariants as sums
+use Rattle.field_tables.specs.declared.units.Unit.TheVariants.{ModulePower}
+use Rattle.field_tables.specs.Units.{millis_of}
+use Rattle.reports.specs.declared.fault.ReportFault.{ReportFault}
+use Rattle.reports.specs.declared.fault.ReportFault.TheVariants.{Absent, Unknown, Revision}
+use Rattle.reports.specs.Readings.{number, oui, text, is_sum_right}
+use Rattle.reports.specs.Shown.{byte_code, thousandths, revision, printable}
+use Rattle.reports.specs.Lines.{line}
+
+-- QSFP-DD, OSFP, and QSFP+ or later with CMIS (SFF-8024)
+abbrev pub is_cmis : ℕ → Bool
+is_cmis identifier = identifier == 24 || identifier == 25 || identifier == 30
+
+-- major 4 or 5
+abbrev pub is_read_revision : ℕ → Bool
+is_read_revision revision = revision / 16 == 4 || revision / 16 == 5
+
+-- why there is no inventory: the first of these that applies
+abbrev pub inventory_faults : Memory → List (Bool × ReportFault)
+inventory_faults memory =
+    (not (finmap.contains_key memory (lower_key A0)), Absent (lower_key A0))
+    ∷ (not (is_cmis (number memory fields.CIdentifier)), Unknown (number memory fields.CIdentifier))
+    ∷ (not (is_read_revision (number memory fields.CRevision)), Revision (number memory fields.CRevision))
+    ∷ (not (finmap.contains_key memory (upper_key A0 0 0)), Absent (upper_key A0 0 0))
+    ∷ []
+
+abbrev pub inventory_fault : Memory → Option ReportFault
+inventory_fault memory = option_map (λ fault. fault.1) (find (λ fault. fault.0) (inventory_faults memory))
+
+abbrev pub memory_word : ℕ → List ℕ
+memory_word flat = if flat == 1 then codes "flat" else codes "paged"
+
+abbrev pub sum_word : Bool → List ℕ
+sum_word right = if right then codes "right" else codes "wrong"
+
+-- in thousandths of a watt
+abbrev pub max_power_of : Memory → ℤ
+max_power_of memory = millis_of (pos (number memory fields.CMaxPower)) ModulePower
+
+-- in thousandths of a metre
+abbrev pub length_of : Memory → ℤ
+length_of memory = pos (number memory fields.CLengthBase * 100 * 10 ^ number memory fields.CLengthMultiplier)
+
+unfoldable pub kind_lines : Memory → List (List ℕ)
+kind_lines memory =
+    line (codes "family") (codes "CMIS")
+    ∷ line (codes "identifier") (byte_code (number memory fields.CIdentifier))
+    ∷ line (codes "revision") (revision (number memory fields.CRevision))
+    ∷ line (codes "memory") (memory_word (number memory fields.CFlatMemory))
+    ∷ line (codes "media-type") (byte_code (number memory fields.CMediaType))
+    ∷ []
+
+unfoldable pub vendor_lines : Memory → List (List ℕ)
+vendor_lines memory =
+    line (codes "vendor") (printable (text memory texts.CVendor))
+    ∷ line (codes "oui") (encode_lower (oui memory))
+    ∷ line (codes "part") (printable (text memory texts.CPart))
+    ∷ line (codes "part-revision") (printable (text memory texts.CPartRevision))
+    ∷ line (codes "serial") (printable (text memory texts.CSerial))
+    ∷ line (codes "date") (printable (text memory texts.CDate))
+    ∷ []
+
+unfoldable pub build_lines : Memory → List (List ℕ)
+build_lines memory =
+    line (codes "power-class") (decimal (number memory fields.CPowerClass + 1))
+    ∷ line (codes "max-power") (thousandths (max_power_of memory) ++ 32 ∷ codes "W")
+    ∷ line (codes "length") (thousandths (length_of memory) ++ 32 ∷ codes "m")
+    ∷ line (codes "connector") (byte_code (number memory fields.CConnector))
+    ∷ line (codes "technology") (byte_code (number memory fields.CTechnology))
+    ∷ line (codes "sum-00h") (sum_word (is_sum_right memory sums.CSum00))
+    ∷ []
+
+abbrev pub inventory_lines : Memory → List (List ℕ)
+inventory_lines memory = kind_lines memory ++ vendor_lines memory ++ build_lines memory

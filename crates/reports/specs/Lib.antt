@@ -1,0 +1,4 @@
+pub mod Readings
+pub mod Shown
+pub mod Lines
+pub mod Inventory

@@ -1,0 +1,13 @@
+-- Report lines: a name, a space and a value. (docs/formats.md, "Reports")
+use Rattle.std.specs.Prelude.{◌≡◌, ℕ, List, ◌∷◌, ◌++◌, Result, Ok, Err}
+use Rattle.text_lines.specs.Lines.{text_of}
+use Rattle.reports.specs.declared.fault.ReportFault.{ReportFault}
+use Rattle.reports.specs.declared.fault.ReportFault.TheVariants.{Memory}
+
+abbrev pub line : List ℕ → List ℕ → List ℕ
+line name value = name ++ 32 ∷ value
+
+-- the text of these lines, where there is memory for it
+abbrev pub IsReport : List (List ℕ) → Result (List ℕ) ReportFault → Type 0
+IsReport lines (Ok text) = text ≡ text_of lines
+IsReport lines (Err fault) = fault ≡ Memory

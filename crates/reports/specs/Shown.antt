@@ -1,0 +1,40 @@
+-- How values are shown in reports. (docs/formats.md, "Values in reports")
+use Rattle.std.specs.Prelude.{ℕ, ◌+◌, ◌-◌, ◌/◌, ◌%◌, ◌==◌, ◌||◌, ◌&&◌, Bool, nat_le, if◌then◌else◌, length, take, map, ℤ, pos, negsuc, List, [], ◌∷◌, ◌++◌, slice_index}
+use Rattle.std.specs.Prelude.{unsigned_abs}
+use Rattle.std.specs.List.{suffix_len}
+use Rattle.std.specs.Fmt.{decimal}
+use Rattle.hex.specs.Hex.{upper_digits}
+
+-- two upper-case digits and `h`
+abbrev pub byte_code : ℕ → List ℕ
+byte_code byte = slice_index upper_digits (byte / 16) ∷ slice_index upper_digits (byte % 16) ∷ 104 ∷ []
+
+abbrev pub three_digits : ℕ → List ℕ
+three_digits n = decimal (n / 100 % 10) ++ decimal (n / 10 % 10) ++ decimal (n % 10)
+
+-- `-` where the number is negative
+abbrev pub minus_of : ℤ → List ℕ
+minus_of (pos n) = []
+minus_of (negsuc n) = 45 ∷ []
+
+-- the sign, the whole part, a point and three digits
+abbrev pub thousandths : ℤ → List ℕ
+thousandths z = minus_of z ++ (decimal (unsigned_abs z / 1000) ++ 46 ∷ three_digits (unsigned_abs z % 1000))
+
+-- the major number in the upper nibble, a point and the minor one
+abbrev pub revision : ℕ → List ℕ
+revision byte = decimal (byte / 16) ++ 46 ∷ decimal (byte % 16)
+
+abbrev pub is_padding : ℕ → Bool
+is_padding byte = byte == 32 || byte == 0
+
+-- without the padding at the end
+abbrev pub trimmed : List ℕ → List ℕ
+trimmed bytes = take (length bytes - suffix_len is_padding bytes) bytes
+
+-- what is no printable ASCII shows as a question mark
+abbrev pub shown_byte : ℕ → ℕ
+shown_byte byte = if nat_le 32 byte && nat_le byte 126 then byte else 63
+
+abbrev pub printable : List ℕ → List ℕ
+printable bytes = map shown_byte (trimmed bytes)

@@ -1,0 +1,131 @@
+// How values are shown in reports.
+ghost use Rattle.std.specs.Prelude.{◌≡◌, ◌<◌, ◌∷◌, ◌++◌, [], Some, slice_index};
+ghost use Rattle.hex.specs.Hex.{upper_digits};
+ghost use Rattle.reports.specs.Shown.{byte_code, minus_of, thousandths, three_digits, revision, printable, trimmed, is_padding, shown_byte};
+
+use std::fmt;
+
+/// A byte as two upper-case hexadecimal digits and `h`.
+#[derive(Clone, Copy, Debug)]
+pub struct ByteCode(pub u8);
+
+impl fmt::Display for ByteCode {
+    ghost output = { λ shown. Some (byte_code shown.0) };
+
+    fn fmt<W: fmt::Write>(&self, f: &mut fmt::Formatter<W>) -> fmt::Result {
+        let (high, low) = (upper_digit(self.0 / 16), upper_digit(self.0 % 16));
+        write!(f, "{high}{low}h")
+    }
+}
+
+fn upper_digit(value: u8) -> char
+    requires { value < 16 }
+    ensures digit { result ≡ slice_index upper_digits value }
+    ensures ascii { result < 128 }
+{
+    char::from(b"0123456789ABCDEF"[usize::from(value)])
+}
+
+/// Thousandths as a sign where negative, the whole part, a point and three digits.
+#[derive(Clone, Copy, Debug)]
+pub struct Thousandths(pub i64);
+
+impl fmt::Display for Thousandths {
+    ghost output = { λ shown. Some (thousandths shown.0) };
+
+    fn fmt<W: fmt::Write>(&self, f: &mut fmt::Formatter<W>) -> fmt::Result {
+        let value = self.0;
+        let minus = minus(value);
+        let size = value.unsigned_abs();
+        let whole = size / 1000;
+        let rest = ThreeDigits((size % 1000) as u16);
+        write!(f, "{minus}{whole}.{rest}")
+    }
+}
+
+fn minus(value: i64) -> &'static str
+    ensures { result.now ≡ minus_of value }
+{
+    if value < 0 { "-" } else { "" }
+}
+
+#[derive(Clone, Copy)]
+struct ThreeDigits(u16);
+
+impl fmt::Display for ThreeDigits {
+    ghost output = { λ shown. Some (three_digits shown.0) };
+
+    fn fmt<W: fmt::Write>(&self, f: &mut fmt::Formatter<W>) -> fmt::Result {
+        let (first, second, third) = (self.0 / 100 % 10, self.0 / 10 % 10, self.0 % 10);
+        write!(f, "{first}{second}{third}")
+    }
+}
+
+/// Thousandths and the unit that they print in.
+#[derive(Clone, Copy, Debug)]
+pub struct Measure(pub i64, pub &'static str);
+
+impl fmt::Display for Measure {
+    ghost output = { λ shown. Some (thousandths shown.0 ++ 32 ∷ shown.1.now) };
+
+    fn fmt<W: fmt::Write>(&self, f: &mut fmt::Formatter<W>) -> fmt::Result {
+        let (amount, unit) = (Thousandths(self.0), self.1);
+        write!(f, "{amount} {unit}")
+    }
+}
+
+/// A revision, whose major number is in the upper nibble and the minor one in the lower.
+#[derive(Clone, Copy, Debug)]
+pub struct RevisionNumber(pub u8);
+
+impl fmt::Display for RevisionNumber {
+    ghost output = { λ shown. Some (revision shown.0) };
+
+    fn fmt<W: fmt::Write>(&self, f: &mut fmt::Formatter<W>) -> fmt::Result {
+        let (major, minor) = (self.0 / 16, self.0 % 16);
+        write!(f, "{major}.{minor}")
+    }
+}
+
+/// The bytes of a text field without the spaces and zeros at their end; a byte that is no printable ASCII shows as `?`.
+#[derive(Clone, Copy, Debug)]
+pub struct Printable<'a>(pub &'a [u8]);
+
+impl fmt::Display for Printable<'_> {
+    ghost output = { λ shown. Some (printable shown.0.now) };
+
+    fn fmt<W: fmt::Write>(&self, f: &mut fmt::Formatter<W>) -> fmt::Result {
+        for byte in trimmed(self.0) {
+            let letter = shown_byte(*byte);
+            write!(f, "{letter}")?;
+        }
+        Ok(())
+    }
+}
+
+fn trimmed(bytes: &[u8]) -> &[u8]
+    ensures { result.now ≡ trimmed bytes.now }
+{
+    let mut len = bytes.len();
+    while len > 0 && is_padding(bytes[len - 1]) {
+        len -= 1;
+    }
+    &bytes[..len]
+}
+
+fn is_padding(byte: u8) -> bool
+    ensures { result ≡ is_padding byte }
+{
+    byte == b' ' || byte == 0
+}
+
+fn shown_byte(byte: u8) -> char
+    ensures letter { result ≡ shown_byte byte }
+    ensures ascii { result < 128 }
+{
+    if b' ' <= byte && byte <= b'~' {
+        char::from(byte)
+    } else {
+        '?'
+    }
+}
