@@ -2,5 +2,7 @@
 #![tactic(auto)]
 
 mod device;
+#[cfg(test)]
+mod tests;
 
 pub use device::Dev;

@@ -133,7 +133,7 @@ fits_at (x ∷ es) more e h = fits_at es more e h.1
 sorted_entries : (m : Memory) → Sorted (finmap.entries m)
 sorted_entries m = true_of _ (finmap.entries_sorted m)
 
--- one way that goes further has stopped too late, or and_parts stop at one place
+-- one way that goes further has stopped too late, or both stop at one place
 later : (m n : Memory) (r s : Lines) (a b : Answer) → IsImage n → Stop m r a → Stop n s b → Longer (finmap.entries m) r (finmap.entries n) s → a ≡ b
 later m n r s a b image p q ([], same, rest) =
     let one : n ≡ m = finmap.same_entries_map n m (same ∙ append-nil (finmap.entries m)) in

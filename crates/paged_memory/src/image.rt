@@ -40,6 +40,7 @@ impl Image {
     ghost use Rattle.paged_memory.specs.Images.{byte_at};
 
     /// The image with no page.
+    #[tactic(auto, using(crate::proofs::ImageViews::no_pages))]
     pub fn new() -> Self
         ensures { result ≡ map.empty }
     {

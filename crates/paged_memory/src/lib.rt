@@ -8,6 +8,8 @@ mod key;
 pub mod laws;
 mod page;
 mod page_line;
+#[cfg(test)]
+mod tests;
 
 pub use bus_model::Dev;
 pub use fault::ImageFault;

@@ -25,6 +25,7 @@ impl Model for Page {
 }
 
 impl Page {
+    /// The bytes, in the order of their addresses.
     pub fn bytes(&self) -> &[u8; PAGE_LEN]
         ensures same { result.now ≡ self.now }
         ensures len { length self.now ≡ PAGE_LEN }

@@ -5,6 +5,8 @@
 mod decimal;
 mod hexadecimal;
 mod lines;
+#[cfg(test)]
+mod tests;
 mod words;
 
 pub use decimal::read_decimal;

@@ -1,5 +1,5 @@
-ghost use Rattle.std.specs.Prelude.{◌≡◌, ◌+◌, ◌<◌, ◌≤◌, ◌++◌, ◌∷◌, [], length, MatchOption};
-ghost use Rattle.std.specs.List.{position, position_or_len, before_first};
+ghost use Rattle.std.specs.Prelude.{◌≡◌, ◌+◌, ◌<◌, ◌≤◌, ◌++◌, ◌∷◌, [], length, IfSome, MatchOption};
+ghost use Rattle.std.specs.List.{position, position_or_len, before_first, after_first};
 ghost use Rattle.std.specs.Iterator.{YieldsFirstBy, item_count};
 ghost use Rattle.text_lines.specs.Lines.{is_lf, ended_lines, lines_of};
 ghost use Rattle.text_lines.specs.LinesLeft.{lines_left};
@@ -7,9 +7,10 @@ ghost use Rattle.text_lines.specs.LinesLeft.{lines_left};
 /// The byte that ends a line.
 pub const LF: u8 = b'\n';
 
-/// The first line of a text, with the LF that ends it if one does, and what stands behind.
+/// The first line of a text, with the LF that ends it if one does, and what stands behind it.
 pub fn split_ended_line(text: &[u8]) -> Option<(&[u8], &[u8])>
     ensures lines { MatchOption result (text.now ≡ []) (λ x. ended_lines text.now ≡ x.0.now ∷ ended_lines x.1.now) }
+    ensures behind { IfSome result (λ x. x.1.now ≡ after_first is_lf text.now) }
     ensures parts { MatchOption result (text.now ≡ []) (λ x. text.now ≡ x.0.now ++ x.1.now) }
     ensures shorter { MatchOption result (text.now ≡ []) (λ x. length x.1.now < length text.now) }
 {
@@ -22,6 +23,7 @@ pub fn split_ended_line(text: &[u8]) -> Option<(&[u8], &[u8])>
 /// The first line of a text, without its LF, and what stands behind it.
 pub fn split_line(text: &[u8]) -> Option<(&[u8], &[u8])>
     ensures lines { MatchOption result (text.now ≡ []) (λ x. lines_of text.now ≡ x.0.now ∷ lines_of x.1.now) }
+    ensures behind { IfSome result (λ x. x.1.now ≡ after_first is_lf text.now) }
     ensures shorter { MatchOption result (text.now ≡ []) (λ x. length x.1.now < length text.now) }
 {
     let (ended, rest) = split_ended_line(text)?;
@@ -49,6 +51,7 @@ pub struct Lines<'a> {
 }
 
 impl<'a> Lines<'a> {
+    /// All the lines of a text.
     pub fn of(text: &'a [u8]) -> Self
         ensures { lines_left result ≡ lines_of text.entry.now }
     {

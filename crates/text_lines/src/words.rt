@@ -12,7 +12,7 @@ pub fn split_words<const N: usize>(line: &[u8]) -> Option<ArrayVec<&[u8], N>>
     ensures { MatchOption result (N < length (words_of line.now)) (λ words. map (λ word. word.now) words.items ≡ words_of line.now) }
 {
     let mut words = ArrayVec::new();
-    for word in Pieces::of(line) {
+    for word in Words::of(line) {
         words.try_push(word).ok()?;
     }
     Some(words)
@@ -20,19 +20,19 @@ pub fn split_words<const N: usize>(line: &[u8]) -> Option<ArrayVec<&[u8], N>>
 
 // The words of a line from the first to the last; none once the last has been given.
 #[derive(Clone, Copy, Debug)]
-struct Pieces<'a> {
+struct Words<'a> {
     rest: Option<&'a [u8]>,
 }
 
-impl<'a> Pieces<'a> {
+impl<'a> Words<'a> {
     fn of(line: &'a [u8]) -> Self
         ensures { words_left result ≡ words_of line.entry.now }
     {
-        Pieces { rest: Some(line) }
+        Words { rest: Some(line) }
     }
 }
 
-impl<'a> Iterator for Pieces<'a> {
+impl<'a> Iterator for Words<'a> {
     type Item = &'a [u8];
 
     ghost next_gives = { YieldsFirstBy (λ word. word.now) words_left };

@@ -51,9 +51,7 @@ impl Image {
         }
         Err(ImageFault::NoEnd)
     }
-}
 
-impl Image {
     /// The text of the image.
     pub fn write(&self, alloc: Global) -> Result<Vec<u8>, AllocError>
         ensures written { IfOk result (λ text. text.items ≡ text_of (image_lines self.now)) }
@@ -81,6 +79,7 @@ fn push_page(text: &mut String, key: Key, page: &[u8]) -> Result<(), AllocError>
     ensures written { OnOk result (string_bytes text.new ≡ string_bytes text.old ++ (page_line key page.now ++ 10 ∷ [])) }
     ensures fits { OnOk result (IsEntry key page.now) }
 {
+    // Read here, both are known to be bytes, as `fits` says.
     let (_bank, _number) = (key.bank, key.page);
     let digits = Hexadecimal(page);
     writeln!(text, "{key} {digits}")
