@@ -37,8 +37,8 @@ one_passed text rest line after len passed lines bytes plain =
       front = passed.front ++ line ∷ [];
       lines = passed.lines ∙ ap (λ l. passed.front ++ l) lines ∙ sym (append_assoc passed.front (line ∷ []) (ended_lines after));
       bytes =
-        concat-append passed.front (line ∷ []) ∙ ap (λ l. concat passed.front ++ l) (append-nil line) ∙ ap (λ l. l ++ line) passed.bytes
-        ∙ ap (λ l. take len text ++ l) (sym (take_at line after (length line) refl) ∙ ap (take (length line)) (sym split)) ∙ sym (take-add len (length line) text);
+          concat-append passed.front (line ∷ []) ∙ ap (λ l. concat passed.front ++ l) (append-nil line) ∙ ap (λ l. l ++ line) passed.bytes
+          ∙ ap (λ l. take len text ++ l) (sym (take_at line after (length line) refl) ∙ ap (take (length line)) (sym split)) ∙ sym (take-add len (length line) text);
       behind = sym (drop-drop (length line) len text) ∙ ap (drop (length line)) split ∙ drop_at line after (length line) refl;
       within = omega (arith, length-drop len text, ap (λ (l : List ℕ). length l) split, length-append line after);
       plain = All-append (λ l. is_separator_line l ≡ false) passed.front (line ∷ []) passed.plain (one_plain line plain);

@@ -1,4 +1,8 @@
+mod TrueTests
 mod PlaceNumbers
+mod PlaceWidths
 mod RowPlaceLaws
 mod FieldAnswers
-mod PlaceWidths
+mod EveryValue
+mod RowsFit
+mod EntriesApart

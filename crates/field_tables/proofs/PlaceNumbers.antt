@@ -1,5 +1,5 @@
 -- The number in bits of one byte, and in a 16-bit value, as code computes it.
-use Rattle.std.proofs.Common.{◌≡◌, ℕ, zero, suc, ◌+◌, ◌*◌, ◌/◌, ◌%◌, ◌^◌, ◌<◌, List, [], ◌∷◌, ◌++◌, length, refl, sym, ap, ◌∙◌, arith, add-one, ◌≤◌, add_comm, add-zero, zero-add, add-suc, mul-one, one-mul, zero-mul}
+use Rattle.std.proofs.Common.{◌≡◌, ℕ, zero, suc, ◌+◌, ◌*◌, ◌/◌, ◌%◌, ◌^◌, ◌<◌, [], ◌∷◌, length, sym, ap, ◌∙◌, arith, add-one, ◌≤◌, add_comm, add-zero, zero-add, add-suc, mul-one, one-mul, zero-mul}
 use Rattle.std.proofs.Math.Nat.{div-div-eq-div-mul, pow-suc, mod-eq_of_lt, mod-one, div-one, suc-add, two-pow-succ, mul-le-mul_right}
 use Rattle.std.proofs.lemmas.Nat.Bits.{bit_at-lt}
 use Rattle.std.proofs.lemmas.Nat.{mod-pow-add}

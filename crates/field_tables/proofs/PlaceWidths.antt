@@ -1,5 +1,5 @@
 -- How many bits the place of a value has.
-use Rattle.std.proofs.Common.{◌≡◌, ℕ, zero, suc, ◌+◌, ◌^◌, ◌<◌, length, refl, sym, subst, ap, ◌∙◌}
+use Rattle.std.proofs.Common.{◌≡◌, ℕ, zero, suc, ◌^◌, ◌<◌, length, refl, sym, subst, ap}
 use Rattle.field_tables.specs.declared.layout.Layout.{Layout}
 use Rattle.field_tables.specs.declared.layout.Layout.TheVariants.{Single, Every, Bits, Down, Nibbles, Quad}
 use Rattle.field_tables.specs.declared.layout.Part.{Part}

@@ -1,6 +1,5 @@
 -- What a row that fits says of the place of each of its values.
-use Rattle.std.proofs.Common.{◌≡◌, ℕ, zero, suc, ◌+◌, ◌-◌, ◌*◌, ◌/◌, ◌<◌, ◌≤◌, ◌&&◌, Bool, true, false, List, [], ◌∷◌, ◌++◌, refl, sym, subst, ap, ◌∙◌, inl, inr, arith, nat_lt, nat_le}
-use Rattle.std.proofs.Math.Nat.{eq-or-lt_of_le}
+use Rattle.std.proofs.Common.{◌≡◌, ℕ, zero, suc, ◌+◌, ◌-◌, ◌<◌, ◌≤◌, ◌&&◌, true, [], ◌∷◌, sym, subst, ◌∙◌, arith}
 use Rattle.std.proofs.lemmas.Bool.Decides.{nat_tests}
 use Rattle.std.proofs.lemmas.List.Folds.{list_all-append}
 use Rattle.std.specs.Cmp.Derive.{both_true}
@@ -15,18 +14,8 @@ use Rattle.field_tables.specs.declared.layout.Row.{Row}
 use Rattle.field_tables.specs.RowPlaces.{place_by, place_of}
 use Rattle.field_tables.specs.Layouts.{Place, bits_up}
 use Rattle.field_tables.specs.Parts.{part_at}
+use Rattle.field_tables.proofs.TrueTests.{both, in_range, lt_true}
 use Rattle.field_tables.specs.RowFits.{in_half, part_fits, part_inside, row_fits, steps_fit}
-
-pub both : (a b : Bool) → (a && b) ≡ true → (a ≡ true) × (b ≡ true)
-both true b e = (refl, e)
-both false b e = absurd (cc)
-
--- a test that all numbers from a pass
-pub in_range : (test : ℕ → Bool) (a n i : ℕ) → list_all test (range_with_len a n) ≡ true → a ≤ i → i < a + n → test i ≡ true
-in_range test a zero i all first last = absurd (omega arith)
-in_range test a (suc n) i all first last =
-    let parts = both (test a) (list_all test (range_with_len (a + 1) n)) all in
-    elim (eq-or-lt_of_le first) [ inl same ↦ subst (λ (k : ℕ). test k ≡ true) same parts.0 | inr above ↦ in_range test (a + 1) n i parts.1 (omega arith) (omega arith) ]
 
 -- the place of each value of a row that is laid out so is in the row's half
 pub place_fits : (row : Row) (layout : Layout) (i : ℕ) → row_fits row ≡ true → row.layout ≡ layout → 1 ≤ i → i ≤ row.count →
@@ -61,9 +50,6 @@ bits_inside half byte low (suc more) all =
     let parts = both (in_half half (byte, low)) (list_all (in_half half) (bits_up byte (suc low) (suc more))) all in
     let later = bits_inside half byte (suc low) more parts.1 in
     (later.0, omega arith)
-
-lt_true : (a b : ℕ) → a < b → nat_lt a b ≡ true
-lt_true a b below = grind (arith, nat_tests)
 
 -- a part whose bits are in a half
 pub inside_part : (half : Half) (part : Part) (byte : ℕ) → part_fits part ≡ true → list_all (in_half half) (part_at part byte) ≡ true → part_inside part byte ≡ true

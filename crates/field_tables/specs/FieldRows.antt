@@ -1,30 +1,27 @@
--- The memory map: the row of each field, with the standard it belongs to. (docs/fields.md; OIF-CMIS-05.0, chapter 8
--- "Module Management Memory Map"; SFF-8636, chapter 6; SFF-8472, chapters 5 to 9)
+-- The memory map: the row of each field, with the standard that it belongs to. (docs/fields.md, "Fields"; OIF-CMIS-05.0,
+-- chapter 8 "Module Management Memory Map")
 use Rattle.std.specs.Prelude.{ℕ, Option, Some, None}
 use Rattle.bus_model.specs.declared.device.Dev.{Dev}
-use Rattle.bus_model.specs.declared.device.Dev.TheVariants.{A0, A2}
+use Rattle.bus_model.specs.declared.device.Dev.TheVariants.{A0}
 use Rattle.paged_memory.specs.declared.key.Half.{Half}
 use Rattle.paged_memory.specs.declared.key.Half.TheVariants.{Lower, Upper}
+use Rattle.field_tables.specs.Standards.{Standard, cmis}
 use Rattle.field_tables.specs.declared.field.Field.{Field}
 use Rattle.field_tables.specs.declared.field.Field.TheVariants as fields
 use Rattle.field_tables.specs.declared.layout.Layout.{Layout}
-use Rattle.field_tables.specs.declared.layout.Layout.TheVariants.{Single, Every, Bits, Down, Nibbles, Quad}
+use Rattle.field_tables.specs.declared.layout.Layout.TheVariants.{Single, Every, Bits}
 use Rattle.field_tables.specs.declared.layout.Part.{Part}
 use Rattle.field_tables.specs.declared.layout.Part.TheVariants.{Byte, Word, Range}
 use Rattle.field_tables.specs.declared.layout.Row.{Row}
 use Rattle.field_tables.specs.declared.layout.Sign.{Sign}
 use Rattle.field_tables.specs.declared.layout.Sign.TheVariants.{Unsigned, Signed}
 use Rattle.field_tables.specs.declared.units.Unit as units
-use Rattle.field_tables.specs.declared.units.Unit.TheVariants.{Temperature, Voltage, OpticalPower, Bias, ModulePower}
-
-pub data Standard : Type 0 where
-  cmis : Standard
-  sff8636 : Standard
-  sff8472 : Standard
+use Rattle.field_tables.specs.declared.units.Unit.TheVariants.{Temperature, Voltage, ModulePower}
 
 -- a line of the table
 abbrev pub line : Standard → Dev → Half → ℕ → ℕ → Part → Layout → ℕ → Sign → Option units.Unit → Standard × Row
-line standard device half page offset part layout count sign unit = (standard, record { device = device; half = half; page = page; offset = offset; bits = part; layout = layout; count = count; sign = sign; unit = unit })
+line standard device half page offset part layout count sign unit =
+    (standard, record { device = device; half = half; page = page; offset = offset; bits = part; layout = layout; count = count; sign = sign; unit = unit })
 
 -- standard, device, half and page, offset, bits, layout, number of values, sign, unit
 abbrev pub line_of : Field → Standard × Row

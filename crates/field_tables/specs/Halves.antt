@@ -1,6 +1,6 @@
 -- Halves of a module's memory by device, half and page: rows name pages of bank 0 alone.
 -- (OIF-CMIS-05.0, "Management Memory Map"; SFF-8636, "Memory Map"; SFF-8472, "Memory Organization")
-use Rattle.std.specs.Prelude.{ℕ, List, slice_index}
+use Rattle.std.specs.Prelude.{ℕ, Bool, ◌&&◌, nat_le, nat_lt, List, slice_index}
 use Rattle.bus_model.specs.declared.device.Dev.{Dev}
 use Rattle.paged_memory.specs.declared.key.Half.{Half}
 use Rattle.paged_memory.specs.declared.key.Half.TheVariants.{Lower, Upper}
@@ -12,6 +12,11 @@ use Rattle.field_tables.specs.declared.fault.FieldFault.{FieldFault}
 abbrev pub half_key : Dev → Half → ℕ → Key
 half_key device Lower page = lower_key device
 half_key device Upper page = upper_key device 0 page
+
+-- the addresses of a half
+abbrev pub address_fits : Half → ℕ → Bool
+address_fits Lower address = nat_lt address 128
+address_fits Upper address = nat_le 128 address && nat_lt address 256
 
 -- the byte that a half shows at an address
 abbrev pub byte_in : List ℕ → ℕ → ℕ

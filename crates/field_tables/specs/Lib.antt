@@ -1,7 +1,8 @@
+pub mod Halves
 pub mod Layouts
 pub mod Numbers
 pub mod Parts
-pub mod Halves
+pub mod Standards
 pub mod FieldRows
 pub mod RowPlaces
 pub mod FieldValues
@@ -10,3 +11,4 @@ pub mod Spans
 pub mod Texts
 pub mod Sums
 pub mod Units
+pub mod Entries

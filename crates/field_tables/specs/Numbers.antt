@@ -1,5 +1,5 @@
 -- The number that stands in a place. (docs/fields.md, "Places and layouts")
-use Rattle.std.specs.Prelude.{ℕ, ◌+◌, ◌*◌, ◌^◌, ◌==◌, if◌then◌else◌, ℤ, pos, ◌-ℤ◌, sum_by}
+use Rattle.std.specs.Prelude.{ℕ, ◌*◌, ◌^◌, ◌==◌, if◌then◌else◌, ℤ, pos, ◌-ℤ◌, sum_by}
 use Rattle.std.specs.Int.{bit_at}
 use Rattle.std.specs.List.{enumerate_from}
 use Rattle.field_tables.specs.declared.layout.Sign.{Sign}

@@ -1,22 +1,20 @@
 -- What each row of the table keeps to: its values stand within its half. (docs/fields.md, "Places and layouts")
-use Rattle.std.specs.Prelude.{ℕ, suc, ◌+◌, Bool, true, false, ◌&&◌, nat_lt, nat_le, List}
+use Rattle.std.specs.Prelude.{ℕ, suc, ◌+◌, Bool, true, ◌&&◌, nat_lt, nat_le}
 use Rattle.std.specs.List.{list_all, range_with_len}
 use Rattle.paged_memory.specs.declared.key.Half.{Half}
-use Rattle.paged_memory.specs.declared.key.Half.TheVariants.{Lower, Upper}
 use Rattle.field_tables.specs.declared.layout.Layout.{Layout}
 use Rattle.field_tables.specs.declared.layout.Layout.TheVariants.{Down}
 use Rattle.field_tables.specs.declared.layout.Part.{Part}
 use Rattle.field_tables.specs.declared.layout.Part.TheVariants.{Byte, Word, Range}
 use Rattle.field_tables.specs.declared.layout.Row.{Row}
 use Rattle.paged_memory.specs.Images.{place_in_half}
-use Rattle.field_tables.specs.Layouts.{Place}
+use Rattle.field_tables.specs.Halves.{address_fits}
 use Rattle.field_tables.specs.RowPlaces.{place_of}
 use Rattle.field_tables.specs.Parts.{high_of}
 
 -- a bit of the half
 abbrev pub in_half : Half → ℕ × ℕ → Bool
-in_half Lower bit = nat_lt bit.0 128 && nat_lt bit.1 8
-in_half Upper bit = nat_le 128 bit.0 && nat_lt bit.0 256 && nat_lt bit.1 8
+in_half half bit = address_fits half bit.0 && nat_lt bit.1 8
 
 -- bits are named from the highest
 abbrev pub part_fits : Part → Bool

@@ -1,9 +1,8 @@
 -- Where the values of a row stand in its half. (docs/fields.md, "Places and layouts")
-use Rattle.std.specs.Prelude.{ℕ, suc, ◌-◌, ◌^◌, ℤ, pos, neg_ℤ, ◌≤ℤ◌, ◌<ℤ◌}
+use Rattle.std.specs.Prelude.{ℕ, ◌^◌, ℤ, pos, neg_ℤ, ◌≤ℤ◌, ◌<ℤ◌}
 use Rattle.field_tables.specs.declared.layout.Layout.{Layout}
 use Rattle.field_tables.specs.declared.layout.Layout.TheVariants.{Single, Every, Bits, Down, Nibbles, Quad}
 use Rattle.field_tables.specs.declared.layout.Part.{Part}
-use Rattle.field_tables.specs.declared.layout.Part.TheVariants.{Byte, Word, Range}
 use Rattle.field_tables.specs.declared.layout.Row.{Row}
 use Rattle.field_tables.specs.declared.layout.Sign.{Sign}
 use Rattle.field_tables.specs.declared.layout.Sign.TheVariants.{Unsigned, Signed}

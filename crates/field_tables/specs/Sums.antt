@@ -1,20 +1,24 @@
--- The sums of the memory map: the low 8 bits of the sum of bytes. (docs/fields.md, "Sums"; OIF-CMIS-05.0, chapter 8,
--- "Page Checksum"; SFF-8636, "CC_BASE" and "CC_EXT"; SFF-8472, the same and "CC_DMI")
+-- The sums of the memory map: the low 8 bits of the sum of bytes. (docs/fields.md, "Sums"; OIF-CMIS-05.0, chapter 8
+-- "Module Management Memory Map", the page checksums)
 use Rattle.std.specs.Prelude.{ℕ, ◌%◌, ◌==◌, Bool, ◌&&◌, sum, List, Option, option_map}
 use Rattle.std.specs.FinMap as map
-use Rattle.bus_model.specs.declared.device.Dev.TheVariants.{A0, A2}
-use Rattle.paged_memory.specs.declared.key.Half.TheVariants.{Lower, Upper}
+use Rattle.bus_model.specs.declared.device.Dev.TheVariants.{A0}
+use Rattle.paged_memory.specs.declared.key.Half.TheVariants.{Upper}
 use Rattle.paged_memory.specs.declared.key.Key.{Key}
 use Rattle.paged_memory.specs.Images.{Memory}
 use Rattle.field_tables.specs.declared.field.Sum.{Sum}
-use Rattle.field_tables.specs.declared.field.Sum.TheVariants.{CSum00}
+use Rattle.field_tables.specs.declared.field.Sum.TheVariants as sums
 use Rattle.field_tables.specs.declared.spans.Span.{Span}
-use Rattle.field_tables.specs.Halves.{byte_in, half_key}
-use Rattle.field_tables.specs.Spans.{span, address_fits, bytes_in, span_fits}
+use Rattle.field_tables.specs.Standards.{Standard, cmis}
+use Rattle.field_tables.specs.Halves.{address_fits, byte_in, half_key}
+use Rattle.field_tables.specs.Spans.{span, bytes_in, span_fits}
 
--- the bytes that are summed, and the address of the sum
+-- standard; device, half and page, first and last byte of those that are summed; the address of the sum
+abbrev pub sum_line_of : Sum → Standard × (Span × ℕ)
+sum_line_of sums.CSum00 = (cmis, (span A0 Upper 0x00 128 221, 222))
+
 abbrev pub sum_row : Sum → Span × ℕ
-sum_row CSum00 = (span A0 Upper 0 128 221, 222)
+sum_row s = (sum_line_of s).1
 
 abbrev pub sum_key : Sum → Key
 sum_key s = half_key (sum_row s).0.device (sum_row s).0.half (sum_row s).0.page

@@ -1,23 +1,28 @@
--- The texts of the memory map, each as its bytes. (docs/fields.md, "Texts"; OIF-CMIS-05.0, chapter 8, "Administrative
--- Information (Page 00h)"; SFF-8636, "Vendor Name" to "Date Code"; SFF-8472, the same)
+-- The texts of the memory map, each as its bytes. (docs/fields.md, "Texts"; OIF-CMIS-05.0, chapter 8 "Module Management
+-- Memory Map", page 00h)
 use Rattle.std.specs.Prelude.{ℕ, suc, ◌-◌, Bool, ◌&&◌, nat_le, List, Option, option_map}
 use Rattle.std.specs.FinMap as map
-use Rattle.bus_model.specs.declared.device.Dev.TheVariants.{A0, A2}
-use Rattle.paged_memory.specs.declared.key.Half.TheVariants.{Lower, Upper}
+use Rattle.bus_model.specs.declared.device.Dev.TheVariants.{A0}
+use Rattle.paged_memory.specs.declared.key.Half.TheVariants.{Upper}
 use Rattle.paged_memory.specs.declared.key.Key.{Key}
 use Rattle.paged_memory.specs.Images.{Memory}
 use Rattle.field_tables.specs.declared.field.TextField.{TextField}
-use Rattle.field_tables.specs.declared.field.TextField.TheVariants.{CVendor, CPart, CPartRevision, CSerial, CDate}
+use Rattle.field_tables.specs.declared.field.TextField.TheVariants as texts
 use Rattle.field_tables.specs.declared.spans.Span.{Span}
+use Rattle.field_tables.specs.Standards.{Standard, cmis}
 use Rattle.field_tables.specs.Halves.{half_key}
 use Rattle.field_tables.specs.Spans.{span, bytes_in, span_fits}
 
+-- standard, device, half and page, first and last byte
+abbrev pub text_line_of : TextField → Standard × Span
+text_line_of texts.CVendor = (cmis, span A0 Upper 0x00 129 144)
+text_line_of texts.CPart = (cmis, span A0 Upper 0x00 148 163)
+text_line_of texts.CPartRevision = (cmis, span A0 Upper 0x00 164 165)
+text_line_of texts.CSerial = (cmis, span A0 Upper 0x00 166 181)
+text_line_of texts.CDate = (cmis, span A0 Upper 0x00 182 189)
+
 abbrev pub text_span : TextField → Span
-text_span CVendor = span A0 Upper 0 129 144
-text_span CPart = span A0 Upper 0 148 163
-text_span CPartRevision = span A0 Upper 0 164 165
-text_span CSerial = span A0 Upper 0 166 181
-text_span CDate = span A0 Upper 0 182 189
+text_span text = (text_line_of text).1
 
 abbrev pub text_key : TextField → Key
 text_key text = half_key (text_span text).device (text_span text).half (text_span text).page

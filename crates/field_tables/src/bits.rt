@@ -1,4 +1,4 @@
-ghost use Rattle.std.specs.Prelude.{◌≡◌, ◌<◌, ◌≤◌, ◌+◌, length, slice_index};
+ghost use Rattle.std.specs.Prelude.{◌≡◌, ◌<◌, ◌≤◌, ◌+◌};
 ghost use Rattle.paged_memory.specs.Images.{place_in_half};
 ghost use Rattle.field_tables.specs.Layouts.{bits_up, word};
 ghost use Rattle.field_tables.specs.Numbers.{number_in};

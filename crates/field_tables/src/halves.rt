@@ -1,4 +1,4 @@
-ghost use Rattle.std.specs.Prelude.{◌≡◌, ◌<◌, IfErr, IfOk, None, OnErr, Some};
+ghost use Rattle.std.specs.Prelude.{◌≡◌, IfErr, IfOk, None, OnErr, Some};
 ghost use Rattle.std.specs.FinMap as map;
 ghost use Rattle.paged_memory.specs.Images.{place_in_half};
 ghost use Rattle.field_tables.specs.Halves.{absent, half_key};

@@ -5,6 +5,7 @@ mod bits;
 mod fault;
 mod field;
 mod halves;
+mod laws;
 mod layout;
 mod spans;
 mod sums;
@@ -15,6 +16,7 @@ mod values;
 
 pub use fault::FieldFault;
 pub use field::{Field, Sum, TextField};
+pub use laws::{each_entry_is_within_its_half, no_bit_means_two_things};
 pub use layout::{Layout, Part, Row, Sign};
 pub use sums::sum_right;
 pub use table::row;

@@ -1,9 +1,12 @@
+ghost use Rattle.std.specs.Prelude.{◌≡◌, IsTrue};
+ghost use Rattle.field_tables.specs.Spans.{bytes_in, span_fits};
+
 use crate::halves::place_of;
 use bus_model::Dev;
 use paged_memory::{Half, PAGE_LEN};
 
 /// Consecutive bytes of a half, by the addresses of the first and the last.
-#[derive(Clone, Copy, Debug, PartialEq, Eq)]
+#[derive(Clone, Copy)]
 pub struct Span {
     pub device: Dev,
     pub half: Half,
@@ -12,9 +15,6 @@ pub struct Span {
     pub first: u8,
     pub last: u8,
 }
-
-ghost use Rattle.std.specs.Prelude.{◌≡◌, IsTrue, slice_range};
-ghost use Rattle.field_tables.specs.Spans.{address_fits, bytes_in, span_fits};
 
 /// The bytes of a span, in those of its half.
 pub fn bytes_of(bytes: &[u8; PAGE_LEN], span: Span) -> &[u8]

@@ -1,6 +1,5 @@
-ghost use Rattle.std.specs.Prelude.{◌≡◌, IsTrue};
+ghost use Rattle.std.specs.Prelude.{◌≡◌};
 ghost use Rattle.field_tables.specs.FieldRows.{row_of};
-ghost use Rattle.field_tables.specs.RowFits.{row_fits};
 
 use crate::field::Field;
 use crate::layout::{Layout, Part, Row, Sign};
@@ -39,8 +38,7 @@ macro_rules! rows {
 
 /// The row of a field in the memory map of its standard.
 pub fn row(field: Field) -> Row
-    ensures row { result ≡ row_of field }
-    ensures fits { IsTrue (row_fits result) }
+    ensures { result ≡ row_of field }
 {
     // device, half and page, offset and bits, layout, number of values, sign and unit
     rows! { field;

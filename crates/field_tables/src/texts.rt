@@ -32,7 +32,9 @@ pub fn text_field(image: &Image, text: TextField) -> Result<ArrayVec<u8, 16>, Fi
     let span = span_of(text);
     let page = half_of(image, key_of(span.device, span.half, span.page))?;
     let mut bytes = ArrayVec::new();
-    bytes.try_extend_from_slice(bytes_of(page.bytes(), span)).unwrap();
+    bytes
+        .try_extend_from_slice(bytes_of(page.bytes(), span))
+        .unwrap();
     Ok(bytes)
 }
 

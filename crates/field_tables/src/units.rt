@@ -1,3 +1,6 @@
+ghost use Rattle.std.specs.Prelude.{◌≡◌, ◌≤ℤ◌, pos, neg_ℤ, ◌*ℤ◌};
+ghost use Rattle.field_tables.specs.Units.{IsFloor, millis_of};
+
 /// What one step of a monitored value is.
 #[derive(Clone, Copy, Debug, PartialEq, Eq)]
 pub enum Unit {
@@ -13,14 +16,12 @@ pub enum Unit {
     ModulePower,
 }
 
-ghost use Rattle.std.specs.Prelude.{◌≡◌, ◌≤ℤ◌, pos, neg_ℤ};
-ghost use Rattle.field_tables.specs.Units.{millis_of};
-
 /// Thousandths of the printed unit (degrees Celsius, millivolts, microwatts, milliamperes, watts), rounded down.
 pub fn millis(value: i64, unit: Unit) -> i64
     requires low { neg_ℤ (pos 1000000) ≤ℤ value }
     requires high { value ≤ℤ pos 1000000 }
-    ensures { result ≡ millis_of value unit }
+    ensures millis { result ≡ millis_of value unit }
+    ensures down { unit ≡ Unit.Temperature → IsFloor result (value *ℤ pos 1000) 256 }
 {
     match unit {
         Unit::Temperature => (value * 1000).div_euclid(256),
@@ -30,3 +31,6 @@ pub fn millis(value: i64, unit: Unit) -> i64
         Unit::ModulePower => value * 250,
     }
 }
+
+#[cfg(test)]
+mod tests;

@@ -1,5 +1,4 @@
 ghost use Rattle.std.specs.Prelude.{◌≡◌, ◌≤◌, All, IfOk, IsTrue, ok_or};
-ghost use Rattle.paged_memory.specs.Images.{place_in_half};
 ghost use Rattle.field_tables.specs.Halves.{absent, byte_in};
 ghost use Rattle.field_tables.specs.FieldRows.{row_of};
 ghost use Rattle.field_tables.specs.FieldValues.{field_key, row_value, value_of, values_of};
@@ -101,3 +100,6 @@ fn part_at(bytes: &[u8; PAGE_LEN], part: Part, address: usize) -> u16
         }
     }
 }
+
+#[cfg(test)]
+mod tests;

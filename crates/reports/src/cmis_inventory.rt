@@ -7,8 +7,8 @@ ghost use Rattle.reports.specs.Lines.{line, IsReport};
 ghost use Rattle.reports.specs.Inventory.{inventory_fault, inventory_lines, kind_lines, vendor_lines, build_lines, memory_word, sum_word, max_power_of, length_of, is_cmis, is_read_revision};
 
 use crate::fault::ReportFault;
-use crate::readings::{is_sum_right, number, oui, text};
 use crate::line::push_line;
+use crate::readings::{is_sum_right, number, oui, text};
 use crate::shown::{ByteCode, Measure, Printable, RevisionNumber};
 use field_tables::{Field, Sum, TextField, Unit, millis};
 use paged_memory::{Dev, Image, Key};
@@ -71,10 +71,26 @@ fn push_kind(report: &mut String, image: &Image) -> Result<(), AllocError>
     ensures { OnOk result (string_bytes report.new ≡ string_bytes report.old ++ text_of (kind_lines image.now)) }
 {
     push_line(report, "family", "CMIS")?;
-    push_line(report, "identifier", ByteCode(number(image, Field::CIdentifier)))?;
-    push_line(report, "revision", RevisionNumber(number(image, Field::CRevision)))?;
-    push_line(report, "memory", memory_word(number(image, Field::CFlatMemory)))?;
-    push_line(report, "media-type", ByteCode(number(image, Field::CMediaType)))?;
+    push_line(
+        report,
+        "identifier",
+        ByteCode(number(image, Field::CIdentifier)),
+    )?;
+    push_line(
+        report,
+        "revision",
+        RevisionNumber(number(image, Field::CRevision)),
+    )?;
+    push_line(
+        report,
+        "memory",
+        memory_word(number(image, Field::CFlatMemory)),
+    )?;
+    push_line(
+        report,
+        "media-type",
+        ByteCode(number(image, Field::CMediaType)),
+    )?;
     Ok(())
 }
 
@@ -82,11 +98,23 @@ fn push_kind(report: &mut String, image: &Image) -> Result<(), AllocError>
 fn push_vendor(report: &mut String, image: &Image) -> Result<(), AllocError>
     ensures { OnOk result (string_bytes report.new ≡ string_bytes report.old ++ text_of (vendor_lines image.now)) }
 {
-    push_line(report, "vendor", Printable(&text(image, TextField::CVendor)))?;
+    push_line(
+        report,
+        "vendor",
+        Printable(&text(image, TextField::CVendor)),
+    )?;
     push_line(report, "oui", Hexadecimal(&oui(image)))?;
     push_line(report, "part", Printable(&text(image, TextField::CPart)))?;
-    push_line(report, "part-revision", Printable(&text(image, TextField::CPartRevision)))?;
-    push_line(report, "serial", Printable(&text(image, TextField::CSerial)))?;
+    push_line(
+        report,
+        "part-revision",
+        Printable(&text(image, TextField::CPartRevision)),
+    )?;
+    push_line(
+        report,
+        "serial",
+        Printable(&text(image, TextField::CSerial)),
+    )?;
     push_line(report, "date", Printable(&text(image, TextField::CDate)))?;
     Ok(())
 }
@@ -95,12 +123,28 @@ fn push_vendor(report: &mut String, image: &Image) -> Result<(), AllocError>
 fn push_build(report: &mut String, image: &Image) -> Result<(), AllocError>
     ensures { OnOk result (string_bytes report.new ≡ string_bytes report.old ++ text_of (build_lines image.now)) }
 {
-    push_line(report, "power-class", u16::from(number(image, Field::CPowerClass)) + 1)?;
+    push_line(
+        report,
+        "power-class",
+        u16::from(number(image, Field::CPowerClass)) + 1,
+    )?;
     push_line(report, "max-power", Measure(max_power(image), "W"))?;
     push_line(report, "length", Measure(length(image), "m"))?;
-    push_line(report, "connector", ByteCode(number(image, Field::CConnector)))?;
-    push_line(report, "technology", ByteCode(number(image, Field::CTechnology)))?;
-    push_line(report, "sum-00h", sum_word(is_sum_right(image, Sum::CSum00)))?;
+    push_line(
+        report,
+        "connector",
+        ByteCode(number(image, Field::CConnector)),
+    )?;
+    push_line(
+        report,
+        "technology",
+        ByteCode(number(image, Field::CTechnology)),
+    )?;
+    push_line(
+        report,
+        "sum-00h",
+        sum_word(is_sum_right(image, Sum::CSum00)),
+    )?;
     Ok(())
 }
 
@@ -109,7 +153,10 @@ fn max_power(image: &Image) -> i64
     ensures value { result ≡ max_power_of image.now }
     ensures fits { FitsSigned w64 result }
 {
-    millis(i64::from(number(image, Field::CMaxPower)), Unit::ModulePower)
+    millis(
+        i64::from(number(image, Field::CMaxPower)),
+        Unit::ModulePower,
+    )
 }
 
 // The length of the fibre or the copper, in thousandths of a metre.

@@ -1,12 +1,14 @@
 //! What the program reports of a module, as text.
 #![tactic(auto)]
 
-mod fault;
 mod cmis_inventory;
+mod fault;
 mod line;
 mod readings;
 mod shown;
 
+pub use cmis_inventory::inventory;
 pub use fault::ReportFault;
 
-pub use cmis_inventory::inventory;
+#[cfg(test)]
+mod tests;

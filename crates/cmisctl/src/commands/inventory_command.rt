@@ -16,7 +16,11 @@ use std::alloc::Global;
 use std::io::{Read, Write};
 
 /// Reads the text of an image, and writes the module's inventory or why there is none.
-pub fn inventory<R: Read, W: Write>(alloc: Global, reader: &mut CountedReader<R>, writer: &mut W) -> Status
+pub fn inventory<R: Read, W: Write>(
+    alloc: Global,
+    reader: &mut CountedReader<R>,
+    writer: &mut W,
+) -> Status
     ensures reads { reads_of reader.new ≤ read_limit }
     ensures run { IfSome (remaining_of R.remaining reader.old) (λ input. IsRun (IsInventory input) (W.contents writer.old) (W.contents writer.new) result) }
 {
@@ -60,3 +64,6 @@ fn only_part(input: &[u8]) -> Result<&[u8], Fault>
     };
     Ok(parts[0])
 }
+
+#[cfg(test)]
+mod tests;

@@ -1,9 +1,9 @@
-use Rattle.std.proofs.Common.{◌≡◌, ℕ, ◌+◌, ◌-◌, ◌*◌, ◌/◌, ◌≤◌, ◌<◌, Bool, true, zero, [], sym, ap, ◌∙◌, subst, arith}
+use Rattle.std.proofs.Common.{◌≡◌, ℕ, ◌+◌, ◌-◌, ◌*◌, ◌/◌, ◌<◌, true, sym, subst, arith}
 use Rattle.paged_memory.specs.Images.{place_in_half}
 use Rattle.field_tables.specs.declared.layout.Layout.TheVariants.{Single, Every, Bits, Nibbles, Quad}
 use Rattle.field_tables.specs.Layouts.{in_turn}
 use Rattle.field_tables.specs.Parts.{low_of}
-use Rattle.field_tables.specs.RowFits.{in_half, part_inside}
+use Rattle.field_tables.specs.RowFits.{part_inside}
 use Rattle.field_tables.proofs.RowPlaceLaws.{place_fits, part_ordered, inside_part, bits_inside}
 use Rattle.field_tables.proofs.values.number_at.Goals as goal
 

@@ -1,4 +1,4 @@
-use Rattle.std.proofs.Common.{◌≡◌, ℕ, ◌+◌, ◌<◌, pos, All, get_or, length}
+use Rattle.std.proofs.Common.{◌≡◌, ℕ, ◌+◌, ◌<◌, pos, get_or, length}
 use Rattle.field_tables.specs.FieldValues.{row_value}
 use Rattle.field_tables.specs.RowPlaces.{IsInRange}
 use Rattle.field_tables.proofs.values.value.Given as goal

@@ -1,0 +1,179 @@
+use super::inventory;
+use crate::input::CountedReader;
+use crate::status::Status;
+use std::io;
+use std::io::{ErrorKind, Read, Write};
+use std::process::Abort;
+use std::test::Fail;
+
+// A QSFP-DD module for 400GBASE-DR4, by its lower memory and page 00h.
+const IMAGE: &str = "module-image 1\n\
+    lower A0 1850000600000000000400000000230080e80000000000000000000000000000\
+    0000000000000000000000000000000000000000000000000000000000000000\
+    00000000000000000000000000000000000000000002111c84010d142155ff00\
+    0000000000000000000000000000000000000000000000000000000000000000\n\
+    upper A0 00 00 184558414d504c452020202020202020200011225144442d343030472d445234\
+    202020203141534e303030312020202020202020202032343031333120200000\
+    0000000000000000e030000c0000000000000000000000000000000000006a00\
+    0000000000000000000000000000000000000000000000000000000000000000\nend\n";
+
+const REPORT: &str = "family CMIS\n\
+    identifier 18h\n\
+    revision 5.0\n\
+    memory paged\n\
+    media-type 02h\n\
+    vendor EXAMPLE\n\
+    oui 001122\n\
+    part QDD-400G-DR4\n\
+    part-revision 1A\n\
+    serial SN0001\n\
+    date 240131\n\
+    power-class 8\n\
+    max-power 12.000 W\n\
+    length 0.000 m\n\
+    connector 0Ch\n\
+    technology 00h\n\
+    sum-00h right\n";
+
+/// Gives at most 100 bytes a read, and fails at read number `failing`; numbers begin at 1.
+#[derive(Drop)]
+struct FakeReader<'a> {
+    rest: &'a [u8],
+    failing: usize,
+    calls: usize,
+}
+
+impl Read for FakeReader<'_> {
+    fn read(&mut self, buf: &mut [u8]) -> io::Result<usize> {
+        self.calls = self.calls.saturating_add(1);
+        if self.calls == self.failing {
+            return Err(io::Error::from(ErrorKind::Other));
+        }
+        let count = buf.len().min(100).min(self.rest.len());
+        let (given, rest) = self.rest.split_at(count);
+        buf[..count].copy_from_slice(given);
+        self.rest = rest;
+        Ok(count)
+    }
+}
+
+/// Keeps what is written while there is room, three bytes a write at most, and counts the calls after a failed one.
+#[derive(Drop)]
+struct FakeWriter {
+    kept: Vec<u8>,
+    room: usize,
+    has_failed: bool,
+    later_calls: usize,
+}
+
+impl Write for FakeWriter {
+    fn write(&mut self, buf: &[u8]) -> io::Result<usize> {
+        if self.has_failed {
+            self.later_calls = self.later_calls.saturating_add(1);
+        }
+        let count = buf
+            .len()
+            .min(3)
+            .min(self.room - self.kept.len().min(self.room));
+        if count == 0 || self.kept.extend_from_slice(&buf[..count]).is_err() {
+            self.has_failed = true;
+            return Err(io::Error::from(ErrorKind::BrokenPipe));
+        }
+        Ok(count)
+    }
+
+    fn flush(&mut self) -> io::Result<()> {
+        Ok(())
+    }
+}
+
+/// Whether the answer is the one wanted, or want of memory said in its line.
+fn assert_answer(rt: &impl Abort, ends: Status, wanted: Status, written: &[u8], text: &str) {
+    if ends == Status::Memory {
+        assert_eq!(rt; written, b"fault memory\n".as_slice());
+    } else {
+        assert_eq!(rt; ends, wanted);
+        assert_eq!(rt; written, text.as_bytes());
+    }
+}
+
+/// Run with each allocation refused in turn, too.
+#[test]
+fn the_inventory_comes(rt: HostRuntime) -> Result<(), Fail> {
+    let mut writer = FakeWriter {
+        kept: Vec::with_capacity(rt.alloc(), 1000)?,
+        room: 1000,
+        has_failed: false,
+        later_calls: 0,
+    };
+    let mut reader = CountedReader::new(IMAGE.as_bytes());
+    let ends = inventory(rt.alloc(), &mut reader, &mut writer);
+    assert_answer(&rt, ends, Status::Done, &writer.kept, REPORT);
+    Ok(())
+}
+
+#[test]
+fn a_fault_comes_in_one_line(rt: HostRuntime) -> Result<(), Fail> {
+    let two = format!(in rt.alloc(); "{IMAGE}---\n{IMAGE}")?;
+    let cut = IMAGE.get(..281).ok_or("the image is shorter")?;
+    let lower = format!(in rt.alloc(); "{cut}end\n")?;
+    for (input, line) in [
+        (two.as_str(), "fault PT1 2\n"),
+        ("---\n", "fault PT1 2\n"),
+        ("", "fault IM1\n"),
+        ("--- \n", "fault IM1\n"),
+        ("module-image 1\nend\n", "fault RP6 lower A0\n"),
+    ] {
+        let mut written = Vec::with_capacity(rt.alloc(), 100)?;
+        let mut reader = CountedReader::new(input.as_bytes());
+        let ends = inventory(rt.alloc(), &mut reader, &mut written);
+        assert_answer(&rt, ends, Status::Refused, &written, line);
+    }
+    let mut written = Vec::with_capacity(rt.alloc(), 100)?;
+    let mut reader = CountedReader::new(lower.as_bytes());
+    let ends = inventory(rt.alloc(), &mut reader, &mut written);
+    assert_answer(
+        &rt,
+        ends,
+        Status::Refused,
+        &written,
+        "fault RP6 upper A0 00 00\n",
+    );
+    Ok(())
+}
+
+#[test]
+fn a_failed_read_is_said(rt: HostRuntime) -> Result<(), Fail> {
+    // 561 bytes take six reads, and a seventh finds the end.
+    for failing in 1..=7 {
+        let mut fake = FakeReader {
+            rest: IMAGE.as_bytes(),
+            failing,
+            calls: 0,
+        };
+        let mut written = Vec::with_capacity(rt.alloc(), 100)?;
+        let ends = inventory(rt.alloc(), &mut CountedReader::new(&mut fake), &mut written);
+        assert_answer(&rt, ends, Status::ReadOrWrite, &written, "fault IO\n");
+        assert_eq!(rt; fake.calls, failing);
+    }
+    Ok(())
+}
+
+#[test]
+fn nothing_is_written_after_a_failed_write(rt: HostRuntime) -> Result<(), Fail> {
+    for room in 0..REPORT.len() {
+        let mut writer = FakeWriter {
+            kept: Vec::with_capacity(rt.alloc(), 1000)?,
+            room,
+            has_failed: false,
+            later_calls: 0,
+        };
+        let mut reader = CountedReader::new(IMAGE.as_bytes());
+        let ends = inventory(rt.alloc(), &mut reader, &mut writer);
+        assert_eq!(rt; ends, Status::ReadOrWrite);
+        let before = REPORT.get(..room).ok_or("the report is shorter")?;
+        assert_eq!(rt; writer.kept.as_slice(), before.as_bytes());
+        assert_eq!(rt; writer.later_calls, 0);
+    }
+    Ok(())
+}

@@ -1,0 +1,167 @@
+-- No bit belongs to two values: a computed test of all entries, by the span of each value, and what it says.
+use Rattle.std.proofs.Common.{◌≡◌, ℕ, zero, suc, ◌+◌, ◌*◌, ◌≤◌, ◌==◌, ◌&&◌, ◌||◌, Bool, true, false, List, [], ◌∷◌, ◌++◌, refl, sym, subst, ap, ◌∙◌, inl, inr, map, max, min, nat_lt, arith}
+use Rattle.std.specs.Prelude.{Contains}
+use Rattle.std.proofs.lemmas.Bool.Decides.{nat_tests}
+use Rattle.std.proofs.lemmas.List.Folds.{list_all-map, list_all-append}
+use Rattle.std.specs.List.{list_all, range_with_len}
+use denote.Enum.Bare.{tag_one}
+use denote.Enum.Declared.{tag_of}
+use Rattle.paged_memory.specs.declared.key.Key.{Key}
+use Rattle.paged_memory.specs.KeyOrder.{device_rank, half_rank}
+use Rattle.field_tables.specs.contracts.field.Field as field_enum
+use Rattle.field_tables.specs.contracts.field.TextField as text_enum
+use Rattle.field_tables.specs.contracts.field.Sum as sum_enum
+use Rattle.field_tables.specs.Standards.{Standard, cmis, sff8636, sff8472}
+use Rattle.field_tables.specs.Layouts.{Place}
+use Rattle.field_tables.specs.Entries.{Entry, of_field, of_text, of_sum, NoBitTwice, WithinHalf, entry_count, entry_key, entry_place, entry_standard}
+use Rattle.field_tables.specs.RowFits.{in_half}
+use Rattle.field_tables.proofs.EveryValue.{every, every_value}
+use Rattle.field_tables.proofs.TrueTests.{all_in, both, eq_from_true, eq_true, in_range, or_cases}
+
+-- ---- all entries
+
+abbrev entries : List Entry
+entries = map of_field (every field_enum.enum tt) ++ (map of_text (every text_enum.enum tt) ++ map of_sum (every sum_enum.enum tt))
+
+every_entry : (test : Entry → Bool) → list_all test entries ≡ true → (entry : Entry) → test entry ≡ true
+every_entry test all entry =
+    let fields = map of_field (every field_enum.enum tt) in
+    let texts = map of_text (every text_enum.enum tt) in
+    let sums = map of_sum (every sum_enum.enum tt) in
+    let first = both (list_all test fields) (list_all test (texts ++ sums)) (sym (list_all-append test fields (texts ++ sums)) ∙ all) in
+    let later = both (list_all test texts) (list_all test sums) (sym (list_all-append test texts sums) ∙ first.1) in
+    elim entry as (λ (e : Entry). test e ≡ true) [
+      | of_field field ↦ every_value field_enum.enum tt (λ f. test (of_field f)) (sym (list_all-map test of_field (every field_enum.enum tt)) ∙ first.0) field
+      | of_text text ↦ every_value text_enum.enum tt (λ t. test (of_text t)) (sym (list_all-map test of_text (every text_enum.enum tt)) ∙ later.0) text
+      | of_sum s ↦ every_value sum_enum.enum tt (λ t. test (of_sum t)) (sym (list_all-map test of_sum (every sum_enum.enum tt)) ∙ later.1) s
+    ]
+
+-- ---- spans of places
+
+-- bits of a half, counted from its first
+abbrev position : ℕ × ℕ → ℕ
+position bit = 8 * bit.0 + bit.1
+
+abbrev lowest : Place → ℕ
+lowest [] = 2048
+lowest (bit ∷ place) = min (position bit) (lowest place)
+
+abbrev highest : Place → ℕ
+highest [] = 0
+highest (bit ∷ place) = max (position bit) (highest place)
+
+-- a bit of a place is in its span
+in_span : (place : Place) (bit : ℕ × ℕ) → Contains place bit → (lowest place ≤ position bit) × (position bit ≤ highest place)
+in_span [] bit (k, below, is) = absurd (omega arith)
+in_span (b ∷ place) bit (zero, below, is) = let same = ap position is in (omega (arith, same), omega (arith, same))
+in_span (b ∷ place) bit (suc k, below, is) = let rest = in_span place bit (k, omega arith, is) in (omega (arith, rest.0), omega (arith, rest.1))
+
+-- ---- the test
+
+-- an entry's number among those of its kind
+abbrev number_of : Entry → ℕ × ℕ
+number_of (of_field field) = (0, tag_of field_enum.the_type field)
+number_of (of_text text) = (1, tag_of text_enum.the_type text)
+number_of (of_sum s) = (2, tag_of sum_enum.the_type s)
+
+abbrev standard_rank : Standard → ℕ
+standard_rank cmis = 0
+standard_rank sff8636 = 1
+standard_rank sff8472 = 2
+
+-- one number for each standard and half
+abbrev half_code : Standard → Key → ℕ
+half_code standard key = ((standard_rank standard * 2 + device_rank key.dev) * 2 + half_rank key.half) * 256 + key.page
+
+-- the numbers of an entry, and its values with their spans
+record Claim : Type 0 where
+  number : ℕ × ℕ
+  code : ℕ
+  spans : List (ℕ × (ℕ × ℕ))
+
+abbrev span_of : Entry → ℕ → ℕ × (ℕ × ℕ)
+span_of entry i = let place = entry_place entry i in (i, (lowest place, highest place))
+
+abbrev claim_of : Entry → Claim
+claim_of entry = record { number = number_of entry; code = half_code (entry_standard entry) (entry_key entry); spans = map (span_of entry) (range_with_len 1 (entry_count entry)) }
+
+abbrev apart : ℕ × ℕ → ℕ × ℕ → Bool
+apart s t = nat_lt s.1 t.0 || nat_lt t.1 s.0
+
+-- the same value of the same entry, or apart
+abbrev values_clear : Claim → Claim → ℕ × (ℕ × ℕ) → ℕ × (ℕ × ℕ) → Bool
+values_clear c d p q = (c.number.0 == d.number.0 && c.number.1 == d.number.1 && p.0 == q.0) || apart p.1 q.1
+
+abbrev clear_where : Bool → Claim → Claim → Bool
+clear_where false c d = true
+clear_where true c d = list_all (λ p. list_all (values_clear c d p) d.spans) c.spans
+
+abbrev clear : Claim → Claim → Bool
+clear c d = clear_where (c.code == d.code) c d
+
+abbrev all_clear : List Claim → Bool
+all_clear claims = list_all (λ c. list_all (clear c) claims) claims
+
+entries_clear : all_clear (map claim_of entries) ≡ true
+entries_clear = refl
+
+-- ---- what the test says
+
+pair_clear : (a b : Entry) → clear (claim_of a) (claim_of b) ≡ true
+pair_clear a b =
+    let claims = map claim_of entries in
+    let row : list_all (clear (claim_of a)) claims ≡ true = every_entry (λ e. list_all (clear (claim_of e)) claims) (sym (list_all-map (λ c. list_all (clear c) claims) claim_of entries) ∙ entries_clear) a in
+    every_entry (λ e. clear (claim_of a) (claim_of e)) (sym (list_all-map (clear (claim_of a)) claim_of entries) ∙ row) b
+
+values_clear_at : (a b : Entry) (i j : ℕ) → half_code (entry_standard a) (entry_key a) ≡ half_code (entry_standard b) (entry_key b) →
+    1 ≤ i → i ≤ entry_count a → 1 ≤ j → j ≤ entry_count b → values_clear (claim_of a) (claim_of b) (span_of a i) (span_of b j) ≡ true
+values_clear_at a b i j codes i_first i_last j_first j_last =
+    let c = claim_of a in
+    let d = claim_of b in
+    let met : clear_where true c d ≡ true = subst (λ (t : Bool). clear_where t c d ≡ true) (eq_true c.code d.code codes) (pair_clear a b) in
+    let of_a = in_range (λ (n : ℕ). list_all (values_clear c d (span_of a n)) d.spans) 1 (entry_count a) i
+    (sym (list_all-map (λ p. list_all (values_clear c d p) d.spans) (span_of a) (range_with_len 1 (entry_count a))) ∙ met) i_first (omega arith) in
+    in_range (λ (n : ℕ). values_clear c d (span_of a i) (span_of b n)) 1 (entry_count b) j
+    (sym (list_all-map (values_clear c d (span_of a i)) (span_of b) (range_with_len 1 (entry_count b))) ∙ of_a) j_first (omega arith)
+
+-- no number is in two spans that are apart
+not_apart : (s t : ℕ × ℕ) (n : ℕ) → (s.0 ≤ n) × (n ≤ s.1) → (t.0 ≤ n) × (n ≤ t.1) → apart s t ≡ true → ⊥
+not_apart s t n in_s in_t e = elim (or_cases (nat_lt s.1 t.0) (nat_lt t.1 s.0) e) [ inl before ↦ grind (arith, nat_tests) | inr after ↦ grind (arith, nat_tests) ]
+
+same_entry : (a b : Entry) → (number_of a).0 ≡ (number_of b).0 → (number_of a).1 ≡ (number_of b).1 → a ≡ b
+same_entry (of_field x) (of_field y) kind tag = ap of_field (tag_one field_enum.the_type tt x y tag)
+same_entry (of_text x) (of_text y) kind tag = ap of_text (tag_one text_enum.the_type tt x y tag)
+same_entry (of_sum x) (of_sum y) kind tag = ap of_sum (tag_one sum_enum.the_type tt x y tag)
+same_entry (of_field x) (of_text y) kind tag = absurd (omega (arith, kind))
+same_entry (of_field x) (of_sum y) kind tag = absurd (omega (arith, kind))
+same_entry (of_text x) (of_field y) kind tag = absurd (omega (arith, kind))
+same_entry (of_text x) (of_sum y) kind tag = absurd (omega (arith, kind))
+same_entry (of_sum x) (of_field y) kind tag = absurd (omega (arith, kind))
+same_entry (of_sum x) (of_text y) kind tag = absurd (omega (arith, kind))
+
+pub no_bit_twice : NoBitTwice
+no_bit_twice a b i j bit standards keys in_a in_b =
+    let c = claim_of a in
+    let d = claim_of b in
+    let codes : c.code ≡ d.code = ap (λ (s : Standard). half_code s (entry_key a)) standards ∙ ap (half_code (entry_standard b)) keys in
+    elim (or_cases (c.number.0 == d.number.0 && c.number.1 == d.number.1 && i == j) (apart (span_of a i).1 (span_of b j).1) (values_clear_at a b i j codes in_a.0 in_a.1 in_b.0 in_b.1)) [
+      | inl same ↦
+          let parts = both (c.number.0 == d.number.0 && c.number.1 == d.number.1) (i == j) same in
+          let numbers = both (c.number.0 == d.number.0) (c.number.1 == d.number.1) parts.0 in
+          (same_entry a b (eq_from_true c.number.0 d.number.0 numbers.0) (eq_from_true c.number.1 d.number.1 numbers.1), eq_from_true i j parts.1)
+      | inr away ↦ absurd (not_apart (span_of a i).1 (span_of b j).1 (position bit) (in_span (entry_place a i) bit in_a.2) (in_span (entry_place b j) bit in_b.2) away)
+    ]
+
+-- ---- within the half
+
+abbrev value_within : Entry → ℕ → Bool
+value_within entry i = list_all (in_half (entry_key entry).half) (entry_place entry i)
+
+entries_within : list_all (λ e. list_all (value_within e) (range_with_len 1 (entry_count e))) entries ≡ true
+entries_within = refl
+
+pub within_half : WithinHalf
+within_half entry i bit is_bit =
+    let values = every_entry (λ e. list_all (value_within e) (range_with_len 1 (entry_count e))) entries_within entry in
+    let value = in_range (value_within entry) 1 (entry_count entry) i values is_bit.0 (omega (arith, is_bit.1)) in
+    all_in (in_half (entry_key entry).half) (entry_place entry i) bit value is_bit.2
