@@ -28,7 +28,7 @@ pub enum Field {
     CLengthMultiplier,
     CLengthBase,
     CConnector,
-    /// Bit i less one is 1 where media lane i isn't supported.
+    /// Value i is 1 where media lane i is not supported.
     CUnsupportedMedia,
     CTechnology,
 }
@@ -43,7 +43,7 @@ pub enum TextField {
     CDate,
 }
 
-/// A byte that is the low 8 bits of the sum of bytes before it.
+/// A byte that is to be the low 8 bits of the sum of bytes before it.
 #[derive(Clone, Copy, Debug, PartialEq, Eq)]
 pub enum Sum {
     CSum00,
