@@ -1,0 +1,4 @@
+pub mod StateCodes
+pub mod StatusCodes
+pub mod Transitions
+pub mod Runs

@@ -1,0 +1,66 @@
+ghost use Rattle.std.specs.Prelude.{◌≡◌};
+ghost use Rattle.std.specs.Option.{ok_or};
+ghost use Rattle.datapath_states.specs.StateCodes.{code_of, state_at};
+
+use crate::CodeFault;
+
+/// The state of a data path, as each of its lanes reports it.
+#[derive(Clone, Copy, Debug, PartialEq, Eq)]
+pub enum PathState {
+    Deactivated = 1,
+    Init = 2,
+    Deinit = 3,
+    Activated = 4,
+    TxTurnOn = 5,
+    TxTurnOff = 6,
+    Initialized = 7,
+}
+
+impl PathState {
+    /// The code that stands for the state in the module's memory.
+    pub fn code(self) -> u8
+        ensures { result ≡ code_of self }
+    {
+        self as u8
+    }
+}
+
+/// The state that a code stands for.
+pub fn state_of(code: u8) -> Result<PathState, CodeFault>
+    ensures { result ≡ ok_or (state_at code) (CodeFault.Reserved code) }
+{
+    match code {
+        1 => Ok(PathState::Deactivated),
+        2 => Ok(PathState::Init),
+        3 => Ok(PathState::Deinit),
+        4 => Ok(PathState::Activated),
+        5 => Ok(PathState::TxTurnOn),
+        6 => Ok(PathState::TxTurnOff),
+        7 => Ok(PathState::Initialized),
+        _ => Err(CodeFault::Reserved(code)),
+    }
+}
+
+#[cfg(test)]
+mod tests {
+    use super::*;
+
+    #[test]
+    fn whole_code_table(rt: HostRuntime) {
+        let states = [
+            (1, PathState::Deactivated),
+            (2, PathState::Init),
+            (3, PathState::Deinit),
+            (4, PathState::Activated),
+            (5, PathState::TxTurnOn),
+            (6, PathState::TxTurnOff),
+            (7, PathState::Initialized),
+        ];
+        for (code, state) in states {
+            assert_eq!(rt; state_of(code), Ok(state));
+        }
+        for code in [0, 8, 15] {
+            assert_eq!(rt; state_of(code), Err(CodeFault::Reserved(code)));
+        }
+    }
+}

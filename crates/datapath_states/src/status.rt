@@ -1,0 +1,89 @@
+ghost use Rattle.std.specs.Prelude.{◌≡◌};
+ghost use Rattle.std.specs.Option.{ok_or};
+ghost use Rattle.datapath_states.specs.StatusCodes.{status_at, status_code_of};
+
+use crate::CodeFault;
+
+/// What became of the last configuration command on a lane.
+#[derive(Clone, Copy, Debug, PartialEq, Eq)]
+pub enum ConfigStatus {
+    Undefined,
+    Success,
+    Rejected,
+    RejectedInvalidAppSel,
+    RejectedInvalidDataPath,
+    RejectedInvalidSi,
+    RejectedLanesInUse,
+    RejectedPartialDataPath,
+    InProgress,
+    /// A rejection for a reason of the module's own, by its code from 13 to 15.
+    Custom(u8),
+}
+
+impl ConfigStatus {
+    /// The code that stands for the status in the module's memory.
+    pub fn code(self) -> u8
+        ensures { result ≡ status_code_of self }
+    {
+        match self {
+            ConfigStatus::Undefined => 0,
+            ConfigStatus::Success => 1,
+            ConfigStatus::Rejected => 2,
+            ConfigStatus::RejectedInvalidAppSel => 3,
+            ConfigStatus::RejectedInvalidDataPath => 4,
+            ConfigStatus::RejectedInvalidSi => 5,
+            ConfigStatus::RejectedLanesInUse => 6,
+            ConfigStatus::RejectedPartialDataPath => 7,
+            ConfigStatus::InProgress => 12,
+            ConfigStatus::Custom(code) => code,
+        }
+    }
+}
+
+/// The status that a code stands for.
+pub fn status_of(code: u8) -> Result<ConfigStatus, CodeFault>
+    ensures { result ≡ ok_or (status_at code) (CodeFault.Reserved code) }
+{
+    match code {
+        0 => Ok(ConfigStatus::Undefined),
+        1 => Ok(ConfigStatus::Success),
+        2 => Ok(ConfigStatus::Rejected),
+        3 => Ok(ConfigStatus::RejectedInvalidAppSel),
+        4 => Ok(ConfigStatus::RejectedInvalidDataPath),
+        5 => Ok(ConfigStatus::RejectedInvalidSi),
+        6 => Ok(ConfigStatus::RejectedLanesInUse),
+        7 => Ok(ConfigStatus::RejectedPartialDataPath),
+        12 => Ok(ConfigStatus::InProgress),
+        13..=15 => Ok(ConfigStatus::Custom(code)),
+        _ => Err(CodeFault::Reserved(code)),
+    }
+}
+
+#[cfg(test)]
+mod tests {
+    use super::*;
+
+    #[test]
+    fn whole_code_table(rt: HostRuntime) {
+        let statuses = [
+            (0, ConfigStatus::Undefined),
+            (1, ConfigStatus::Success),
+            (2, ConfigStatus::Rejected),
+            (3, ConfigStatus::RejectedInvalidAppSel),
+            (4, ConfigStatus::RejectedInvalidDataPath),
+            (5, ConfigStatus::RejectedInvalidSi),
+            (6, ConfigStatus::RejectedLanesInUse),
+            (7, ConfigStatus::RejectedPartialDataPath),
+            (12, ConfigStatus::InProgress),
+            (13, ConfigStatus::Custom(13)),
+            (14, ConfigStatus::Custom(14)),
+            (15, ConfigStatus::Custom(15)),
+        ];
+        for (code, status) in statuses {
+            assert_eq!(rt; status_of(code), Ok(status));
+        }
+        for code in [8, 9, 10, 11] {
+            assert_eq!(rt; status_of(code), Err(CodeFault::Reserved(code)));
+        }
+    }
+}

@@ -1,0 +1,4 @@
+pub mod Codes
+pub mod LowPower
+pub mod Transitions
+pub mod Runs

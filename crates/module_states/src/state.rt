@@ -1,0 +1,68 @@
+ghost use Rattle.std.specs.Prelude.{◌≡◌};
+ghost use Rattle.std.specs.Option.{ok_or};
+ghost use Rattle.module_states.specs.Codes.{code_of, state_at};
+
+use thiserror::Error;
+
+/// The state of a module as a whole.
+#[derive(Clone, Copy, Debug, PartialEq, Eq)]
+pub enum ModuleState {
+    LowPwr = 1,
+    PwrUp = 2,
+    Ready = 3,
+    PwrDn = 4,
+    Fault = 5,
+}
+
+/// Why a code is refused.
+#[derive(Clone, Copy, Debug, PartialEq, Eq, Error)]
+pub enum CodeFault {
+    /// No state has this code.
+    #[error("module state code {0} is reserved")]
+    Reserved(u8),
+}
+
+impl ModuleState {
+    /// The code that stands for the state in the module's memory.
+    pub fn code(self) -> u8
+        ensures { result ≡ code_of self }
+    {
+        self as u8
+    }
+}
+
+/// The state that a code stands for.
+pub fn state_of(code: u8) -> Result<ModuleState, CodeFault>
+    ensures { result ≡ ok_or (state_at code) (CodeFault.Reserved code) }
+{
+    match code {
+        1 => Ok(ModuleState::LowPwr),
+        2 => Ok(ModuleState::PwrUp),
+        3 => Ok(ModuleState::Ready),
+        4 => Ok(ModuleState::PwrDn),
+        5 => Ok(ModuleState::Fault),
+        _ => Err(CodeFault::Reserved(code)),
+    }
+}
+
+#[cfg(test)]
+mod tests {
+    use super::*;
+
+    #[test]
+    fn whole_code_table(rt: HostRuntime) {
+        let states = [
+            (1, ModuleState::LowPwr),
+            (2, ModuleState::PwrUp),
+            (3, ModuleState::Ready),
+            (4, ModuleState::PwrDn),
+            (5, ModuleState::Fault),
+        ];
+        for (code, state) in states {
+            assert_eq!(rt; state_of(code), Ok(state));
+        }
+        for code in [0, 6, 7] {
+            assert_eq!(rt; state_of(code), Err(CodeFault::Reserved(code)));
+        }
+    }
+}
