@@ -1,5 +1,5 @@
 -- The answer of `inventory`, by what reading the image and reporting it answer.
-use Rattle.std.proofs.Common.{◌≡◌, ℕ, List, [], ◌∷◌, Option, Some, None, Result, Ok, Err, refl, sym, ap, ◌∙◌, ◌⊎◌, inl, inr}
+use Rattle.std.proofs.Common.{◌≡◌, ℕ, List, Option, Some, None, Result, Ok, Err, refl, ap, ◌∙◌, ◌⊎◌, inl, inr}
 use Rattle.std.specs.Prelude.{MatchOption, Vec}
 use Rattle.std.specs.Result.{result_map_both}
 use Rattle.std.specs.declared.alloc.Global.{Global}
@@ -8,7 +8,6 @@ use Rattle.reports.specs.declared.fault.ReportFault.{ReportFault}
 use Rattle.reports.specs.declared.fault.ReportFault.TheVariants as report
 use Rattle.reports.specs.Lines.{IsReport}
 use Rattle.reports.specs.Inventory.{inventory_fault, inventory_lines}
-use Rattle.cmisctl.specs.declared.fault.Fault.{Fault}
 use Rattle.cmisctl.specs.Faults.{fault_of_report}
 use Rattle.cmisctl.specs.Inventory.{IsImageInput, IsInventory}
 use Rattle.cmisctl.specs.Runs.{Answer}

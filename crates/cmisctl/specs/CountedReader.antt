@@ -1,11 +1,8 @@
--- What a clause reads of a `CountedReader`: the reader within, how often it was read, and whether a read failed
--- (docs/formats.md, "Input and output").
-use Rattle.std.specs.Prelude.{◌≡◌, ◌≢◌, ℕ, Bool, true, List}
-use Rattle.std.specs.Prelude.{Option, Result, Ok, Err}
-use Rattle.std.specs.IoError.{error_kind}
-use Rattle.std.specs.declared.io.Error.{Error}
-use Rattle.std.specs.declared.io.ErrorKind.TheVariants.{Interrupted}
+-- What a clause reads of a `CountedReader`: the reader within, how often it was read, and whether a read failed.
+-- (docs/formats.md, "Input and output")
+use Rattle.std.specs.Prelude.{◌≡◌, ◌⊎◌, ℕ, Bool, true, List, Option}
 use Rattle.cmisctl.specs.declared.input.counted_reader.CountedReader.{CountedReader}
+use Rattle.cmisctl.specs.Limits.{read_limit}
 
 -- the reader that is counted
 abbrev pub inner_of : {R : Type 0} → CountedReader R → R
@@ -16,18 +13,13 @@ abbrev pub reads_of : {R : Type 0} → CountedReader R → ℕ
 reads_of reader = reader.reads
 
 -- whether a read failed
-abbrev pub has_failed : {R : Type 0} → CountedReader R → Bool
-has_failed reader = reader.failed
+abbrev pub reading_failed : {R : Type 0} → CountedReader R → Bool
+reading_failed reader = reader.failed
+
+-- the reader within is not read any more
+abbrev pub IsSpent : {R : Type 0} → CountedReader R → Type 0
+IsSpent reader = (reading_failed reader ≡ true) ⊎ (reads_of reader ≡ read_limit)
 
 -- the bytes that the reader has left, where they are known
 abbrev pub remaining_of : {R : Type 0} → (R → Option (List ℕ)) → CountedReader R → Option (List ℕ)
 remaining_of remaining reader = remaining reader.inner
-
--- an error that is no interruption
-abbrev pub IsFailure : Error → Type 0
-IsFailure e = error_kind e ≢ Interrupted
-
--- one read: whether a read has failed, before it and after it
-abbrev pub RemembersFailure : Bool → Bool → Result ℕ Error → Type 0
-RemembersFailure before after (Ok count) = after ≡ before
-RemembersFailure before after (Err e) = (error_kind e ≡ Interrupted → after ≡ before) × (IsFailure e → after ≡ true)

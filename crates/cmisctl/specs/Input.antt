@@ -1,5 +1,5 @@
 -- What the program reads: its whole input, or more than the limit of it (docs/formats.md, "Input and output").
-use Rattle.std.specs.Prelude.{◌≡◌, ◌+◌, ◌<◌, ◌≤◌, ℕ, Bool, true, List, length, Result, Ok, Err, Option, ⊤, Vec}
+use Rattle.std.specs.Prelude.{◌≡◌, ◌+◌, ◌<◌, ◌≤◌, ℕ, Bool, true, false, List, length, Result, Ok, Err, Option, ⊤, Vec}
 use Rattle.std.specs.declared.alloc.Global.{Global}
 use Rattle.std.specs.Io.KnownBytes.{Consumes}
 use Rattle.cmisctl.specs.declared.input.InputFault.{InputFault}
@@ -17,9 +17,9 @@ IsReadOf input (Err Memory) = ⊤
 abbrev pub TakesWithinLimit : Option (List ℕ) → Option (List ℕ) → Type 0
 TakesWithinLimit before after = (taken : List ℕ) × Consumes before after taken × (length taken ≤ input_limit + 1)
 
--- the answer is `Io` where a read fails, and only there
-abbrev pub AnswersFailure : {T : Type 0} → Bool → Bool → Result T InputFault → Type 0
-AnswersFailure before after (Ok _) = after ≡ before
-AnswersFailure before after (Err Io) = after ≡ true
-AnswersFailure before after (Err TooLong) = after ≡ before
-AnswersFailure before after (Err Memory) = after ≡ before
+-- the answer is `Io` exactly where a read has failed
+abbrev pub AnswersFailure : {T : Type 0} → Bool → Result T InputFault → Type 0
+AnswersFailure failed (Ok _) = failed ≡ false
+AnswersFailure failed (Err Io) = failed ≡ true
+AnswersFailure failed (Err TooLong) = failed ≡ false
+AnswersFailure failed (Err Memory) = failed ≡ false

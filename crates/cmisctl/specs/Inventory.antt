@@ -1,5 +1,5 @@
 -- What the command `inventory` answers to an input. (docs/formats.md, "inventory")
-use Rattle.std.specs.Prelude.{◌≡◌, ◌≢◌, ◌<◌, ◌≤◌, ℕ, List, [], ◌∷◌, length, Option, Some, None, Result, Ok, Err}
+use Rattle.std.specs.Prelude.{◌≡◌, ◌≢◌, ◌<◌, ◌≤◌, ℕ, List, [], ◌∷◌, length, Some, None, Ok, Err}
 use Rattle.text_lines.specs.Lines.{lines_of, text_of}
 use Rattle.paged_memory.specs.Images.{Memory}
 use Rattle.paged_memory.specs.ImageText.{IsTextOf}

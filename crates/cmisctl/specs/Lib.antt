@@ -3,10 +3,13 @@ pub mod ChoiceFault
 pub mod Entries
 pub mod Status
 pub mod Limits
+pub mod Failures
 pub mod CountedReader
+pub mod StoppingWriter
 pub mod Input
 pub mod Parts
 pub mod PartsLeft
 pub mod Faults
 pub mod Runs
 pub mod Inventory
+pub mod Program

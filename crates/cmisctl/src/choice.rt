@@ -6,7 +6,7 @@ ghost use Rattle.clap.specs.declared.builder.command.Command.TheViews.{out-Comma
 ghost use Rattle.clap.specs.Words.{Text, app_of, rule_of, subcommand_rows_of, takes};
 ghost use Rattle.cmisctl.specs.Choice.{program, choice_of, choice_in, flag_rule, command_app};
 ghost use Rattle.cmisctl.specs.Choice.{commands, faults_of};
-ghost use Rattle.cmisctl.specs.ChoiceFault.{IsFaultAmong};
+ghost use Rattle.cmisctl.specs.Program.{IsRefusalOf};
 ghost use Rattle.cmisctl.specs.Entries.{entry_of};
 
 pub mod commands;
@@ -71,10 +71,8 @@ fn chosen(matches: &ArgMatches<'_>) -> Choice
 /// What the words ask for, of which the first is the program's name.
 pub fn choice(alloc: Global, words: &[String]) -> Result<Choice, ChoiceFault>
     ensures answer { IfOk result (λ choice. choice_of (map string_bytes words.now) ≡ Some choice) }
-    ensures taken { IfErr result (λ fault. takes program (map string_bytes words.now) ≡ true
-        → fault ≡ ChoiceFault.Memory) }
-    ensures kinds { MatchResult result (λ _. faults_of (map string_bytes words.now) ≡ [])
-        (λ fault. IsFaultAmong (faults_of (map string_bytes words.now)) fault) }
+    ensures taken { IfOk result (λ _. faults_of (map string_bytes words.now) ≡ []) }
+    ensures refused { IfErr result (IsRefusalOf (map string_bytes words.now)) }
 {
     let matches = program(alloc)?.try_get_matches_from(words)?;
     Ok(chosen(&matches))

@@ -2,7 +2,7 @@
 ghost use Rattle.std.specs.Prelude.{◌≡◌, ◌≤◌, ◌<◌, length, IfSome, IfOk, IfErr, OnOk, vec_len};
 ghost use Rattle.std.specs.Io.{ReadsAtMost};
 ghost use Rattle.std.specs.Io.KnownBytes.{ReadConsumes, IsAtEnd};
-ghost use Rattle.cmisctl.specs.CountedReader.{reads_of, has_failed, remaining_of};
+ghost use Rattle.cmisctl.specs.CountedReader.{reads_of, reading_failed, remaining_of};
 ghost use Rattle.cmisctl.specs.Limits.{input_limit, read_limit};
 ghost use Rattle.cmisctl.specs.Input.{IsReadOf, TakesWithinLimit, AnswersFailure};
 
@@ -42,7 +42,7 @@ pub fn read_input<R: Read>(
 ) -> Result<Vec<u8>, InputFault>
     ensures limit { IfOk result (λ bytes. vec_len bytes ≤ input_limit) }
     ensures reads { reads_of reader.new ≤ read_limit }
-    ensures failure { AnswersFailure (has_failed reader.old) (has_failed reader.new) result }
+    ensures failure { AnswersFailure (reading_failed reader.new) result }
 
     // Where the reader's bytes are known.
     ensures input { IfSome (remaining_of R.remaining reader.old) (λ input. IsReadOf input result) }
@@ -73,7 +73,7 @@ fn read_retrying<R: Read>(
 ) -> Result<usize, InputFault>
     ensures bound { ReadsAtMost result buffer.new }
     ensures bytes { ReadConsumes (remaining_of R.remaining reader.old) (remaining_of R.remaining reader.new) result buffer.new }
-    ensures failure { AnswersFailure (has_failed reader.old) (has_failed reader.new) result }
+    ensures failure { AnswersFailure (reading_failed reader.new) result }
     ensures fault { IfErr result (λ fault. fault ≡ InputFault.Io) }
 {
     loop {

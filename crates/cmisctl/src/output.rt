@@ -1,13 +1,16 @@
 //! Writing the program's output.
-ghost use Rattle.std.specs.Prelude.{◌≡◌, ◌⊎◌, OnOk};
+ghost use Rattle.std.specs.Prelude.{◌≡◌, true};
 ghost use Rattle.std.specs.Result.{result_map_both};
-ghost use Rattle.cmisctl.specs.Faults.{fault_line, status_of};
-ghost use Rattle.cmisctl.specs.Runs.{output_of, status_after};
-ghost use Rattle.std.specs.Io.KnownBytes.{Appends};
+ghost use Rattle.cmisctl.specs.StoppingWriter.{contents_of, writing_failed};
+ghost use Rattle.cmisctl.specs.Runs.{IsWritten};
+
+mod stopping_writer;
 
 use crate::fault::Fault;
 use crate::status::Status;
+use std::io;
 use std::io::Write;
+pub use stopping_writer::StoppingWriter;
 use thiserror::Error;
 
 /// A write or the flush failed.
@@ -15,45 +18,37 @@ use thiserror::Error;
 #[error("a write failed")]
 pub struct OutputFault;
 
-/// Writes all the bytes and flushes the writer. After a write that fails none is tried.
-pub fn write_output<W: Write>(writer: &mut W, bytes: &[u8]) -> Result<(), OutputFault>
-    ensures { OnOk result (Appends (W.contents writer.old) (W.contents writer.new) bytes.now) }
-{
-    writer.write_all(bytes).map_err(|_| OutputFault)?;
-    writer.flush().map_err(|_| OutputFault)
+impl From<io::Error> for OutputFault {
+    fn from(_error: io::Error) -> OutputFault {
+        OutputFault
+    }
 }
 
 /// Writes an answer, a text or the line of a fault, and answers how the program ends.
-pub fn write_answer<W: Write>(writer: &mut W, answer: Result<Vec<u8>, Fault>) -> Status
-    ensures { let said = result_map_both (λ text. text.items) (λ fault. fault) answer in
-        (result ≡ Status.ReadOrWrite) ⊎ ((result ≡ status_after said) × Appends (W.contents writer.old) (W.contents writer.new) (output_of said)) }
-{
-    match answer {
-        Ok(text) => match write_output(writer, &text) {
-            Ok(()) => Status::Done,
-            Err(_) => Status::ReadOrWrite,
-        },
-        Err(fault) => write_fault(writer, fault),
-    }
-}
-
 #[tactic(auto, unfolding(crate::specs::Faults::fault_line))]
-fn write_fault<W: Write>(writer: &mut W, fault: Fault) -> Status
-    ensures { (result ≡ Status.ReadOrWrite) ⊎ ((result ≡ status_of fault) × Appends (W.contents writer.old) (W.contents writer.new) (fault_line fault)) }
+pub fn write_answer<W: Write>(
+    writer: &mut StoppingWriter<W>,
+    answer: Result<Vec<u8>, Fault>,
+) -> Status
+    ensures written { IsWritten (result_map_both (λ text. text.items) (λ fault. fault) answer) (contents_of W.contents writer.old) (contents_of W.contents writer.new) (writing_failed writer.new) result }
+    ensures stopped { writing_failed writer.old ≡ true → writer.new ≡ writer.old }
 {
-    if writeln!(writer, "fault {fault}").is_err() {
-        return Status::ReadOrWrite;
-    }
-    match writer.flush() {
-        Ok(()) => fault.status(),
-        Err(_) => Status::ReadOrWrite,
+    let (written, status) = match answer {
+        Ok(text) => (writer.put(&text), Status::Done),
+        Err(fault) => (
+            writer.put_text(format_args!("fault {fault}\n")),
+            fault.status(),
+        ),
+    };
+    match written {
+        Ok(()) => status,
+        Err(OutputFault) => Status::ReadOrWrite,
     }
 }
 
 #[cfg(test)]
 mod tests {
     use super::*;
-    use std::io;
     use std::io::ErrorKind;
     use std::test::Fail;
 
@@ -95,8 +90,12 @@ mod tests {
     #[test]
     fn the_bytes_are_appended(rt: HostRuntime) -> Result<(), Fail> {
         let mut writer = b"fault".to_vec(rt.alloc())?;
-        write_output(&mut writer, b" IO\n")?;
-        write_output(&mut writer, b"")?;
+        {
+            let mut writer = StoppingWriter::new(&mut writer);
+            writer.put(b" IO")?;
+            writer.put(b"")?;
+            writer.put_text(format_args!("\n"))?;
+        }
         assert_eq!(rt; writer.as_slice(), b"fault IO\n".as_slice());
         Ok(())
     }
@@ -107,15 +106,17 @@ mod tests {
         for room in 0..=text.len() {
             for flushes in [true, false] {
                 let (has_failed, was_tried_again) = (false, false);
-                let mut writer = FakeWriter {
+                let mut fake = FakeWriter {
                     room,
                     flushes,
                     has_failed,
                     was_tried_again,
                 };
-                let is_written = write_output(&mut writer, text).is_ok();
+                let mut writer = StoppingWriter::new(&mut fake);
+                let is_written = writer.put(text).is_ok();
                 assert_eq!(rt; is_written, flushes && room == text.len());
-                assert!(rt; !writer.was_tried_again);
+                assert_eq!(rt; writer.put_text("more").is_ok(), false);
+                assert!(rt; !fake.was_tried_again);
             }
         }
     }

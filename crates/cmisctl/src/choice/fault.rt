@@ -1,9 +1,11 @@
 //! Why a command line gives no choice, and what the program then says.
-ghost use Rattle.std.specs.Prelude.{◌≡◌, ◌≢◌, ◌⊎◌};
-ghost use Rattle.std.specs.Io.KnownBytes.{Appends};
-ghost use Rattle.cmisctl.specs.ChoiceFault.{fault_of_error, memory_line, status_of_fault};
+ghost use Rattle.std.specs.Prelude.{◌≡◌, true};
+ghost use Rattle.cmisctl.specs.ChoiceFault.{fault_of_error, status_of_fault};
+ghost use Rattle.cmisctl.specs.Program.{IsRefusalSaid};
+ghost use Rattle.cmisctl.specs.StoppingWriter.{contents_of, writing_failed};
 ghost use Rattle.cmisctl.specs.declared.choice.fault.ChoiceFault.TheVariants.{Memory};
 
+use crate::output::{OutputFault, StoppingWriter};
 use crate::status::Status;
 use clap::error::ErrorKind;
 use std::alloc::AllocError;
@@ -56,17 +58,16 @@ impl ChoiceFault {
 }
 
 /// Writes why there is no choice, as `clap` puts it, and answers how the program ends.
-pub fn choice_refused<W: Write>(fault: &ChoiceFault, writer: &mut W) -> Status
-    ensures status { (result ≡ status_of_fault fault.now) ⊎ (result ≡ Status.ReadOrWrite) }
-    ensures memory { fault.now ≡ Memory → result ≢ Status.ReadOrWrite
-        → Appends (W.contents writer.old) (W.contents writer.new) memory_line }
+pub fn choice_refused<W: Write>(fault: &ChoiceFault, writer: &mut StoppingWriter<W>) -> Status
+    ensures said { IsRefusalSaid fault.now (contents_of W.contents writer.old) (contents_of W.contents writer.new) (writing_failed writer.new) result }
+    ensures stopped { writing_failed writer.old ≡ true → writer.new ≡ writer.old }
 {
     let written = match fault {
-        ChoiceFault::Memory => writeln!(writer, "fault memory"),
-        ChoiceFault::Line(error) => write!(writer, "{error}"),
+        ChoiceFault::Memory => writer.put(b"fault memory\n"),
+        ChoiceFault::Line(error) => writer.put_text(error),
     };
     match written {
         Ok(()) => fault.status(),
-        Err(_) => Status::ReadOrWrite,
+        Err(OutputFault) => Status::ReadOrWrite,
     }
 }

@@ -1,6 +1,7 @@
 use super::choice;
 use super::commands::CommandName;
 use super::fault::{ChoiceFault, choice_refused};
+use crate::output::StoppingWriter;
 use crate::status::Status;
 use std::alloc::{AllocError, Global};
 use std::io;
@@ -21,7 +22,7 @@ fn refused(alloc: Global, words: &[&str]) -> Result<(Status, String), Fail> {
         return Ok((Status::Done, String::from_str(alloc, "a choice")?));
     };
     let mut written = Vec::new(alloc);
-    let status = choice_refused(&fault, &mut written);
+    let status = choice_refused(&fault, &mut StoppingWriter::new(&mut written));
     Ok((status, String::from_utf8(written)?))
 }
 
@@ -100,7 +101,7 @@ fn refuses_other_words(rt: HostRuntime) -> Result<(), Fail> {
 #[test]
 fn says_that_memory_is_wanting(rt: HostRuntime) -> Result<(), Fail> {
     let mut written = Vec::new(rt.alloc());
-    let status = choice_refused(&ChoiceFault::Memory, &mut written);
+    let status = choice_refused(&ChoiceFault::Memory, &mut StoppingWriter::new(&mut written));
     assert_eq!(rt; status, Status::Memory);
     assert_eq!(rt; written.as_slice(), b"fault memory\n".as_slice());
     Ok(())
@@ -123,7 +124,7 @@ impl io::Write for Full {
 #[test]
 fn answers_a_failed_write(rt: HostRuntime) {
     assert_eq!(rt;
-        choice_refused(&ChoiceFault::Memory, &mut Full),
+        choice_refused(&ChoiceFault::Memory, &mut StoppingWriter::new(Full)),
         Status::ReadOrWrite
     );
 }

@@ -1,14 +1,16 @@
-ghost use Rattle.std.specs.Prelude.{◌≡◌, ◌≢◌, ◌≤◌, ◌∷◌, [], IfSome, MatchResult, length};
+ghost use Rattle.std.specs.Prelude.{◌≡◌, ◌≢◌, ◌≤◌, ◌∷◌, [], true, IfErr, IfSome, MatchResult, length};
 ghost use Rattle.std.specs.Result.{result_map_both};
-ghost use Rattle.cmisctl.specs.CountedReader.{reads_of, remaining_of};
+ghost use Rattle.cmisctl.specs.CountedReader.{reading_failed, reads_of, remaining_of};
+ghost use Rattle.cmisctl.specs.Input.{TakesWithinLimit};
 ghost use Rattle.cmisctl.specs.Inventory.{IsInventory};
 ghost use Rattle.cmisctl.specs.Limits.{input_limit, read_limit};
 ghost use Rattle.cmisctl.specs.Parts.{parts_of};
-ghost use Rattle.cmisctl.specs.Runs.{IsRun};
+ghost use Rattle.cmisctl.specs.Runs.{EndsByFailure, IsRun, SaysReading};
+ghost use Rattle.cmisctl.specs.StoppingWriter.{contents_of, writing_failed};
 
 use crate::fault::Fault;
 use crate::input::{CountedReader, read_input};
-use crate::output::write_answer;
+use crate::output::{StoppingWriter, write_answer};
 use crate::parts::{count_parts, split_parts};
 use crate::status::Status;
 use paged_memory::Image;
@@ -19,10 +21,17 @@ use std::io::{Read, Write};
 pub fn inventory<R: Read, W: Write>(
     alloc: Global,
     reader: &mut CountedReader<R>,
-    writer: &mut W,
+    writer: &mut StoppingWriter<W>,
 ) -> Status
     ensures reads { reads_of reader.new ≤ read_limit }
-    ensures run { IfSome (remaining_of R.remaining reader.old) (λ input. IsRun (IsInventory input) (W.contents writer.old) (W.contents writer.new) result) }
+    ensures failure { EndsByFailure (reading_failed reader.new) (writing_failed writer.new) result }
+    ensures stopped { writing_failed writer.old ≡ true → writer.new ≡ writer.old }
+
+    // Where the reader's bytes are known.
+    ensures taken { TakesWithinLimit (remaining_of R.remaining reader.old) (remaining_of R.remaining reader.new) }
+    ensures run { IfSome (remaining_of R.remaining reader.old) (λ input. IsRun (IsInventory input)
+        (contents_of W.contents writer.old) (contents_of W.contents writer.new)
+        (reading_failed reader.new) (writing_failed writer.new) result) }
 {
     let answer = answer(alloc, reader);
     write_answer(writer, answer)
@@ -30,6 +39,8 @@ pub fn inventory<R: Read, W: Write>(
 
 fn answer<R: Read>(alloc: Global, reader: &mut CountedReader<R>) -> Result<Vec<u8>, Fault>
     ensures reads { reads_of reader.new ≤ read_limit }
+    ensures taken { TakesWithinLimit (remaining_of R.remaining reader.old) (remaining_of R.remaining reader.new) }
+    ensures reading { SaysReading (reading_failed reader.new) (result_map_both (λ text. text.items) (λ fault. fault) result) }
     ensures answer { IfSome (remaining_of R.remaining reader.old) (λ input. IsInventory input (result_map_both (λ text. text.items) (λ fault. fault) result)) }
 {
     let input = read_input(alloc, reader)?;
@@ -38,7 +49,8 @@ fn answer<R: Read>(alloc: Global, reader: &mut CountedReader<R>) -> Result<Vec<u
 
 fn report(alloc: Global, input: &[u8]) -> Result<Vec<u8>, Fault>
     requires { length input.now ≤ input_limit }
-    ensures { IsInventory input.now (result_map_both (λ text. text.items) (λ fault. fault) result) }
+    ensures answer { IsInventory input.now (result_map_both (λ text. text.items) (λ fault. fault) result) }
+    ensures read { IfErr result (λ fault. fault ≢ Fault.Io) }
 {
     let part = only_part(input)?;
     let image = match Image::read(part) {

@@ -1,15 +1,14 @@
-use Rattle.std.proofs.Common.{◌≡◌, ◌≤◌, ◌-◌, vec_len}
+use Rattle.std.proofs.Common.{◌≤◌, ◌-◌, vec_len}
 use Rattle.std.specs.Io.KnownBytes.{Consumes}
-use Rattle.cmisctl.specs.CountedReader.{has_failed, remaining_of}
+use Rattle.cmisctl.specs.CountedReader.{remaining_of}
 use Rattle.cmisctl.specs.Limits.{input_limit}
 use Rattle.cmisctl.proofs.input.read_input.Given as goal
 
--- the bytes so far are those that were taken from the reader, within the limit, and no read has failed
+-- the bytes so far are those that were taken from the reader, within the limit
 abbrev pub invariant-loop-bytes : goal.invariant-loop-bytes
 invariant-loop-bytes g l = record {
   taken : Consumes (remaining_of g.R.Read.remaining l.initial.reader) (remaining_of g.R.Read.remaining l.reader) l.bytes.items;
   within : vec_len l.bytes ≤ input_limit;
-  steady : has_failed l.reader ≡ has_failed l.initial.reader;
 }
 
 -- the bytes that are still within the limit

@@ -1,15 +1,12 @@
-use Rattle.std.proofs.Common.{◌≡◌, ◌-◌}
+use Rattle.std.proofs.Common.{◌-◌}
 use Rattle.std.specs.Io.KnownBytes.{Keeps}
-use Rattle.cmisctl.specs.CountedReader.{reads_of, has_failed, remaining_of}
+use Rattle.cmisctl.specs.CountedReader.{reads_of, remaining_of}
 use Rattle.cmisctl.specs.Limits.{read_limit}
 use Rattle.cmisctl.proofs.input.read_retrying.Given as goal
 
--- interruptions take no byte and are no failure
+-- interruptions take no byte
 abbrev pub invariant-loop-count : goal.invariant-loop-count
-invariant-loop-count g l = record {
-  kept : Keeps (remaining_of g.R.Read.remaining l.initial.reader) (remaining_of g.R.Read.remaining l.reader);
-  steady : has_failed l.reader ≡ has_failed l.initial.reader;
-}
+invariant-loop-count g l = Keeps (remaining_of g.R.Read.remaining l.initial.reader) (remaining_of g.R.Read.remaining l.reader)
 
 -- the reads that are left
 abbrev pub decreases-loop-count : goal.decreases-loop-count

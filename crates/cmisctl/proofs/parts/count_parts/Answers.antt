@@ -1,4 +1,4 @@
-use Rattle.std.proofs.Common.{inl, arith, ap}
+use Rattle.std.proofs.Common.{inl, arith}
 use Rattle.cmisctl.proofs.PartCuts.{part_count}
 use Rattle.cmisctl.proofs.parts.count_parts.Goals as goal
 

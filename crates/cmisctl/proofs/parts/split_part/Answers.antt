@@ -1,4 +1,4 @@
-use Rattle.std.proofs.Common.{◌≡◌, true, false, [], rules, refl}
+use Rattle.std.proofs.Common.{◌≡◌, true, false, rules}
 use Rattle.cmisctl.specs.Parts.{is_separator_line}
 use Rattle.cmisctl.proofs.PartCuts.{one_passed, part_ends, part_is_all}
 use Rattle.cmisctl.proofs.parts.split_part.Goals as goal

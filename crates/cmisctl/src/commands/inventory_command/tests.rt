@@ -1,5 +1,6 @@
 use super::inventory;
 use crate::input::CountedReader;
+use crate::output::StoppingWriter;
 use crate::status::Status;
 use std::io;
 use std::io::{ErrorKind, Read, Write};
@@ -107,7 +108,11 @@ fn the_inventory_comes(rt: HostRuntime) -> Result<(), Fail> {
         later_calls: 0,
     };
     let mut reader = CountedReader::new(IMAGE.as_bytes());
-    let ends = inventory(rt.alloc(), &mut reader, &mut writer);
+    let ends = inventory(
+        rt.alloc(),
+        &mut reader,
+        &mut StoppingWriter::new(&mut writer),
+    );
     assert_answer(&rt, ends, Status::Done, &writer.kept, REPORT);
     Ok(())
 }
@@ -126,12 +131,20 @@ fn a_fault_comes_in_one_line(rt: HostRuntime) -> Result<(), Fail> {
     ] {
         let mut written = Vec::with_capacity(rt.alloc(), 100)?;
         let mut reader = CountedReader::new(input.as_bytes());
-        let ends = inventory(rt.alloc(), &mut reader, &mut written);
+        let ends = inventory(
+            rt.alloc(),
+            &mut reader,
+            &mut StoppingWriter::new(&mut written),
+        );
         assert_answer(&rt, ends, Status::Refused, &written, line);
     }
     let mut written = Vec::with_capacity(rt.alloc(), 100)?;
     let mut reader = CountedReader::new(lower.as_bytes());
-    let ends = inventory(rt.alloc(), &mut reader, &mut written);
+    let ends = inventory(
+        rt.alloc(),
+        &mut reader,
+        &mut StoppingWriter::new(&mut written),
+    );
     assert_answer(
         &rt,
         ends,
@@ -152,7 +165,12 @@ fn a_failed_read_is_said(rt: HostRuntime) -> Result<(), Fail> {
             calls: 0,
         };
         let mut written = Vec::with_capacity(rt.alloc(), 100)?;
-        let ends = inventory(rt.alloc(), &mut CountedReader::new(&mut fake), &mut written);
+        let mut reader = CountedReader::new(&mut fake);
+        let ends = inventory(
+            rt.alloc(),
+            &mut reader,
+            &mut StoppingWriter::new(&mut written),
+        );
         assert_answer(&rt, ends, Status::ReadOrWrite, &written, "fault IO\n");
         assert_eq!(rt; fake.calls, failing);
     }
@@ -169,7 +187,11 @@ fn nothing_is_written_after_a_failed_write(rt: HostRuntime) -> Result<(), Fail> 
             later_calls: 0,
         };
         let mut reader = CountedReader::new(IMAGE.as_bytes());
-        let ends = inventory(rt.alloc(), &mut reader, &mut writer);
+        let ends = inventory(
+            rt.alloc(),
+            &mut reader,
+            &mut StoppingWriter::new(&mut writer),
+        );
         assert_eq!(rt; ends, Status::ReadOrWrite);
         let before = REPORT.get(..room).ok_or("the report is shorter")?;
         assert_eq!(rt; writer.kept.as_slice(), before.as_bytes());
