@@ -18,7 +18,7 @@ impl Part {
     ghost use Rattle.field_tables.specs.Parts.{high_of, low_of};
 
     /// The number of the lowest bit.
-    pub fn low(self) -> usize
+    pub(crate) fn low(self) -> usize
         ensures { result ≡ low_of self }
     {
         match self {
@@ -28,7 +28,7 @@ impl Part {
     }
 
     /// The number of the highest bit.
-    pub fn high(self) -> usize
+    pub(crate) fn high(self) -> usize
         ensures { result ≡ high_of self }
     {
         match self {
