@@ -2,3 +2,4 @@ pub mod StateCodes
 pub mod StatusCodes
 pub mod Transitions
 pub mod Runs
+pub mod Lanes

@@ -1,5 +1,5 @@
 mod TrueTests
-mod PlaceNumbers
+pub mod PlaceNumbers
 mod PlaceWidths
 mod RowPlaceLaws
 mod FieldAnswers

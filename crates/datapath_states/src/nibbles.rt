@@ -1,0 +1,44 @@
+ghost use Rattle.std.specs.Prelude.{◌≡◌, ◌≤◌, ◌<◌, ◌*◌, ◌+◌, ◌/◌, length};
+ghost use Rattle.datapath_states.specs.Lanes.{lane_in, lanes_in};
+
+/// The codes of `N` lanes, four bits each: lane 1 in the lower half of the first byte, lane 2 in its upper half, and so on.
+pub fn lanes<const N: usize>(bytes: &[u8]) -> [u8; N]
+    requires { N ≤ 2 * length bytes.now }
+    ensures { result ≡ lanes_in bytes.now N }
+{
+    let mut lanes = [0; N];
+    for (index, lane) in lanes.iter_mut().enumerate() {
+        *lane = nibble(bytes, index);
+    }
+    lanes
+}
+
+// The nibble of the lane with so many before it.
+#[tactic(auto, using(crate::proofs::LaneNibbles::lower_half, crate::proofs::LaneNibbles::upper_half))]
+fn nibble(bytes: &[u8], before: usize) -> u8
+    requires { before / 2 < length bytes.now }
+    ensures { result ≡ lane_in bytes.now (before + 1) }
+{
+    let byte = bytes[before / 2];
+    if before % 2 == 0 {
+        byte % 16
+    } else {
+        byte / 16
+    }
+}
+
+#[cfg(test)]
+mod tests {
+    use super::*;
+
+    // Bits 3-0 of byte 128 of page 11h are lane 1, bits 7-4 lane 2; bits 3-0 of byte 129 lane 3.
+    #[test]
+    fn odd_lanes_stand_low(rt: HostRuntime) {
+        assert_eq!(rt;
+            lanes::<8>(&[0x21, 0x43, 0x65, 0x07]),
+            [1, 2, 3, 4, 5, 6, 7, 0]
+        );
+        assert_eq!(rt; lanes::<3>(&[0xc1, 0xfd]), [1, 12, 13]);
+        assert_eq!(rt; lanes::<0>(&[]), []);
+    }
+}
