@@ -1,12 +1,11 @@
 -- The inventory of a CMIS module. (docs/formats.md, "inventory"; OIF-CMIS-05.0, "Lower Memory" and "Administrative
 -- Information (Page 00h)")
-use Rattle.std.specs.Prelude.{ℕ, ◌+◌, ◌*◌, ◌/◌, ◌%◌, ◌^◌, ◌==◌, ◌||◌, ◌++◌, Bool, not, is_some, if◌then◌else◌, ℤ, pos, List, [], ◌∷◌, Option, find, codes, map}
+use Rattle.std.specs.Prelude.{ℕ, ◌+◌, ◌*◌, ◌/◌, ◌^◌, ◌==◌, ◌||◌, ◌++◌, Bool, not, if◌then◌else◌, ℤ, pos, List, [], ◌∷◌, Option, find, codes}
 use Rattle.std.specs.Option.{option_map}
 use Rattle.std.specs.Fmt.{decimal}
 use Rattle.std.specs.FinMap as finmap
 use Rattle.hex.specs.Hex.{encode_lower}
 use Rattle.bus_model.specs.declared.device.Dev.TheVariants.{A0}
-use Rattle.paged_memory.specs.declared.key.Key.{Key}
 use Rattle.paged_memory.specs.Keys.{lower_key, upper_key}
 use Rattle.paged_memory.specs.Images.{Memory}
 use Rattle.field_tables.specs.declared.field.Field.TheVariants as fields

@@ -1,6 +1,6 @@
 -- What a report reads of a module's memory. Each report names the pages that it needs, so the values for absent pages
 -- (0, an empty text, a wrong sum) are never shown. (docs/formats.md, "inventory")
-use Rattle.std.specs.Prelude.{ℕ, ◌&&◌, Bool, true, false, ℤ, pos, List, [], ◌∷◌, Option, unwrap_or, nat_le}
+use Rattle.std.specs.Prelude.{ℕ, ◌&&◌, Bool, true, false, ℤ, pos, List, [], ◌∷◌, unwrap_or, nat_le}
 use Rattle.std.specs.Prelude.{unsigned_abs}
 use Rattle.paged_memory.specs.Images.{Memory}
 use Rattle.field_tables.specs.declared.field.Field.{Field}

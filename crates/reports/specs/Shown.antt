@@ -1,12 +1,14 @@
 -- How values are shown in reports. (docs/formats.md, "Values in reports")
-use Rattle.std.specs.Prelude.{ℕ, ◌+◌, ◌-◌, ◌/◌, ◌%◌, ◌==◌, ◌||◌, ◌&&◌, Bool, nat_le, if◌then◌else◌, length, take, map, ℤ, pos, negsuc, List, [], ◌∷◌, ◌++◌, slice_index}
+use Rattle.std.specs.Prelude.{ℕ, ◌-◌, ◌/◌, ◌%◌, ◌==◌, ◌||◌, ◌&&◌, Bool, nat_le, if◌then◌else◌, length, take, map, ℤ, pos, negsuc, List, [], ◌∷◌, ◌++◌, slice_index}
 use Rattle.std.specs.Prelude.{unsigned_abs}
 use Rattle.std.specs.List.{suffix_len}
 use Rattle.std.specs.Fmt.{decimal}
-use Rattle.hex.specs.Hex.{upper_digits}
+use Rattle.hex.specs.Hex.{encode_lower, upper_digits}
+use Rattle.reports.specs.declared.shown.Shown.{Shown}
+use Rattle.reports.specs.declared.shown.Shown.TheVariants.{Word, Number, Code, Digits, Revision, Text, Measure}
 
 -- two upper-case digits and `h`
-abbrev pub byte_code : ℕ → List ℕ
+unfoldable pub byte_code : ℕ → List ℕ
 byte_code byte = slice_index upper_digits (byte / 16) ∷ slice_index upper_digits (byte % 16) ∷ 104 ∷ []
 
 abbrev pub three_digits : ℕ → List ℕ
@@ -18,11 +20,11 @@ minus_of (pos n) = []
 minus_of (negsuc n) = 45 ∷ []
 
 -- the sign, the whole part, a point and three digits
-abbrev pub thousandths : ℤ → List ℕ
+unfoldable pub thousandths : ℤ → List ℕ
 thousandths z = minus_of z ++ (decimal (unsigned_abs z / 1000) ++ 46 ∷ three_digits (unsigned_abs z % 1000))
 
 -- the major number in the upper nibble, a point and the minor one
-abbrev pub revision : ℕ → List ℕ
+unfoldable pub revision : ℕ → List ℕ
 revision byte = decimal (byte / 16) ++ 46 ∷ decimal (byte % 16)
 
 abbrev pub is_padding : ℕ → Bool
@@ -36,5 +38,15 @@ trimmed bytes = take (length bytes - suffix_len is_padding bytes) bytes
 abbrev pub shown_byte : ℕ → ℕ
 shown_byte byte = if nat_le 32 byte && nat_le byte 126 then byte else 63
 
-abbrev pub printable : List ℕ → List ℕ
+unfoldable pub printable : List ℕ → List ℕ
 printable bytes = map shown_byte (trimmed bytes)
+
+-- the text of a value
+unfoldable pub shown_text : Shown → List ℕ
+shown_text (Word word) = word.now
+shown_text (Number n) = decimal n
+shown_text (Code byte) = byte_code byte
+shown_text (Digits bytes) = encode_lower bytes
+shown_text (Revision byte) = revision byte
+shown_text (Text bytes) = printable bytes.items
+shown_text (Measure amount unit) = thousandths amount ++ 32 ∷ unit.now

@@ -1,19 +1,16 @@
-ghost use Rattle.std.specs.Prelude.{◌≡◌, ◌++◌, ◌∷◌, [], ◌^◌, ◌<◌, ◌≤ℤ◌, pos, FitsSigned, OnOk, IfSome, MatchOption};
+ghost use Rattle.std.specs.Prelude.{◌≡◌, ◌^◌, ◌<◌, ◌≤ℤ◌, pos, FitsSigned, map, MatchOption};
 ghost use Rattle.std.specs.Int.{w64};
 ghost use Rattle.std.specs.Result.{result_map_both};
-ghost use Rattle.std.specs.String.{string_bytes};
-ghost use Rattle.text_lines.specs.Lines.{text_of};
-ghost use Rattle.reports.specs.Lines.{line, IsReport};
+ghost use Rattle.reports.specs.Lines.{IsReport, line_text};
 ghost use Rattle.reports.specs.Inventory.{inventory_fault, inventory_lines, kind_lines, vendor_lines, build_lines, memory_word, sum_word, max_power_of, length_of, is_cmis, is_read_revision};
 
 use crate::fault::ReportFault;
-use crate::line::push_line;
+use crate::line::{Line, push_lines};
 use crate::readings::{is_sum_right, number, oui, text};
-use crate::shown::{ByteCode, Measure, Printable, RevisionNumber};
+use crate::shown::Shown;
 use field_tables::{Field, Sum, TextField, Unit, millis};
 use paged_memory::{Dev, Image, Key};
-use std::alloc::{AllocError, Global};
-use text_lines::Hexadecimal;
+use std::alloc::Global;
 
 /// What the module is, line by line.
 pub fn inventory(alloc: Global, image: &Image) -> Result<Vec<u8>, ReportFault>
@@ -25,9 +22,9 @@ pub fn inventory(alloc: Global, image: &Image) -> Result<Vec<u8>, ReportFault>
         return Err(fault);
     }
     let mut report = String::new(alloc);
-    push_kind(&mut report, image)?;
-    push_vendor(&mut report, image)?;
-    push_build(&mut report, image)?;
+    push_lines(&mut report, &kind_lines(image))?;
+    push_lines(&mut report, &vendor_lines(image))?;
+    push_lines(&mut report, &build_lines(image))?;
     Ok(report.into_bytes())
 }
 
@@ -67,85 +64,59 @@ fn is_read_revision(revision: u8) -> bool
 }
 
 // Identifier, revision and memory.
-fn push_kind(report: &mut String, image: &Image) -> Result<(), AllocError>
-    ensures { OnOk result (string_bytes report.new ≡ string_bytes report.old ++ text_of (kind_lines image.now)) }
+#[tactic(auto, unfolding(crate::specs::Inventory::kind_lines, crate::specs::Shown::shown_text))]
+fn kind_lines(image: &Image) -> [Line; 5]
+    ensures { map line_text result ≡ kind_lines image.now }
 {
-    push_line(report, "family", "CMIS")?;
-    push_line(
-        report,
-        "identifier",
-        ByteCode(number(image, Field::CIdentifier)),
-    )?;
-    push_line(
-        report,
-        "revision",
-        RevisionNumber(number(image, Field::CRevision)),
-    )?;
-    push_line(
-        report,
-        "memory",
-        memory_word(number(image, Field::CFlatMemory)),
-    )?;
-    push_line(
-        report,
-        "media-type",
-        ByteCode(number(image, Field::CMediaType)),
-    )?;
-    Ok(())
+    [
+        ("family", Shown::Word("CMIS")),
+        ("identifier", Shown::Code(number(image, Field::CIdentifier))),
+        ("revision", Shown::Revision(number(image, Field::CRevision))),
+        (
+            "memory",
+            Shown::Word(memory_word(number(image, Field::CFlatMemory))),
+        ),
+        ("media-type", Shown::Code(number(image, Field::CMediaType))),
+    ]
 }
 
 // Who made the module.
-fn push_vendor(report: &mut String, image: &Image) -> Result<(), AllocError>
-    ensures { OnOk result (string_bytes report.new ≡ string_bytes report.old ++ text_of (vendor_lines image.now)) }
+#[tactic(auto, unfolding(crate::specs::Inventory::vendor_lines, crate::specs::Shown::shown_text))]
+fn vendor_lines(image: &Image) -> [Line; 6]
+    ensures { map line_text result ≡ vendor_lines image.now }
 {
-    push_line(
-        report,
-        "vendor",
-        Printable(&text(image, TextField::CVendor)),
-    )?;
-    push_line(report, "oui", Hexadecimal(&oui(image)))?;
-    push_line(report, "part", Printable(&text(image, TextField::CPart)))?;
-    push_line(
-        report,
-        "part-revision",
-        Printable(&text(image, TextField::CPartRevision)),
-    )?;
-    push_line(
-        report,
-        "serial",
-        Printable(&text(image, TextField::CSerial)),
-    )?;
-    push_line(report, "date", Printable(&text(image, TextField::CDate)))?;
-    Ok(())
+    [
+        ("vendor", Shown::Text(text(image, TextField::CVendor))),
+        ("oui", Shown::Digits(oui(image))),
+        ("part", Shown::Text(text(image, TextField::CPart))),
+        (
+            "part-revision",
+            Shown::Text(text(image, TextField::CPartRevision)),
+        ),
+        ("serial", Shown::Text(text(image, TextField::CSerial))),
+        ("date", Shown::Text(text(image, TextField::CDate))),
+    ]
 }
 
 // How the module is built.
-fn push_build(report: &mut String, image: &Image) -> Result<(), AllocError>
-    ensures { OnOk result (string_bytes report.new ≡ string_bytes report.old ++ text_of (build_lines image.now)) }
+#[tactic(auto, unfolding(crate::specs::Inventory::build_lines, crate::specs::Shown::shown_text))]
+fn build_lines(image: &Image) -> [Line; 6]
+    ensures { map line_text result ≡ build_lines image.now }
 {
-    push_line(
-        report,
-        "power-class",
-        u16::from(number(image, Field::CPowerClass)) + 1,
-    )?;
-    push_line(report, "max-power", Measure(max_power(image), "W"))?;
-    push_line(report, "length", Measure(length(image), "m"))?;
-    push_line(
-        report,
-        "connector",
-        ByteCode(number(image, Field::CConnector)),
-    )?;
-    push_line(
-        report,
-        "technology",
-        ByteCode(number(image, Field::CTechnology)),
-    )?;
-    push_line(
-        report,
-        "sum-00h",
-        sum_word(is_sum_right(image, Sum::CSum00)),
-    )?;
-    Ok(())
+    [
+        (
+            "power-class",
+            Shown::Number(u16::from(number(image, Field::CPowerClass)) + 1),
+        ),
+        ("max-power", Shown::Measure(max_power(image), "W")),
+        ("length", Shown::Measure(length(image), "m")),
+        ("connector", Shown::Code(number(image, Field::CConnector))),
+        ("technology", Shown::Code(number(image, Field::CTechnology))),
+        (
+            "sum-00h",
+            Shown::Word(sum_word(is_sum_right(image, Sum::CSum00))),
+        ),
+    ]
 }
 
 // In thousandths of a watt.

@@ -1,17 +1,71 @@
 // How values are shown in reports.
-ghost use Rattle.std.specs.Prelude.{◌≡◌, ◌<◌, ◌∷◌, ◌++◌, [], Some, slice_index};
+ghost use Rattle.std.specs.Prelude.{◌≡◌, ◌<◌, Some, slice_index};
 ghost use Rattle.hex.specs.Hex.{upper_digits};
-ghost use Rattle.reports.specs.Shown.{byte_code, minus_of, thousandths, three_digits, revision, printable, trimmed, is_padding, shown_byte};
+ghost use Rattle.reports.specs.Shown.{shown_text, byte_code, minus_of, thousandths, three_digits, revision, printable, trimmed, is_padding, shown_byte};
 
+use arrayvec::ArrayVec;
 use std::fmt;
+use text_lines::Hexadecimal;
+
+/// A value of a report line.
+#[derive(Clone, Debug, Drop)]
+pub enum Shown {
+    /// A word as it stands.
+    Word(&'static str),
+    /// In decimal.
+    Number(u16),
+    /// A byte as two upper-case hexadecimal digits and `h`.
+    Code(u8),
+    /// Three bytes as six lower-case hexadecimal digits.
+    Digits([u8; 3]),
+    /// A revision, whose major number is in the upper nibble and the minor one in the lower.
+    Revision(u8),
+    /// The bytes of a text field.
+    Text(ArrayVec<u8, 16>),
+    /// Thousandths and the unit that they print in.
+    Measure(i64, &'static str),
+}
+
+impl fmt::Display for Shown {
+    ghost output = { λ shown. Some (shown_text shown) };
+
+    #[tactic(auto, unfolding(crate::specs::Shown::shown_text))]
+    fn fmt<W: fmt::Write>(&self, f: &mut fmt::Formatter<W>) -> fmt::Result {
+        match self {
+            Shown::Word(word) => write!(f, "{word}"),
+            Shown::Number(number) => write!(f, "{number}"),
+            Shown::Code(byte) => {
+                let code = ByteCode(*byte);
+                write!(f, "{code}")
+            }
+            Shown::Digits(bytes) => {
+                let digits = Hexadecimal(bytes);
+                write!(f, "{digits}")
+            }
+            Shown::Revision(byte) => {
+                let revision = RevisionNumber(*byte);
+                write!(f, "{revision}")
+            }
+            Shown::Text(bytes) => {
+                let text = Printable(bytes);
+                write!(f, "{text}")
+            }
+            Shown::Measure(amount, unit) => {
+                let amount = Thousandths(*amount);
+                write!(f, "{amount} {unit}")
+            }
+        }
+    }
+}
 
 /// A byte as two upper-case hexadecimal digits and `h`.
-#[derive(Clone, Copy, Debug)]
-pub struct ByteCode(pub u8);
+#[derive(Clone, Copy)]
+struct ByteCode(u8);
 
 impl fmt::Display for ByteCode {
     ghost output = { λ shown. Some (byte_code shown.0) };
 
+    #[tactic(auto, unfolding(crate::specs::Shown::byte_code))]
     fn fmt<W: fmt::Write>(&self, f: &mut fmt::Formatter<W>) -> fmt::Result {
         let (high, low) = (upper_digit(self.0 / 16), upper_digit(self.0 % 16));
         write!(f, "{high}{low}h")
@@ -27,12 +81,13 @@ fn upper_digit(value: u8) -> char
 }
 
 /// Thousandths as a sign where negative, the whole part, a point and three digits.
-#[derive(Clone, Copy, Debug)]
-pub struct Thousandths(pub i64);
+#[derive(Clone, Copy)]
+struct Thousandths(i64);
 
 impl fmt::Display for Thousandths {
     ghost output = { λ shown. Some (thousandths shown.0) };
 
+    #[tactic(auto, unfolding(crate::specs::Shown::thousandths))]
     fn fmt<W: fmt::Write>(&self, f: &mut fmt::Formatter<W>) -> fmt::Result {
         let value = self.0;
         let minus = minus(value);
@@ -61,26 +116,14 @@ impl fmt::Display for ThreeDigits {
     }
 }
 
-/// Thousandths and the unit that they print in.
-#[derive(Clone, Copy, Debug)]
-pub struct Measure(pub i64, pub &'static str);
-
-impl fmt::Display for Measure {
-    ghost output = { λ shown. Some (thousandths shown.0 ++ 32 ∷ shown.1.now) };
-
-    fn fmt<W: fmt::Write>(&self, f: &mut fmt::Formatter<W>) -> fmt::Result {
-        let (amount, unit) = (Thousandths(self.0), self.1);
-        write!(f, "{amount} {unit}")
-    }
-}
-
 /// A revision, whose major number is in the upper nibble and the minor one in the lower.
-#[derive(Clone, Copy, Debug)]
-pub struct RevisionNumber(pub u8);
+#[derive(Clone, Copy)]
+struct RevisionNumber(u8);
 
 impl fmt::Display for RevisionNumber {
     ghost output = { λ shown. Some (revision shown.0) };
 
+    #[tactic(auto, unfolding(crate::specs::Shown::revision))]
     fn fmt<W: fmt::Write>(&self, f: &mut fmt::Formatter<W>) -> fmt::Result {
         let (major, minor) = (self.0 / 16, self.0 % 16);
         write!(f, "{major}.{minor}")
@@ -88,12 +131,13 @@ impl fmt::Display for RevisionNumber {
 }
 
 /// The bytes of a text field without the spaces and zeros at their end; a byte that is no printable ASCII shows as `?`.
-#[derive(Clone, Copy, Debug)]
-pub struct Printable<'a>(pub &'a [u8]);
+#[derive(Clone, Copy)]
+struct Printable<'a>(&'a [u8]);
 
 impl fmt::Display for Printable<'_> {
     ghost output = { λ shown. Some (printable shown.0.now) };
 
+    #[tactic(auto, unfolding(crate::specs::Shown::printable))]
     fn fmt<W: fmt::Write>(&self, f: &mut fmt::Formatter<W>) -> fmt::Result {
         for byte in trimmed(self.0) {
             let letter = shown_byte(*byte);
