@@ -1,4 +1,4 @@
 mod CommandLineLemmas
 mod FoldLemmas
 mod PartCuts
-mod InventoryAnswers
+mod ReportAnswers

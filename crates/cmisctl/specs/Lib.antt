@@ -11,5 +11,5 @@ pub mod Parts
 pub mod PartsLeft
 pub mod Faults
 pub mod Runs
-pub mod Inventory
+pub mod ReportCommands
 pub mod Program

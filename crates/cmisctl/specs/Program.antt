@@ -7,19 +7,20 @@ use Rattle.std.specs.declared.io.ErrorKind.TheVariants.{OutOfMemory}
 use Rattle.clap.specs.Words.{Text, takes}
 use Rattle.cmisctl.specs.Choice.{choice_of, faults_of, program}
 use Rattle.cmisctl.specs.ChoiceFault.{IsFaultAmong, memory_line, status_of_fault}
-use Rattle.cmisctl.specs.Inventory.{IsInventory}
+use Rattle.cmisctl.specs.ReportCommands.{IsReportAnswer}
 use Rattle.cmisctl.specs.Runs.{Answer, IsRun, ended}
 use Rattle.cmisctl.specs.declared.choice.commands.Choice.{Choice}
 use Rattle.cmisctl.specs.declared.choice.commands.CommandName.{CommandName}
 use Rattle.cmisctl.specs.declared.choice.commands.CommandName.TheVariants.{Inventory}
 use Rattle.cmisctl.specs.declared.choice.fault.ChoiceFault.{ChoiceFault}
 use Rattle.cmisctl.specs.declared.choice.fault.ChoiceFault.TheVariants.{Memory}
+use Rattle.cmisctl.specs.declared.commands.report_command.Report.TheVariants as report
 use Rattle.cmisctl.specs.declared.status.Status.{Status}
 use Rattle.cmisctl.specs.declared.status.Status.TheVariants as status
 
 -- what each command answers to an input
 abbrev pub IsAnswerOf : CommandName → List ℕ → Answer → Type 0
-IsAnswerOf Inventory = IsInventory
+IsAnswerOf Inventory = IsReportAnswer report.Inventory
 
 -- the words give no choice: `clap` refuses them, or an allocation was refused
 abbrev pub IsRefusalOf : List Text → ChoiceFault → Type 0

@@ -1,4 +1,26 @@
 //! The program's commands: each reads its whole input and writes one answer.
-mod inventory_command;
+ghost use Rattle.cmisctl.specs.ReportCommands.{IsReportAnswer};
+ghost use Rattle.cmisctl.specs.Runs.{IsCommandRun};
 
-pub use inventory_command::inventory;
+mod report_command;
+
+use crate::input::CountedReader;
+use crate::output::StoppingWriter;
+use crate::status::Status;
+use report_command::{Report, report_command};
+use std::alloc::Global;
+use std::io::{Read, Write};
+
+/// Reads the text of an image, and writes the module's inventory or why there is none.
+pub fn inventory<R: Read, W: Write>(
+    alloc: Global,
+    reader: &mut CountedReader<R>,
+    writer: &mut StoppingWriter<W>,
+) -> Status
+    ensures { IsCommandRun R.remaining W.contents (IsReportAnswer Report.Inventory) reader.old reader.new writer.old writer.new result }
+{
+    report_command(alloc, Report::Inventory, reader, writer)
+}
+
+#[cfg(test)]
+mod tests;

@@ -1,12 +1,12 @@
-ghost use Rattle.std.specs.Prelude.{◌≡◌, ◌≢◌, ◌≤◌, ◌∷◌, [], true, IfErr, IfSome, MatchResult, length};
+ghost use Rattle.std.specs.Prelude.{◌≡◌, ◌≢◌, ◌≤◌, ◌∷◌, [], true, IfErr, IfSome, MatchOption, MatchResult, length};
 ghost use Rattle.std.specs.Result.{result_map_both};
 ghost use Rattle.cmisctl.specs.CountedReader.{reading_failed, reads_of, remaining_of};
 ghost use Rattle.cmisctl.specs.Input.{TakesWithinLimit};
-ghost use Rattle.cmisctl.specs.Inventory.{IsInventory};
+ghost use Rattle.cmisctl.specs.ReportCommands.{IsReportAnswer, fault_of, lines_of_report};
+ghost use Rattle.reports.specs.Lines.{IsReport};
 ghost use Rattle.cmisctl.specs.Limits.{input_limit, read_limit};
 ghost use Rattle.cmisctl.specs.Parts.{parts_of};
-ghost use Rattle.cmisctl.specs.Runs.{EndsByFailure, IsRun, SaysReading};
-ghost use Rattle.cmisctl.specs.StoppingWriter.{contents_of, writing_failed};
+ghost use Rattle.cmisctl.specs.Runs.{IsCommandRun, SaysReading};
 
 use crate::fault::Fault;
 use crate::input::{CountedReader, read_input};
@@ -14,42 +14,58 @@ use crate::output::{StoppingWriter, write_answer};
 use crate::parts::{count_parts, split_parts};
 use crate::status::Status;
 use paged_memory::Image;
+use reports::ReportFault;
 use std::alloc::Global;
 use std::io::{Read, Write};
 
-/// Reads the text of an image, and writes the module's inventory or why there is none.
-pub fn inventory<R: Read, W: Write>(
+/// A report of an image.
+#[derive(Clone, Copy, Debug, PartialEq, Eq)]
+pub enum Report {
+    Inventory,
+}
+
+impl Report {
+    fn text(self, alloc: Global, image: &Image) -> Result<Vec<u8>, ReportFault>
+        ensures { MatchOption (fault_of self image.now)
+            (IsReport (lines_of_report self image.now) (result_map_both (λ text. text.items) (λ fault. fault) result))
+            (λ fault. result ≡ Err fault) }
+    {
+        match self {
+            Report::Inventory => reports::inventory(alloc, image),
+        }
+    }
+}
+
+/// Reads the text of an image, and writes a report of it or why there is none.
+pub fn report_command<R: Read, W: Write>(
     alloc: Global,
+    report: Report,
     reader: &mut CountedReader<R>,
     writer: &mut StoppingWriter<W>,
 ) -> Status
-    ensures reads { reads_of reader.new ≤ read_limit }
-    ensures failure { EndsByFailure (reading_failed reader.new) (writing_failed writer.new) result }
-    ensures stopped { writing_failed writer.old ≡ true → writer.new ≡ writer.old }
-
-    // Where the reader's bytes are known.
-    ensures taken { TakesWithinLimit (remaining_of R.remaining reader.old) (remaining_of R.remaining reader.new) }
-    ensures run { IfSome (remaining_of R.remaining reader.old) (λ input. IsRun (IsInventory input)
-        (contents_of W.contents writer.old) (contents_of W.contents writer.new)
-        (reading_failed reader.new) (writing_failed writer.new) result) }
+    ensures { IsCommandRun R.remaining W.contents (IsReportAnswer report) reader.old reader.new writer.old writer.new result }
 {
-    let answer = answer(alloc, reader);
+    let answer = answer(alloc, report, reader);
     write_answer(writer, answer)
 }
 
-fn answer<R: Read>(alloc: Global, reader: &mut CountedReader<R>) -> Result<Vec<u8>, Fault>
+fn answer<R: Read>(
+    alloc: Global,
+    report: Report,
+    reader: &mut CountedReader<R>,
+) -> Result<Vec<u8>, Fault>
     ensures reads { reads_of reader.new ≤ read_limit }
     ensures taken { TakesWithinLimit (remaining_of R.remaining reader.old) (remaining_of R.remaining reader.new) }
     ensures reading { SaysReading (reading_failed reader.new) (result_map_both (λ text. text.items) (λ fault. fault) result) }
-    ensures answer { IfSome (remaining_of R.remaining reader.old) (λ input. IsInventory input (result_map_both (λ text. text.items) (λ fault. fault) result)) }
+    ensures answer { IfSome (remaining_of R.remaining reader.old) (λ input. IsReportAnswer report input (result_map_both (λ text. text.items) (λ fault. fault) result)) }
 {
     let input = read_input(alloc, reader)?;
-    report(alloc, &input)
+    report_on(alloc, report, &input)
 }
 
-fn report(alloc: Global, input: &[u8]) -> Result<Vec<u8>, Fault>
+fn report_on(alloc: Global, report: Report, input: &[u8]) -> Result<Vec<u8>, Fault>
     requires { length input.now ≤ input_limit }
-    ensures answer { IsInventory input.now (result_map_both (λ text. text.items) (λ fault. fault) result) }
+    ensures answer { IsReportAnswer report input.now (result_map_both (λ text. text.items) (λ fault. fault) result) }
     ensures read { IfErr result (λ fault. fault ≢ Fault.Io) }
 {
     let part = only_part(input)?;
@@ -57,7 +73,7 @@ fn report(alloc: Global, input: &[u8]) -> Result<Vec<u8>, Fault>
         Ok(image) => image,
         Err(fault) => return Err(Fault::Image(fault)),
     };
-    match reports::inventory(alloc, &image) {
+    match report.text(alloc, &image) {
         Ok(text) => Ok(text),
         Err(fault) => Err(Fault::from(fault)),
     }
@@ -76,6 +92,3 @@ fn only_part(input: &[u8]) -> Result<&[u8], Fault>
     };
     Ok(parts[0])
 }
-
-#[cfg(test)]
-mod tests;
