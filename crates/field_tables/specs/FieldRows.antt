@@ -9,14 +9,14 @@ use Rattle.field_tables.specs.Standards.{Standard, cmis}
 use Rattle.field_tables.specs.declared.field.Field.{Field}
 use Rattle.field_tables.specs.declared.field.Field.TheVariants as fields
 use Rattle.field_tables.specs.declared.layout.Layout.{Layout}
-use Rattle.field_tables.specs.declared.layout.Layout.TheVariants.{Single, Every, Bits}
+use Rattle.field_tables.specs.declared.layout.Layout.TheVariants.{Single, Every, Bits, Nibbles}
 use Rattle.field_tables.specs.declared.layout.Part.{Part}
 use Rattle.field_tables.specs.declared.layout.Part.TheVariants.{Byte, Word, Range}
 use Rattle.field_tables.specs.declared.layout.Row.{Row}
 use Rattle.field_tables.specs.declared.layout.Sign.{Sign}
 use Rattle.field_tables.specs.declared.layout.Sign.TheVariants.{Unsigned, Signed}
 use Rattle.field_tables.specs.declared.units.Unit as units
-use Rattle.field_tables.specs.declared.units.Unit.TheVariants.{Temperature, Voltage, ModulePower}
+use Rattle.field_tables.specs.declared.units.Unit.TheVariants.{Temperature, Voltage, OpticalPower, Bias, ModulePower}
 
 -- a line of the table
 abbrev pub line : Standard → Dev → Half → ℕ → ℕ → Part → Layout → ℕ → Sign → Option units.Unit → Standard × Row
@@ -36,6 +36,11 @@ line_of fields.CLowPwrAllowHW = line cmis A0 Lower 0x00 26 (Range 6 6) Single 1 
 line_of fields.CLowPwrRequestSW = line cmis A0 Lower 0x00 26 (Range 4 4) Single 1 Unsigned None
 line_of fields.CSoftwareReset = line cmis A0 Lower 0x00 26 (Range 3 3) Single 1 Unsigned None
 line_of fields.CMediaType = line cmis A0 Lower 0x00 85 Byte Single 1 Unsigned None
+line_of fields.CAppHost = line cmis A0 Lower 0x00 86 Byte (Every 4) 8 Unsigned None
+line_of fields.CAppMedia = line cmis A0 Lower 0x00 87 Byte (Every 4) 8 Unsigned None
+line_of fields.CAppHostLanes = line cmis A0 Lower 0x00 88 (Range 7 4) (Every 4) 8 Unsigned None
+line_of fields.CAppMediaLanes = line cmis A0 Lower 0x00 88 (Range 3 0) (Every 4) 8 Unsigned None
+line_of fields.CAppHostStarts = line cmis A0 Lower 0x00 89 Byte (Every 4) 8 Unsigned None
 line_of fields.CBankSelect = line cmis A0 Lower 0x00 126 Byte Single 1 Unsigned None
 line_of fields.CPageSelect = line cmis A0 Lower 0x00 127 Byte Single 1 Unsigned None
 line_of fields.CIdCopy = line cmis A0 Upper 0x00 128 Byte Single 1 Unsigned None
@@ -47,6 +52,53 @@ line_of fields.CLengthBase = line cmis A0 Upper 0x00 202 (Range 5 0) Single 1 Un
 line_of fields.CConnector = line cmis A0 Upper 0x00 203 Byte Single 1 Unsigned None
 line_of fields.CUnsupportedMedia = line cmis A0 Upper 0x00 210 (Range 0 0) Bits 8 Unsigned None
 line_of fields.CTechnology = line cmis A0 Upper 0x00 212 Byte Single 1 Unsigned None
+line_of fields.CBiasMultiplier = line cmis A0 Upper 0x01 160 (Range 4 3) Single 1 Unsigned None
+line_of fields.CRxPowerMonitor = line cmis A0 Upper 0x01 160 (Range 2 2) Single 1 Unsigned None
+line_of fields.CTxPowerMonitor = line cmis A0 Upper 0x01 160 (Range 1 1) Single 1 Unsigned None
+line_of fields.CTxBiasMonitor = line cmis A0 Upper 0x01 160 (Range 0 0) Single 1 Unsigned None
+line_of fields.CMediaStarts = line cmis A0 Upper 0x01 176 Byte (Every 1) 15 Unsigned None
+line_of fields.CAppHostMore = line cmis A0 Upper 0x01 223 Byte (Every 4) 7 Unsigned None
+line_of fields.CAppMediaMore = line cmis A0 Upper 0x01 224 Byte (Every 4) 7 Unsigned None
+line_of fields.CAppHostLanesMore = line cmis A0 Upper 0x01 225 (Range 7 4) (Every 4) 7 Unsigned None
+line_of fields.CAppMediaLanesMore = line cmis A0 Upper 0x01 225 (Range 3 0) (Every 4) 7 Unsigned None
+line_of fields.CAppHostStartsMore = line cmis A0 Upper 0x01 226 Byte (Every 4) 7 Unsigned None
+line_of fields.CTempLimits = line cmis A0 Upper 0x02 128 Word (Every 2) 4 Signed (Some Temperature)
+line_of fields.CVccLimits = line cmis A0 Upper 0x02 136 Word (Every 2) 4 Unsigned (Some Voltage)
+line_of fields.CTxPowerLimits = line cmis A0 Upper 0x02 176 Word (Every 2) 4 Unsigned (Some OpticalPower)
+line_of fields.CTxBiasLimits = line cmis A0 Upper 0x02 184 Word (Every 2) 4 Unsigned (Some Bias)
+line_of fields.CRxPowerLimits = line cmis A0 Upper 0x02 192 Word (Every 2) 4 Unsigned (Some OpticalPower)
+line_of fields.CDPDeinit = line cmis A0 Upper 0x10 128 (Range 0 0) Bits 8 Unsigned None
+line_of fields.CApplyDPInit = line cmis A0 Upper 0x10 143 (Range 0 0) Bits 8 Unsigned None
+line_of fields.CStagedAppSel = line cmis A0 Upper 0x10 145 (Range 7 4) (Every 1) 8 Unsigned None
+line_of fields.CStagedPathId = line cmis A0 Upper 0x10 145 (Range 3 1) (Every 1) 8 Unsigned None
+line_of fields.CStagedExplicit = line cmis A0 Upper 0x10 145 (Range 0 0) (Every 1) 8 Unsigned None
+line_of fields.CPathStates = line cmis A0 Upper 0x11 128 (Range 3 0) Nibbles 8 Unsigned None
+line_of fields.CPathStateChanged = line cmis A0 Upper 0x11 134 (Range 0 0) Bits 8 Unsigned None
+line_of fields.CTxFailure = line cmis A0 Upper 0x11 135 (Range 0 0) Bits 8 Unsigned None
+line_of fields.CTxLos = line cmis A0 Upper 0x11 136 (Range 0 0) Bits 8 Unsigned None
+line_of fields.CTxLol = line cmis A0 Upper 0x11 137 (Range 0 0) Bits 8 Unsigned None
+line_of fields.CTxEqFail = line cmis A0 Upper 0x11 138 (Range 0 0) Bits 8 Unsigned None
+line_of fields.CTxPowerHighAlarm = line cmis A0 Upper 0x11 139 (Range 0 0) Bits 8 Unsigned None
+line_of fields.CTxPowerLowAlarm = line cmis A0 Upper 0x11 140 (Range 0 0) Bits 8 Unsigned None
+line_of fields.CTxPowerHighWarning = line cmis A0 Upper 0x11 141 (Range 0 0) Bits 8 Unsigned None
+line_of fields.CTxPowerLowWarning = line cmis A0 Upper 0x11 142 (Range 0 0) Bits 8 Unsigned None
+line_of fields.CTxBiasHighAlarm = line cmis A0 Upper 0x11 143 (Range 0 0) Bits 8 Unsigned None
+line_of fields.CTxBiasLowAlarm = line cmis A0 Upper 0x11 144 (Range 0 0) Bits 8 Unsigned None
+line_of fields.CTxBiasHighWarning = line cmis A0 Upper 0x11 145 (Range 0 0) Bits 8 Unsigned None
+line_of fields.CTxBiasLowWarning = line cmis A0 Upper 0x11 146 (Range 0 0) Bits 8 Unsigned None
+line_of fields.CRxLos = line cmis A0 Upper 0x11 147 (Range 0 0) Bits 8 Unsigned None
+line_of fields.CRxLol = line cmis A0 Upper 0x11 148 (Range 0 0) Bits 8 Unsigned None
+line_of fields.CRxPowerHighAlarm = line cmis A0 Upper 0x11 149 (Range 0 0) Bits 8 Unsigned None
+line_of fields.CRxPowerLowAlarm = line cmis A0 Upper 0x11 150 (Range 0 0) Bits 8 Unsigned None
+line_of fields.CRxPowerHighWarning = line cmis A0 Upper 0x11 151 (Range 0 0) Bits 8 Unsigned None
+line_of fields.CRxPowerLowWarning = line cmis A0 Upper 0x11 152 (Range 0 0) Bits 8 Unsigned None
+line_of fields.CTxPower = line cmis A0 Upper 0x11 154 Word (Every 2) 8 Unsigned (Some OpticalPower)
+line_of fields.CTxBias = line cmis A0 Upper 0x11 170 Word (Every 2) 8 Unsigned (Some Bias)
+line_of fields.CRxPower = line cmis A0 Upper 0x11 186 Word (Every 2) 8 Unsigned (Some OpticalPower)
+line_of fields.CConfigStatus = line cmis A0 Upper 0x11 202 (Range 3 0) Nibbles 8 Unsigned None
+line_of fields.CActiveAppSel = line cmis A0 Upper 0x11 206 (Range 7 4) (Every 1) 8 Unsigned None
+line_of fields.CActivePathId = line cmis A0 Upper 0x11 206 (Range 3 1) (Every 1) 8 Unsigned None
+line_of fields.CActiveExplicit = line cmis A0 Upper 0x11 206 (Range 0 0) (Every 1) 8 Unsigned None
 
 abbrev pub standard_of : Field → Standard
 standard_of field = (line_of field).0

@@ -16,6 +16,8 @@ use Rattle.field_tables.specs.Spans.{span, bytes_in, span_fits}
 -- standard; device, half and page, first and last byte of those that are summed; the address of the sum
 abbrev pub sum_line_of : Sum → Standard × (Span × ℕ)
 sum_line_of sums.CSum00 = (cmis, (span A0 Upper 0x00 128 221, 222))
+sum_line_of sums.CSum01 = (cmis, (span A0 Upper 0x01 130 254, 255))
+sum_line_of sums.CSum02 = (cmis, (span A0 Upper 0x02 128 254, 255))
 
 abbrev pub sum_row : Sum → Span × ℕ
 sum_row s = (sum_line_of s).1

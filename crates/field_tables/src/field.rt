@@ -16,6 +16,13 @@ pub enum Field {
     CLowPwrRequestSW,
     CSoftwareReset,
     CMediaType,
+    /// The HostInterfaceID of Applications 1 to 8; FFh ends the list.
+    CAppHost,
+    CAppMedia,
+    CAppHostLanes,
+    CAppMediaLanes,
+    /// Bit i-1 is 1 where the Application may begin at host lane i.
+    CAppHostStarts,
     CBankSelect,
     CPageSelect,
 
@@ -31,6 +38,68 @@ pub enum Field {
     /// Value i is 1 where media lane i is not supported.
     CUnsupportedMedia,
     CTechnology,
+
+    // CMIS, page 01h
+    /// 0, 1 and 2: bias values count once, twice and four times.
+    CBiasMultiplier,
+    CRxPowerMonitor,
+    CTxPowerMonitor,
+    CTxBiasMonitor,
+    /// Of Applications 1 to 15: bit i-1 is 1 where the Application may begin at media lane i.
+    CMediaStarts,
+    /// The HostInterfaceID of Applications 9 to 15; FFh ends the list.
+    CAppHostMore,
+    CAppMediaMore,
+    CAppHostLanesMore,
+    CAppMediaLanesMore,
+    /// As `CAppHostStarts`.
+    CAppHostStartsMore,
+
+    // CMIS, page 02h
+    /// Limits are high alarm, low alarm, high warning, low warning.
+    CTempLimits,
+    CVccLimits,
+    CTxPowerLimits,
+    CTxBiasLimits,
+    CRxPowerLimits,
+
+    // CMIS, page 10h
+    CDPDeinit,
+    CApplyDPInit,
+    CStagedAppSel,
+    /// The first host lane of the data path, less one.
+    CStagedPathId,
+    CStagedExplicit,
+
+    // CMIS, page 11h
+    CPathStates,
+    CPathStateChanged,
+    CTxFailure,
+    CTxLos,
+    CTxLol,
+    CTxEqFail,
+    CTxPowerHighAlarm,
+    CTxPowerLowAlarm,
+    CTxPowerHighWarning,
+    CTxPowerLowWarning,
+    CTxBiasHighAlarm,
+    CTxBiasLowAlarm,
+    CTxBiasHighWarning,
+    CTxBiasLowWarning,
+    CRxLos,
+    CRxLol,
+    CRxPowerHighAlarm,
+    CRxPowerLowAlarm,
+    CRxPowerHighWarning,
+    CRxPowerLowWarning,
+    CTxPower,
+    CTxBias,
+    CRxPower,
+    CConfigStatus,
+    CActiveAppSel,
+    /// The first host lane of the data path, less one.
+    CActivePathId,
+    CActiveExplicit,
 }
 
 /// A text in the memory map, padded with spaces.
@@ -47,4 +116,6 @@ pub enum TextField {
 #[derive(Clone, Copy, Debug, PartialEq, Eq)]
 pub enum Sum {
     CSum00,
+    CSum01,
+    CSum02,
 }

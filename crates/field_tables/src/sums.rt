@@ -52,5 +52,7 @@ fn row_of(sum: Sum) -> (Span, u8)
     // device, half and page, first and last byte, address
     sums! { sum;
         CSum00: A0 Upper 0x00, 128-221 at 222;
+        CSum01: A0 Upper 0x01, 130-254 at 255;
+        CSum02: A0 Upper 0x02, 128-254 at 255;
     }
 }
