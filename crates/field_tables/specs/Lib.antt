@@ -1,4 +1,6 @@
 pub mod Halves
+pub mod LaneSets
+pub mod LaneBytes
 pub mod Layouts
 pub mod Numbers
 pub mod Parts
