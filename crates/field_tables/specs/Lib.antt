@@ -13,4 +13,5 @@ pub mod Spans
 pub mod Texts
 pub mod Sums
 pub mod Units
+pub mod Readings
 pub mod Entries

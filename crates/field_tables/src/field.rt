@@ -35,7 +35,7 @@ pub enum Field {
     CLengthMultiplier,
     CLengthBase,
     CConnector,
-    /// Value i is 1 where media lane i is not supported.
+    /// Bit i-1 is 1 where media lane i is not supported.
     CUnsupportedMedia,
     CTechnology,
 

@@ -67,7 +67,7 @@ pub fn row(field: Field) -> Row
         CLengthMultiplier: A0 Upper 0x00, 202 [7-6], Single, 1, Unsigned;
         CLengthBase: A0 Upper 0x00, 202 [5-0], Single, 1, Unsigned;
         CConnector: A0 Upper 0x00, 203 [byte], Single, 1, Unsigned;
-        CUnsupportedMedia: A0 Upper 0x00, 210 [0-0], Bits, 8, Unsigned;
+        CUnsupportedMedia: A0 Upper 0x00, 210 [byte], Single, 1, Unsigned;
         CTechnology: A0 Upper 0x00, 212 [byte], Single, 1, Unsigned;
         CBiasMultiplier: A0 Upper 0x01, 160 [4-3], Single, 1, Unsigned;
         CRxPowerMonitor: A0 Upper 0x01, 160 [2-2], Single, 1, Unsigned;
