@@ -1,0 +1,5 @@
+pub mod Usable
+pub mod Descriptors
+pub mod Advertised
+pub mod AdvertisedCode
+pub mod Refusals

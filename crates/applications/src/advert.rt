@@ -1,0 +1,63 @@
+use crate::app::{App, MAX_APPS};
+use crate::descriptors::apps_in;
+use crate::fault::AdvertFault;
+use crate::refusal::refusal;
+use arrayvec::ArrayVec;
+use field_tables::{Field, LaneSet, number};
+use paged_memory::Image;
+use std::marker::Model;
+
+/// What a module advertises: at most 15 Applications, and the media lanes that it does not support.
+#[derive(Debug, Drop)]
+pub struct Advert {
+    apps: ArrayVec<App, MAX_APPS>,
+    unsupported: LaneSet,
+}
+
+impl Model for Advert {
+    ghost use Rattle.applications.specs.Advertised.{Advertised, InOrder};
+    ghost use Rattle.applications.specs.AdvertisedCode.{coded_advertised};
+
+    ghost Value = { Advertised };
+
+    ghost coded = { coded_advertised };
+
+    ghost view = { λ advert. record { apps = advert.apps.items; unsupported = advert.unsupported } };
+
+    ghost invariant = { λ advert. InOrder advert.apps.items };
+}
+
+impl Advert {
+    ghost use Rattle.std.specs.Prelude.{◌≡◌, ◌≤◌, MatchOption, length};
+    ghost use Rattle.applications.specs.Advertised.{InOrder, advertised_by};
+    ghost use Rattle.applications.specs.Refusals.{advert_fault};
+
+    /// What the module of an image advertises.
+    pub fn of(image: &Image) -> Result<Advert, AdvertFault>
+        ensures { MatchOption (advert_fault image.now) (result ≡ Ok (advertised_by image.now)) (λ fault. result ≡ Err fault) }
+    {
+        if let Some(fault) = refusal(image) {
+            return Err(fault);
+        }
+        Ok(Advert {
+            apps: apps_in(image),
+            unsupported: LaneSet::from(number(image, Field::CUnsupportedMedia)),
+        })
+    }
+
+    /// The Applications by rising number.
+    pub fn apps(&self) -> &[App]
+        ensures apps { result.now ≡ self.now.apps }
+        ensures in_order { InOrder result.now }
+        ensures few { length result.now ≤ MAX_APPS }
+    {
+        self.apps.as_slice()
+    }
+
+    /// The media lanes that no data path may use.
+    pub fn unsupported(&self) -> LaneSet
+        ensures { result ≡ self.now.unsupported }
+    {
+        self.unsupported
+    }
+}

@@ -1,0 +1,16 @@
+//! The Applications that a CMIS module advertises: what it can do on which lanes.
+#![tactic(auto)]
+
+mod advert;
+mod app;
+mod descriptors;
+mod fault;
+mod refusal;
+
+pub use advert::Advert;
+pub use app::{App, MAX_APPS};
+pub use fault::AdvertFault;
+pub use field_tables::LaneSet;
+
+#[cfg(test)]
+mod tests;
