@@ -41,4 +41,5 @@ numbered_from memory number (suc left) =
     ]
 
 pub apps_of-in_order : (memory : Memory) → InOrder (apps_of memory)
+unfolding apps_of
 apps_of-in_order memory = numbered_from memory 1 15

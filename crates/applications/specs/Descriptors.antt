@@ -41,5 +41,5 @@ app_at memory number = if nat_le number 8 then app_in_lower memory number else a
 abbrev pub is_listed : App → Bool
 is_listed app = not (app.host_id == 255)
 
-abbrev pub apps_of : Memory → List App
+unfoldable pub apps_of : Memory → List App
 apps_of memory = take_while is_listed (map (app_at memory) (range_with_len 1 15))

@@ -44,11 +44,11 @@ page_faults memory =
     ∷ []
 
 -- the first fault that applies
-abbrev pub first_fault : List (Bool × AdvertFault) → Option AdvertFault
+abbrev pub first_fault : {F : Type 0} → List (Bool × F) → Option F
 first_fault faults = option_map (λ fault. fault.1) (find (λ fault. fault.0) faults)
 
 abbrev pub page_fault : Memory → Option AdvertFault
 page_fault memory = first_fault (page_faults memory)
 
-abbrev pub advert_fault : Memory → Option AdvertFault
+unfoldable pub advert_fault : Memory → Option AdvertFault
 advert_fault memory = first_fault (module_faults memory ++ page_faults memory)

@@ -11,6 +11,7 @@ use paged_memory::Image;
 const LIST_END: u8 = 0xFF;
 
 /// The Applications before the one whose HostInterfaceID ends the list.
+#[tactic(auto, unfolding(crate::specs::Descriptors::apps_of))]
 pub fn apps_in(image: &Image) -> ArrayVec<App, MAX_APPS>
     ensures { result.items ≡ apps_of image.now }
 {

@@ -11,6 +11,7 @@ pub use advert::Advert;
 pub use app::{App, MAX_APPS};
 pub use fault::AdvertFault;
 pub use field_tables::LaneSet;
+pub use refusal::{is_cmis, is_read_revision};
 
 #[cfg(test)]
 mod tests;

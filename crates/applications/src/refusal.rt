@@ -7,6 +7,7 @@ use field_tables::{Field, Sum, is_sum_right, number};
 use paged_memory::{Image, Key};
 
 /// Why the Applications of an image are not read: the first reason that applies.
+#[tactic(auto, unfolding(crate::specs::Refusals::advert_fault))]
 pub fn refusal(image: &Image) -> Option<AdvertFault>
     ensures { result ≡ advert_fault image.now }
 {
@@ -52,13 +53,15 @@ fn page_refusal(image: &Image) -> Option<AdvertFault>
     None
 }
 
-fn is_cmis(identifier: u8) -> bool
+/// Whether a module with this identifier (SFF-8024) is managed by CMIS.
+pub fn is_cmis(identifier: u8) -> bool
     ensures { result ≡ is_cmis identifier }
 {
     identifier == 0x18 || identifier == 0x19 || identifier == 0x1E
 }
 
-fn is_read_revision(revision: u8) -> bool
+/// Whether the tables of this project are those of this CMIS revision: its major number is 4 or 5.
+pub fn is_read_revision(revision: u8) -> bool
     ensures { result ≡ is_read_revision revision }
 {
     let major = revision / 16;

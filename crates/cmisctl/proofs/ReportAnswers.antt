@@ -39,6 +39,8 @@ module _ (kind : Report) (input : List ℕ) (memory : Memory) (image : IsImageIn
   refused_as (report.Unknown identifier) (inr is) = (memory, image, is)
   refused_as (report.Revision revision) (inl same) = absurd cc
   refused_as (report.Revision revision) (inr is) = (memory, image, is)
+  refused_as (report.Advert fault) (inl same) = absurd cc
+  refused_as (report.Advert fault) (inr is) = (memory, image, is)
 
   pub report_answer : (r : Result (List ℕ) ReportFault) → MatchOption (fault_of kind memory) (IsReport (lines_of_report kind memory) r) (λ f. r ≡ Err f) → IsReportAnswer kind input (answer_of r)
   report_answer (Ok text) h = none_for_text text (fault_of kind memory) refl h

@@ -8,7 +8,7 @@ use Rattle.clap.specs.Words.{fault_of, with_rule, with_subcommand, Kinds}
 use Rattle.clap.specs.Simple.{on_top}
 use Rattle.clap.specs.declared.builder.action.ArgAction.TheVariants.{SetTrue}
 use Rattle.cmisctl.specs.declared.choice.commands.CommandName.{CommandName}
-use Rattle.cmisctl.specs.declared.choice.commands.CommandName.TheVariants.{Inventory}
+use Rattle.cmisctl.specs.declared.choice.commands.CommandName.TheVariants.{Inventory, Apps}
 use Rattle.cmisctl.specs.declared.choice.commands.Choice.{Choice}
 
 -- a command, by its name among the words, and the names of its flags
@@ -20,6 +20,7 @@ pub record Entry : Type 0 where
 unfoldable pub commands : List Entry
 commands =
     record { name = codes "inventory"; command = Inventory; flags = [] }
+    ∷ record { name = codes "apps"; command = Apps; flags = [] }
     ∷ []
 
 -- `--name`, without a value and at most once

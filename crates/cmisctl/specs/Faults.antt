@@ -4,6 +4,8 @@ use Rattle.std.specs.Fmt.{decimal}
 use Rattle.paged_memory.specs.declared.fault.ImageFault.{ImageFault}
 use Rattle.paged_memory.specs.declared.fault.ImageFault.TheVariants.{BadHeader, BadLine, OutOfOrder, TooManyPages, NoEnd, AfterEnd}
 use Rattle.paged_memory.specs.ImageText.{key_text}
+use Rattle.applications.specs.declared.fault.AdvertFault.{AdvertFault}
+use Rattle.applications.specs.declared.fault.AdvertFault.TheVariants as advert
 use Rattle.reports.specs.declared.fault.ReportFault.{ReportFault}
 use Rattle.reports.specs.declared.fault.ReportFault.TheVariants as report
 use Rattle.cmisctl.specs.declared.input.InputFault.{InputFault}
@@ -25,11 +27,20 @@ image_fault_text TooManyPages = codes "IM4"
 image_fault_text NoEnd = codes "IM5"
 image_fault_text AfterEnd = codes "IM6"
 
+unfoldable pub advert_fault_text : AdvertFault → List ℕ
+advert_fault_text (advert.NotCmis identifier) = with_number (codes "AD1") identifier
+advert_fault_text (advert.Revision revision) = with_number (codes "AD2") revision
+advert_fault_text advert.FlatMemory = codes "AD3"
+advert_fault_text (advert.Absent key) = codes "AD4 " ++ key_text key
+advert_fault_text (advert.BadSum page) = with_number (codes "AD5") page
+advert_fault_text (advert.NotEightLanes identifier) = with_number (codes "AD6") identifier
+
 unfoldable pub report_fault_text : ReportFault → List ℕ
 report_fault_text report.Memory = codes "memory"
 report_fault_text (report.Absent key) = codes "RP6 " ++ key_text key
 report_fault_text (report.Unknown identifier) = with_number (codes "RP1") identifier
 report_fault_text (report.Revision revision) = with_number (codes "RP4") revision
+report_fault_text (report.Advert f) = advert_fault_text f
 
 unfoldable pub fault_text : Fault → List ℕ
 fault_text fault.Memory = codes "memory"

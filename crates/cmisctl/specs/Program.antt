@@ -11,7 +11,7 @@ use Rattle.cmisctl.specs.ReportCommands.{IsReportAnswer}
 use Rattle.cmisctl.specs.Runs.{Answer, IsRun, ended}
 use Rattle.cmisctl.specs.declared.choice.commands.Choice.{Choice}
 use Rattle.cmisctl.specs.declared.choice.commands.CommandName.{CommandName}
-use Rattle.cmisctl.specs.declared.choice.commands.CommandName.TheVariants.{Inventory}
+use Rattle.cmisctl.specs.declared.choice.commands.CommandName.TheVariants.{Inventory, Apps}
 use Rattle.cmisctl.specs.declared.choice.fault.ChoiceFault.{ChoiceFault}
 use Rattle.cmisctl.specs.declared.choice.fault.ChoiceFault.TheVariants.{Memory}
 use Rattle.cmisctl.specs.declared.commands.report_command.Report.TheVariants as report
@@ -21,6 +21,7 @@ use Rattle.cmisctl.specs.declared.status.Status.TheVariants as status
 -- what each command answers to an input
 abbrev pub IsAnswerOf : CommandName → List ℕ → Answer → Type 0
 IsAnswerOf Inventory = IsReportAnswer report.Inventory
+IsAnswerOf Apps = IsReportAnswer report.Apps
 
 -- the words give no choice: `clap` refuses them, or an allocation was refused
 abbrev pub IsRefusalOf : List Text → ChoiceFault → Type 0

@@ -22,5 +22,16 @@ pub fn inventory<R: Read, W: Write>(
     report_command(alloc, Report::Inventory, reader, writer)
 }
 
+/// Reads the text of an image, and writes the Applications that the module advertises or why they are not read.
+pub fn apps<R: Read, W: Write>(
+    alloc: Global,
+    reader: &mut CountedReader<R>,
+    writer: &mut StoppingWriter<W>,
+) -> Status
+    ensures { IsCommandRun R.remaining W.contents (IsReportAnswer Report.Apps) reader.old reader.new writer.old writer.new result }
+{
+    report_command(alloc, Report::Apps, reader, writer)
+}
+
 #[cfg(test)]
 mod tests;

@@ -1,9 +1,10 @@
 //! Why the program refuses its input, and how it says so.
 ghost use Rattle.std.specs.Prelude.{◌≡◌, Some};
-ghost use Rattle.cmisctl.specs.Faults.{fault_text, image_fault_text, report_fault_text, status_of};
+ghost use Rattle.cmisctl.specs.Faults.{advert_fault_text, fault_text, image_fault_text, report_fault_text, status_of};
 
 use crate::input::InputFault;
 use crate::status::Status;
+use applications::AdvertFault;
 use paged_memory::ImageFault;
 use reports::ReportFault;
 use std::fmt;
@@ -120,6 +121,29 @@ impl fmt::Display for ShownReportFault {
             ReportFault::Absent(key) => write!(f, "RP6 {key}"),
             ReportFault::Unknown(identifier) => write!(f, "RP1 {identifier}"),
             ReportFault::Revision(revision) => write!(f, "RP4 {revision}"),
+            ReportFault::Advert(fault) => {
+                let shown = ShownAdvertFault(fault);
+                write!(f, "{shown}")
+            }
+        }
+    }
+}
+
+#[derive(Clone, Copy)]
+struct ShownAdvertFault(AdvertFault);
+
+impl fmt::Display for ShownAdvertFault {
+    ghost output = { λ shown. Some (advert_fault_text shown.0) };
+
+    #[tactic(auto, unfolding(crate::specs::Faults::advert_fault_text))]
+    fn fmt<W: fmt::Write>(&self, f: &mut fmt::Formatter<W>) -> fmt::Result {
+        match self.0 {
+            AdvertFault::NotCmis(identifier) => write!(f, "AD1 {identifier}"),
+            AdvertFault::Revision(revision) => write!(f, "AD2 {revision}"),
+            AdvertFault::FlatMemory => write!(f, "AD3"),
+            AdvertFault::Absent(key) => write!(f, "AD4 {key}"),
+            AdvertFault::BadSum(page) => write!(f, "AD5 {page}"),
+            AdvertFault::NotEightLanes(identifier) => write!(f, "AD6 {identifier}"),
         }
     }
 }

@@ -69,6 +69,7 @@ fn run<R: Read, W: Write>(
     match choice::choice(alloc, words) {
         Ok(choice) => match choice.name {
             CommandName::Inventory => commands::inventory(alloc, reader, writer),
+            CommandName::Apps => commands::apps(alloc, reader, writer),
         },
         Err(fault) => choice_refused(&fault, writer),
     }

@@ -1,7 +1,6 @@
 -- The inventory of a CMIS module. (docs/formats.md, "inventory"; OIF-CMIS-05.0, "Lower Memory" and "Administrative
 -- Information (Page 00h)")
 use Rattle.std.specs.Prelude.{ℕ, ◌+◌, ◌*◌, ◌/◌, ◌^◌, ◌==◌, ◌||◌, ◌++◌, Bool, not, if◌then◌else◌, ℤ, pos, List, [], ◌∷◌, Option, find, codes}
-use Rattle.std.specs.Option.{option_map}
 use Rattle.std.specs.Fmt.{decimal}
 use Rattle.std.specs.FinMap as finmap
 use Rattle.hex.specs.Hex.{encode_lower}
@@ -12,20 +11,14 @@ use Rattle.field_tables.specs.declared.field.Field.TheVariants as fields
 use Rattle.field_tables.specs.declared.field.TextField.TheVariants as texts
 use Rattle.field_tables.specs.declared.field.Sum.TheVariants as sums
 use Rattle.field_tables.specs.declared.units.Unit.TheVariants.{ModulePower}
+use Rattle.field_tables.specs.Readings.{number, is_sum_right}
 use Rattle.field_tables.specs.Units.{millis_of}
 use Rattle.reports.specs.declared.fault.ReportFault.{ReportFault}
 use Rattle.reports.specs.declared.fault.ReportFault.TheVariants.{Absent, Unknown, Revision}
-use Rattle.reports.specs.Readings.{number, oui, text, is_sum_right}
+use Rattle.applications.specs.Refusals.{first_fault, is_cmis, is_read_revision}
+use Rattle.reports.specs.Readings.{oui, text}
 use Rattle.reports.specs.Shown.{byte_code, thousandths, revision, printable}
 use Rattle.reports.specs.Lines.{line}
-
--- QSFP-DD, OSFP, and QSFP+ or later with CMIS (SFF-8024)
-abbrev pub is_cmis : ℕ → Bool
-is_cmis identifier = identifier == 24 || identifier == 25 || identifier == 30
-
--- major 4 or 5
-abbrev pub is_read_revision : ℕ → Bool
-is_read_revision revision = revision / 16 == 4 || revision / 16 == 5
 
 -- why there is no inventory: the first of these that applies
 abbrev pub inventory_faults : Memory → List (Bool × ReportFault)
@@ -37,7 +30,7 @@ inventory_faults memory =
     ∷ []
 
 abbrev pub inventory_fault : Memory → Option ReportFault
-inventory_fault memory = option_map (λ fault. fault.1) (find (λ fault. fault.0) (inventory_faults memory))
+inventory_fault memory = first_fault (inventory_faults memory)
 
 abbrev pub memory_word : ℕ → List ℕ
 memory_word flat = if flat == 1 then codes "flat" else codes "paged"

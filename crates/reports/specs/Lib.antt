@@ -2,3 +2,5 @@ pub mod Readings
 pub mod Shown
 pub mod Lines
 pub mod Inventory
+pub mod Apps
+pub mod Values

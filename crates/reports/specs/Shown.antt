@@ -3,9 +3,7 @@ use Rattle.std.specs.Prelude.{ℕ, ◌-◌, ◌/◌, ◌%◌, ◌==◌, ◌||◌
 use Rattle.std.specs.Prelude.{unsigned_abs}
 use Rattle.std.specs.List.{suffix_len}
 use Rattle.std.specs.Fmt.{decimal}
-use Rattle.hex.specs.Hex.{encode_lower, upper_digits}
-use Rattle.reports.specs.declared.shown.Shown.{Shown}
-use Rattle.reports.specs.declared.shown.Shown.TheVariants.{Word, Number, Code, Digits, Revision, Text, Measure}
+use Rattle.hex.specs.Hex.{upper_digits}
 
 -- two upper-case digits and `h`
 unfoldable pub byte_code : ℕ → List ℕ
@@ -40,13 +38,3 @@ shown_byte byte = if nat_le 32 byte && nat_le byte 126 then byte else 63
 
 unfoldable pub printable : List ℕ → List ℕ
 printable bytes = map shown_byte (trimmed bytes)
-
--- the text of a value
-unfoldable pub shown_text : Shown → List ℕ
-shown_text (Word word) = word.now
-shown_text (Number n) = decimal n
-shown_text (Code byte) = byte_code byte
-shown_text (Digits bytes) = encode_lower bytes
-shown_text (Revision byte) = revision byte
-shown_text (Text bytes) = printable bytes.items
-shown_text (Measure amount unit) = thousandths amount ++ 32 ∷ unit.now

@@ -1,14 +1,16 @@
 ghost use Rattle.std.specs.Prelude.{◌≡◌, ◌^◌, ◌<◌, ◌≤ℤ◌, pos, FitsSigned, map, MatchOption};
 ghost use Rattle.std.specs.Int.{w64};
 ghost use Rattle.std.specs.Result.{result_map_both};
-ghost use Rattle.reports.specs.Lines.{IsReport, line_text};
-ghost use Rattle.reports.specs.Inventory.{inventory_fault, inventory_lines, kind_lines, vendor_lines, build_lines, memory_word, sum_word, max_power_of, length_of, is_cmis, is_read_revision};
+ghost use Rattle.reports.specs.Lines.{IsReport};
+ghost use Rattle.reports.specs.Values.{line_text};
+ghost use Rattle.reports.specs.Inventory.{inventory_fault, inventory_lines, kind_lines, vendor_lines, build_lines, memory_word, sum_word, max_power_of, length_of};
 
 use crate::fault::ReportFault;
 use crate::line::{Line, push_lines};
-use crate::readings::{is_sum_right, number, oui, text};
+use crate::readings::{oui, text};
 use crate::shown::Shown;
-use field_tables::{Field, Sum, TextField, Unit, millis};
+use applications::{is_cmis, is_read_revision};
+use field_tables::{Field, Sum, TextField, Unit, is_sum_right, millis, number};
 use paged_memory::{Dev, Image, Key};
 use std::alloc::Global;
 
@@ -50,21 +52,8 @@ fn refusal(image: &Image) -> Option<ReportFault>
     None
 }
 
-fn is_cmis(identifier: u8) -> bool
-    ensures { result ≡ is_cmis identifier }
-{
-    identifier == 0x18 || identifier == 0x19 || identifier == 0x1E
-}
-
-fn is_read_revision(revision: u8) -> bool
-    ensures { result ≡ is_read_revision revision }
-{
-    let major = revision / 16;
-    major == 4 || major == 5
-}
-
 // Identifier, revision and memory.
-#[tactic(auto, unfolding(crate::specs::Inventory::kind_lines, crate::specs::Shown::shown_text))]
+#[tactic(auto, unfolding(crate::specs::Inventory::kind_lines, crate::specs::Values::shown_text))]
 fn kind_lines(image: &Image) -> [Line; 5]
     ensures { map line_text result ≡ kind_lines image.now }
 {
@@ -81,7 +70,7 @@ fn kind_lines(image: &Image) -> [Line; 5]
 }
 
 // Who made the module.
-#[tactic(auto, unfolding(crate::specs::Inventory::vendor_lines, crate::specs::Shown::shown_text))]
+#[tactic(auto, unfolding(crate::specs::Inventory::vendor_lines, crate::specs::Values::shown_text))]
 fn vendor_lines(image: &Image) -> [Line; 6]
     ensures { map line_text result ≡ vendor_lines image.now }
 {
@@ -99,7 +88,7 @@ fn vendor_lines(image: &Image) -> [Line; 6]
 }
 
 // How the module is built.
-#[tactic(auto, unfolding(crate::specs::Inventory::build_lines, crate::specs::Shown::shown_text))]
+#[tactic(auto, unfolding(crate::specs::Inventory::build_lines, crate::specs::Values::shown_text))]
 fn build_lines(image: &Image) -> [Line; 6]
     ensures { map line_text result ≡ build_lines image.now }
 {

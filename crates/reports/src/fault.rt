@@ -1,6 +1,7 @@
 ghost use Rattle.std.specs.Prelude.{◌≡◌};
 ghost use Rattle.reports.specs.declared.fault.ReportFault.TheVariants.{Memory};
 
+use applications::AdvertFault;
 use paged_memory::Key;
 use std::alloc::AllocError;
 use thiserror::Error;
@@ -20,6 +21,9 @@ pub enum ReportFault {
     /// The CMIS revision is of a major number other than 4 and 5.
     #[error("revision {0:#04x} is not read")]
     Revision(u8),
+    /// The module's Applications are not read.
+    #[error(transparent)]
+    Advert(AdvertFault),
 }
 
 impl From<AllocError> for ReportFault {

@@ -1,7 +1,7 @@
 ghost use Rattle.std.specs.Prelude.{◌≡◌, ◌++◌, ◌∷◌, [], map, OnOk};
 ghost use Rattle.std.specs.String.{string_bytes};
 ghost use Rattle.text_lines.specs.Lines.{text_of};
-ghost use Rattle.reports.specs.Lines.{line_text};
+ghost use Rattle.reports.specs.Values.{line_text};
 
 use crate::shown::Shown;
 use std::alloc::AllocError;

@@ -1,8 +1,11 @@
 // How values are shown in reports.
 ghost use Rattle.std.specs.Prelude.{◌≡◌, ◌<◌, Some, slice_index};
 ghost use Rattle.hex.specs.Hex.{upper_digits};
-ghost use Rattle.reports.specs.Shown.{shown_text, byte_code, minus_of, thousandths, three_digits, revision, printable, trimmed, is_padding, shown_byte};
+ghost use Rattle.reports.specs.Values.{shown_text};
+ghost use Rattle.reports.specs.Shown.{byte_code, minus_of, thousandths, three_digits, revision, printable, trimmed, is_padding, shown_byte};
 
+use crate::shown_app::ShownApp;
+use applications::App;
 use arrayvec::ArrayVec;
 use std::fmt;
 use text_lines::Hexadecimal;
@@ -24,12 +27,14 @@ pub enum Shown {
     Text(ArrayVec<u8, 16>),
     /// Thousandths and the unit that they print in.
     Measure(i64, &'static str),
+    /// What is said of an Application.
+    Application(App),
 }
 
 impl fmt::Display for Shown {
     ghost output = { λ shown. Some (shown_text shown) };
 
-    #[tactic(auto, unfolding(crate::specs::Shown::shown_text))]
+    #[tactic(auto, unfolding(crate::specs::Values::shown_text))]
     fn fmt<W: fmt::Write>(&self, f: &mut fmt::Formatter<W>) -> fmt::Result {
         match self {
             Shown::Word(word) => write!(f, "{word}"),
@@ -54,13 +59,17 @@ impl fmt::Display for Shown {
                 let amount = Thousandths(*amount);
                 write!(f, "{amount} {unit}")
             }
+            Shown::Application(app) => {
+                let app = ShownApp(*app);
+                write!(f, "{app}")
+            }
         }
     }
 }
 
 /// A byte as two upper-case hexadecimal digits and `h`.
 #[derive(Clone, Copy)]
-struct ByteCode(u8);
+pub struct ByteCode(pub u8);
 
 impl fmt::Display for ByteCode {
     ghost output = { λ shown. Some (byte_code shown.0) };

@@ -7,6 +7,7 @@ ghost use Rattle.cmisctl.specs.Entries.{entry_of};
 #[derive(Clone, Copy, Debug, PartialEq, Eq)]
 pub enum CommandName {
     Inventory,
+    Apps,
 }
 
 /// What the command line asks for.
@@ -52,6 +53,7 @@ pub fn commands() -> &'static [CommandEntry]
 {
     table! {
         "inventory" Inventory [] "Print what the module is";
+        "apps" Apps [] "Print the Applications that the module advertises";
     }
 }
 

@@ -22,6 +22,7 @@ use std::io::{Read, Write};
 #[derive(Clone, Copy, Debug, PartialEq, Eq)]
 pub enum Report {
     Inventory,
+    Apps,
 }
 
 impl Report {
@@ -32,6 +33,7 @@ impl Report {
     {
         match self {
             Report::Inventory => reports::inventory(alloc, image),
+            Report::Apps => reports::apps(alloc, image),
         }
     }
 }

@@ -1,7 +1,7 @@
 use Rattle.std.proofs.Common.{◌≡◌, ◌++◌, map, take}
 use Rattle.std.specs.String.{string_bytes}
 use Rattle.text_lines.specs.Lines.{text_of}
-use Rattle.reports.specs.Lines.{line_text}
+use Rattle.reports.specs.Values.{line_text}
 use Rattle.reports.proofs.line.push_lines.Given as goal
 
 -- the lines so far

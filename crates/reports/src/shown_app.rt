@@ -1,0 +1,75 @@
+// How an Application is shown in reports.
+ghost use Rattle.std.specs.Prelude.{◌≡◌, Some};
+ghost use Rattle.field_tables.specs.LaneSets.{byte_of};
+ghost use Rattle.reports.specs.Apps.{app_text, kind_text, lanes_text, starts_text, usable_word};
+
+use crate::shown::ByteCode;
+use applications::{App, LaneSet};
+use std::fmt;
+
+#[derive(Clone, Copy)]
+pub struct ShownApp(pub App);
+
+impl fmt::Display for ShownApp {
+    ghost output = { λ shown. Some (app_text shown.0) };
+
+    #[tactic(auto, unfolding(crate::specs::Apps::app_text))]
+    fn fmt<W: fmt::Write>(&self, f: &mut fmt::Formatter<W>) -> fmt::Result {
+        let (kind, lanes, starts) = (ShownKind(self.0), ShownLanes(self.0), ShownStarts(self.0));
+        let usable = usable_word(self.0.is_usable());
+        write!(f, "{kind} {lanes} {starts} {usable}")
+    }
+}
+
+#[derive(Clone, Copy)]
+struct ShownKind(App);
+
+impl fmt::Display for ShownKind {
+    ghost output = { λ shown. Some (kind_text shown.0) };
+
+    #[tactic(auto, unfolding(crate::specs::Apps::kind_text))]
+    fn fmt<W: fmt::Write>(&self, f: &mut fmt::Formatter<W>) -> fmt::Result {
+        let number = self.0.number;
+        let (host, media) = (ByteCode(self.0.host_id), ByteCode(self.0.media_id));
+        write!(f, "{number} host {host} media {media}")
+    }
+}
+
+#[derive(Clone, Copy)]
+struct ShownLanes(App);
+
+impl fmt::Display for ShownLanes {
+    ghost output = { λ shown. Some (lanes_text shown.0) };
+
+    #[tactic(auto, unfolding(crate::specs::Apps::lanes_text))]
+    fn fmt<W: fmt::Write>(&self, f: &mut fmt::Formatter<W>) -> fmt::Result {
+        let (host, media) = (self.0.host_lanes, self.0.media_lanes);
+        write!(f, "host-lanes {host} media-lanes {media}")
+    }
+}
+
+#[derive(Clone, Copy)]
+struct ShownStarts(App);
+
+impl fmt::Display for ShownStarts {
+    ghost output = { λ shown. Some (starts_text shown.0) };
+
+    #[tactic(auto, unfolding(crate::specs::Apps::starts_text))]
+    fn fmt<W: fmt::Write>(&self, f: &mut fmt::Formatter<W>) -> fmt::Result {
+        let host = ByteCode(byte_of(self.0.host_starts));
+        let media = ByteCode(byte_of(self.0.media_starts));
+        write!(f, "host-starts {host} media-starts {media}")
+    }
+}
+
+fn byte_of(lanes: LaneSet) -> u8
+    ensures { result ≡ byte_of lanes }
+{
+    lanes.byte()
+}
+
+fn usable_word(usable: bool) -> &'static str
+    ensures { result.now ≡ usable_word usable }
+{
+    if usable { "usable" } else { "unusable" }
+}
