@@ -1,5 +1,6 @@
--- What a module advertises: its Applications, and the media lanes that it does not support. (docs/fields.md, "Applications";
--- OIF-CMIS-05.0, chapter 8 "Module Management Memory Map", "Applications Advertising" and "Media Lane Information")
+-- What a module advertises: its Applications, and the media lanes that it does not support. (docs/fields.md,
+-- "Applications"; OIF-CMIS-05.0, chapter 8 "Module Management Memory Map", "Applications Advertising" and "Media Lane
+-- Information")
 use Rattle.std.specs.Prelude.{◌≡◌, List, length, map}
 use Rattle.std.specs.List.{range_with_len}
 use Rattle.paged_memory.specs.Images.{Memory}

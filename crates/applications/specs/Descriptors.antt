@@ -1,5 +1,5 @@
--- The Applications of a module, from its descriptors: numbers 1 to 8 are described in lower memory, 9 to 15 on page 01h,
--- and the first HostInterfaceID FFh ends the list. (docs/fields.md, "Applications"; OIF-CMIS-05.0, chapter 8 "Module
+-- The Applications of a module, from its descriptors: numbers 1 to 8 are described in lower memory, 9 to 15 on page
+-- 01h, and the first HostInterfaceID FFh ends the list. (docs/fields.md, "Applications"; OIF-CMIS-05.0, chapter 8 "Module
 -- Management Memory Map", "Applications Advertising", "Additional Application Descriptors" and "Media Lane Assignment
 -- Advertising")
 use Rattle.std.specs.Prelude.{ℕ, ◌-◌, ◌==◌, Bool, not, nat_le, if◌then◌else◌, List, map, take_while}

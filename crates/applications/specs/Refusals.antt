@@ -1,5 +1,5 @@
--- Why the Applications of a module are not read. (docs/fields.md, "Applications"; OIF-CMIS-05.0, chapter 8 "Module Management
--- Memory Map", "Management Characteristics" and the page checksums)
+-- Why the Applications of a module are not read. (docs/fields.md, "Applications"; OIF-CMIS-05.0, chapter 8 "Module
+-- Management Memory Map", "Management Characteristics" and the page checksums)
 use Rattle.std.specs.Prelude.{ℕ, ◌/◌, ◌==◌, ◌||◌, Bool, not, List, [], ◌∷◌, ◌++◌, Option, find}
 use Rattle.std.specs.Option.{option_map}
 use Rattle.std.specs.FinMap as map

@@ -1,5 +1,5 @@
--- Applications that a data path can use: their numbers of lanes are 1 to 8. (docs/fields.md, "Applications"; OIF-CMIS-05.0,
--- chapter 8 "Module Management Memory Map", "Applications Advertising")
+-- Applications that a data path can use: their numbers of lanes are 1 to 8. (docs/fields.md, "Applications";
+-- OIF-CMIS-05.0, chapter 8 "Module Management Memory Map", "Applications Advertising")
 use Rattle.std.specs.Prelude.{ℕ, Bool, ◌&&◌, nat_le}
 use Rattle.applications.specs.declared.app.App.{App}
 
