@@ -1,4 +1,5 @@
-use crate::{ReportFault, inventory};
+use crate::{ReportFault, apps, inventory};
+use applications::AdvertFault;
 use paged_memory::{Dev, Image, Key};
 use std::test::Fail;
 
@@ -12,6 +13,18 @@ const IMAGE: &str = "module-image 1\n\
     202020203141534e303030312020202020202020202032343031333120200000\
     0000000000000000e030000c0000000000000000000000000000000000006a00\
     0000000000000000000000000000000000000000000000000000000000000000\nend\n";
+
+// Page 01h of the same module, which advertises where its Applications may begin on the media side.
+const PAGE_01: &str =
+    "upper A0 00 01 0000000000000000000000000000000000000000000000000000000000000000\
+    07000000000000000000000000000000010f0000000000000000000000000000\
+    0000000000000000000000000000000000000000000000000000000000000000\
+    0000000000000000000000000000000000000000000000000000000000000017\n";
+
+const APPS: &str = "apps 2\n\
+    app 1 host 11h media 1Ch host-lanes 8 media-lanes 4 host-starts 01h media-starts 01h usable\n\
+    app 2 host 0Dh media 14h host-lanes 2 media-lanes 1 host-starts 55h media-starts 0Fh usable\n\
+    unsupported-media 00h\n";
 
 const REPORT: &str = "family CMIS\n\
     identifier 18h\n\
@@ -54,4 +67,23 @@ fn want_of_memory_is_named(rt: HostRuntime) -> Result<(), Fail> {
 fn an_absent_page_is_named(rt: HostRuntime) {
     let fault = inventory(rt.alloc(), &Image::new()).err();
     assert_eq!(rt; fault, Some(ReportFault::Absent(Key::lower(Dev::A0))));
+}
+
+/// Run with each allocation refused in turn, too.
+#[test]
+fn the_applications_are_told(rt: HostRuntime) -> Result<(), Fail> {
+    let text = IMAGE.strip_suffix("end\n").ok_or("the image has no end")?;
+    let text = format!(in rt.alloc(); "{text}{PAGE_01}end\n")?;
+    let image = Image::read(text.as_bytes())?;
+    match apps(rt.alloc(), &image) {
+        Ok(report) => assert_eq!(rt; report.as_slice(), APPS.as_bytes()),
+        Err(fault) => assert_eq!(rt; fault, ReportFault::Memory),
+    }
+    let image = Image::read(IMAGE.as_bytes())?;
+    let absent = AdvertFault::Absent(Key::upper(Dev::A0, 0, 1));
+    assert_eq!(rt;
+        apps(rt.alloc(), &image).err(),
+        Some(ReportFault::Advert(absent))
+    );
+    Ok(())
 }

@@ -27,10 +27,15 @@ fn refused(alloc: Global, words: &[&str]) -> Result<(Status, String), Fail> {
 }
 
 #[test]
-fn chooses_the_inventory(rt: HostRuntime) -> Result<(), Fail> {
-    let words = strings(rt.alloc(), &["cmisctl", "inventory"])?;
-    let choice = choice(rt.alloc(), words.as_slice())?;
-    assert_eq!(rt; choice.name, CommandName::Inventory);
+fn chooses_the_command(rt: HostRuntime) -> Result<(), Fail> {
+    for (word, command) in [
+        ("inventory", CommandName::Inventory),
+        ("apps", CommandName::Apps),
+    ] {
+        let words = strings(rt.alloc(), &["cmisctl", word])?;
+        let choice = choice(rt.alloc(), words.as_slice())?;
+        assert_eq!(rt; choice.name, command);
+    }
     Ok(())
 }
 
@@ -40,6 +45,7 @@ Usage: cmisctl <COMMAND>
 
 Commands:
   inventory  Print what the module is
+  apps       Print the Applications that the module advertises
 
 Options:
   -h, --help  Print help

@@ -1,4 +1,4 @@
-use super::inventory;
+use super::{apps, inventory};
 use crate::input::CountedReader;
 use crate::output::StoppingWriter;
 use crate::status::Status;
@@ -17,6 +17,18 @@ const IMAGE: &str = "module-image 1\n\
     202020203141534e303030312020202020202020202032343031333120200000\
     0000000000000000e030000c0000000000000000000000000000000000006a00\
     0000000000000000000000000000000000000000000000000000000000000000\nend\n";
+
+// Page 01h of the same module, which advertises where its Applications may begin on the media side.
+const PAGE_01: &str =
+    "upper A0 00 01 0000000000000000000000000000000000000000000000000000000000000000\
+    07000000000000000000000000000000010f0000000000000000000000000000\
+    0000000000000000000000000000000000000000000000000000000000000000\
+    0000000000000000000000000000000000000000000000000000000000000017\n";
+
+const APPS: &str = "apps 2\n\
+    app 1 host 11h media 1Ch host-lanes 8 media-lanes 4 host-starts 01h media-starts 01h usable\n\
+    app 2 host 0Dh media 14h host-lanes 2 media-lanes 1 host-starts 55h media-starts 0Fh usable\n\
+    unsupported-media 00h\n";
 
 const REPORT: &str = "family CMIS\n\
     identifier 18h\n\
@@ -114,6 +126,26 @@ fn the_inventory_comes(rt: HostRuntime) -> Result<(), Fail> {
         &mut StoppingWriter::new(&mut writer),
     );
     assert_answer(&rt, ends, Status::Done, &writer.kept, REPORT);
+    Ok(())
+}
+
+#[test]
+fn the_applications_come(rt: HostRuntime) -> Result<(), Fail> {
+    let text = IMAGE.strip_suffix("end\n").ok_or("the image has no end")?;
+    let whole = format!(in rt.alloc(); "{text}{PAGE_01}end\n")?;
+    for (input, wanted, answer) in [
+        (whole.as_str(), Status::Done, APPS),
+        (IMAGE, Status::Refused, "fault AD4 upper A0 00 01\n"),
+    ] {
+        let mut written = Vec::with_capacity(rt.alloc(), 1000)?;
+        let mut reader = CountedReader::new(input.as_bytes());
+        let ends = apps(
+            rt.alloc(),
+            &mut reader,
+            &mut StoppingWriter::new(&mut written),
+        );
+        assert_answer(&rt, ends, wanted, &written, answer);
+    }
     Ok(())
 }
 
