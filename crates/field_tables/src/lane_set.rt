@@ -148,3 +148,6 @@ impl Flags for LaneSet {
         LaneSet::from(bits)
     }
 }
+
+#[cfg(test)]
+mod tests;
