@@ -1,4 +1,4 @@
--- Why the Applications of a module are not read. (docs/fields.md, "Applications"; OIF-CMIS-05.0, chapter 8 "Module
+-- Why the Applications of a module are not read. (docs/formats.md, "apps"; OIF-CMIS-05.0, chapter 8 "Module
 -- Management Memory Map", "Management Characteristics" and the page checksums)
 use Rattle.std.specs.Prelude.{ℕ, ◌/◌, ◌==◌, ◌||◌, Bool, not, List, [], ◌∷◌, ◌++◌, Option, find}
 use Rattle.std.specs.Option.{option_map}
