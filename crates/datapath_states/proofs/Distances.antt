@@ -3,8 +3,8 @@ use Rattle.std.proofs.Common.{◌≡◌, ℕ, ◌≤◌, refl, arith}
 use Rattle.datapath_states.specs.declared.state.PathState.{PathState}
 use Rattle.datapath_states.specs.declared.state.PathState.TheVariants.{Deactivated, Init, Deinit, Activated, TxTurnOn, TxTurnOff, Initialized}
 use Rattle.datapath_states.specs.Transitions.{next_of}
-use Rattle.datapath_states.specs.Runs.{IsDown, IsUp}
-use Rattle.datapath_states.proofs.Countdown.{Nearer}
+use Rattle.datapath_states.specs.Runs.{machine, IsDown, IsUp}
+use Rattle.module_states.proofs.Countdown.{Nearer}
 
 -- the turns of a lane that is down
 abbrev pub turns_down : PathState → ℕ
@@ -20,7 +20,7 @@ turns_down TxTurnOn = 5
 abbrev pub NearDeactivated : ℕ → PathState → Type 0
 NearDeactivated n state = turns_down state ≤ n
 
-pub nearer_deactivated : Nearer NearDeactivated IsDown
+pub nearer_deactivated : Nearer machine NearDeactivated IsDown
 unfolding next_of
 nearer_deactivated n Deactivated inputs near down completes = rw down (omega arith)
 nearer_deactivated n Init inputs near down completes = rw (completes refl) (omega arith)
@@ -52,7 +52,7 @@ turns_up Deinit = 5
 abbrev pub NearActivated : ℕ → PathState → Type 0
 NearActivated n state = turns_up state ≤ n
 
-pub nearer_activated : Nearer NearActivated IsUp
+pub nearer_activated : Nearer machine NearActivated IsUp
 unfolding next_of
 nearer_activated n Deactivated inputs near up completes = rw up (omega arith)
 nearer_activated n Init inputs near up completes = rw (completes refl) (omega arith)

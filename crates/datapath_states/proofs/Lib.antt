@@ -1,3 +1,2 @@
-pub mod Countdown
 pub mod Distances
 pub mod LaneNibbles

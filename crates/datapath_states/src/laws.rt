@@ -6,7 +6,8 @@ ghost use Rattle.std.specs.Bool.{IsFalse};
 ghost use Rattle.datapath_states.specs.declared.machine.Inputs.{Inputs};
 ghost use Rattle.datapath_states.specs.declared.state.PathState.{PathState};
 ghost use Rattle.datapath_states.specs.declared.status.ConfigStatus.{ConfigStatus};
-ghost use Rattle.datapath_states.specs.Runs.{ArrivesIn, IsDown, IsUp, is_transient};
+ghost use Rattle.module_states.specs.Machines.{ArrivesIn};
+ghost use Rattle.datapath_states.specs.Runs.{machine, IsDown, IsUp, is_transient};
 ghost use Rattle.datapath_states.specs.StateCodes.{code_of, state_at};
 ghost use Rattle.datapath_states.specs.StatusCodes.{status_at, status_code_of, statuses};
 ghost use Rattle.datapath_states.specs.Transitions.{fits, next_of, transitions};
@@ -44,13 +45,13 @@ pub fn transient_states_wait()
 /// A lane that stays down, and whose transient steps are done in their turns, comes to DPDeactivated in
 /// at most five turns, and stays there.
 pub fn deactivated_is_reached()
-    ensures in_five { (state : PathState) → ArrivesIn 5 IsDown state PathState.Deactivated }
-    ensures not_in_four { ¬ ArrivesIn 4 IsDown PathState.TxTurnOn PathState.Deactivated }
+    ensures in_five { (state : PathState) → ArrivesIn machine 5 IsDown state PathState.Deactivated }
+    ensures not_in_four { ¬ ArrivesIn machine 4 IsDown PathState.TxTurnOn PathState.Deactivated }
 {}
 
 /// A lane that isn't down, and whose transient steps are done in their turns, comes to DPActivated in at
 /// most five turns, and stays there.
 pub fn activated_is_reached()
-    ensures in_five { (state : PathState) → ArrivesIn 5 IsUp state PathState.Activated }
-    ensures not_in_four { ¬ ArrivesIn 4 IsUp PathState.Deinit PathState.Activated }
+    ensures in_five { (state : PathState) → ArrivesIn machine 5 IsUp state PathState.Activated }
+    ensures not_in_four { ¬ ArrivesIn machine 4 IsUp PathState.Deinit PathState.Activated }
 {}

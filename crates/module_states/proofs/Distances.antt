@@ -3,7 +3,7 @@ use Rattle.std.proofs.Common.{◌≡◌, ◌≢◌, ℕ, ◌≤◌, refl, arith}
 use Rattle.module_states.specs.declared.state.ModuleState.{ModuleState}
 use Rattle.module_states.specs.declared.state.ModuleState.TheVariants.{LowPwr, PwrUp, Ready, PwrDn, Fault}
 use Rattle.module_states.specs.Transitions.{next_of}
-use Rattle.module_states.specs.Runs.{PowersDown, PowersUp}
+use Rattle.module_states.specs.Runs.{machine, PowersDown, PowersUp}
 use Rattle.module_states.proofs.Countdown.{Nearer}
 
 -- the state is at most n turns away from ModuleLowPwr
@@ -14,7 +14,7 @@ NearLowPwr n Ready = 2 ≤ n
 NearLowPwr n PwrUp = 3 ≤ n
 NearLowPwr n Fault = ⊥
 
-pub nearer_low_pwr : Nearer NearLowPwr PowersDown
+pub nearer_low_pwr : Nearer machine NearLowPwr PowersDown
 unfolding next_of
 nearer_low_pwr n LowPwr inputs near such completes = rw such.0 (omega arith)
 nearer_low_pwr n PwrDn inputs near such completes = rw (completes refl) (omega arith)
@@ -35,7 +35,7 @@ NearReady n LowPwr = 2 ≤ n
 NearReady n PwrDn = 3 ≤ n
 NearReady n Fault = ⊥
 
-pub nearer_ready : Nearer NearReady PowersUp
+pub nearer_ready : Nearer machine NearReady PowersUp
 unfolding next_of
 nearer_ready n LowPwr inputs near such completes = rw such (omega arith)
 nearer_ready n PwrUp inputs near such completes = rw (completes refl) (omega arith)

@@ -2,3 +2,4 @@ pub mod Codes
 pub mod LowPower
 pub mod Transitions
 pub mod Runs
+pub mod Machines

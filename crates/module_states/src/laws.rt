@@ -6,7 +6,8 @@ ghost use Rattle.std.specs.Bool.{IsFalse};
 ghost use Rattle.module_states.specs.declared.machine.Inputs.{Inputs};
 ghost use Rattle.module_states.specs.declared.state.ModuleState.{ModuleState};
 ghost use Rattle.module_states.specs.Codes.{code_of, state_at};
-ghost use Rattle.module_states.specs.Runs.{ArrivesIn, PowersDown, PowersUp, is_transient};
+ghost use Rattle.module_states.specs.Machines.{ArrivesIn};
+ghost use Rattle.module_states.specs.Runs.{machine, PowersDown, PowersUp, is_transient};
 ghost use Rattle.module_states.specs.Transitions.{fits, next_of, transitions};
 
 use crate::ModuleState;
@@ -41,14 +42,14 @@ pub fn faults_stay_apart()
 /// transient steps are done in their turns, comes to ModuleLowPwr in at most three turns, and stays there.
 pub fn low_power_is_reached()
     ensures in_three { (state : ModuleState) → state ≢ ModuleState.Fault →
-        ArrivesIn 3 PowersDown state ModuleState.LowPwr }
-    ensures not_in_two { ¬ ArrivesIn 2 PowersDown ModuleState.PwrUp ModuleState.LowPwr }
+        ArrivesIn machine 3 PowersDown state ModuleState.LowPwr }
+    ensures not_in_two { ¬ ArrivesIn machine 2 PowersDown ModuleState.PwrUp ModuleState.LowPwr }
 {}
 
 /// While low power isn't asked for, a module without a fault, whose transient steps are done in their
 /// turns, comes to ModuleReady in at most three turns, and stays there.
 pub fn ready_is_reached()
     ensures in_three { (state : ModuleState) → state ≢ ModuleState.Fault →
-        ArrivesIn 3 PowersUp state ModuleState.Ready }
-    ensures not_in_two { ¬ ArrivesIn 2 PowersUp ModuleState.PwrDn ModuleState.Ready }
+        ArrivesIn machine 3 PowersUp state ModuleState.Ready }
+    ensures not_in_two { ¬ ArrivesIn machine 2 PowersUp ModuleState.PwrDn ModuleState.Ready }
 {}

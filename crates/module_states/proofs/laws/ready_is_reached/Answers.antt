@@ -3,13 +3,13 @@ use Rattle.std.proofs.lemmas.List.Elements.{All-from_recursion}
 use Rattle.module_states.specs.declared.machine.Inputs.{Inputs}
 use Rattle.module_states.specs.declared.state.ModuleState.TheVariants.{PwrUp, Ready}
 use Rattle.module_states.specs.Transitions.{next_of}
-use Rattle.module_states.specs.Runs.{PowersUp}
+use Rattle.module_states.specs.Runs.{machine, PowersUp}
 use Rattle.module_states.proofs.Countdown.{arrives}
 use Rattle.module_states.proofs.Distances.{NearReady, nearer_ready, at_ready, near_ready}
 use Rattle.module_states.proofs.laws.ready_is_reached.Goals as goal
 
 pub returns-clause-in_three : goal.returns-clause-in_three
-returns-clause-in_three c state sound = arrives NearReady PowersUp Ready nearer_ready at_ready 3 state (near_ready state sound)
+returns-clause-in_three c state sound = arrives machine NearReady PowersUp nearer_ready Ready at_ready 3 state (near_ready state sound)
 
 pub returns-clause-not_in_two : goal.returns-clause-not_in_two
 unfolding next_of
