@@ -35,7 +35,7 @@ pub enum InputFault {
 /// `TooLong` is answered as soon as one byte more than the limit has come, and the reader is asked
 /// for no more. An interrupted read is made again; another error, and an input that has not ended
 /// after [`MAX_READS`] reads, is `Io`. A new reader that is never interrupted meets no such limit,
-/// since each of its reads gives a byte. `Memory` is answered only where a growth was refused.
+/// since each of its reads gives a byte.
 pub fn read_input<R: Read>(
     alloc: Global,
     reader: &mut CountedReader<R>,

@@ -6,6 +6,7 @@ ghost use Rattle.std.specs.Io.KnownBytes.{Appends};
 ghost use Rattle.std.specs.IoError.{error_kind};
 ghost use Rattle.cmisctl.specs.ChoiceFault.{memory_line};
 ghost use Rattle.cmisctl.specs.CountedReader.{reading_failed, remaining_of};
+ghost use Rattle.cmisctl.specs.Input.{TakesWithinLimit};
 ghost use Rattle.cmisctl.specs.Program.{IsProgramRun, words_status};
 ghost use Rattle.cmisctl.specs.Runs.{ended};
 ghost use Rattle.cmisctl.specs.StoppingWriter.{contents_of, writing_failed};
@@ -62,6 +63,7 @@ fn run<R: Read, W: Write>(
     writer: &mut StoppingWriter<W>,
 ) -> Status
     ensures stopped { writing_failed writer.old ≡ true → writer.new ≡ writer.old }
+    ensures taken { TakesWithinLimit (remaining_of R.remaining reader.old) (remaining_of R.remaining reader.new) }
     ensures run { IfSome (remaining_of R.remaining reader.old) (λ input. IsProgramRun (map string_bytes words.now) input
         (contents_of W.contents writer.old) (contents_of W.contents writer.new)
         (reading_failed reader.new) (writing_failed writer.new) result) }

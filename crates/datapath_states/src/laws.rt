@@ -20,8 +20,8 @@ pub fn codes_name_states()
         (state_at code ≡ Some state) ↔ (code_of state ≡ code) }
 {}
 
-/// Each status has one code, and its code stands for it alone. Custom statuses are those of the codes
-/// 13 to 15.
+/// Each status of the table has one code, and its code stands for it alone. Its custom statuses are those
+/// of the codes 13 to 15.
 pub fn codes_name_statuses()
     ensures one_code { (code : ℕ) (status : ConfigStatus) →
         status_at code ≡ Some status → status_code_of status ≡ code }

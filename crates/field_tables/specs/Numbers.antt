@@ -10,11 +10,11 @@ use Rattle.field_tables.specs.Layouts.{Place}
 abbrev pub bit_in : (ℕ → ℕ) → ℕ × ℕ → ℕ
 bit_in byte_at bit = bit_at (byte_at bit.0) bit.1
 
--- the sum of 2 ^ k over the bits that are 1, k counted from the lowest bit of the place
+-- each bit of the place that is 1 counts twice as much as one a bit lower would; the lowest counts 1
 unfoldable pub number_in : (ℕ → ℕ) → Place → ℕ
 number_in byte_at place = sum_by (λ (p : ℕ × (ℕ × ℕ)). bit_in byte_at p.1 * 2 ^ p.0) (enumerate_from 0 place)
 
--- a signed number whose bit 15 is 1 is less by 65,536
+-- two's complement of 16 bits: bit 15 counts -32,768 in place of 32,768
 abbrev pub signed_by : Sign → ℕ → ℤ
 signed_by Unsigned n = pos n
 signed_by Signed n = if bit_at n 15 == 1 then pos n -ℤ pos 65536 else pos n

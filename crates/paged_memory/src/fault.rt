@@ -3,7 +3,7 @@ use thiserror::Error;
 /// Why a text is no image, or a page finds no room. Lines count from 1.
 #[derive(Clone, Copy, Debug, PartialEq, Eq, Drop, Error)]
 pub enum ImageFault {
-    /// There is no first line, or it isn't `module-image 1`.
+    /// The text does not begin with the line `module-image 1`.
     #[error("the first line is not `module-image 1`")]
     BadHeader,
     /// The line is neither a page line nor `end`.

@@ -1,10 +1,14 @@
 //! What holds of images and their texts, over all of them.
 ghost use Rattle.std.specs.Prelude.{◌≡◌, ℕ, List, Result};
+ghost use Rattle.paged_memory.specs.declared.key.Key.{Key};
+ghost use Rattle.paged_memory.specs.KeyOrder.{key_cmp};
 ghost use Rattle.text_lines.specs.Lines.{lines_of, text_of};
 ghost use Rattle.paged_memory.specs.declared.fault.ImageFault.{ImageFault};
 ghost use Rattle.paged_memory.specs.Images.{Memory};
 ghost use Rattle.paged_memory.specs.ImageText.{image_lines, IsImage, IsTextOf};
 ghost use Rattle.paged_memory.specs.ImageFaults.{IsAnswer};
+
+use crate::key::Key;
 
 /// Lines have one answer at most: two images share no text, no text has both an image and a fault, and the
 /// first fault of a text is one.
@@ -15,4 +19,9 @@ pub fn one_answer()
 /// The written text of an image is read as this image.
 pub fn written_is_read()
     ensures { (memory : Memory) → IsImage memory → IsTextOf (lines_of (text_of (image_lines memory))) memory }
+{}
+
+/// Keys are ordered by device, the lower half before the upper, then by bank and page.
+pub fn keys_are_ordered()
+    ensures { (a b : Key) → ⟦<Key as Ord>⟧.cmp a b ≡ key_cmp a b }
 {}

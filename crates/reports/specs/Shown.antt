@@ -17,7 +17,7 @@ abbrev pub minus_of : ℤ → List ℕ
 minus_of (pos n) = []
 minus_of (negsuc n) = 45 ∷ []
 
--- the sign, the whole part, a point and three digits
+-- a number of thousandths as a decimal fraction
 unfoldable pub thousandths : ℤ → List ℕ
 thousandths z = minus_of z ++ (decimal (unsigned_abs z / 1000) ++ 46 ∷ three_digits (unsigned_abs z % 1000))
 

@@ -89,7 +89,7 @@ fn upper_digit(value: u8) -> char
     char::from(b"0123456789ABCDEF"[usize::from(value)])
 }
 
-/// Thousandths as a sign where negative, the whole part, a point and three digits.
+/// A number of thousandths as a decimal fraction: `-0.250` for -250.
 #[derive(Clone, Copy)]
 struct Thousandths(i64);
 

@@ -69,16 +69,12 @@ fn an_absent_page_is_named(rt: HostRuntime) {
     assert_eq!(rt; fault, Some(ReportFault::Absent(Key::lower(Dev::A0))));
 }
 
-/// Run with each allocation refused in turn, too.
 #[test]
 fn the_applications_are_told(rt: HostRuntime) -> Result<(), Fail> {
     let text = IMAGE.strip_suffix("end\n").ok_or("the image has no end")?;
     let text = format!(in rt.alloc(); "{text}{PAGE_01}end\n")?;
     let image = Image::read(text.as_bytes())?;
-    match apps(rt.alloc(), &image) {
-        Ok(report) => assert_eq!(rt; report.as_slice(), APPS.as_bytes()),
-        Err(fault) => assert_eq!(rt; fault, ReportFault::Memory),
-    }
+    assert_eq!(rt; apps(rt.alloc(), &image)?.as_slice(), APPS.as_bytes());
     let image = Image::read(IMAGE.as_bytes())?;
     let absent = AdvertFault::Absent(Key::upper(Dev::A0, 0, 1));
     assert_eq!(rt;

@@ -1,5 +1,5 @@
--- The lines of a text: an LF ends a line, bytes after the last LF are a line too, and an empty text has none.
--- Any other byte, a CR too, is a byte of its line. (docs/formats.md, "Lines")
+-- The lines of a text: an LF ends a line, the last line may have none, and an empty text has no line. Nothing else ends a
+-- line, not even a CR. (docs/formats.md, "Lines")
 use Rattle.std.specs.Prelude.{ℕ, Bool, ◌==◌, List, [], ◌∷◌, ◌++◌, map, not, if◌then◌else◌}
 use Rattle.std.specs.List.{onto_first, before_first, flat_map, AllPass}
 

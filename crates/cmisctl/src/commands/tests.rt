@@ -1,3 +1,4 @@
+use super::report_command::{Report, report_command};
 use super::{apps, inventory};
 use crate::input::CountedReader;
 use crate::output::StoppingWriter;
@@ -133,18 +134,38 @@ fn the_inventory_comes(rt: HostRuntime) -> Result<(), Fail> {
 fn the_applications_come(rt: HostRuntime) -> Result<(), Fail> {
     let text = IMAGE.strip_suffix("end\n").ok_or("the image has no end")?;
     let whole = format!(in rt.alloc(); "{text}{PAGE_01}end\n")?;
-    for (input, wanted, answer) in [
-        (whole.as_str(), Status::Done, APPS),
-        (IMAGE, Status::Refused, "fault AD4 upper A0 00 01\n"),
+    let mut written = Vec::with_capacity(rt.alloc(), 1000)?;
+    let mut reader = CountedReader::new(whole.as_bytes());
+    let mut writer = StoppingWriter::new(&mut written);
+    let ends = apps(rt.alloc(), &mut reader, &mut writer);
+    assert_eq!(rt; ends, Status::Done);
+    assert_eq!(rt; written.as_slice(), APPS.as_bytes());
+    Ok(())
+}
+
+/// What begins with other bytes than the worked image, and what the two reports then say in their first line.
+#[test]
+fn other_modules_are_refused(rt: HostRuntime) -> Result<(), Fail> {
+    let rest = IMAGE
+        .strip_prefix("module-image 1\nlower A0 185000")
+        .ok_or("the image begins otherwise")?;
+    for (bytes, told, advertised) in [
+        ("185000", "family CMIS", "fault AD4 upper A0 00 01"),
+        ("185080", "family CMIS", "fault AD3"),
+        ("183000", "fault RP4 48", "fault AD2 48"),
+        ("1e5000", "family CMIS", "fault AD6 30"),
+        ("1e3000", "fault RP4 48", "fault AD2 48"),
+        ("115000", "fault RP1 17", "fault AD1 17"),
     ] {
-        let mut written = Vec::with_capacity(rt.alloc(), 1000)?;
-        let mut reader = CountedReader::new(input.as_bytes());
-        let ends = apps(
-            rt.alloc(),
-            &mut reader,
-            &mut StoppingWriter::new(&mut written),
-        );
-        assert_answer(&rt, ends, wanted, &written, answer);
+        let input = format!(in rt.alloc(); "module-image 1\nlower A0 {bytes}{rest}")?;
+        for (line, report) in [(told, Report::Inventory), (advertised, Report::Apps)] {
+            let mut written = Vec::with_capacity(rt.alloc(), 1000)?;
+            let mut reader = CountedReader::new(input.as_bytes());
+            let mut writer = StoppingWriter::new(&mut written);
+            report_command(rt.alloc(), report, &mut reader, &mut writer);
+            assert!(rt; written.starts_with(line.as_bytes()), "{bytes}");
+            assert_eq!(rt; written.get(line.len()), Some(&b'\n'));
+        }
     }
     Ok(())
 }
