@@ -14,7 +14,7 @@ use Rattle.paged_memory.specs.declared.fault.ImageFault.TheVariants.{BadHeader, 
 use Rattle.paged_memory.specs.Images.{Memory}
 use Rattle.paged_memory.specs.KeyOrder.{key_cmp}
 use Rattle.paged_memory.specs.ImageText.{header, end_line, IsImage}
-use Rattle.paged_memory.specs.ImageFaults.{Begins, IsAboveAll, IsLineFault, IsAnswer}
+use Rattle.paged_memory.specs.ImageFaults.{Begins, FirstOf, NoFault, IsAboveAll, IsLineFault, IsAnswer}
 use Rattle.paged_memory.proofs.ImageViews.{Entries, Sorted, true_of}
 use Rattle.paged_memory.proofs.Reading.{line_of, Fits}
 use Rattle.paged_memory.proofs.Places.{is_less}
@@ -39,34 +39,21 @@ abbrev Stop : Memory → Lines → Answer → Type 0
 Stop m [] a = a ≡ Err NoEnd
 Stop m (line ∷ rest) a = ((line ≡ end_line) × Ends m rest a) ⊎ ((fault : ImageFault) × IsLineFault m line fault × (a ≡ Err fault))
 
-end_has_no_fault : (m : Memory) (line : List ℕ) (fault : ImageFault) → line ≡ end_line → IsLineFault m line fault → ⊥
-end_has_no_fault m line (BadLine n) e h = h.1 e
-end_has_no_fault m line (OutOfOrder n) e h = not_end h.1 h.2 h.3.0 (sym h.3.1 ∙ e)
-end_has_no_fault m line TooManyPages e h = not_end h.1 h.2 h.3.0 (sym h.3.1 ∙ e)
-end_has_no_fault m line BadHeader e h = h
-end_has_no_fault m line NoEnd e h = h
-end_has_no_fault m line AfterEnd e h = h
+-- the first of several faults is one
+abbrev IsOne : (ImageFault → Type 0) → Type 0
+IsOne Is = (f g : ImageFault) → Is f → Is g → f ≡ g
+
+none_is_one : IsOne NoFault
+none_is_one f g p q = absurd p
+
+first_is_one : (Applies : Type 0) (this : ImageFault) (Rest : ImageFault → Type 0) → IsOne Rest → IsOne (FirstOf Applies this Rest)
+first_is_one Applies this Rest one f g (inl p) (inl q) = p.1 ∙ sym q.1
+first_is_one Applies this Rest one f g (inl p) (inr q) = absurd (q.0 p.0)
+first_is_one Applies this Rest one f g (inr p) (inl q) = absurd (p.0 q.0)
+first_is_one Applies this Rest one f g (inr p) (inr q) = one f g p.1 q.1
 
 same_fault : (m : Memory) (line : List ℕ) (f g : ImageFault) → IsLineFault m line f → IsLineFault m line g → f ≡ g
-same_fault m line (BadLine n) (BadLine k) p q = ap BadLine (p.0 ∙ sym q.0)
-same_fault m line (BadLine n) (OutOfOrder k) p q = absurd (p.2 q.1 q.2 q.3)
-same_fault m line (BadLine n) TooManyPages p q = absurd (p.2 q.1 q.2 q.3)
-same_fault m line (OutOfOrder n) (BadLine k) p q = absurd (q.2 p.1 p.2 p.3)
-same_fault m line (OutOfOrder n) (OutOfOrder k) p q = ap OutOfOrder (p.0 ∙ sym q.0)
-same_fault m line (OutOfOrder n) TooManyPages p q =
-    let same = same_entry p.1 q.1 p.2 q.2 p.3.0 q.3.0 (sym p.3.1 ∙ q.3.1) in
-    absurd (p.4 (subst (IsAboveAll m) (sym same.0) q.4))
-same_fault m line TooManyPages (BadLine k) p q = absurd (q.2 p.1 p.2 p.3)
-same_fault m line TooManyPages (OutOfOrder k) p q =
-    let same = same_entry p.1 q.1 p.2 q.2 p.3.0 q.3.0 (sym p.3.1 ∙ q.3.1) in
-    absurd (q.4 (subst (IsAboveAll m) same.0 p.4))
-same_fault m line TooManyPages TooManyPages p q = refl
-same_fault m line BadHeader g p q = absurd p
-same_fault m line NoEnd g p q = absurd p
-same_fault m line AfterEnd g p q = absurd p
-same_fault m line f BadHeader p q = absurd q
-same_fault m line f NoEnd p q = absurd q
-same_fault m line f AfterEnd p q = absurd q
+same_fault m line f g p q = first_is_one _ _ _ (first_is_one _ _ _ (first_is_one _ _ _ none_is_one)) f g p.1 q.1
 
 same_end : (m : Memory) (rest : Lines) (a b : Answer) → Ends m rest a → Ends m rest b → a ≡ b
 same_end m [] a b p q = p ∙ sym q
@@ -75,25 +62,25 @@ same_end m (line ∷ rest) a b p q = p ∙ sym q
 same_stop : (m : Memory) (rest : Lines) (a b : Answer) → Stop m rest a → Stop m rest b → a ≡ b
 same_stop m [] a b p q = p ∙ sym q
 same_stop m (line ∷ rest) a b (inl p) (inl q) = same_end m rest a b p.1 q.1
-same_stop m (line ∷ rest) a b (inl p) (inr q) = absurd (end_has_no_fault m line q.0 p.0 q.1)
-same_stop m (line ∷ rest) a b (inr p) (inl q) = absurd (end_has_no_fault m line p.0 q.0 p.1)
+same_stop m (line ∷ rest) a b (inl p) (inr q) = absurd (q.1.0 p.0)
+same_stop m (line ∷ rest) a b (inr p) (inl q) = absurd (p.1.0 q.0)
 same_stop m (line ∷ rest) a b (inr p) (inr q) = p.2 ∙ ap failed (same_fault m line p.0 q.0 p.1 q.1) ∙ sym q.2
 
 -- ---- reading doesn't stop before a page line that goes on
 
+no_first : (Applies : Type 0) (this : ImageFault) (Rest : ImageFault → Type 0) → ¬ Applies → ((f : ImageFault) → ¬ (Rest f)) → (f : ImageFault) → ¬ (FirstOf Applies this Rest f)
+no_first Applies this Rest not later f (inl p) = not p.0
+no_first Applies this Rest not later f (inr p) = later f p.1
+
 goes_on : (m : Memory) (e : Key × List ℕ) (rest : Lines) (a : Answer) → Fits e → IsAboveAll m e.0 → finmap.len m < 16 → Stop m (line_of e ∷ rest) a → ⊥
 goes_on m e rest a fits above room (inl end) = not_end e.0 e.1 fits end.0
-goes_on m e rest a fits above room (inr stop) = no_fault stop.0 stop.1
-  where
-    no_fault : (fault : ImageFault) → IsLineFault m (line_of e) fault → ⊥
-    no_fault (BadLine n) h = h.2 e.0 e.1 (fits, refl)
-    no_fault (OutOfOrder n) h =
-        let same = same_entry e.0 h.1 e.1 h.2 fits h.3.0 h.3.1 in
-        h.4 (subst (IsAboveAll m) same.0 above)
-    no_fault TooManyPages h = omega (arith, h.0)
-    no_fault BadHeader h = h
-    no_fault NoEnd h = h
-    no_fault AfterEnd h = h
+goes_on m e rest a fits above room (inr stop) =
+    no_first _ _ _ (λ bad. bad (e.0, e.1, (fits, refl)))
+    (no_first _ _ _ (λ late.
+    let same = same_entry e.0 late.0 e.1 late.1 fits late.2.0 late.2.1 in
+    late.3 (subst (IsAboveAll m) same.0 above))
+    (no_first _ _ _ (λ full. omega (arith, full, room)) (λ f none. none)))
+    stop.0 stop.1.1
 
 -- ---- two ways to read the same lines as page lines and a rest
 

@@ -1,5 +1,5 @@
 -- How the lines of an image's text are read, one page line after another.
-use Rattle.std.proofs.Common.{◌≡◌, ◌↔◌, ℕ, suc, ◌+◌, ◌≤◌, true, List, [], ◌∷◌, ◌++◌, length, map, refl, sym, ap, ◌∙◌, append_assoc, arith}
+use Rattle.std.proofs.Common.{◌≡◌, ◌↔◌, ℕ, suc, ◌+◌, ◌≤◌, Bool, true, false, List, [], ◌∷◌, ◌++◌, length, map, refl, sym, ap, ◌∙◌, append_assoc, inl, inr, arith}
 use Rattle.std.specs.List.{All, AllByRecursion}
 use Rattle.std.specs.Ordering.{is_lt}
 use Rattle.std.specs.declared.cmp.Ordering.TheVariants.{Less}
@@ -79,10 +79,23 @@ begins_more lines rest line es new key page sorted sorted_new is room spelled be
 pub is_text : (lines : List (List ℕ)) (es : Entries) → Begins lines (image_of es) (end_line ∷ []) → IsTextOf lines (image_of es)
 is_text lines es begins = record { lines_are = begins.lines_are; image = begins.image }
 
+-- the faults of a line
+abbrev is_of_line : ImageFault → Bool
+is_of_line (BadLine n) = true
+is_of_line (OutOfOrder n) = true
+is_of_line TooManyPages = true
+is_of_line _ = false
+
+of_line : (memory : Memory) (line : List ℕ) (fault : ImageFault) → IsLineFault memory line fault → is_of_line fault ≡ true
+of_line memory line fault (goes_on, inl bad) = ap is_of_line bad.1
+of_line memory line fault (goes_on, inr (spelled, inl late)) = ap is_of_line late.1
+of_line memory line fault (goes_on, inr (spelled, inr (above, inl full))) = ap is_of_line full.1
+of_line memory line fault (goes_on, inr (spelled, inr (above, inr (room, none)))) = absurd none
+
 pub fault_after : (lines rest : List (List ℕ)) (memory : Memory) (line : List ℕ) (fault : ImageFault) → Begins lines memory (line ∷ rest) → IsLineFault memory line fault → IsFirstFault lines fault
-fault_after lines rest memory line BadHeader begins h = absurd h
+fault_after lines rest memory line BadHeader begins h = let no = of_line memory line BadHeader h in absurd cc
+fault_after lines rest memory line NoEnd begins h = let no = of_line memory line NoEnd h in absurd cc
+fault_after lines rest memory line AfterEnd begins h = let no = of_line memory line AfterEnd h in absurd cc
 fault_after lines rest memory line (BadLine n) begins h = (memory, line, rest, begins, h)
 fault_after lines rest memory line (OutOfOrder n) begins h = (memory, line, rest, begins, h)
 fault_after lines rest memory line TooManyPages begins h = (memory, line, rest, begins, h)
-fault_after lines rest memory line NoEnd begins h = absurd h
-fault_after lines rest memory line AfterEnd begins h = absurd h

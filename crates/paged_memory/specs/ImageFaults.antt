@@ -1,5 +1,5 @@
 -- The first fault of lines that are no image's text. (docs/formats.md, "Image")
-use Rattle.std.specs.Prelude.{◌≡◌, ◌≢◌, ℕ, ◌+◌, List, [], ◌∷◌, ◌++◌, Result, Ok, Err}
+use Rattle.std.specs.Prelude.{◌≡◌, ◌≢◌, ◌⊎◌, ℕ, ◌+◌, List, [], ◌∷◌, ◌++◌, Result, Ok, Err}
 use Rattle.std.specs.List.{All}
 use Rattle.std.specs.FinMap as finmap
 use Rattle.std.specs.declared.cmp.Ordering.TheVariants.{Less}
@@ -26,12 +26,19 @@ IsAboveAll memory key = All (λ entry. key_cmp entry.0 key ≡ Less) (finmap.ent
 abbrev pub next_number : Memory → ℕ
 next_number memory = finmap.len memory + 2
 
--- what is wrong with the line that follows an image's page lines
+-- of faults in the order in which they are judged: this one where it applies, else what the rest says
+abbrev pub FirstOf : Type 0 → ImageFault → (ImageFault → Type 0) → ImageFault → Type 0
+FirstOf Applies this Rest fault = (Applies × (fault ≡ this)) ⊎ (¬ Applies × Rest fault)
+
+abbrev pub NoFault : ImageFault → Type 0
+NoFault fault = ⊥
+
+-- what is wrong with the line that follows an image's page lines, and isn't `end`: the first of these that applies
 abbrev pub IsLineFault : Memory → List ℕ → ImageFault → Type 0
-IsLineFault memory line (BadLine n) = (n ≡ next_number memory) × (line ≢ end_line) × ((key : Key) (page : List ℕ) → IsPageLine line key page → ⊥)
-IsLineFault memory line (OutOfOrder n) = (n ≡ next_number memory) × (key : Key) × (page : List ℕ) × IsPageLine line key page × ¬ (IsAboveAll memory key)
-IsLineFault memory line TooManyPages = (finmap.len memory ≡ 16) × (key : Key) × (page : List ℕ) × IsPageLine line key page × IsAboveAll memory key
-IsLineFault memory line _ = ⊥
+IsLineFault memory line fault = (line ≢ end_line) × (
+    FirstOf (¬ ((key : Key) × (page : List ℕ) × IsPageLine line key page)) (BadLine (next_number memory))
+    (FirstOf ((key : Key) × (page : List ℕ) × IsPageLine line key page × ¬ (IsAboveAll memory key)) (OutOfOrder (next_number memory))
+    (FirstOf (finmap.len memory ≡ 16) TooManyPages NoFault)) fault)
 
 abbrev pub IsFaultAfter : List (List ℕ) → ImageFault → Type 0
 IsFaultAfter lines fault = (memory : Memory) × (line : List ℕ) × (rest : List (List ℕ)) × Begins lines memory (line ∷ rest) × IsLineFault memory line fault
