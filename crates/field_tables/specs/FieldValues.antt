@@ -19,9 +19,13 @@ row_value bytes row i = signed_by row.sign (number_in (byte_in bytes) (place_of 
 unfoldable pub value_in : List ℕ → Field → ℕ → ℤ
 value_in bytes field i = row_value bytes (row_of field) i
 
+-- something of each value of a field by its number, the first first
+abbrev pub of_each : {A : Type 0} → Field → (ℕ → A) → List A
+of_each field of = map of (range_with_len 1 (row_of field).count)
+
 -- all values of a field, the first first
 abbrev pub values_in : List ℕ → Field → List ℤ
-values_in bytes field = map (value_in bytes field) (range_with_len 1 (row_of field).count)
+values_in bytes field = of_each field (value_in bytes field)
 
 -- the half that a field stands in
 abbrev pub field_key : Field → Key

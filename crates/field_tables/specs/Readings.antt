@@ -1,14 +1,15 @@
 -- What one reads of a module's memory once the pages that are needed are known to be there: the values for absent pages
 -- (0, a wrong sum) stand for nothing. (docs/fields.md, "Fields" and "Sums")
-use Rattle.std.specs.Prelude.{ℕ, Bool, true, false, ◌&&◌, pos, unwrap_or, unsigned_abs, nat_le}
+use Rattle.std.specs.Prelude.{ℕ, ℤ, Bool, true, false, ◌&&◌, ◌==◌, ◌≤ℤ◌, ◌<ℤ◌, pos, neg_ℤ, unwrap_or, unsigned_abs, nat_le, List}
 use Rattle.paged_memory.specs.Images.{Memory}
 use Rattle.field_tables.specs.declared.field.Field.{Field}
 use Rattle.field_tables.specs.declared.field.Sum.{Sum}
 use Rattle.field_tables.specs.declared.layout.Row.{Row}
 use Rattle.field_tables.specs.declared.layout.Sign.{Sign}
 use Rattle.field_tables.specs.declared.layout.Sign.TheVariants.{Unsigned, Signed}
+use Rattle.field_tables.specs.declared.readings.Limits.{Limits}
 use Rattle.field_tables.specs.RowPlaces.{width_by}
-use Rattle.field_tables.specs.FieldValues.{value_of}
+use Rattle.field_tables.specs.FieldValues.{of_each, value_of}
 use Rattle.field_tables.specs.Sums.{sum_right_of}
 
 abbrev pub is_unsigned : Sign → Bool
@@ -19,13 +20,42 @@ is_unsigned Signed = false
 abbrev pub is_of_bytes : Row → Bool
 is_of_bytes row = is_unsigned row.sign && nat_le (width_by row.layout row.bits) 8
 
+-- what 16 bits can say
+abbrev pub IsWord : ℤ → Type 0
+IsWord z = (neg_ℤ (pos 32768) ≤ℤ z) × (z <ℤ pos 65536)
+
+-- value i of a field
+unfoldable pub reading_at : Memory → Field → ℕ → ℤ
+reading_at memory field i = unwrap_or (value_of memory field i) (pos 0)
+
+-- the value of a field of one value
+abbrev pub reading : Memory → Field → ℤ
+reading memory field = reading_at memory field 1
+
+-- the values of a field, the first first
+abbrev pub all_readings : Memory → Field → List ℤ
+all_readings memory field = of_each field (reading_at memory field)
+
+-- the four values of a field of limits
+abbrev pub limits_of : Memory → Field → Limits
+limits_of memory field = record {
+  high_alarm = reading_at memory field 1;
+  low_alarm = reading_at memory field 2;
+  high_warning = reading_at memory field 3;
+  low_warning = reading_at memory field 4;
+}
+
 -- value i of a field of numbers
 abbrev pub number_at : Memory → Field → ℕ → ℕ
-number_at memory field i = unsigned_abs (unwrap_or (value_of memory field i) (pos 0))
+number_at memory field i = unsigned_abs (reading_at memory field i)
 
 -- the value of a field of one number
 abbrev pub number : Memory → Field → ℕ
 number memory field = number_at memory field 1
+
+-- whether each value of a field of bits is 1, the first first
+abbrev pub all_bits : Memory → Field → List Bool
+all_bits memory field = of_each field (λ i. number_at memory field i == 1)
 
 abbrev pub is_sum_right : Memory → Sum → Bool
 is_sum_right memory sum = unwrap_or (sum_right_of memory sum) false

@@ -1,16 +1,77 @@
 // Values of a module's memory, once the pages that are needed are known to be there.
-ghost use Rattle.std.specs.Prelude.{◌≡◌, ◌^◌, ◌<◌, ◌≤◌, IsTrue};
+ghost use Rattle.std.specs.Prelude.{◌≡◌, ◌^◌, ◌<◌, ◌≤◌, All, IsTrue};
 ghost use Rattle.field_tables.specs.FieldRows.{row_of};
 ghost use Rattle.field_tables.specs.RowPlaces.{width_by};
 ghost use Rattle.field_tables.specs.Readings as spec;
-ghost use Rattle.field_tables.specs.Readings.{is_of_bytes};
+ghost use Rattle.field_tables.specs.Readings.{IsWord, is_of_bytes};
 
 use crate::field::{Field, Sum};
 use crate::sums;
 use crate::values::lane;
 use paged_memory::Image;
 
+/// The limits of a monitored value, in steps of its unit.
+#[derive(Clone, Copy, Debug, PartialEq, Eq)]
+pub struct Limits {
+    pub high_alarm: i64,
+    pub low_alarm: i64,
+    pub high_warning: i64,
+    pub low_warning: i64,
+}
+
+/// A value of a field of `N` values, counted from 1, and 0 where its page is absent.
+#[tactic(auto, unfolding(crate::specs::Readings::reading_at))]
+fn reading_at<const N: usize>(image: &Image, field: Field, index: u8) -> i64
+    requires count { N ≡ (row_of field).count }
+    requires first { 1 ≤ index }
+    requires last { index ≤ N }
+    ensures value { result ≡ spec.reading_at image.now field index }
+    ensures word { IsWord result }
+{
+    lane::<N>(image, field, index).unwrap_or(0)
+}
+
+/// The value of a field of one value, and 0 where its page is absent.
+pub fn reading(image: &Image, field: Field) -> i64
+    requires { 1 ≡ (row_of field).count }
+    ensures value { result ≡ spec.reading image.now field }
+    ensures word { IsWord result }
+{
+    reading_at::<1>(image, field, 1)
+}
+
+/// The values of a field, the first first, and zeros where its page is absent. `N` is how many it has.
+pub fn all_readings<const N: usize>(image: &Image, field: Field) -> [i64; N]
+    requires { N ≡ (row_of field).count }
+    ensures values { result ≡ spec.all_readings image.now field }
+    ensures words { All IsWord result }
+{
+    let mut values = [0; N];
+    for (index, value) in values.iter_mut().enumerate() {
+        *value = reading_at::<N>(image, field, index as u8 + 1);
+    }
+    values
+}
+
+/// The four limits that a field has, and zeros where its page is absent.
+pub fn limits_of(image: &Image, field: Field) -> Limits
+    requires { 4 ≡ (row_of field).count }
+    ensures value { result ≡ spec.limits_of image.now field }
+    ensures high_alarm { IsWord result.high_alarm }
+    ensures low_alarm { IsWord result.low_alarm }
+    ensures high_warning { IsWord result.high_warning }
+    ensures low_warning { IsWord result.low_warning }
+{
+    Limits {
+        high_alarm: reading_at::<4>(image, field, 1),
+        low_alarm: reading_at::<4>(image, field, 2),
+        high_warning: reading_at::<4>(image, field, 3),
+        low_warning: reading_at::<4>(image, field, 4),
+    }
+}
+
 /// A number in a field of `N` numbers of at most one byte, counted from 1, and 0 where its page is absent.
+#[tactic(auto, unfolding(crate::specs::Readings::reading_at))]
 pub fn number_at<const N: usize>(image: &Image, field: Field, index: u8) -> u8
     requires bytes { IsTrue (is_of_bytes (row_of field)) }
     requires count { N ≡ (row_of field).count }
@@ -33,6 +94,19 @@ pub fn number(image: &Image, field: Field) -> u8
     ensures fits { result < 2 ^ width_by (row_of field).layout (row_of field).bits }
 {
     number_at::<1>(image, field, 1)
+}
+
+/// Whether each value of a field is 1, the first first; none is where its page is absent. `N` is how many it has.
+pub fn all_bits<const N: usize>(image: &Image, field: Field) -> [bool; N]
+    requires bytes { IsTrue (is_of_bytes (row_of field)) }
+    requires count { N ≡ (row_of field).count }
+    ensures { result ≡ spec.all_bits image.now field }
+{
+    let mut values = [false; N];
+    for (index, value) in values.iter_mut().enumerate() {
+        *value = number_at::<N>(image, field, index as u8 + 1) == 1;
+    }
+    values
 }
 
 /// Whether a sum is right, which it isn't where its page is absent.
