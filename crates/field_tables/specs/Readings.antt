@@ -7,7 +7,7 @@ use Rattle.field_tables.specs.declared.field.Sum.{Sum}
 use Rattle.field_tables.specs.declared.layout.Row.{Row}
 use Rattle.field_tables.specs.declared.layout.Sign.{Sign}
 use Rattle.field_tables.specs.declared.layout.Sign.TheVariants.{Unsigned, Signed}
-use Rattle.field_tables.specs.declared.readings.Limits.{Limits}
+use Rattle.field_tables.specs.declared.readings.Levels.{Levels}
 use Rattle.field_tables.specs.RowPlaces.{width_by}
 use Rattle.field_tables.specs.FieldValues.{of_each, value_of}
 use Rattle.field_tables.specs.Sums.{sum_right_of}
@@ -37,7 +37,7 @@ abbrev pub all_readings : Memory → Field → List ℤ
 all_readings memory field = of_each field (reading_at memory field)
 
 -- the four values of a field of limits
-abbrev pub limits_of : Memory → Field → Limits
+abbrev pub limits_of : Memory → Field → Levels ℤ
 limits_of memory field = record {
   high_alarm = reading_at memory field 1;
   low_alarm = reading_at memory field 2;

@@ -10,13 +10,13 @@ use crate::sums;
 use crate::values::lane;
 use paged_memory::Image;
 
-/// The limits of a monitored value, in steps of its unit.
+/// What there is for each limit of a monitored value: the limits themselves, or flags that tell whether they are passed.
 #[derive(Clone, Copy, Debug, PartialEq, Eq)]
-pub struct Limits {
-    pub high_alarm: i64,
-    pub low_alarm: i64,
-    pub high_warning: i64,
-    pub low_warning: i64,
+pub struct Levels<T> {
+    pub high_alarm: T,
+    pub low_alarm: T,
+    pub high_warning: T,
+    pub low_warning: T,
 }
 
 /// A value of a field of `N` values, counted from 1, and 0 where its page is absent.
@@ -53,8 +53,8 @@ pub fn all_readings<const N: usize>(image: &Image, field: Field) -> [i64; N]
     values
 }
 
-/// The four limits that a field has, and zeros where its page is absent.
-pub fn limits_of(image: &Image, field: Field) -> Limits
+/// The four limits that a field has, in steps of its unit, and zeros where its page is absent.
+pub fn limits_of(image: &Image, field: Field) -> Levels<i64>
     requires { 4 ≡ (row_of field).count }
     ensures value { result ≡ spec.limits_of image.now field }
     ensures high_alarm { IsWord result.high_alarm }
@@ -62,7 +62,7 @@ pub fn limits_of(image: &Image, field: Field) -> Limits
     ensures high_warning { IsWord result.high_warning }
     ensures low_warning { IsWord result.low_warning }
 {
-    Limits {
+    Levels {
         high_alarm: reading_at::<4>(image, field, 1),
         low_alarm: reading_at::<4>(image, field, 2),
         high_warning: reading_at::<4>(image, field, 3),
