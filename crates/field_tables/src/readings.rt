@@ -21,18 +21,18 @@ pub struct Levels<T> {
 
 /// A value of a field of `N` values, counted from 1, and 0 where its page is absent.
 #[tactic(auto, unfolding(crate::specs::Readings::reading_at))]
-fn reading_at<const N: usize>(image: &Image, field: Field, index: u8) -> i64
+fn reading_at<const N: usize>(image: &Image, field: Field, index: u8) -> i32
     requires count { N ≡ (row_of field).count }
     requires first { 1 ≤ index }
     requires last { index ≤ N }
     ensures value { result ≡ spec.reading_at image.now field index }
     ensures word { IsWord result }
 {
-    lane::<N>(image, field, index).unwrap_or(0)
+    lane::<N>(image, field, index).unwrap_or(0) as i32
 }
 
 /// The value of a field of one value, and 0 where its page is absent.
-pub fn reading(image: &Image, field: Field) -> i64
+pub fn reading(image: &Image, field: Field) -> i32
     requires { 1 ≡ (row_of field).count }
     ensures value { result ≡ spec.reading image.now field }
     ensures word { IsWord result }
@@ -41,7 +41,7 @@ pub fn reading(image: &Image, field: Field) -> i64
 }
 
 /// The values of a field, the first first, and zeros where its page is absent. `N` is how many it has.
-pub fn all_readings<const N: usize>(image: &Image, field: Field) -> [i64; N]
+pub fn all_readings<const N: usize>(image: &Image, field: Field) -> [i32; N]
     requires { N ≡ (row_of field).count }
     ensures values { result ≡ spec.all_readings image.now field }
     ensures words { All IsWord result }
@@ -54,7 +54,7 @@ pub fn all_readings<const N: usize>(image: &Image, field: Field) -> [i64; N]
 }
 
 /// The four limits that a field has, in steps of its unit, and zeros where its page is absent.
-pub fn limits_of(image: &Image, field: Field) -> Levels<i64>
+pub fn limits_of(image: &Image, field: Field) -> Levels<i32>
     requires { 4 ≡ (row_of field).count }
     ensures value { result ≡ spec.limits_of image.now field }
     ensures high_alarm { IsWord result.high_alarm }

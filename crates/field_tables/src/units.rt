@@ -18,8 +18,8 @@ pub enum Unit {
 
 /// Thousandths of the printed unit (degrees Celsius, millivolts, microwatts, milliamperes, watts), rounded down.
 pub fn millis(value: i64, unit: Unit) -> i64
-    requires low { neg_ℤ (pos 1000000) ≤ℤ value }
-    requires high { value ≤ℤ pos 1000000 }
+    requires low { neg_ℤ (pos 2147483648) ≤ℤ value }
+    requires high { value ≤ℤ pos 2147483648 }
     ensures millis { result ≡ millis_of value unit }
     ensures down { unit ≡ Unit.Temperature → IsFloor result (value *ℤ pos 1000) 256 }
 {
