@@ -22,7 +22,7 @@ pub use lane_set::LaneSet;
 pub use laws::{each_entry_is_within_its_half, no_bit_means_two_things};
 pub use layout::{Layout, Part, Row, Sign};
 pub use readings::{
-    Levels, all_bits, all_readings, is_sum_right, limits_of, number, number_at, reading,
+    Levels, all_bits, all_readings, is_sum_right, limits_of, number, number_at, reading, reading_at,
 };
 pub use sums::sum_right;
 pub use table::row;

@@ -21,7 +21,7 @@ pub struct Levels<T> {
 
 /// A value of a field of `N` values, counted from 1, and 0 where its page is absent.
 #[tactic(auto, unfolding(crate::specs::Readings::reading_at))]
-fn reading_at<const N: usize>(image: &Image, field: Field, index: u8) -> i32
+pub fn reading_at<const N: usize>(image: &Image, field: Field, index: u8) -> i32
     requires count { N ≡ (row_of field).count }
     requires first { 1 ≤ index }
     requires last { index ≤ N }

@@ -1,11 +1,8 @@
 -- The inventory of a CMIS module. (docs/formats.md, "inventory"; OIF-CMIS-05.0, "Lower Memory" and "Administrative
 -- Information (Page 00h)")
-use Rattle.std.specs.Prelude.{ℕ, ◌+◌, ◌*◌, ◌^◌, ◌==◌, ◌++◌, Bool, not, if◌then◌else◌, ℤ, pos, List, [], ◌∷◌, Option, codes}
+use Rattle.std.specs.Prelude.{ℕ, ◌+◌, ◌*◌, ◌^◌, ◌++◌, Bool, if◌then◌else◌, ℤ, pos, List, [], ◌∷◌, Option, codes}
 use Rattle.std.specs.Fmt.{decimal}
-use Rattle.std.specs.FinMap as finmap
 use Rattle.hex.specs.Hex.{encode_lower}
-use Rattle.bus_model.specs.declared.device.Dev.TheVariants.{A0}
-use Rattle.paged_memory.specs.Keys.{lower_key, upper_key}
 use Rattle.paged_memory.specs.Images.{Memory}
 use Rattle.field_tables.specs.declared.field.Field.TheVariants as fields
 use Rattle.field_tables.specs.declared.field.TextField.TheVariants as texts
@@ -14,29 +11,21 @@ use Rattle.field_tables.specs.declared.units.Unit.TheVariants.{ModulePower}
 use Rattle.field_tables.specs.Readings.{number, is_sum_right}
 use Rattle.field_tables.specs.Units.{millis_of}
 use Rattle.reports.specs.declared.fault.ReportFault.{ReportFault}
-use Rattle.reports.specs.declared.fault.ReportFault.TheVariants.{Absent, Unknown, Revision}
-use Rattle.applications.specs.Refusals.{first_fault, is_cmis, is_read_revision}
+use Rattle.reports.specs.Refusals.{fault_needing, is_flat}
 use Rattle.reports.specs.Readings.{oui, text}
 use Rattle.reports.specs.Shown.{byte_code, thousandths, revision, printable}
 use Rattle.reports.specs.Lines.{line}
+use Rattle.reports.specs.Words.{sum_word}
 
--- why there is no inventory: the first of these that applies
-abbrev pub inventory_faults : Memory → List (Bool × ReportFault)
-inventory_faults memory =
-    (not (finmap.contains_key memory (lower_key A0)), Absent (lower_key A0))
-    ∷ (not (is_cmis (number memory fields.CIdentifier)), Unknown (number memory fields.CIdentifier))
-    ∷ (not (is_read_revision (number memory fields.CRevision)), Revision (number memory fields.CRevision))
-    ∷ (not (finmap.contains_key memory (upper_key A0 0 0)), Absent (upper_key A0 0 0))
-    ∷ []
+-- the pages that it needs
+abbrev pub inventory_pages : List ℕ
+inventory_pages = 0x00 ∷ []
 
 abbrev pub inventory_fault : Memory → Option ReportFault
-inventory_fault memory = first_fault (inventory_faults memory)
+inventory_fault = fault_needing inventory_pages
 
-abbrev pub memory_word : ℕ → List ℕ
-memory_word flat = if flat == 1 then codes "flat" else codes "paged"
-
-abbrev pub sum_word : Bool → List ℕ
-sum_word right = if right then codes "right" else codes "wrong"
+abbrev pub memory_word : Bool → List ℕ
+memory_word flat = if flat then codes "flat" else codes "paged"
 
 -- in thousandths of a watt
 abbrev pub max_power_of : Memory → ℤ
@@ -51,7 +40,7 @@ kind_lines memory =
     line (codes "family") (codes "CMIS")
     ∷ line (codes "identifier") (byte_code (number memory fields.CIdentifier))
     ∷ line (codes "revision") (revision (number memory fields.CRevision))
-    ∷ line (codes "memory") (memory_word (number memory fields.CFlatMemory))
+    ∷ line (codes "memory") (memory_word (is_flat memory))
     ∷ line (codes "media-type") (byte_code (number memory fields.CMediaType))
     ∷ []
 

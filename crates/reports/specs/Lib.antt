@@ -1,6 +1,11 @@
 pub mod Readings
 pub mod Shown
 pub mod Lines
+pub mod Quantities
+pub mod Monitors
+pub mod CmisMonitors
+pub mod Words
+pub mod Refusals
 pub mod Inventory
 pub mod Apps
 pub mod Values

@@ -1,10 +1,11 @@
 -- The lines of a monitor: a value of the module or one of each lane, and the limits where there are any.
 -- (docs/formats.md, "monitors"; OIF-CMIS-05.0, "Lane-Specific Monitors" and "Module-Level Monitor Thresholds")
-use Rattle.std.specs.Prelude.{ℕ, ℤ, pos, neg_ℤ, ◌≤ℤ◌, List, [], ◌∷◌, ◌++◌, map, Option, Some, None}
+use Rattle.std.specs.Prelude.{ℕ, ℤ, List, [], ◌∷◌, ◌++◌, map, Option, Some, None}
 use Rattle.std.specs.Fmt.{decimal}
 use Rattle.std.specs.List.{enumerate_from}
 use Rattle.field_tables.specs.declared.readings.Levels.{Levels}
 use Rattle.reports.specs.declared.quantity.Quantity.{Quantity}
+use Rattle.reports.specs.declared.shown.Thousandths.{Thousandths}
 use Rattle.reports.specs.Lines.{line}
 use Rattle.reports.specs.Quantities.{limits_name_of, millis_in, name_of, unit_name_of}
 use Rattle.reports.specs.Shown.{thousandths}
@@ -14,10 +15,10 @@ unfoldable pub amount_text : Quantity → ℤ → List ℕ
 amount_text quantity value = thousandths (millis_in quantity value) ++ 32 ∷ unit_name_of quantity
 
 -- four amounts in thousandths
-unfoldable pub levels_text : Levels ℤ → List ℕ
+unfoldable pub levels_text : Levels Thousandths → List ℕ
 levels_text levels =
-    thousandths levels.high_alarm ++ 32 ∷ thousandths levels.low_alarm
-    ++ 32 ∷ thousandths levels.high_warning ++ 32 ∷ thousandths levels.low_warning
+    thousandths levels.high_alarm.0 ++ 32 ∷ thousandths levels.low_alarm.0
+    ++ 32 ∷ thousandths levels.high_warning.0 ++ 32 ∷ thousandths levels.low_warning.0
 
 -- the same of each level
 abbrev pub each_level : {A B : Type 0} → (A → B) → Levels A → Levels B
@@ -27,6 +28,9 @@ each_level f levels = record {
   high_warning = f levels.high_warning;
   low_warning = f levels.low_warning;
 }
+
+abbrev pub in_thousandths : Quantity → ℤ → Thousandths
+in_thousandths quantity value = record { 0 = millis_in quantity value }
 
 -- a value of the whole module
 unfoldable pub value_line : Quantity → ℤ → List ℕ
@@ -41,18 +45,14 @@ abbrev pub lane_lines : Quantity → List ℤ → List (List ℕ)
 lane_lines quantity values = map (λ (l : ℕ × ℤ). lane_line quantity l.0 l.1) (enumerate_from 1 values)
 
 unfoldable pub limits_line : Quantity → Levels ℤ → List ℕ
-limits_line quantity limits = line (limits_name_of quantity) (levels_text (each_level (millis_in quantity) limits))
+limits_line quantity limits = line (limits_name_of quantity) (levels_text (each_level (in_thousandths quantity) limits))
 
 abbrev pub limits_lines : Quantity → Option (Levels ℤ) → List (List ℕ)
 limits_lines quantity None = []
 limits_lines quantity (Some limits) = limits_line quantity limits ∷ []
 
-abbrev pub module_monitor : Quantity → ℤ → Option (Levels ℤ) → List (List ℕ)
+unfoldable pub module_monitor : Quantity → ℤ → Option (Levels ℤ) → List (List ℕ)
 module_monitor quantity value limits = value_line quantity value ∷ limits_lines quantity limits
 
-abbrev pub lane_monitor : Quantity → List ℤ → Option (Levels ℤ) → List (List ℕ)
+unfoldable pub lane_monitor : Quantity → List ℤ → Option (Levels ℤ) → List (List ℕ)
 lane_monitor quantity values limits = lane_lines quantity values ++ limits_lines quantity limits
-
--- steps that a monitor can count to
-abbrev pub IsCount : ℤ → Type 0
-IsCount value = (neg_ℤ (pos 1000000) ≤ℤ value) × (value ≤ℤ pos 1000000)

@@ -1,12 +1,11 @@
 -- What a module measures, and the units that it prints in. (docs/formats.md, "monitors"; OIF-CMIS-05.0, "Module-Level
 -- Monitor Values" and "Lane-Specific Monitors")
-use Rattle.std.specs.Prelude.{ℕ, ℤ, List, ◌∷◌, ◌++◌, codes}
+use Rattle.std.specs.Prelude.{ℕ, ℤ, List, ◌++◌, codes}
 use Rattle.field_tables.specs.declared.units.Unit.{Unit}
 use Rattle.field_tables.specs.declared.units.Unit.TheVariants as units
 use Rattle.field_tables.specs.Units.{millis_of}
 use Rattle.reports.specs.declared.quantity.Quantity.{Quantity}
 use Rattle.reports.specs.declared.quantity.Quantity.TheVariants.{Temperature, Vcc, TxPower, TxBias, RxPower}
-use Rattle.reports.specs.Shown.{thousandths}
 
 unfoldable pub name_of : Quantity → List ℕ
 name_of Temperature = codes "temperature"

@@ -4,9 +4,10 @@ use Rattle.std.specs.Borrow.{Bor}
 use Rattle.std.specs.Fmt.{decimal}
 use Rattle.hex.specs.Hex.{encode_lower}
 use Rattle.reports.specs.declared.shown.Shown.{Shown}
-use Rattle.reports.specs.declared.shown.Shown.TheVariants.{Word, Number, Code, Digits, Revision, Text, Measure, Application}
+use Rattle.reports.specs.declared.shown.Shown.TheVariants.{Word, Number, Code, Digits, Revision, Text, Measure, LaneMeasure, Levels, Application}
 use Rattle.reports.specs.Apps.{app_text}
 use Rattle.reports.specs.Lines.{line}
+use Rattle.reports.specs.Monitors.{levels_text}
 use Rattle.reports.specs.Shown.{byte_code, printable, revision, thousandths}
 
 unfoldable pub shown_text : Shown → List ℕ
@@ -16,7 +17,9 @@ shown_text (Code byte) = byte_code byte
 shown_text (Digits bytes) = encode_lower bytes
 shown_text (Revision byte) = revision byte
 shown_text (Text bytes) = printable bytes.items
-shown_text (Measure amount unit) = thousandths amount ++ 32 ∷ unit.now
+shown_text (Measure amount unit) = thousandths amount.0 ++ 32 ∷ unit.now
+shown_text (LaneMeasure lane amount unit) = decimal lane ++ 32 ∷ thousandths amount.0 ++ 32 ∷ unit.now
+shown_text (Levels levels) = levels_text levels
 shown_text (Application app) = app_text app
 
 abbrev pub line_text : Bor (List ℕ) × Shown → List ℕ

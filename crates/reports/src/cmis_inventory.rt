@@ -3,15 +3,16 @@ ghost use Rattle.std.specs.Int.{w64};
 ghost use Rattle.std.specs.Result.{result_map_both};
 ghost use Rattle.reports.specs.Lines.{IsReport};
 ghost use Rattle.reports.specs.Values.{line_text};
-ghost use Rattle.reports.specs.Inventory.{inventory_fault, inventory_lines, kind_lines, vendor_lines, build_lines, memory_word, sum_word, max_power_of, length_of};
+ghost use Rattle.reports.specs.Inventory.{inventory_fault, inventory_lines, kind_lines, vendor_lines, build_lines, memory_word, max_power_of, length_of};
 
 use crate::fault::ReportFault;
 use crate::line::{Line, push_lines};
 use crate::readings::{oui, text};
-use crate::shown::Shown;
-use applications::{is_cmis, is_read_revision};
+use crate::refusal::{is_flat, refusal};
+use crate::shown::{Shown, Thousandths};
+use crate::words::sum_word;
 use field_tables::{Field, Sum, TextField, Unit, is_sum_right, millis, number};
-use paged_memory::{Dev, Image, Key};
+use paged_memory::Image;
 use std::alloc::Global;
 
 /// What the module is, line by line.
@@ -20,7 +21,7 @@ pub fn inventory(alloc: Global, image: &Image) -> Result<Vec<u8>, ReportFault>
         (IsReport (inventory_lines image.now) (result_map_both (λ text. text.items) (λ fault. fault) result))
         (λ fault. result ≡ Err fault) }
 {
-    if let Some(fault) = refusal(image) {
+    if let Some(fault) = refusal(image, &[0x00]) {
         return Err(fault);
     }
     let mut report = String::new(alloc);
@@ -28,28 +29,6 @@ pub fn inventory(alloc: Global, image: &Image) -> Result<Vec<u8>, ReportFault>
     push_lines(&mut report, &vendor_lines(image))?;
     push_lines(&mut report, &build_lines(image))?;
     Ok(report.into_bytes())
-}
-
-fn refusal(image: &Image) -> Option<ReportFault>
-    ensures { result ≡ inventory_fault image.now }
-{
-    let lower = Key::lower(Dev::A0);
-    if !image.has(lower) {
-        return Some(ReportFault::Absent(lower));
-    }
-    let identifier = number(image, Field::CIdentifier);
-    if !is_cmis(identifier) {
-        return Some(ReportFault::Unknown(identifier));
-    }
-    let revision = number(image, Field::CRevision);
-    if !is_read_revision(revision) {
-        return Some(ReportFault::Revision(revision));
-    }
-    let page = Key::upper(Dev::A0, 0, 0);
-    if !image.has(page) {
-        return Some(ReportFault::Absent(page));
-    }
-    None
 }
 
 // Identifier, revision and memory.
@@ -61,10 +40,7 @@ fn kind_lines(image: &Image) -> [Line; 5]
         ("family", Shown::Word("CMIS")),
         ("identifier", Shown::Code(number(image, Field::CIdentifier))),
         ("revision", Shown::Revision(number(image, Field::CRevision))),
-        (
-            "memory",
-            Shown::Word(memory_word(number(image, Field::CFlatMemory))),
-        ),
+        ("memory", Shown::Word(memory_word(is_flat(image)))),
         ("media-type", Shown::Code(number(image, Field::CMediaType))),
     ]
 }
@@ -97,8 +73,11 @@ fn build_lines(image: &Image) -> [Line; 6]
             "power-class",
             Shown::Number(u16::from(number(image, Field::CPowerClass)) + 1),
         ),
-        ("max-power", Shown::Measure(max_power(image), "W")),
-        ("length", Shown::Measure(length(image), "m")),
+        (
+            "max-power",
+            Shown::Measure(Thousandths(max_power(image)), "W"),
+        ),
+        ("length", Shown::Measure(Thousandths(length(image)), "m")),
         ("connector", Shown::Code(number(image, Field::CConnector))),
         ("technology", Shown::Code(number(image, Field::CTechnology))),
         (
@@ -141,14 +120,8 @@ fn power_of_ten(exponent: u8) -> i64
     }
 }
 
-fn memory_word(flat: u8) -> &'static str
+fn memory_word(flat: bool) -> &'static str
     ensures { result.now ≡ memory_word flat }
 {
-    if flat == 1 { "flat" } else { "paged" }
-}
-
-fn sum_word(right: bool) -> &'static str
-    ensures { result.now ≡ sum_word right }
-{
-    if right { "right" } else { "wrong" }
+    if flat { "flat" } else { "paged" }
 }

@@ -3,14 +3,20 @@
 
 mod cmis_apps;
 mod cmis_inventory;
+mod cmis_monitors;
 mod fault;
 mod line;
+mod monitor;
+mod quantity;
 mod readings;
+mod refusal;
 mod shown;
 mod shown_app;
+mod words;
 
 pub use cmis_apps::apps;
 pub use cmis_inventory::inventory;
+pub use cmis_monitors::monitors;
 pub use fault::ReportFault;
 
 #[cfg(test)]

@@ -1,12 +1,14 @@
 // How values are shown in reports.
 ghost use Rattle.std.specs.Prelude.{◌≡◌, ◌<◌, Some, slice_index};
 ghost use Rattle.hex.specs.Hex.{upper_digits};
+ghost use Rattle.reports.specs.Monitors.{levels_text};
 ghost use Rattle.reports.specs.Values.{shown_text};
 ghost use Rattle.reports.specs.Shown.{byte_code, minus_of, thousandths, three_digits, revision, printable, trimmed, is_padding, shown_byte};
 
 use crate::shown_app::ShownApp;
 use applications::App;
 use arrayvec::ArrayVec;
+use field_tables::Levels;
 use std::fmt;
 use text_lines::Hexadecimal;
 
@@ -26,7 +28,11 @@ pub enum Shown {
     /// The bytes of a text field.
     Text(ArrayVec<u8, 16>),
     /// Thousandths and the unit that they print in.
-    Measure(i64, &'static str),
+    Measure(Thousandths, &'static str),
+    /// A lane, thousandths and the unit that they print in.
+    LaneMeasure(u8, Thousandths, &'static str),
+    /// Thousandths at each level.
+    Levels(Levels<Thousandths>),
     /// What is said of an Application.
     Application(App),
 }
@@ -55,9 +61,11 @@ impl fmt::Display for Shown {
                 let text = Printable(bytes);
                 write!(f, "{text}")
             }
-            Shown::Measure(amount, unit) => {
-                let amount = Thousandths(*amount);
-                write!(f, "{amount} {unit}")
+            Shown::Measure(amount, unit) => write!(f, "{amount} {unit}"),
+            Shown::LaneMeasure(lane, amount, unit) => write!(f, "{lane} {amount} {unit}"),
+            Shown::Levels(levels) => {
+                let levels = ShownLevels(*levels);
+                write!(f, "{levels}")
             }
             Shown::Application(app) => {
                 let app = ShownApp(*app);
@@ -90,8 +98,8 @@ fn upper_digit(value: u8) -> char
 }
 
 /// A number of thousandths as a decimal fraction: `-0.250` for -250.
-#[derive(Clone, Copy)]
-struct Thousandths(i64);
+#[derive(Clone, Copy, Debug)]
+pub struct Thousandths(pub i64);
 
 impl fmt::Display for Thousandths {
     ghost output = { λ shown. Some (thousandths shown.0) };
@@ -104,6 +112,21 @@ impl fmt::Display for Thousandths {
         let whole = size / 1000;
         let rest = ThreeDigits((size % 1000) as u16);
         write!(f, "{minus}{whole}.{rest}")
+    }
+}
+
+/// Thousandths at each level, the alarms first and the high one of two first.
+#[derive(Clone, Copy)]
+struct ShownLevels(Levels<Thousandths>);
+
+impl fmt::Display for ShownLevels {
+    ghost output = { λ shown. Some (levels_text shown.0) };
+
+    #[tactic(auto, unfolding(crate::specs::Monitors::levels_text))]
+    fn fmt<W: fmt::Write>(&self, f: &mut fmt::Formatter<W>) -> fmt::Result {
+        let (high_alarm, low_alarm) = (self.0.high_alarm, self.0.low_alarm);
+        let (high_warning, low_warning) = (self.0.high_warning, self.0.low_warning);
+        write!(f, "{high_alarm} {low_alarm} {high_warning} {low_warning}")
     }
 }
 
