@@ -4,6 +4,9 @@ pub mod Lines
 pub mod Quantities
 pub mod Monitors
 pub mod CmisMonitors
+pub mod Flags
+pub mod StateNames
+pub mod CmisFlags
 pub mod Words
 pub mod Refusals
 pub mod Inventory

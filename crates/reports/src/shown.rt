@@ -5,7 +5,9 @@ ghost use Rattle.reports.specs.Monitors.{levels_text};
 ghost use Rattle.reports.specs.Values.{shown_text};
 ghost use Rattle.reports.specs.Shown.{byte_code, minus_of, thousandths, three_digits, revision, printable, trimmed, is_padding, shown_byte};
 
+use crate::flag::Flag;
 use crate::shown_app::ShownApp;
+use crate::shown_state::{ShownModuleState, ShownStates};
 use applications::App;
 use arrayvec::ArrayVec;
 use field_tables::Levels;
@@ -33,6 +35,12 @@ pub enum Shown {
     LaneMeasure(u8, Thousandths, &'static str),
     /// Thousandths at each level.
     Levels(Levels<Thousandths>),
+    /// A module state by its code.
+    ModuleState(u8),
+    /// A lane, and by their codes the state of its data path and the status of its configuration.
+    States(u8, u8, u8),
+    /// A flag that is raised.
+    Flag(Flag),
     /// What is said of an Application.
     Application(App),
 }
@@ -67,6 +75,15 @@ impl fmt::Display for Shown {
                 let levels = ShownLevels(*levels);
                 write!(f, "{levels}")
             }
+            Shown::ModuleState(code) => {
+                let state = ShownModuleState(*code);
+                write!(f, "{state}")
+            }
+            Shown::States(lane, state, status) => {
+                let states = ShownStates(*lane, *state, *status);
+                write!(f, "{states}")
+            }
+            Shown::Flag(flag) => write!(f, "{flag}"),
             Shown::Application(app) => {
                 let app = ShownApp(*app);
                 write!(f, "{app}")
