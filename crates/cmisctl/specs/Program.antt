@@ -11,7 +11,7 @@ use Rattle.cmisctl.specs.ReportCommands.{IsReportAnswer}
 use Rattle.cmisctl.specs.Runs.{Answer, IsRun, ended}
 use Rattle.cmisctl.specs.declared.choice.commands.Choice.{Choice}
 use Rattle.cmisctl.specs.declared.choice.commands.CommandName.{CommandName}
-use Rattle.cmisctl.specs.declared.choice.commands.CommandName.TheVariants.{Inventory, Apps}
+use Rattle.cmisctl.specs.declared.choice.commands.CommandName.TheVariants.{Inventory, Apps, Monitors, Flags}
 use Rattle.cmisctl.specs.declared.choice.fault.ChoiceFault.{ChoiceFault}
 use Rattle.cmisctl.specs.declared.choice.fault.ChoiceFault.TheVariants.{Memory}
 use Rattle.cmisctl.specs.declared.commands.report_command.Report.TheVariants as report
@@ -22,6 +22,8 @@ use Rattle.cmisctl.specs.declared.status.Status.TheVariants as status
 abbrev pub IsAnswerOf : CommandName → List ℕ → Answer → Type 0
 IsAnswerOf Inventory = IsReportAnswer report.Inventory
 IsAnswerOf Apps = IsReportAnswer report.Apps
+IsAnswerOf Monitors = IsReportAnswer report.Monitors
+IsAnswerOf Flags = IsReportAnswer report.Flags
 
 -- the words give no choice: `clap` refuses them, or an allocation was refused
 abbrev pub IsRefusalOf : List Text → ChoiceFault → Type 0

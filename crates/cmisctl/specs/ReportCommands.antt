@@ -6,10 +6,12 @@ use Rattle.paged_memory.specs.ImageText.{IsTextOf}
 use Rattle.paged_memory.specs.ImageFaults.{IsFirstFault}
 use Rattle.applications.specs.Advertised.{advertised_by}
 use Rattle.reports.specs.Apps.{apps_fault, apps_lines}
+use Rattle.reports.specs.CmisFlags.{flags_fault, flags_lines}
+use Rattle.reports.specs.CmisMonitors.{monitors_fault, monitors_lines}
 use Rattle.reports.specs.Inventory.{inventory_fault, inventory_lines}
 use Rattle.reports.specs.declared.fault.ReportFault.{ReportFault}
 use Rattle.cmisctl.specs.declared.commands.report_command.Report.{Report}
-use Rattle.cmisctl.specs.declared.commands.report_command.Report.TheVariants.{Inventory, Apps}
+use Rattle.cmisctl.specs.declared.commands.report_command.Report.TheVariants.{Inventory, Apps, Monitors, Flags}
 use Rattle.cmisctl.specs.declared.fault.Fault.TheVariants as fault
 use Rattle.cmisctl.specs.Limits.{input_limit}
 use Rattle.cmisctl.specs.Parts.{parts_of}
@@ -30,10 +32,14 @@ pub record IsImageInput (input : List ℕ) (memory : Memory) : Type 0 where
 abbrev pub fault_of : Report → Memory → Option ReportFault
 fault_of Inventory = inventory_fault
 fault_of Apps = apps_fault
+fault_of Monitors = monitors_fault
+fault_of Flags = flags_fault
 
 abbrev pub lines_of_report : Report → Memory → List (List ℕ)
 lines_of_report Inventory = inventory_lines
 lines_of_report Apps = λ memory. apps_lines (advertised_by memory)
+lines_of_report Monitors = monitors_lines
+lines_of_report Flags = flags_lines
 
 -- the answer of a report to an input
 abbrev pub IsReportAnswer : Report → List ℕ → Answer → Type 0

@@ -33,5 +33,27 @@ pub fn apps<R: Read, W: Write>(
     report_command(alloc, Report::Apps, reader, writer)
 }
 
+/// Reads the text of an image, and writes what the module measures or why it is not told.
+pub fn monitors<R: Read, W: Write>(
+    alloc: Global,
+    reader: &mut CountedReader<R>,
+    writer: &mut StoppingWriter<W>,
+) -> Status
+    ensures { IsCommandRun R.remaining W.contents (IsReportAnswer Report.Monitors) reader.old reader.new writer.old writer.new result }
+{
+    report_command(alloc, Report::Monitors, reader, writer)
+}
+
+/// Reads the text of an image, and writes the module's states and the flags that are raised or why they are not told.
+pub fn flags<R: Read, W: Write>(
+    alloc: Global,
+    reader: &mut CountedReader<R>,
+    writer: &mut StoppingWriter<W>,
+) -> Status
+    ensures { IsCommandRun R.remaining W.contents (IsReportAnswer Report.Flags) reader.old reader.new writer.old writer.new result }
+{
+    report_command(alloc, Report::Flags, reader, writer)
+}
+
 #[cfg(test)]
 mod tests;

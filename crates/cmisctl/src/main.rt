@@ -72,6 +72,8 @@ fn run<R: Read, W: Write>(
         Ok(choice) => match choice.name {
             CommandName::Inventory => commands::inventory(alloc, reader, writer),
             CommandName::Apps => commands::apps(alloc, reader, writer),
+            CommandName::Monitors => commands::monitors(alloc, reader, writer),
+            CommandName::Flags => commands::flags(alloc, reader, writer),
         },
         Err(fault) => choice_refused(&fault, writer),
     }

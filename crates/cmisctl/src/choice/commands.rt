@@ -8,6 +8,8 @@ ghost use Rattle.cmisctl.specs.Entries.{entry_of};
 pub enum CommandName {
     Inventory,
     Apps,
+    Monitors,
+    Flags,
 }
 
 /// What the command line asks for.
@@ -54,6 +56,8 @@ pub fn commands() -> &'static [CommandEntry]
     table! {
         "inventory" Inventory [] "Print what the module is";
         "apps" Apps [] "Print the Applications that the module advertises";
+        "monitors" Monitors [] "Print what the module measures";
+        "flags" Flags [] "Print the states of the module and its lanes, and the flags that are raised";
     }
 }
 

@@ -23,6 +23,8 @@ use std::io::{Read, Write};
 pub enum Report {
     Inventory,
     Apps,
+    Monitors,
+    Flags,
 }
 
 impl Report {
@@ -34,6 +36,8 @@ impl Report {
         match self {
             Report::Inventory => reports::inventory(alloc, image),
             Report::Apps => reports::apps(alloc, image),
+            Report::Monitors => reports::monitors(alloc, image),
+            Report::Flags => reports::flags(alloc, image),
         }
     }
 }
