@@ -1,6 +1,6 @@
-use crate::{ReportFault, apps, inventory};
+use crate::{ReportFault, apps, flags, inventory, monitors};
 use applications::AdvertFault;
-use paged_memory::{Dev, Image, Key};
+use paged_memory::{Dev, Image, ImageFault, Key, PAGE_LEN, Page};
 use std::test::Fail;
 
 // A QSFP-DD module for 400GBASE-DR4, by its lower memory and page 00h.
@@ -81,5 +81,85 @@ fn the_applications_are_told(rt: HostRuntime) -> Result<(), Fail> {
         apps(rt.alloc(), &image).err(),
         Some(ReportFault::Advert(absent))
     );
+    Ok(())
+}
+
+// A half of zeros but for these bytes, each with the place that it has in the half.
+fn half(parts: &[(usize, &[u8])]) -> Page {
+    let mut bytes = [0; PAGE_LEN];
+    for (place, part) in parts {
+        for (byte, value) in bytes.iter_mut().skip(*place).zip(*part) {
+            *byte = *value;
+        }
+    }
+    Page::from(bytes)
+}
+
+// A module that measures, with a warning of its temperature and without light on lane 3.
+fn measuring(support: u8) -> Result<Image, ImageFault> {
+    let mut image = Image::new();
+    let lower: [(usize, &[u8]); 3] = [
+        (0, &[0x18, 0x50, 0, 0x06]),
+        (9, &[0x04]),
+        (14, &[0xFF, 0xC0, 0x80, 0xE8]),
+    ];
+    image.put(Key::lower(Dev::A0), half(&lower))?;
+    image.put(Key::upper(Dev::A0, 0, 0x01), half(&[(32, &[support])]))?;
+    let limits: [(usize, &[u8]); 2] = [
+        (0, &[0x4B, 0x00, 0xFB, 0x00, 0x46, 0x00, 0x00, 0x00]),
+        (56, &[0xC3, 0x50, 0x13, 0x88, 0xAF, 0xC8, 0x27, 0x10]),
+    ];
+    image.put(Key::upper(Dev::A0, 0, 0x02), half(&limits))?;
+    let lanes: [(usize, &[u8]); 5] = [
+        (0, &[0x81, 0x42]),
+        (19, &[0x04]),
+        (26, &[0x27, 0x10]),
+        (42, &[0x61, 0xA8]),
+        (74, &[0xC1, 0xFD]),
+    ];
+    image.put(Key::upper(Dev::A0, 0, 0x11), half(&lanes))?;
+    Ok(image)
+}
+
+const MEASURED: &str = "temperature -0.250 C\n\
+    temperature-limits 75.000 -5.000 70.000 0.000\n\
+    vcc 3300.000 mV\n\
+    vcc-limits 0.000 0.000 0.000 0.000\n\
+    tx-power unsupported\n\
+    tx-bias 1 100.000 mA\n\
+    tx-bias 2 0.000 mA\n\
+    tx-bias 3 0.000 mA\n\
+    tx-bias 4 0.000 mA\n\
+    tx-bias 5 0.000 mA\n\
+    tx-bias 6 0.000 mA\n\
+    tx-bias 7 0.000 mA\n\
+    tx-bias 8 0.000 mA\n\
+    tx-bias-limits 200.000 20.000 180.000 40.000\n\
+    rx-power unsupported\n\
+    sum-02h wrong\n";
+
+const RAISED: &str = "state ModuleReady\n\
+    lane 1 DPDeactivated ConfigSuccess\n\
+    lane 2 reserved-8 ConfigInProgress\n\
+    lane 3 DPInit custom-13\n\
+    lane 4 DPActivated custom-15\n\
+    lane 5 reserved-0 ConfigUndefined\n\
+    lane 6 reserved-0 ConfigUndefined\n\
+    lane 7 reserved-0 ConfigUndefined\n\
+    lane 8 reserved-0 ConfigUndefined\n\
+    flag temperature-high-warning\n\
+    flag rx-los 3\n";
+
+#[test]
+fn what_is_measured_is_told(rt: HostRuntime) -> Result<(), Fail> {
+    let report = monitors(rt.alloc(), &measuring(0x09)?)?;
+    assert_eq!(rt; report.as_slice(), MEASURED.as_bytes());
+    Ok(())
+}
+
+#[test]
+fn what_is_raised_is_told(rt: HostRuntime) -> Result<(), Fail> {
+    let report = flags(rt.alloc(), &measuring(0x09)?)?;
+    assert_eq!(rt; report.as_slice(), RAISED.as_bytes());
     Ok(())
 }

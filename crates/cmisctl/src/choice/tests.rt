@@ -31,6 +31,8 @@ fn chooses_the_command(rt: HostRuntime) -> Result<(), Fail> {
     for (word, command) in [
         ("inventory", CommandName::Inventory),
         ("apps", CommandName::Apps),
+        ("monitors", CommandName::Monitors),
+        ("flags", CommandName::Flags),
     ] {
         let words = strings(rt.alloc(), &["cmisctl", word])?;
         let choice = choice(rt.alloc(), words.as_slice())?;
@@ -46,6 +48,8 @@ Usage: cmisctl <COMMAND>
 Commands:
   inventory  Print what the module is
   apps       Print the Applications that the module advertises
+  monitors   Print what the module measures
+  flags      Print the states of the module and its lanes, and the flags that are raised
 
 Options:
   -h, --help  Print help

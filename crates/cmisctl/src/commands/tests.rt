@@ -1,5 +1,5 @@
 use super::report_command::{Report, report_command};
-use super::{apps, inventory};
+use super::{apps, flags, inventory, monitors};
 use crate::input::CountedReader;
 use crate::output::StoppingWriter;
 use crate::status::Status;
@@ -143,22 +143,85 @@ fn the_applications_come(rt: HostRuntime) -> Result<(), Fail> {
     Ok(())
 }
 
-/// What begins with other bytes than the worked image, and what the two reports then say in their first line.
 #[test]
-fn other_modules_are_refused(rt: HostRuntime) -> Result<(), Fail> {
+fn what_is_measured_and_raised_comes(rt: HostRuntime) -> Result<(), Fail> {
+    let flat = IMAGE
+        .strip_prefix("module-image 1\nlower A0 185000")
+        .ok_or("the image begins otherwise")?;
+    let input = format!(in rt.alloc(); "module-image 1\nlower A0 185080{flat}")?;
+    let mut written = Vec::with_capacity(rt.alloc(), 1000)?;
+    let mut writer = StoppingWriter::new(&mut written);
+    let mut reader = CountedReader::new(input.as_bytes());
+    assert_eq!(rt;
+        monitors(rt.alloc(), &mut reader, &mut writer),
+        Status::Done
+    );
+    let mut reader = CountedReader::new(input.as_bytes());
+    assert_eq!(rt; flags(rt.alloc(), &mut reader, &mut writer), Status::Done);
+    let text =
+        "temperature 35.000 C\nvcc 3300.000 mV\nstate ModuleReady\nflag temperature-high-warning\n";
+    assert_eq!(rt; written.as_slice(), text.as_bytes());
+    Ok(())
+}
+
+/// What begins with other bytes than the worked image, and what the four reports then say in their first line.
+#[test]
+fn other_modules_are_told_or_refused(rt: HostRuntime) -> Result<(), Fail> {
     let rest = IMAGE
         .strip_prefix("module-image 1\nlower A0 185000")
         .ok_or("the image begins otherwise")?;
-    for (bytes, told, advertised) in [
-        ("185000", "family CMIS", "fault AD4 upper A0 00 01"),
-        ("185080", "family CMIS", "fault AD3"),
-        ("183000", "fault RP4 48", "fault AD2 48"),
-        ("1e5000", "family CMIS", "fault AD6 30"),
-        ("1e3000", "fault RP4 48", "fault AD2 48"),
-        ("115000", "fault RP1 17", "fault AD1 17"),
+    let [first, last] = ["fault RP6 upper A0 00 01", "fault RP6 upper A0 00 11"];
+    for (bytes, lines) in [
+        (
+            "185000",
+            ["family CMIS", "fault AD4 upper A0 00 01", first, last],
+        ),
+        (
+            "185080",
+            [
+                "family CMIS",
+                "fault AD3",
+                "temperature 35.000 C",
+                "state ModuleReady",
+            ],
+        ),
+        (
+            "183000",
+            [
+                "fault RP4 48",
+                "fault AD2 48",
+                "fault RP4 48",
+                "fault RP4 48",
+            ],
+        ),
+        ("1e5000", ["family CMIS", "fault AD6 30", first, last]),
+        (
+            "1e3000",
+            [
+                "fault RP4 48",
+                "fault AD2 48",
+                "fault RP4 48",
+                "fault RP4 48",
+            ],
+        ),
+        (
+            "115000",
+            [
+                "fault RP1 17",
+                "fault AD1 17",
+                "fault RP1 17",
+                "fault RP1 17",
+            ],
+        ),
     ] {
         let input = format!(in rt.alloc(); "module-image 1\nlower A0 {bytes}{rest}")?;
-        for (line, report) in [(told, Report::Inventory), (advertised, Report::Apps)] {
+        let reports = [
+            Report::Inventory,
+            Report::Apps,
+            Report::Monitors,
+            Report::Flags,
+        ];
+        for (line, report) in lines.into_iter().zip(reports) {
             let mut written = Vec::with_capacity(rt.alloc(), 1000)?;
             let mut reader = CountedReader::new(input.as_bytes());
             let mut writer = StoppingWriter::new(&mut written);

@@ -13,5 +13,5 @@ loop-before-preserved c =
     let before = map line (range_with_len 1 k) in
     let next : 1 + k ≡ k + 1 = omega arith in
     let text : text_of (map line (range_with_len 1 (k + 1))) ≡ text_of before ++ text_of (line (k + 1) ∷ []) =
-        ap text_of (map-range_with_len_more line 1 k (k + 1) next) ∙ flat_map-append (λ l. l ++ 10 ∷ []) before (line (k + 1) ∷ []) in
+    ap text_of (map-range_with_len_more line 1 k (k + 1) next) ∙ flat_map-append (λ l. l ++ 10 ∷ []) before (line (k + 1) ∷ []) in
     grind (arith, common_steps)
