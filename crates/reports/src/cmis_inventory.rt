@@ -7,10 +7,10 @@ ghost use Rattle.reports.specs.Inventory.{inventory_fault, inventory_lines, kind
 
 use crate::fault::ReportFault;
 use crate::line::{Line, push_lines};
-use crate::readings::{oui, text};
+use crate::readings::oui;
 use crate::shown::Shown;
 use applications::{is_cmis, is_read_revision};
-use field_tables::{Field, Sum, TextField, Unit, is_sum_right, millis, number};
+use field_tables::{Field, Sum, TextField, Unit, is_sum_right, millis, number, text};
 use paged_memory::{Dev, Image, Key};
 use std::alloc::Global;
 
