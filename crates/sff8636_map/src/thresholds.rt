@@ -1,0 +1,36 @@
+use crate::refusal::threshold_refusal;
+use field_tables::{Field, Levels, SffFault, limits_of};
+use paged_memory::Image;
+
+/// The limits of what a module measures, in steps of each field's unit (SFF-8636, "Free Side Device Thresholds" and
+/// "Channel Thresholds").
+#[derive(Debug, Drop)]
+pub struct Thresholds {
+    pub temperature: Levels<i64>,
+    pub vcc: Levels<i64>,
+    pub rx_power: Levels<i64>,
+    pub tx_bias: Levels<i64>,
+    pub tx_power: Levels<i64>,
+}
+
+impl Thresholds {
+    ghost use Rattle.std.specs.Prelude.{◌≡◌, MatchOption};
+    ghost use Rattle.sff8636_map.specs.Thresholds.{thresholds_of};
+    ghost use Rattle.sff8636_map.specs.Refusals.{threshold_fault};
+
+    /// The limits of the module of an image.
+    pub fn of(image: &Image) -> Result<Thresholds, SffFault>
+        ensures { MatchOption (threshold_fault image.now) (result ≡ Ok (thresholds_of image.now)) (λ fault. result ≡ Err fault) }
+    {
+        if let Some(fault) = threshold_refusal(image) {
+            return Err(fault);
+        }
+        Ok(Thresholds {
+            temperature: limits_of(image, Field::QTempLimits),
+            vcc: limits_of(image, Field::QVccLimits),
+            rx_power: limits_of(image, Field::QRxPowerLimits),
+            tx_bias: limits_of(image, Field::QTxBiasLimits),
+            tx_power: limits_of(image, Field::QTxPowerLimits),
+        })
+    }
+}
