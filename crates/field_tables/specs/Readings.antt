@@ -47,6 +47,9 @@ limits_of memory field = record {
   low_warning = reading_at memory field 4;
 }
 
+abbrev pub AreWords : Levels ℤ → Type 0
+AreWords limits = IsWord limits.high_alarm × IsWord limits.low_alarm × IsWord limits.high_warning × IsWord limits.low_warning
+
 -- value i of a field of numbers
 abbrev pub number_at : Memory → Field → ℕ → ℕ
 number_at memory field i = unsigned_abs (reading_at memory field i)

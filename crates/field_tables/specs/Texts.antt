@@ -1,5 +1,5 @@
 -- The texts of the memory map, each as its bytes. (docs/fields.md, "Texts"; OIF-CMIS-05.0, chapter 8 "Module Management
--- Memory Map", page 00h; SFF-8636, "Upper Memory Page 00h"; SFF-8472, "Serial ID")
+-- Memory Map", page 00h; SFF-8636, "Upper Page 00h"; SFF-8472, "Serial ID: Data Fields")
 use Rattle.std.specs.Prelude.{ℕ, suc, ◌-◌, Bool, ◌&&◌, nat_le, List, Option, option_map}
 use Rattle.std.specs.FinMap as map
 use Rattle.bus_model.specs.declared.device.Dev.TheVariants.{A0}

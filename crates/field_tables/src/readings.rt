@@ -3,7 +3,7 @@ ghost use Rattle.std.specs.Prelude.{◌≡◌, ◌^◌, ◌<◌, ◌≤◌, All,
 ghost use Rattle.field_tables.specs.FieldRows.{row_of};
 ghost use Rattle.field_tables.specs.RowPlaces.{width_by};
 ghost use Rattle.field_tables.specs.Readings as spec;
-ghost use Rattle.field_tables.specs.Readings.{IsWord, is_of_bytes};
+ghost use Rattle.field_tables.specs.Readings.{AreWords, IsWord, is_of_bytes};
 
 use crate::field::{Field, Sum, TextField};
 use crate::values::lane;
@@ -58,10 +58,7 @@ pub fn all_readings<const N: usize>(image: &Image, field: Field) -> [i64; N]
 pub fn limits_of(image: &Image, field: Field) -> Levels<i64>
     requires { 4 ≡ (row_of field).count }
     ensures value { result ≡ spec.limits_of image.now field }
-    ensures high_alarm { IsWord result.high_alarm }
-    ensures low_alarm { IsWord result.low_alarm }
-    ensures high_warning { IsWord result.high_warning }
-    ensures low_warning { IsWord result.low_warning }
+    ensures words { AreWords result }
 {
     Levels {
         high_alarm: reading_at::<4>(image, field, 1),

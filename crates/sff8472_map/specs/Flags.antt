@@ -1,5 +1,5 @@
 -- What a module warns of. (docs/fields.md, "What is read of SFF modules"; SFF-8472, "Alarm and Warning Flag Bits" and
--- "Optional Status/Control Bits")
+-- "Real Time Diagnostic and Control Registers")
 use Rattle.std.specs.Prelude.{ℕ, ◌+◌, Bool}
 use Rattle.paged_memory.specs.Images.{Memory}
 use Rattle.field_tables.specs.declared.field.Field.{Field}

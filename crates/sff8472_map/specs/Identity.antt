@@ -1,4 +1,4 @@
--- What a module is, and who made it. (docs/fields.md, "What is read of SFF modules"; SFF-8472, "Serial ID")
+-- What a module is, and who made it. (docs/fields.md, "What is read of SFF modules"; SFF-8472, "Serial ID: Data Fields")
 use Rattle.paged_memory.specs.Images.{Memory}
 use Rattle.field_tables.specs.declared.field.Field.TheVariants.{SConnector, SIdentifier, SOui}
 use Rattle.field_tables.specs.declared.field.TextField.TheVariants.{SVendor, SPart, SPartRevision, SSerial, SDate}

@@ -7,7 +7,7 @@ use crate::refusal::flags_refusal;
 use field_tables::{Field, Levels, SffFault, bit, bit_at};
 use paged_memory::Image;
 
-/// What a module warns of (SFF-8472, "Alarm and Warning Flag Bits" and "Optional Status/Control Bits").
+/// What a module warns of (SFF-8472, "Alarm and Warning Flag Bits" and "Real Time Diagnostic and Control Registers").
 #[derive(Debug, Drop)]
 pub struct Flags {
     pub temperature: Levels<bool>,

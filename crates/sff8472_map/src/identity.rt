@@ -3,7 +3,7 @@ use arrayvec::ArrayVec;
 use field_tables::{Field, SffFault, Sum, TextField, all_numbers, is_sum_right, number, text};
 use paged_memory::Image;
 
-/// What a module is, and who made it (SFF-8472, "Serial ID" of device A0). Texts stand with their padding.
+/// What a module is, and who made it (SFF-8472, "Serial ID: Data Fields"). Texts stand with their padding.
 #[derive(Debug, Drop)]
 pub struct Identity {
     /// By SFF-8024.

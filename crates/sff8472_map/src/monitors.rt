@@ -2,7 +2,8 @@ use crate::refusal::measured_refusal;
 use field_tables::{Field, SffFault, Sum, all_readings, is_sum_right, reading};
 use paged_memory::Image;
 
-/// What a module of `N` lanes measures, in steps of each field's unit (SFF-8472, "Real Time Diagnostic Values").
+/// What a module of `N` lanes measures, in steps of each field's unit (SFF-8472, "Real Time Diagnostic and
+/// Control Registers").
 #[derive(Debug, Drop)]
 pub struct Monitors<const N: usize> {
     pub temperature: i64,
@@ -15,14 +16,15 @@ pub struct Monitors<const N: usize> {
 }
 
 impl<const N: usize> Monitors<N> {
-    ghost use Rattle.std.specs.Prelude.{◌≡◌, MatchOption};
-    ghost use Rattle.sff8472_map.specs.Monitors.{monitors_of};
+    ghost use Rattle.std.specs.Prelude.{◌≡◌, IfOk, MatchOption};
+    ghost use Rattle.sff8472_map.specs.Monitors.{AreWords, monitors_of};
     ghost use Rattle.sff8472_map.specs.Refusals.{measured_fault};
 
     /// What the module of an image measures. Modules of this standard have one lane.
     pub fn of(image: &Image) -> Result<Monitors<N>, SffFault>
         requires { N ≡ 1 }
-        ensures { MatchOption (measured_fault image.now) (result ≡ Ok (monitors_of image.now)) (λ fault. result ≡ Err fault) }
+        ensures read { MatchOption (measured_fault image.now) (result ≡ Ok (monitors_of image.now)) (λ fault. result ≡ Err fault) }
+        ensures words { IfOk result (λ monitors. AreWords monitors) }
     {
         if let Some(fault) = measured_refusal(image) {
             return Err(fault);

@@ -20,7 +20,7 @@ pub fn module_refusal(image: &Image) -> Option<SffFault>
     None
 }
 
-/// Why the diagnostics are not looked for.
+// Why the diagnostics are not looked for.
 fn diagnostics_refusal(image: &Image) -> Option<SffFault>
     ensures { result ≡ diagnostics_fault image.now }
 {

@@ -1,4 +1,4 @@
--- What a module is, and who made it. (docs/fields.md, "What is read of SFF modules"; SFF-8636, "Upper Memory Page 00h")
+-- What a module is, and who made it. (docs/fields.md, "What is read of SFF modules"; SFF-8636, "Upper Page 00h")
 use Rattle.paged_memory.specs.Images.{Memory}
 use Rattle.field_tables.specs.declared.field.Field.TheVariants.{QConnector, QIdentifier, QOui}
 use Rattle.field_tables.specs.declared.field.TextField.TheVariants.{QVendor, QPart, QPartRevision, QSerial, QDate}

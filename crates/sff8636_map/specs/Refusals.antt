@@ -1,5 +1,4 @@
--- Why the memory of a module is not read. (docs/fields.md, "What is read of SFF modules"; SFF-8636, "Identifier" and
--- "Status Indicators")
+-- Why the memory of a module is not read. (docs/fields.md, "What is read of SFF modules"; SFF-8636, "Status Indicators")
 use Rattle.std.specs.Prelude.{ℕ, ◌==◌, ◌||◌, Bool, not, List, [], ◌∷◌, ◌++◌, Option}
 use Rattle.bus_model.specs.declared.device.Dev.TheVariants.{A0}
 use Rattle.paged_memory.specs.Keys.{lower_key, upper_key}

@@ -2,6 +2,7 @@
 -- Thresholds" and "Channel Thresholds")
 use Rattle.paged_memory.specs.Images.{Memory}
 use Rattle.field_tables.specs.declared.field.Field.TheVariants.{QTempLimits, QVccLimits, QRxPowerLimits, QTxBiasLimits, QTxPowerLimits}
+use Rattle.field_tables.specs.Readings as readings
 use Rattle.field_tables.specs.Readings.{limits_of}
 use Rattle.sff8636_map.specs.declared.thresholds.Thresholds.{Thresholds}
 
@@ -13,3 +14,12 @@ thresholds_of memory = record {
   tx_bias = limits_of memory QTxBiasLimits;
   tx_power = limits_of memory QTxPowerLimits;
 }
+
+-- limits of 16 bits
+abbrev pub AreWords : Thresholds → Type 0
+AreWords thresholds =
+    readings.AreWords thresholds.temperature
+    × readings.AreWords thresholds.vcc
+    × readings.AreWords thresholds.rx_power
+    × readings.AreWords thresholds.tx_bias
+    × readings.AreWords thresholds.tx_power

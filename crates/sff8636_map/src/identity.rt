@@ -3,7 +3,7 @@ use arrayvec::ArrayVec;
 use field_tables::{Field, SffFault, Sum, TextField, all_numbers, is_sum_right, number, text};
 use paged_memory::Image;
 
-/// What a module is, and who made it (SFF-8636, "Serial ID" of page 00h). Texts stand with their padding.
+/// What a module is, and who made it (SFF-8636, "Upper Page 00h"). Texts stand with their padding.
 #[derive(Debug, Drop)]
 pub struct Identity {
     /// By SFF-8024.
