@@ -1,14 +1,13 @@
 -- Why the Applications of a module are not read. (docs/formats.md, "apps"; OIF-CMIS-05.0, chapter 8 "Module
 -- Management Memory Map", "Management Characteristics" and the page checksums)
-use Rattle.std.specs.Prelude.{ℕ, ◌/◌, ◌==◌, ◌||◌, Bool, not, List, [], ◌∷◌, ◌++◌, Option, find}
-use Rattle.std.specs.Option.{option_map}
-use Rattle.std.specs.FinMap as map
+use Rattle.std.specs.Prelude.{ℕ, ◌/◌, ◌==◌, ◌||◌, Bool, not, List, [], ◌∷◌, ◌++◌, Option}
 use Rattle.bus_model.specs.declared.device.Dev.TheVariants.{A0}
-use Rattle.paged_memory.specs.declared.key.Key.{Key}
 use Rattle.paged_memory.specs.Keys.{lower_key, upper_key}
 use Rattle.paged_memory.specs.Images.{Memory}
 use Rattle.field_tables.specs.declared.field.Field.TheVariants.{CIdentifier, CRevision, CFlatMemory}
 use Rattle.field_tables.specs.declared.field.Sum.TheVariants.{CSum00, CSum01}
+use Rattle.field_tables.specs.FirstFault.{first_fault}
+use Rattle.field_tables.specs.Halves.{is_absent}
 use Rattle.field_tables.specs.Readings.{number, is_sum_right}
 use Rattle.applications.specs.declared.fault.AdvertFault.{AdvertFault}
 use Rattle.applications.specs.declared.fault.AdvertFault.TheVariants.{Absent, NotCmis, Revision, NotEightLanes, FlatMemory, BadSum}
@@ -20,9 +19,6 @@ is_cmis identifier = identifier == 24 || identifier == 25 || identifier == 30
 -- major 4 or 5
 abbrev pub is_read_revision : ℕ → Bool
 is_read_revision revision = revision / 16 == 4 || revision / 16 == 5
-
-abbrev pub is_absent : Memory → Key → Bool
-is_absent memory key = not (map.contains_key memory key)
 
 -- of the module, by its lower memory
 abbrev pub module_faults : Memory → List (Bool × AdvertFault)
@@ -42,10 +38,6 @@ page_faults memory =
     ∷ (not (is_sum_right memory CSum00), BadSum 0x00)
     ∷ (not (is_sum_right memory CSum01), BadSum 0x01)
     ∷ []
-
--- the first fault that applies
-abbrev pub first_fault : {F : Type 0} → List (Bool × F) → Option F
-first_fault faults = option_map (λ fault. fault.1) (find (λ fault. fault.0) faults)
 
 abbrev pub page_fault : Memory → Option AdvertFault
 page_fault memory = first_fault (page_faults memory)

@@ -1,15 +1,15 @@
 -- The memory map: the row of each field, with the standard that it belongs to. (docs/fields.md, "Fields"; OIF-CMIS-05.0,
--- chapter 8 "Module Management Memory Map")
+-- chapter 8 "Module Management Memory Map"; SFF-8636, "Memory Map"; SFF-8472, "Memory Organization")
 use Rattle.std.specs.Prelude.{ℕ, Option, Some, None}
 use Rattle.bus_model.specs.declared.device.Dev.{Dev}
-use Rattle.bus_model.specs.declared.device.Dev.TheVariants.{A0}
+use Rattle.bus_model.specs.declared.device.Dev.TheVariants.{A0, A2}
 use Rattle.paged_memory.specs.declared.key.Half.{Half}
 use Rattle.paged_memory.specs.declared.key.Half.TheVariants.{Lower, Upper}
-use Rattle.field_tables.specs.Standards.{Standard, cmis}
+use Rattle.field_tables.specs.Standards.{Standard, cmis, sff8636, sff8472}
 use Rattle.field_tables.specs.declared.field.Field.{Field}
 use Rattle.field_tables.specs.declared.field.Field.TheVariants as fields
 use Rattle.field_tables.specs.declared.layout.Layout.{Layout}
-use Rattle.field_tables.specs.declared.layout.Layout.TheVariants.{Single, Every, Bits, Nibbles}
+use Rattle.field_tables.specs.declared.layout.Layout.TheVariants.{Single, Every, Bits, Down, Nibbles, Quad}
 use Rattle.field_tables.specs.declared.layout.Part.{Part}
 use Rattle.field_tables.specs.declared.layout.Part.TheVariants.{Byte, Word, Range}
 use Rattle.field_tables.specs.declared.layout.Row.{Row}
@@ -99,6 +99,63 @@ line_of fields.CConfigStatus = line cmis A0 Upper 0x11 202 (Range 3 0) Nibbles 8
 line_of fields.CActiveAppSel = line cmis A0 Upper 0x11 206 (Range 7 4) (Every 1) 8 Unsigned None
 line_of fields.CActivePathId = line cmis A0 Upper 0x11 206 (Range 3 1) (Every 1) 8 Unsigned None
 line_of fields.CActiveExplicit = line cmis A0 Upper 0x11 206 (Range 0 0) (Every 1) 8 Unsigned None
+line_of fields.QIdentifier = line sff8636 A0 Lower 0x00 0 Byte Single 1 Unsigned None
+line_of fields.QFlatMemory = line sff8636 A0 Lower 0x00 2 (Range 2 2) Single 1 Unsigned None
+line_of fields.QTxLos = line sff8636 A0 Lower 0x00 3 (Range 4 4) Bits 4 Unsigned None
+line_of fields.QRxLos = line sff8636 A0 Lower 0x00 3 (Range 0 0) Bits 4 Unsigned None
+line_of fields.QTxFault = line sff8636 A0 Lower 0x00 4 (Range 0 0) Bits 4 Unsigned None
+line_of fields.QTxLol = line sff8636 A0 Lower 0x00 5 (Range 4 4) Bits 4 Unsigned None
+line_of fields.QRxLol = line sff8636 A0 Lower 0x00 5 (Range 0 0) Bits 4 Unsigned None
+line_of fields.QTempFlag = line sff8636 A0 Lower 0x00 6 (Range 7 7) Down 4 Unsigned None
+line_of fields.QVccFlag = line sff8636 A0 Lower 0x00 7 (Range 7 7) Down 4 Unsigned None
+line_of fields.QRxPowerHighAlarm = line sff8636 A0 Lower 0x00 9 (Range 7 7) (Quad 3) 4 Unsigned None
+line_of fields.QRxPowerLowAlarm = line sff8636 A0 Lower 0x00 9 (Range 6 6) (Quad 2) 4 Unsigned None
+line_of fields.QRxPowerHighWarning = line sff8636 A0 Lower 0x00 9 (Range 5 5) (Quad 1) 4 Unsigned None
+line_of fields.QRxPowerLowWarning = line sff8636 A0 Lower 0x00 9 (Range 4 4) (Quad 0) 4 Unsigned None
+line_of fields.QTxBiasHighAlarm = line sff8636 A0 Lower 0x00 11 (Range 7 7) (Quad 3) 4 Unsigned None
+line_of fields.QTxBiasLowAlarm = line sff8636 A0 Lower 0x00 11 (Range 6 6) (Quad 2) 4 Unsigned None
+line_of fields.QTxBiasHighWarning = line sff8636 A0 Lower 0x00 11 (Range 5 5) (Quad 1) 4 Unsigned None
+line_of fields.QTxBiasLowWarning = line sff8636 A0 Lower 0x00 11 (Range 4 4) (Quad 0) 4 Unsigned None
+line_of fields.QTxPowerHighAlarm = line sff8636 A0 Lower 0x00 13 (Range 7 7) (Quad 3) 4 Unsigned None
+line_of fields.QTxPowerLowAlarm = line sff8636 A0 Lower 0x00 13 (Range 6 6) (Quad 2) 4 Unsigned None
+line_of fields.QTxPowerHighWarning = line sff8636 A0 Lower 0x00 13 (Range 5 5) (Quad 1) 4 Unsigned None
+line_of fields.QTxPowerLowWarning = line sff8636 A0 Lower 0x00 13 (Range 4 4) (Quad 0) 4 Unsigned None
+line_of fields.QTemperature = line sff8636 A0 Lower 0x00 22 Word Single 1 Signed (Some Temperature)
+line_of fields.QVcc = line sff8636 A0 Lower 0x00 26 Word Single 1 Unsigned (Some Voltage)
+line_of fields.QRxPower = line sff8636 A0 Lower 0x00 34 Word (Every 2) 4 Unsigned (Some OpticalPower)
+line_of fields.QTxBias = line sff8636 A0 Lower 0x00 42 Word (Every 2) 4 Unsigned (Some Bias)
+line_of fields.QTxPower = line sff8636 A0 Lower 0x00 50 Word (Every 2) 4 Unsigned (Some OpticalPower)
+line_of fields.QPageSelect = line sff8636 A0 Lower 0x00 127 Byte Single 1 Unsigned None
+line_of fields.QConnector = line sff8636 A0 Upper 0x00 130 Byte Single 1 Unsigned None
+line_of fields.QOui = line sff8636 A0 Upper 0x00 165 Byte (Every 1) 3 Unsigned None
+line_of fields.QTempLimits = line sff8636 A0 Upper 0x03 128 Word (Every 2) 4 Signed (Some Temperature)
+line_of fields.QVccLimits = line sff8636 A0 Upper 0x03 144 Word (Every 2) 4 Unsigned (Some Voltage)
+line_of fields.QRxPowerLimits = line sff8636 A0 Upper 0x03 176 Word (Every 2) 4 Unsigned (Some OpticalPower)
+line_of fields.QTxBiasLimits = line sff8636 A0 Upper 0x03 184 Word (Every 2) 4 Unsigned (Some Bias)
+line_of fields.QTxPowerLimits = line sff8636 A0 Upper 0x03 192 Word (Every 2) 4 Unsigned (Some OpticalPower)
+line_of fields.SIdentifier = line sff8472 A0 Lower 0x00 0 Byte Single 1 Unsigned None
+line_of fields.SConnector = line sff8472 A0 Lower 0x00 2 Byte Single 1 Unsigned None
+line_of fields.SOui = line sff8472 A0 Lower 0x00 37 Byte (Every 1) 3 Unsigned None
+line_of fields.SDiagPresent = line sff8472 A0 Lower 0x00 92 (Range 6 6) Single 1 Unsigned None
+line_of fields.SInternal = line sff8472 A0 Lower 0x00 92 (Range 5 5) Single 1 Unsigned None
+line_of fields.SExternal = line sff8472 A0 Lower 0x00 92 (Range 4 4) Single 1 Unsigned None
+line_of fields.SAddressChange = line sff8472 A0 Lower 0x00 92 (Range 2 2) Single 1 Unsigned None
+line_of fields.STempLimits = line sff8472 A2 Lower 0x00 0 Word (Every 2) 4 Signed (Some Temperature)
+line_of fields.SVccLimits = line sff8472 A2 Lower 0x00 8 Word (Every 2) 4 Unsigned (Some Voltage)
+line_of fields.STxBiasLimits = line sff8472 A2 Lower 0x00 16 Word (Every 2) 4 Unsigned (Some Bias)
+line_of fields.STxPowerLimits = line sff8472 A2 Lower 0x00 24 Word (Every 2) 4 Unsigned (Some OpticalPower)
+line_of fields.SRxPowerLimits = line sff8472 A2 Lower 0x00 32 Word (Every 2) 4 Unsigned (Some OpticalPower)
+line_of fields.STemperature = line sff8472 A2 Lower 0x00 96 Word Single 1 Signed (Some Temperature)
+line_of fields.SVcc = line sff8472 A2 Lower 0x00 98 Word Single 1 Unsigned (Some Voltage)
+line_of fields.STxBias = line sff8472 A2 Lower 0x00 100 Word Single 1 Unsigned (Some Bias)
+line_of fields.STxPower = line sff8472 A2 Lower 0x00 102 Word Single 1 Unsigned (Some OpticalPower)
+line_of fields.SRxPower = line sff8472 A2 Lower 0x00 104 Word Single 1 Unsigned (Some OpticalPower)
+line_of fields.STxFault = line sff8472 A2 Lower 0x00 110 (Range 2 2) Single 1 Unsigned None
+line_of fields.SRxLos = line sff8472 A2 Lower 0x00 110 (Range 1 1) Single 1 Unsigned None
+line_of fields.SAlarms = line sff8472 A2 Lower 0x00 112 (Range 7 7) Down 8 Unsigned None
+line_of fields.SRxAlarms = line sff8472 A2 Lower 0x00 113 (Range 7 7) Down 2 Unsigned None
+line_of fields.SWarnings = line sff8472 A2 Lower 0x00 116 (Range 7 7) Down 8 Unsigned None
+line_of fields.SRxWarnings = line sff8472 A2 Lower 0x00 117 (Range 7 7) Down 2 Unsigned None
 
 abbrev pub standard_of : Field → Standard
 standard_of field = (line_of field).0

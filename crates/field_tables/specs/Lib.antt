@@ -14,4 +14,5 @@ pub mod Texts
 pub mod Sums
 pub mod Units
 pub mod Readings
+pub mod FirstFault
 pub mod Entries

@@ -1,15 +1,15 @@
 -- The texts of the memory map, each as its bytes. (docs/fields.md, "Texts"; OIF-CMIS-05.0, chapter 8 "Module Management
--- Memory Map", page 00h)
+-- Memory Map", page 00h; SFF-8636, "Upper Page 00h"; SFF-8472, "Serial ID: Data Fields")
 use Rattle.std.specs.Prelude.{ℕ, suc, ◌-◌, Bool, ◌&&◌, nat_le, List, Option, option_map}
 use Rattle.std.specs.FinMap as map
 use Rattle.bus_model.specs.declared.device.Dev.TheVariants.{A0}
-use Rattle.paged_memory.specs.declared.key.Half.TheVariants.{Upper}
+use Rattle.paged_memory.specs.declared.key.Half.TheVariants.{Lower, Upper}
 use Rattle.paged_memory.specs.declared.key.Key.{Key}
 use Rattle.paged_memory.specs.Images.{Memory}
 use Rattle.field_tables.specs.declared.field.TextField.{TextField}
 use Rattle.field_tables.specs.declared.field.TextField.TheVariants as texts
 use Rattle.field_tables.specs.declared.spans.Span.{Span}
-use Rattle.field_tables.specs.Standards.{Standard, cmis}
+use Rattle.field_tables.specs.Standards.{Standard, cmis, sff8636, sff8472}
 use Rattle.field_tables.specs.Halves.{half_key}
 use Rattle.field_tables.specs.Spans.{span, bytes_in, span_fits}
 
@@ -20,6 +20,16 @@ text_line_of texts.CPart = (cmis, span A0 Upper 0x00 148 163)
 text_line_of texts.CPartRevision = (cmis, span A0 Upper 0x00 164 165)
 text_line_of texts.CSerial = (cmis, span A0 Upper 0x00 166 181)
 text_line_of texts.CDate = (cmis, span A0 Upper 0x00 182 189)
+text_line_of texts.QVendor = (sff8636, span A0 Upper 0x00 148 163)
+text_line_of texts.QPart = (sff8636, span A0 Upper 0x00 168 183)
+text_line_of texts.QPartRevision = (sff8636, span A0 Upper 0x00 184 185)
+text_line_of texts.QSerial = (sff8636, span A0 Upper 0x00 196 211)
+text_line_of texts.QDate = (sff8636, span A0 Upper 0x00 212 219)
+text_line_of texts.SVendor = (sff8472, span A0 Lower 0x00 20 35)
+text_line_of texts.SPart = (sff8472, span A0 Lower 0x00 40 55)
+text_line_of texts.SPartRevision = (sff8472, span A0 Lower 0x00 56 59)
+text_line_of texts.SSerial = (sff8472, span A0 Lower 0x00 68 83)
+text_line_of texts.SDate = (sff8472, span A0 Lower 0x00 84 91)
 
 abbrev pub text_span : TextField → Span
 text_span text = (text_line_of text).1

@@ -100,6 +100,85 @@ pub enum Field {
     /// The first host lane of the data path, less one.
     CActivePathId,
     CActiveExplicit,
+
+    // SFF-8636, lower memory
+    QIdentifier,
+    /// 1 where the module has no pages but 00h.
+    QFlatMemory,
+    QTxLos,
+    QRxLos,
+    QTxFault,
+    QTxLol,
+    QRxLol,
+    /// Flags of levels are high alarm, low alarm, high warning, low warning.
+    QTempFlag,
+    QVccFlag,
+    QRxPowerHighAlarm,
+    QRxPowerLowAlarm,
+    QRxPowerHighWarning,
+    QRxPowerLowWarning,
+    QTxBiasHighAlarm,
+    QTxBiasLowAlarm,
+    QTxBiasHighWarning,
+    QTxBiasLowWarning,
+    QTxPowerHighAlarm,
+    QTxPowerLowAlarm,
+    QTxPowerHighWarning,
+    QTxPowerLowWarning,
+    QTemperature,
+    QVcc,
+    QRxPower,
+    QTxBias,
+    QTxPower,
+    QPageSelect,
+
+    // SFF-8636, page 00h
+    QConnector,
+    QOui,
+
+    // SFF-8636, page 03h
+    /// Limits are high alarm, low alarm, high warning, low warning.
+    QTempLimits,
+    QVccLimits,
+    QRxPowerLimits,
+    QTxBiasLimits,
+    QTxPowerLimits,
+
+    // SFF-8472, device A0
+    SIdentifier,
+    SConnector,
+    SOui,
+    /// 1 where device A2 has diagnostics.
+    SDiagPresent,
+    /// 1 where measured values are calibrated by the module.
+    SInternal,
+    /// 1 where measured values are to be calibrated by the host.
+    SExternal,
+    /// 1 where device A2 answers only once the module has been told to change its address.
+    SAddressChange,
+
+    // SFF-8472, device A2
+    /// Limits are high alarm, low alarm, high warning, low warning.
+    STempLimits,
+    SVccLimits,
+    STxBiasLimits,
+    STxPowerLimits,
+    SRxPowerLimits,
+    STemperature,
+    SVcc,
+    STxBias,
+    STxPower,
+    SRxPower,
+    STxFault,
+    SRxLos,
+    /// Of temperature, supply voltage, bias and transmitted power in turn, each high, low.
+    SAlarms,
+    /// Of received power: high, low.
+    SRxAlarms,
+    /// As `SAlarms`.
+    SWarnings,
+    /// As `SRxAlarms`.
+    SRxWarnings,
 }
 
 /// A text in the memory map, padded with spaces.
@@ -110,6 +189,16 @@ pub enum TextField {
     CPartRevision,
     CSerial,
     CDate,
+    QVendor,
+    QPart,
+    QPartRevision,
+    QSerial,
+    QDate,
+    SVendor,
+    SPart,
+    SPartRevision,
+    SSerial,
+    SDate,
 }
 
 /// A byte that is to be the low 8 bits of the sum of bytes before it.
@@ -118,4 +207,9 @@ pub enum Sum {
     CSum00,
     CSum01,
     CSum02,
+    QSumBase,
+    QSumExt,
+    SSumBase,
+    SSumExt,
+    SSumDmi,
 }

@@ -9,6 +9,7 @@ mod lane_set;
 mod laws;
 mod layout;
 mod readings;
+mod sff_fault;
 mod spans;
 mod sums;
 mod table;
@@ -22,8 +23,10 @@ pub use lane_set::LaneSet;
 pub use laws::{each_entry_is_within_its_half, no_bit_means_two_things};
 pub use layout::{Layout, Part, Row, Sign};
 pub use readings::{
-    Levels, all_bits, all_readings, is_sum_right, limits_of, number, number_at, reading, reading_at,
+    Levels, all_bits, all_numbers, all_readings, bit, bit_at, is_sum_right, level_bits, limits_of,
+    number, number_at, reading, reading_at, text,
 };
+pub use sff_fault::SffFault;
 pub use sums::sum_right;
 pub use table::row;
 pub use texts::text_field;

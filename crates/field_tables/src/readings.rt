@@ -3,11 +3,12 @@ ghost use Rattle.std.specs.Prelude.{◌≡◌, ◌^◌, ◌<◌, ◌≤◌, All,
 ghost use Rattle.field_tables.specs.FieldRows.{row_of};
 ghost use Rattle.field_tables.specs.RowPlaces.{width_by};
 ghost use Rattle.field_tables.specs.Readings as spec;
-ghost use Rattle.field_tables.specs.Readings.{IsWord, is_of_bytes};
+ghost use Rattle.field_tables.specs.Readings.{AreWords, IsWord, is_of_bytes};
 
-use crate::field::{Field, Sum};
-use crate::sums;
+use crate::field::{Field, Sum, TextField};
 use crate::values::lane;
+use crate::{sums, texts};
+use arrayvec::ArrayVec;
 use paged_memory::Image;
 
 /// What there is for each limit of a monitored value: the limits themselves, or flags that tell whether they are passed.
@@ -57,10 +58,7 @@ pub fn all_readings<const N: usize>(image: &Image, field: Field) -> [i32; N]
 pub fn limits_of(image: &Image, field: Field) -> Levels<i32>
     requires { 4 ≡ (row_of field).count }
     ensures value { result ≡ spec.limits_of image.now field }
-    ensures high_alarm { IsWord result.high_alarm }
-    ensures low_alarm { IsWord result.low_alarm }
-    ensures high_warning { IsWord result.high_warning }
-    ensures low_warning { IsWord result.low_warning }
+    ensures words { AreWords result }
 {
     Levels {
         high_alarm: reading_at::<4>(image, field, 1),
@@ -96,6 +94,39 @@ pub fn number(image: &Image, field: Field) -> u8
     number_at::<1>(image, field, 1)
 }
 
+/// The numbers in a field, the first first, and zeros where its page is absent. `N` is how many it has.
+pub fn all_numbers<const N: usize>(image: &Image, field: Field) -> [u8; N]
+    requires bytes { IsTrue (is_of_bytes (row_of field)) }
+    requires count { N ≡ (row_of field).count }
+    ensures { result ≡ spec.all_numbers image.now field }
+{
+    let mut numbers = [0; N];
+    for (index, number) in numbers.iter_mut().enumerate() {
+        *number = number_at::<N>(image, field, index as u8 + 1);
+    }
+    numbers
+}
+
+/// Whether a value of a field of `N` values is 1, counted from 1; it isn't where its page is absent.
+pub fn bit_at<const N: usize>(image: &Image, field: Field, index: u8) -> bool
+    requires bytes { IsTrue (is_of_bytes (row_of field)) }
+    requires count { N ≡ (row_of field).count }
+    requires first { 1 ≤ index }
+    requires last { index ≤ N }
+    ensures { result ≡ spec.bit_at image.now field index }
+{
+    number_at::<N>(image, field, index) == 1
+}
+
+/// Whether the value of a field of one value is 1; it isn't where its page is absent.
+pub fn bit(image: &Image, field: Field) -> bool
+    requires bytes { IsTrue (is_of_bytes (row_of field)) }
+    requires one { 1 ≡ (row_of field).count }
+    ensures { result ≡ spec.bit image.now field }
+{
+    bit_at::<1>(image, field, 1)
+}
+
 /// Whether each value of a field is 1, the first first; none is where its page is absent. `N` is how many it has.
 pub fn all_bits<const N: usize>(image: &Image, field: Field) -> [bool; N]
     requires bytes { IsTrue (is_of_bytes (row_of field)) }
@@ -104,9 +135,33 @@ pub fn all_bits<const N: usize>(image: &Image, field: Field) -> [bool; N]
 {
     let mut values = [false; N];
     for (index, value) in values.iter_mut().enumerate() {
-        *value = number_at::<N>(image, field, index as u8 + 1) == 1;
+        *value = bit_at::<N>(image, field, index as u8 + 1);
     }
     values
+}
+
+/// The four flags that a field has; none is raised where its page is absent.
+pub fn level_bits(image: &Image, field: Field) -> Levels<bool>
+    requires bytes { IsTrue (is_of_bytes (row_of field)) }
+    requires count { 4 ≡ (row_of field).count }
+    ensures { result ≡ spec.level_bits image.now field }
+{
+    Levels {
+        high_alarm: bit_at::<4>(image, field, 1),
+        low_alarm: bit_at::<4>(image, field, 2),
+        high_warning: bit_at::<4>(image, field, 3),
+        low_warning: bit_at::<4>(image, field, 4),
+    }
+}
+
+/// The bytes of a text as they stand, its padding too, and none where its page is absent.
+pub fn text(image: &Image, field: TextField) -> ArrayVec<u8, 16>
+    ensures { result.items ≡ spec.text image.now field }
+{
+    match texts::text_field(image, field) {
+        Ok(bytes) => bytes,
+        Err(_) => ArrayVec::new(),
+    }
 }
 
 /// Whether a sum is right, which it isn't where its page is absent.

@@ -54,5 +54,10 @@ fn row_of(sum: Sum) -> (Span, u8)
         CSum00: A0 Upper 0x00, 128-221 at 222;
         CSum01: A0 Upper 0x01, 130-254 at 255;
         CSum02: A0 Upper 0x02, 128-254 at 255;
+        QSumBase: A0 Upper 0x00, 128-190 at 191;
+        QSumExt: A0 Upper 0x00, 192-222 at 223;
+        SSumBase: A0 Lower 0x00, 0-62 at 63;
+        SSumExt: A0 Lower 0x00, 64-94 at 95;
+        SSumDmi: A2 Lower 0x00, 0-94 at 95;
     }
 }

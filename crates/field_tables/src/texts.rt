@@ -49,5 +49,15 @@ fn span_of(text: TextField) -> Span
         CPartRevision: A0 Upper 0x00, 164-165;
         CSerial: A0 Upper 0x00, 166-181;
         CDate: A0 Upper 0x00, 182-189;
+        QVendor: A0 Upper 0x00, 148-163;
+        QPart: A0 Upper 0x00, 168-183;
+        QPartRevision: A0 Upper 0x00, 184-185;
+        QSerial: A0 Upper 0x00, 196-211;
+        QDate: A0 Upper 0x00, 212-219;
+        SVendor: A0 Lower 0x00, 20-35;
+        SPart: A0 Lower 0x00, 40-55;
+        SPartRevision: A0 Lower 0x00, 56-59;
+        SSerial: A0 Lower 0x00, 68-83;
+        SDate: A0 Lower 0x00, 84-91;
     }
 }

@@ -8,11 +8,11 @@ use Rattle.field_tables.specs.declared.field.Field.TheVariants as fields
 use Rattle.field_tables.specs.declared.field.TextField.TheVariants as texts
 use Rattle.field_tables.specs.declared.field.Sum.TheVariants as sums
 use Rattle.field_tables.specs.declared.units.Unit.TheVariants.{ModulePower}
-use Rattle.field_tables.specs.Readings.{number, is_sum_right}
+use Rattle.field_tables.specs.Readings.{number, is_sum_right, text}
 use Rattle.field_tables.specs.Units.{millis_of}
 use Rattle.reports.specs.declared.fault.ReportFault.{ReportFault}
 use Rattle.reports.specs.Refusals.{fault_needing, is_flat}
-use Rattle.reports.specs.Readings.{oui, text}
+use Rattle.reports.specs.Readings.{oui}
 use Rattle.reports.specs.Shown.{byte_code, thousandths, revision, printable}
 use Rattle.reports.specs.Lines.{line}
 use Rattle.reports.specs.Words.{sum_word}

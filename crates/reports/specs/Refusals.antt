@@ -7,7 +7,8 @@ use Rattle.paged_memory.specs.Keys.{lower_key, upper_key}
 use Rattle.paged_memory.specs.Images.{Memory}
 use Rattle.field_tables.specs.declared.field.Field.TheVariants as fields
 use Rattle.field_tables.specs.Readings.{number}
-use Rattle.applications.specs.Refusals.{first_fault, is_cmis, is_read_revision}
+use Rattle.field_tables.specs.FirstFault.{first_fault}
+use Rattle.applications.specs.Refusals.{is_cmis, is_read_revision}
 use Rattle.reports.specs.declared.fault.ReportFault.{ReportFault}
 use Rattle.reports.specs.declared.fault.ReportFault.TheVariants.{Absent, Unknown, Revision}
 

@@ -7,11 +7,11 @@ ghost use Rattle.reports.specs.Inventory.{inventory_fault, inventory_lines, kind
 
 use crate::fault::ReportFault;
 use crate::line::{Line, push_lines};
-use crate::readings::{oui, text};
+use crate::readings::oui;
 use crate::refusal::{is_flat, refusal};
 use crate::shown::{Shown, Thousandths};
 use crate::words::sum_word;
-use field_tables::{Field, Sum, TextField, Unit, is_sum_right, millis, number};
+use field_tables::{Field, Sum, TextField, Unit, is_sum_right, millis, number, text};
 use paged_memory::Image;
 use std::alloc::Global;
 

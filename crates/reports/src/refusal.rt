@@ -1,5 +1,5 @@
 ghost use Rattle.std.specs.Prelude.{◌≡◌, map};
-ghost use Rattle.applications.specs.Refusals.{first_fault};
+ghost use Rattle.field_tables.specs.FirstFault.{first_fault};
 ghost use Rattle.reports.specs.Refusals.{fault_needing, is_flat, module_faults, page_fault};
 
 use crate::fault::ReportFault;

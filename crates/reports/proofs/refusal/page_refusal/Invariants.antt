@@ -1,5 +1,5 @@
 use Rattle.std.proofs.Common.{◌≡◌, drop, map}
-use Rattle.applications.specs.Refusals.{first_fault}
+use Rattle.field_tables.specs.FirstFault.{first_fault}
 use Rattle.reports.specs.Refusals.{page_fault}
 use Rattle.reports.proofs.refusal.page_refusal.Given as goal
 

@@ -1,0 +1,67 @@
+ghost use Rattle.std.specs.Prelude.{◌≡◌, ◌+◌, ◌≤◌, IsTrue};
+ghost use Rattle.field_tables.specs.FieldRows.{row_of};
+ghost use Rattle.field_tables.specs.Readings.{is_of_bytes};
+ghost use Rattle.sff8472_map.specs.Flags.{flags_of, level_flags};
+
+use crate::refusal::flags_refusal;
+use field_tables::{Field, Levels, SffFault, bit, bit_at};
+use paged_memory::Image;
+
+/// What a module warns of (SFF-8472, "Alarm and Warning Flag Bits" and "Real Time Diagnostic and Control Registers").
+#[derive(Debug, Drop)]
+pub struct Flags {
+    pub temperature: Levels<bool>,
+    pub vcc: Levels<bool>,
+    pub tx_bias: Levels<bool>,
+    pub tx_power: Levels<bool>,
+    pub rx_power: Levels<bool>,
+    pub tx_fault: bool,
+    /// Whether the signal from the line is lost.
+    pub rx_los: bool,
+}
+
+impl Flags {
+    ghost use Rattle.std.specs.Prelude.{MatchOption};
+    ghost use Rattle.sff8472_map.specs.Refusals.{flags_fault};
+
+    /// What the module of an image warns of.
+    pub fn of(image: &Image) -> Result<Flags, SffFault>
+        ensures { MatchOption (flags_fault image.now) (result ≡ Ok (flags_of image.now)) (λ fault. result ≡ Err fault) }
+    {
+        if let Some(fault) = flags_refusal(image) {
+            return Err(fault);
+        }
+        Ok(Flags {
+            temperature: level_flags::<8>(image, Field::SAlarms, Field::SWarnings, 1),
+            vcc: level_flags::<8>(image, Field::SAlarms, Field::SWarnings, 3),
+            tx_bias: level_flags::<8>(image, Field::SAlarms, Field::SWarnings, 5),
+            tx_power: level_flags::<8>(image, Field::SAlarms, Field::SWarnings, 7),
+            rx_power: level_flags::<2>(image, Field::SRxAlarms, Field::SRxWarnings, 1),
+            tx_fault: bit(image, Field::STxFault),
+            rx_los: bit(image, Field::SRxLos),
+        })
+    }
+}
+
+// The alarms and the warnings of a monitored value, from the number of its high ones in fields of `N` flags.
+fn level_flags<const N: usize>(
+    image: &Image,
+    alarms: Field,
+    warnings: Field,
+    high: u8,
+) -> Levels<bool>
+    requires alarm_bits { IsTrue (is_of_bytes (row_of alarms)) }
+    requires alarms { N ≡ (row_of alarms).count }
+    requires warning_bits { IsTrue (is_of_bytes (row_of warnings)) }
+    requires warnings { N ≡ (row_of warnings).count }
+    requires first { 1 ≤ high }
+    requires last { high + 1 ≤ N }
+    ensures { result ≡ level_flags image.now alarms warnings high }
+{
+    Levels {
+        high_alarm: bit_at::<N>(image, alarms, high),
+        low_alarm: bit_at::<N>(image, alarms, high + 1),
+        high_warning: bit_at::<N>(image, warnings, high),
+        low_warning: bit_at::<N>(image, warnings, high + 1),
+    }
+}

@@ -1,0 +1,51 @@
+use crate::refusal::module_refusal;
+use arrayvec::ArrayVec;
+use field_tables::{Field, SffFault, Sum, TextField, all_numbers, is_sum_right, number, text};
+use paged_memory::Image;
+
+/// What a module is, and who made it (SFF-8472, "Serial ID: Data Fields"). Texts stand with their padding.
+#[derive(Debug, Drop)]
+pub struct Identity {
+    /// By SFF-8024.
+    pub identifier: u8,
+    pub vendor: ArrayVec<u8, 16>,
+    /// The vendor's organizationally unique identifier.
+    pub oui: [u8; 3],
+    pub part: ArrayVec<u8, 16>,
+    pub part_revision: ArrayVec<u8, 16>,
+    pub serial: ArrayVec<u8, 16>,
+    pub date: ArrayVec<u8, 16>,
+    /// By SFF-8024.
+    pub connector: u8,
+    /// Whether the sum of bytes 0 to 62 (CC_BASE) is right.
+    pub sum_base: bool,
+    /// Whether the sum of bytes 64 to 94 (CC_EXT) is right.
+    pub sum_ext: bool,
+}
+
+impl Identity {
+    ghost use Rattle.std.specs.Prelude.{◌≡◌, MatchOption};
+    ghost use Rattle.sff8472_map.specs.Identity.{identity_of};
+    ghost use Rattle.sff8472_map.specs.Refusals.{module_fault};
+
+    /// The identity of the module of an image.
+    pub fn of(image: &Image) -> Result<Identity, SffFault>
+        ensures { MatchOption (module_fault image.now) (result ≡ Ok (identity_of image.now)) (λ fault. result ≡ Err fault) }
+    {
+        if let Some(fault) = module_refusal(image) {
+            return Err(fault);
+        }
+        Ok(Identity {
+            identifier: number(image, Field::SIdentifier),
+            vendor: text(image, TextField::SVendor),
+            oui: all_numbers(image, Field::SOui),
+            part: text(image, TextField::SPart),
+            part_revision: text(image, TextField::SPartRevision),
+            serial: text(image, TextField::SSerial),
+            date: text(image, TextField::SDate),
+            connector: number(image, Field::SConnector),
+            sum_base: is_sum_right(image, Sum::SSumBase),
+            sum_ext: is_sum_right(image, Sum::SSumExt),
+        })
+    }
+}

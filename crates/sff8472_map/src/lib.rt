@@ -1,0 +1,17 @@
+//! What the memory of an SFF-8472 module says: who made it, what it measures, and which limits are passed.
+#![tactic(auto)]
+
+mod flags;
+mod identity;
+mod monitors;
+mod refusal;
+mod thresholds;
+
+pub use field_tables::{Levels, SffFault};
+pub use flags::Flags;
+pub use identity::Identity;
+pub use monitors::Monitors;
+pub use thresholds::Thresholds;
+
+#[cfg(test)]
+mod tests;

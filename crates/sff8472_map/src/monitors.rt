@@ -1,0 +1,41 @@
+use crate::refusal::measured_refusal;
+use field_tables::{Field, SffFault, Sum, all_readings, is_sum_right, reading};
+use paged_memory::Image;
+
+/// What a module of `N` lanes measures, in steps of each field's unit (SFF-8472, "Real Time Diagnostic and
+/// Control Registers").
+#[derive(Debug, Drop)]
+pub struct Monitors<const N: usize> {
+    pub temperature: i32,
+    pub vcc: i32,
+    pub tx_bias: [i32; N],
+    pub tx_power: [i32; N],
+    pub rx_power: [i32; N],
+    /// Whether the sum of bytes 0 to 94 of device A2 (CC_DMI), where the limits are, is right.
+    pub sum_dmi: bool,
+}
+
+impl<const N: usize> Monitors<N> {
+    ghost use Rattle.std.specs.Prelude.{◌≡◌, IfOk, MatchOption};
+    ghost use Rattle.sff8472_map.specs.Monitors.{AreWords, monitors_of};
+    ghost use Rattle.sff8472_map.specs.Refusals.{measured_fault};
+
+    /// What the module of an image measures. Modules of this standard have one lane.
+    pub fn of(image: &Image) -> Result<Monitors<N>, SffFault>
+        requires { N ≡ 1 }
+        ensures read { MatchOption (measured_fault image.now) (result ≡ Ok (monitors_of image.now)) (λ fault. result ≡ Err fault) }
+        ensures words { IfOk result (λ monitors. AreWords monitors) }
+    {
+        if let Some(fault) = measured_refusal(image) {
+            return Err(fault);
+        }
+        Ok(Monitors {
+            temperature: reading(image, Field::STemperature),
+            vcc: reading(image, Field::SVcc),
+            tx_bias: all_readings(image, Field::STxBias),
+            tx_power: all_readings(image, Field::STxPower),
+            rx_power: all_readings(image, Field::SRxPower),
+            sum_dmi: is_sum_right(image, Sum::SSumDmi),
+        })
+    }
+}

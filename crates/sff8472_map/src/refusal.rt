@@ -1,0 +1,68 @@
+ghost use Rattle.std.specs.Prelude.{◌≡◌};
+ghost use Rattle.sff8472_map.specs.Refusals.{diagnostics_fault, flags_fault, measured_fault, module_fault};
+
+use bus_model::Dev;
+use field_tables::{Field, SffFault, bit, number};
+use paged_memory::{Image, Key};
+
+/// Why the lower memory of device A0 is not read.
+pub fn module_refusal(image: &Image) -> Option<SffFault>
+    ensures { result ≡ module_fault image.now }
+{
+    let lower = Key::lower(Dev::A0);
+    if !image.has(lower) {
+        return Some(SffFault::Absent(lower));
+    }
+    let identifier = number(image, Field::SIdentifier);
+    if identifier != 0x03 {
+        return Some(SffFault::WrongIdentifier(identifier));
+    }
+    None
+}
+
+// Why the diagnostics are not looked for.
+fn diagnostics_refusal(image: &Image) -> Option<SffFault>
+    ensures { result ≡ diagnostics_fault image.now }
+{
+    if let Some(fault) = module_refusal(image) {
+        return Some(fault);
+    }
+    if !bit(image, Field::SDiagPresent) {
+        return Some(SffFault::NoDiagnostics);
+    }
+    if bit(image, Field::SAddressChange) {
+        return Some(SffFault::AddressChange);
+    }
+    None
+}
+
+/// Why an image has no flags.
+pub fn flags_refusal(image: &Image) -> Option<SffFault>
+    ensures { result ≡ flags_fault image.now }
+{
+    if let Some(fault) = diagnostics_refusal(image) {
+        return Some(fault);
+    }
+    let diagnostics = Key::lower(Dev::A2);
+    if !image.has(diagnostics) {
+        return Some(SffFault::Absent(diagnostics));
+    }
+    None
+}
+
+/// Why an image has no measured values, and no limits of these.
+pub fn measured_refusal(image: &Image) -> Option<SffFault>
+    ensures { result ≡ measured_fault image.now }
+{
+    if let Some(fault) = diagnostics_refusal(image) {
+        return Some(fault);
+    }
+    if bit(image, Field::SExternal) {
+        return Some(SffFault::ExternalCalibration);
+    }
+    let diagnostics = Key::lower(Dev::A2);
+    if !image.has(diagnostics) {
+        return Some(SffFault::Absent(diagnostics));
+    }
+    None
+}

@@ -1,0 +1,36 @@
+use crate::refusal::measured_refusal;
+use field_tables::{Field, Levels, SffFault, limits_of};
+use paged_memory::Image;
+
+/// The limits of what a module measures, in steps of each field's unit (SFF-8472, "Alarm and Warning Thresholds").
+#[derive(Debug, Drop)]
+pub struct Thresholds {
+    pub temperature: Levels<i32>,
+    pub vcc: Levels<i32>,
+    pub tx_bias: Levels<i32>,
+    pub tx_power: Levels<i32>,
+    pub rx_power: Levels<i32>,
+}
+
+impl Thresholds {
+    ghost use Rattle.std.specs.Prelude.{◌≡◌, IfOk, MatchOption};
+    ghost use Rattle.sff8472_map.specs.Thresholds.{AreWords, thresholds_of};
+    ghost use Rattle.sff8472_map.specs.Refusals.{measured_fault};
+
+    /// The limits of the module of an image.
+    pub fn of(image: &Image) -> Result<Thresholds, SffFault>
+        ensures read { MatchOption (measured_fault image.now) (result ≡ Ok (thresholds_of image.now)) (λ fault. result ≡ Err fault) }
+        ensures words { IfOk result (λ thresholds. AreWords thresholds) }
+    {
+        if let Some(fault) = measured_refusal(image) {
+            return Err(fault);
+        }
+        Ok(Thresholds {
+            temperature: limits_of(image, Field::STempLimits),
+            vcc: limits_of(image, Field::SVccLimits),
+            tx_bias: limits_of(image, Field::STxBiasLimits),
+            tx_power: limits_of(image, Field::STxPowerLimits),
+            rx_power: limits_of(image, Field::SRxPowerLimits),
+        })
+    }
+}

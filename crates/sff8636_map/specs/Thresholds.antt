@@ -1,0 +1,25 @@
+-- The limits of what a module measures. (docs/fields.md, "What is read of SFF modules"; SFF-8636, "Free Side Device
+-- Thresholds" and "Channel Thresholds")
+use Rattle.paged_memory.specs.Images.{Memory}
+use Rattle.field_tables.specs.declared.field.Field.TheVariants.{QTempLimits, QVccLimits, QRxPowerLimits, QTxBiasLimits, QTxPowerLimits}
+use Rattle.field_tables.specs.Readings as readings
+use Rattle.field_tables.specs.Readings.{limits_of}
+use Rattle.sff8636_map.specs.declared.thresholds.Thresholds.{Thresholds}
+
+abbrev pub thresholds_of : Memory → Thresholds
+thresholds_of memory = record {
+  temperature = limits_of memory QTempLimits;
+  vcc = limits_of memory QVccLimits;
+  rx_power = limits_of memory QRxPowerLimits;
+  tx_bias = limits_of memory QTxBiasLimits;
+  tx_power = limits_of memory QTxPowerLimits;
+}
+
+-- limits of 16 bits
+abbrev pub AreWords : Thresholds → Type 0
+AreWords thresholds =
+    readings.AreWords thresholds.temperature
+    × readings.AreWords thresholds.vcc
+    × readings.AreWords thresholds.rx_power
+    × readings.AreWords thresholds.tx_bias
+    × readings.AreWords thresholds.tx_power

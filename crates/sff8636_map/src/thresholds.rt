@@ -1,0 +1,37 @@
+use crate::refusal::threshold_refusal;
+use field_tables::{Field, Levels, SffFault, limits_of};
+use paged_memory::Image;
+
+/// The limits of what a module measures, in steps of each field's unit (SFF-8636, "Free Side Device Thresholds" and
+/// "Channel Thresholds").
+#[derive(Debug, Drop)]
+pub struct Thresholds {
+    pub temperature: Levels<i32>,
+    pub vcc: Levels<i32>,
+    pub rx_power: Levels<i32>,
+    pub tx_bias: Levels<i32>,
+    pub tx_power: Levels<i32>,
+}
+
+impl Thresholds {
+    ghost use Rattle.std.specs.Prelude.{◌≡◌, IfOk, MatchOption};
+    ghost use Rattle.sff8636_map.specs.Thresholds.{AreWords, thresholds_of};
+    ghost use Rattle.sff8636_map.specs.Refusals.{threshold_fault};
+
+    /// The limits of the module of an image.
+    pub fn of(image: &Image) -> Result<Thresholds, SffFault>
+        ensures read { MatchOption (threshold_fault image.now) (result ≡ Ok (thresholds_of image.now)) (λ fault. result ≡ Err fault) }
+        ensures words { IfOk result (λ thresholds. AreWords thresholds) }
+    {
+        if let Some(fault) = threshold_refusal(image) {
+            return Err(fault);
+        }
+        Ok(Thresholds {
+            temperature: limits_of(image, Field::QTempLimits),
+            vcc: limits_of(image, Field::QVccLimits),
+            rx_power: limits_of(image, Field::QRxPowerLimits),
+            tx_bias: limits_of(image, Field::QTxBiasLimits),
+            tx_power: limits_of(image, Field::QTxPowerLimits),
+        })
+    }
+}
