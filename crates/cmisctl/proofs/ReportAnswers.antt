@@ -39,6 +39,8 @@ module _ (kind : Report) (input : List ℕ) (memory : Memory) (image : IsImageIn
   refused_as (report.Unknown identifier) (inr is) = (memory, image, is)
   refused_as (report.Revision revision) (inl same) = absurd cc
   refused_as (report.Revision revision) (inr is) = (memory, image, is)
+  refused_as (report.Sff fault) (inl same) = absurd cc
+  refused_as (report.Sff fault) (inr is) = (memory, image, is)
   refused_as (report.Advert fault) (inl same) = absurd cc
   refused_as (report.Advert fault) (inr is) = (memory, image, is)
 

@@ -4,6 +4,8 @@ use Rattle.std.specs.Fmt.{decimal}
 use Rattle.paged_memory.specs.declared.fault.ImageFault.{ImageFault}
 use Rattle.paged_memory.specs.declared.fault.ImageFault.TheVariants.{BadHeader, BadLine, OutOfOrder, TooManyPages, NoEnd, AfterEnd}
 use Rattle.paged_memory.specs.ImageText.{key_text}
+use Rattle.field_tables.specs.declared.sff_fault.SffFault.{SffFault}
+use Rattle.field_tables.specs.declared.sff_fault.SffFault.TheVariants as sff
 use Rattle.applications.specs.declared.fault.AdvertFault.{AdvertFault}
 use Rattle.applications.specs.declared.fault.AdvertFault.TheVariants as advert
 use Rattle.reports.specs.declared.fault.ReportFault.{ReportFault}
@@ -35,11 +37,20 @@ advert_fault_text (advert.Absent key) = codes "AD4 " ++ key_text key
 advert_fault_text (advert.BadSum page) = with_number (codes "AD5") page
 advert_fault_text (advert.NotEightLanes identifier) = with_number (codes "AD6") identifier
 
+unfoldable pub sff_fault_text : SffFault → List ℕ
+sff_fault_text (sff.WrongIdentifier identifier) = with_number (codes "SF1") identifier
+sff_fault_text sff.FlatMemory = codes "SF2"
+sff_fault_text (sff.Absent key) = codes "SF3 " ++ key_text key
+sff_fault_text sff.NoDiagnostics = codes "SF4"
+sff_fault_text sff.ExternalCalibration = codes "SF5"
+sff_fault_text sff.AddressChange = codes "SF6"
+
 unfoldable pub report_fault_text : ReportFault → List ℕ
 report_fault_text report.Memory = codes "memory"
 report_fault_text (report.Absent key) = codes "RP6 " ++ key_text key
 report_fault_text (report.Unknown identifier) = with_number (codes "RP1") identifier
 report_fault_text (report.Revision revision) = with_number (codes "RP4") revision
+report_fault_text (report.Sff f) = sff_fault_text f
 report_fault_text (report.Advert f) = advert_fault_text f
 
 unfoldable pub fault_text : Fault → List ℕ

@@ -6,9 +6,9 @@ use Rattle.paged_memory.specs.ImageText.{IsTextOf}
 use Rattle.paged_memory.specs.ImageFaults.{IsFirstFault}
 use Rattle.applications.specs.Advertised.{advertised_by}
 use Rattle.reports.specs.Apps.{apps_fault, apps_lines}
-use Rattle.reports.specs.CmisFlags.{flags_fault, flags_lines}
-use Rattle.reports.specs.CmisMonitors.{monitors_fault, monitors_lines}
 use Rattle.reports.specs.Inventory.{inventory_fault, inventory_lines}
+use Rattle.reports.specs.Measured.{monitors_fault, monitors_lines}
+use Rattle.reports.specs.Warned.{flags_fault, flags_lines}
 use Rattle.reports.specs.declared.fault.ReportFault.{ReportFault}
 use Rattle.cmisctl.specs.declared.commands.report_command.Report.{Report}
 use Rattle.cmisctl.specs.declared.commands.report_command.Report.TheVariants.{Inventory, Apps, Monitors, Flags}

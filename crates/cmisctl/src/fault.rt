@@ -1,10 +1,11 @@
 //! Why the program refuses its input, and how it says so.
 ghost use Rattle.std.specs.Prelude.{◌≡◌, Some};
-ghost use Rattle.cmisctl.specs.Faults.{advert_fault_text, fault_text, image_fault_text, report_fault_text, status_of};
+ghost use Rattle.cmisctl.specs.Faults.{advert_fault_text, fault_text, image_fault_text, report_fault_text, sff_fault_text, status_of};
 
 use crate::input::InputFault;
 use crate::status::Status;
 use applications::AdvertFault;
+use field_tables::SffFault;
 use paged_memory::ImageFault;
 use reports::ReportFault;
 use std::fmt;
@@ -121,10 +122,33 @@ impl fmt::Display for ShownReportFault {
             ReportFault::Absent(key) => write!(f, "RP6 {key}"),
             ReportFault::Unknown(identifier) => write!(f, "RP1 {identifier}"),
             ReportFault::Revision(revision) => write!(f, "RP4 {revision}"),
+            ReportFault::Sff(fault) => {
+                let shown = ShownSffFault(fault);
+                write!(f, "{shown}")
+            }
             ReportFault::Advert(fault) => {
                 let shown = ShownAdvertFault(fault);
                 write!(f, "{shown}")
             }
+        }
+    }
+}
+
+#[derive(Clone, Copy)]
+struct ShownSffFault(SffFault);
+
+impl fmt::Display for ShownSffFault {
+    ghost output = { λ shown. Some (sff_fault_text shown.0) };
+
+    #[tactic(auto, unfolding(crate::specs::Faults::sff_fault_text))]
+    fn fmt<W: fmt::Write>(&self, f: &mut fmt::Formatter<W>) -> fmt::Result {
+        match self.0 {
+            SffFault::WrongIdentifier(identifier) => write!(f, "SF1 {identifier}"),
+            SffFault::FlatMemory => write!(f, "SF2"),
+            SffFault::Absent(key) => write!(f, "SF3 {key}"),
+            SffFault::NoDiagnostics => write!(f, "SF4"),
+            SffFault::ExternalCalibration => write!(f, "SF5"),
+            SffFault::AddressChange => write!(f, "SF6"),
         }
     }
 }

@@ -1,13 +1,12 @@
 -- The states of a CMIS module and of its lanes, and the flags that it raises. (docs/formats.md, "flags"; OIF-CMIS-05.0,
 -- "Module State" and "Module-Level Flags" of lower memory, "Lane-Specific Flags" and "Data Path States" of page 11h)
-use Rattle.std.specs.Prelude.{ℕ, ◌+◌, ◌==◌, Bool, if◌then◌else◌, List, [], ◌∷◌, ◌++◌, map, Option, codes}
+use Rattle.std.specs.Prelude.{ℕ, ◌+◌, Bool, if◌then◌else◌, List, [], ◌∷◌, ◌++◌, map, codes}
 use Rattle.std.specs.List.{flat_map, range_with_len}
 use Rattle.paged_memory.specs.Images.{Memory}
 use Rattle.field_tables.specs.declared.field.Field.{Field}
 use Rattle.field_tables.specs.declared.field.Field.TheVariants as fields
 use Rattle.field_tables.specs.declared.readings.Levels.{Levels}
-use Rattle.field_tables.specs.Readings.{all_bits, number, number_at}
-use Rattle.reports.specs.declared.fault.ReportFault.{ReportFault}
+use Rattle.field_tables.specs.Readings.{all_bits, bit_at, number, number_at}
 use Rattle.reports.specs.declared.flag.Flag.{Flag}
 use Rattle.reports.specs.declared.flag.FlagName.{FlagName}
 use Rattle.reports.specs.declared.flag.FlagName.TheVariants as flag
@@ -15,35 +14,32 @@ use Rattle.reports.specs.declared.flag.Signal.TheVariants.{PathStateChanged, TxF
 use Rattle.reports.specs.declared.quantity.Quantity.TheVariants.{Temperature, Vcc, TxPower, TxBias, RxPower}
 use Rattle.reports.specs.Flags.{flag_lines, of_lanes, of_levels, of_module, raised}
 use Rattle.reports.specs.Lines.{line}
-use Rattle.reports.specs.Refusals.{fault_needing, is_flat, unless_flat}
+use Rattle.reports.specs.Families.{is_flat, unless_flat}
 use Rattle.reports.specs.StateNames.{module_state_text, states_text}
 
 -- the pages that it needs
 abbrev pub flag_pages : Memory → List ℕ
 flag_pages memory = unless_flat memory (0x11 ∷ [])
 
-abbrev pub flags_fault : Memory → Option ReportFault
-flags_fault memory = fault_needing (flag_pages memory) memory
-
 abbrev pub state_lines : Memory → List (List ℕ)
 state_lines memory = line (codes "state") (module_state_text (number memory fields.CModuleState)) ∷ []
 
-unfoldable pub lane_line : Memory → ℕ → List ℕ
-lane_line memory lane = line (codes "lane") (states_text lane (number_at memory fields.CPathStates lane) (number_at memory fields.CConfigStatus lane))
+unfoldable pub state_line : Memory → ℕ → List ℕ
+state_line memory lane = line (codes "lane") (states_text lane (number_at memory fields.CPathStates lane) (number_at memory fields.CConfigStatus lane))
 
-abbrev pub lane_lines : Memory → List (List ℕ)
-lane_lines memory = map (lane_line memory) (range_with_len 1 8)
+abbrev pub lane_states : Memory → List (List ℕ)
+lane_states memory = map (state_line memory) (range_with_len 1 8)
 
 -- four flags of the module, from this one on
 abbrev pub module_levels : Memory → ℕ → Levels Bool
 module_levels memory first = record {
-  high_alarm = number_at memory fields.CModuleFlag first == 1;
-  low_alarm = number_at memory fields.CModuleFlag (first + 1) == 1;
-  high_warning = number_at memory fields.CModuleFlag (first + 2) == 1;
-  low_warning = number_at memory fields.CModuleFlag (first + 3) == 1;
+  high_alarm = bit_at memory fields.CModuleFlag first;
+  low_alarm = bit_at memory fields.CModuleFlag (first + 1);
+  high_warning = bit_at memory fields.CModuleFlag (first + 2);
+  low_warning = bit_at memory fields.CModuleFlag (first + 3);
 }
 
-unfoldable pub module_flags : Memory → List (FlagName × Bool)
+abbrev pub module_flags : Memory → List (FlagName × Bool)
 module_flags memory = of_levels Temperature (module_levels memory 1) ++ of_levels Vcc (module_levels memory 5)
 
 -- the flags of lanes that stand in these fields
@@ -55,8 +51,8 @@ lane_levels memory high_alarm low_alarm high_warning low_warning = record {
   low_warning = all_bits memory low_warning;
 }
 
-unfoldable pub tx_signals : Memory → List (FlagName × List Bool)
-tx_signals memory =
+unfoldable pub path_and_tx_signals : Memory → List (FlagName × List Bool)
+path_and_tx_signals memory =
     (flag.Signal PathStateChanged, all_bits memory fields.CPathStateChanged)
     ∷ (flag.Signal TxFailure, all_bits memory fields.CTxFailure)
     ∷ (flag.Signal TxLos, all_bits memory fields.CTxLos)
@@ -84,11 +80,11 @@ rx_power_flags memory = of_levels RxPower
 
 -- the flags of lanes by rising byte
 abbrev pub lane_flags : Memory → List (FlagName × List Bool)
-lane_flags memory = tx_signals memory ++ tx_power_flags memory ++ tx_bias_flags memory ++ rx_signals memory ++ rx_power_flags memory
+lane_flags memory = path_and_tx_signals memory ++ tx_power_flags memory ++ tx_bias_flags memory ++ rx_signals memory ++ rx_power_flags memory
 
 unfoldable pub all_flags : Memory → List (Flag × Bool)
 all_flags memory = map of_module (module_flags memory) ++ (if is_flat memory then [] else flat_map of_lanes (lane_flags memory))
 
 -- a module with flat memory tells nothing of its lanes
 abbrev pub flags_lines : Memory → List (List ℕ)
-flags_lines memory = state_lines memory ++ (if is_flat memory then [] else lane_lines memory) ++ flag_lines (raised (all_flags memory))
+flags_lines memory = state_lines memory ++ (if is_flat memory then [] else lane_states memory) ++ flag_lines (raised (all_flags memory))

@@ -7,21 +7,17 @@ use Rattle.field_tables.specs.declared.field.Field.TheVariants as fields
 use Rattle.field_tables.specs.declared.field.Sum.TheVariants as sums
 use Rattle.field_tables.specs.declared.readings.Levels.{Levels}
 use Rattle.field_tables.specs.Readings.{all_readings, is_sum_right, limits_of, number, reading}
-use Rattle.reports.specs.declared.fault.ReportFault.{ReportFault}
 use Rattle.reports.specs.declared.quantity.Quantity.{Quantity}
 use Rattle.reports.specs.declared.quantity.Quantity.TheVariants.{Temperature, Vcc, TxPower, TxBias, RxPower}
 use Rattle.reports.specs.Lines.{line}
 use Rattle.reports.specs.Monitors.{each_level, lane_monitor, module_monitor}
 use Rattle.reports.specs.Quantities.{name_of}
-use Rattle.reports.specs.Refusals.{fault_needing, is_flat, unless_flat}
+use Rattle.reports.specs.Families.{is_flat, unless_flat}
 use Rattle.reports.specs.Words.{sum_word}
 
 -- the pages that it needs
 abbrev pub monitor_pages : Memory → List ℕ
 monitor_pages memory = unless_flat memory (0x01 ∷ 0x02 ∷ 0x11 ∷ [])
-
-abbrev pub monitors_fault : Memory → Option ReportFault
-monitors_fault memory = fault_needing (monitor_pages memory) memory
 
 -- the limits of a field, which stand on page 02h
 unfoldable pub limits_unless_flat : Memory → Field → Option (Levels ℤ)
@@ -67,9 +63,9 @@ rx_power_lines memory = where_supported memory fields.CRxPowerMonitor RxPower
 abbrev pub sum_lines : Memory → List (List ℕ)
 sum_lines memory = line (codes "sum-02h") (sum_word (is_sum_right memory sums.CSum02)) ∷ []
 
-abbrev pub lanes_lines : Memory → List (List ℕ)
-lanes_lines memory = tx_power_lines memory ++ tx_bias_lines memory ++ rx_power_lines memory ++ sum_lines memory
+abbrev pub paged_lines : Memory → List (List ℕ)
+paged_lines memory = tx_power_lines memory ++ tx_bias_lines memory ++ rx_power_lines memory ++ sum_lines memory
 
 -- a module with flat memory has no monitors of lanes and no limits
 abbrev pub monitors_lines : Memory → List (List ℕ)
-monitors_lines memory = module_lines memory ++ (if is_flat memory then [] else lanes_lines memory)
+monitors_lines memory = module_lines memory ++ (if is_flat memory then [] else paged_lines memory)

@@ -10,7 +10,7 @@ use Rattle.reports.specs.declared.flag.FlagName.TheVariants as flag
 use Rattle.reports.specs.declared.flag.Level.{Level}
 use Rattle.reports.specs.declared.flag.Level.TheVariants.{HighAlarm, LowAlarm, HighWarning, LowWarning}
 use Rattle.reports.specs.declared.flag.Signal.{Signal}
-use Rattle.reports.specs.declared.flag.Signal.TheVariants.{PathStateChanged, TxFailure, TxLos, TxLol, TxEqFail, RxLos, RxLol}
+use Rattle.reports.specs.declared.flag.Signal.TheVariants.{PathStateChanged, TxFailure, TxFault, TxLos, TxLol, TxEqFail, RxLos, RxLol}
 use Rattle.reports.specs.declared.quantity.Quantity.{Quantity}
 use Rattle.reports.specs.Lines.{line}
 use Rattle.reports.specs.Quantities.{name_of}
@@ -24,6 +24,7 @@ level_name LowWarning = codes "low-warning"
 unfoldable pub signal_name : Signal → List ℕ
 signal_name PathStateChanged = codes "path-state-changed"
 signal_name TxFailure = codes "tx-failure"
+signal_name TxFault = codes "tx-fault"
 signal_name TxLos = codes "tx-los"
 signal_name TxLol = codes "tx-lol"
 signal_name TxEqFail = codes "tx-eq-fail"
@@ -46,14 +47,14 @@ flag_line f = line (codes "flag") (flag_text f)
 
 -- a flag of the whole module, and whether it is raised
 abbrev pub of_module : FlagName × Bool → Flag × Bool
-of_module (name, raised) = (record { name = name; lane = None }, raised)
+of_module (name, is_raised) = (record { name = name; lane = None }, is_raised)
 
 -- the flag of each lane, lane 1 first, and whether it is raised
 abbrev pub of_lanes : FlagName × List Bool → List (Flag × Bool)
 of_lanes (name, lanes) = map (λ (l : ℕ × Bool). (record { name = name; lane = Some l.0 }, l.1)) (enumerate_from 1 lanes)
 
 -- the flags of what is measured, in the order of the levels
-abbrev pub of_levels : {A : Type 0} → Quantity → Levels A → List (FlagName × A)
+unfoldable pub of_levels : {A : Type 0} → Quantity → Levels A → List (FlagName × A)
 of_levels quantity levels =
     (flag.Passed quantity HighAlarm, levels.high_alarm)
     ∷ (flag.Passed quantity LowAlarm, levels.low_alarm)

@@ -1,68 +1,31 @@
--- The inventory of a CMIS module. (docs/formats.md, "inventory"; OIF-CMIS-05.0, "Lower Memory" and "Administrative
--- Information (Page 00h)")
-use Rattle.std.specs.Prelude.{ℕ, ◌+◌, ◌*◌, ◌^◌, ◌++◌, Bool, if◌then◌else◌, ℤ, pos, List, [], ◌∷◌, Option, codes}
-use Rattle.std.specs.Fmt.{decimal}
-use Rattle.hex.specs.Hex.{encode_lower}
+-- What a module is, by its family. (docs/formats.md, "inventory")
+use Rattle.std.specs.Prelude.{ℕ, List, Option}
+use Rattle.std.specs.Option.{option_or}
 use Rattle.paged_memory.specs.Images.{Memory}
-use Rattle.field_tables.specs.declared.field.Field.TheVariants as fields
-use Rattle.field_tables.specs.declared.field.TextField.TheVariants as texts
-use Rattle.field_tables.specs.declared.field.Sum.TheVariants as sums
-use Rattle.field_tables.specs.declared.units.Unit.TheVariants.{ModulePower}
-use Rattle.field_tables.specs.Readings.{number, is_sum_right, text}
-use Rattle.field_tables.specs.Units.{millis_of}
+use Rattle.sff8636_map.specs.Identity as sff8636
+use Rattle.sff8636_map.specs.Refusals as sff8636_refusals
+use Rattle.sff8472_map.specs.Identity as sff8472
+use Rattle.sff8472_map.specs.Refusals as sff8472_refusals
+use Rattle.reports.specs.CmisInventory as cmis
+use Rattle.reports.specs.declared.family.Family.{Family}
+use Rattle.reports.specs.declared.family.Family.TheVariants.{Cmis, Sff8636, Sff8472}
 use Rattle.reports.specs.declared.fault.ReportFault.{ReportFault}
-use Rattle.reports.specs.Refusals.{fault_needing, is_flat}
-use Rattle.reports.specs.Readings.{oui}
-use Rattle.reports.specs.Shown.{byte_code, thousandths, revision, printable}
-use Rattle.reports.specs.Lines.{line}
-use Rattle.reports.specs.Words.{sum_word}
+use Rattle.reports.specs.Families.{absent_page, family_of, module_fault, of_sff}
+use Rattle.reports.specs.SffInventory.{identity_lines, of_qsfp, of_sfp}
 
--- the pages that it needs
-abbrev pub inventory_pages : List ℕ
-inventory_pages = 0x00 ∷ []
+-- why there is none of a module of this family
+abbrev pub fault_in : Family → Memory → Option ReportFault
+fault_in Cmis memory = absent_page cmis.inventory_pages memory
+fault_in Sff8636 memory = of_sff (sff8636_refusals.identity_fault memory)
+fault_in Sff8472 memory = of_sff (sff8472_refusals.module_fault memory)
 
-abbrev pub inventory_fault : Memory → Option ReportFault
-inventory_fault = fault_needing inventory_pages
+abbrev pub lines_in : Family → Memory → List (List ℕ)
+lines_in Cmis memory = cmis.inventory_lines memory
+lines_in Sff8636 memory = identity_lines (of_qsfp (sff8636.identity_of memory))
+lines_in Sff8472 memory = identity_lines (of_sfp (sff8472.identity_of memory))
 
-abbrev pub memory_word : Bool → List ℕ
-memory_word flat = if flat then codes "flat" else codes "paged"
+unfoldable pub inventory_fault : Memory → Option ReportFault
+inventory_fault memory = option_or (module_fault memory) (fault_in (family_of memory) memory)
 
--- in thousandths of a watt
-abbrev pub max_power_of : Memory → ℤ
-max_power_of memory = millis_of (pos (number memory fields.CMaxPower)) ModulePower
-
--- in thousandths of a metre
-abbrev pub length_of : Memory → ℤ
-length_of memory = pos (number memory fields.CLengthBase * 100 * 10 ^ number memory fields.CLengthMultiplier)
-
-unfoldable pub kind_lines : Memory → List (List ℕ)
-kind_lines memory =
-    line (codes "family") (codes "CMIS")
-    ∷ line (codes "identifier") (byte_code (number memory fields.CIdentifier))
-    ∷ line (codes "revision") (revision (number memory fields.CRevision))
-    ∷ line (codes "memory") (memory_word (is_flat memory))
-    ∷ line (codes "media-type") (byte_code (number memory fields.CMediaType))
-    ∷ []
-
-unfoldable pub vendor_lines : Memory → List (List ℕ)
-vendor_lines memory =
-    line (codes "vendor") (printable (text memory texts.CVendor))
-    ∷ line (codes "oui") (encode_lower (oui memory))
-    ∷ line (codes "part") (printable (text memory texts.CPart))
-    ∷ line (codes "part-revision") (printable (text memory texts.CPartRevision))
-    ∷ line (codes "serial") (printable (text memory texts.CSerial))
-    ∷ line (codes "date") (printable (text memory texts.CDate))
-    ∷ []
-
-unfoldable pub build_lines : Memory → List (List ℕ)
-build_lines memory =
-    line (codes "power-class") (decimal (number memory fields.CPowerClass + 1))
-    ∷ line (codes "max-power") (thousandths (max_power_of memory) ++ 32 ∷ codes "W")
-    ∷ line (codes "length") (thousandths (length_of memory) ++ 32 ∷ codes "m")
-    ∷ line (codes "connector") (byte_code (number memory fields.CConnector))
-    ∷ line (codes "technology") (byte_code (number memory fields.CTechnology))
-    ∷ line (codes "sum-00h") (sum_word (is_sum_right memory sums.CSum00))
-    ∷ []
-
-abbrev pub inventory_lines : Memory → List (List ℕ)
-inventory_lines memory = kind_lines memory ++ vendor_lines memory ++ build_lines memory
+unfoldable pub inventory_lines : Memory → List (List ℕ)
+inventory_lines memory = lines_in (family_of memory) memory

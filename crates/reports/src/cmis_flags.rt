@@ -4,29 +4,30 @@ ghost use Rattle.std.specs.Result.{result_map_both};
 ghost use Rattle.std.specs.String.{string_bytes};
 ghost use Rattle.text_lines.specs.Lines.{text_of};
 ghost use Rattle.reports.specs.CmisFlags as spec;
-ghost use Rattle.reports.specs.CmisFlags.{all_flags, flag_pages, flags_fault, flags_lines, lane_flags, lane_line, lane_lines, module_flags, module_levels, state_lines};
+ghost use Rattle.reports.specs.CmisFlags.{all_flags, flag_pages, flags_lines, lane_flags, state_line, lane_states, module_levels, state_lines};
 ghost use Rattle.reports.specs.Flags.{of_lanes, raised};
+ghost use Rattle.reports.specs.Families.{absent_page};
 ghost use Rattle.reports.specs.Lines.{IsReport};
 ghost use Rattle.reports.specs.Values.{line_text};
 
+use crate::family::{absent_page, is_flat};
 use crate::fault::ReportFault;
 use crate::flag::{Flag, FlagName, Signal};
 use crate::line::{Line, push_lines};
 use crate::quantity::Quantity;
 use crate::raised::{of_levels, push_flag_lines, push_lane_flags, push_module_flags};
-use crate::refusal::{is_flat, refusal};
 use crate::shown::Shown;
-use field_tables::{Field, Levels, all_bits, number, number_at};
+use field_tables::{Field, Levels, all_bits, bit_at, number, number_at};
 use paged_memory::Image;
 use std::alloc::{AllocError, Global};
 
 /// The state of the module and of its lanes, and the flags that are raised, line by line.
 pub fn flags(alloc: Global, image: &Image) -> Result<Vec<u8>, ReportFault>
-    ensures { MatchOption (flags_fault image.now)
+    ensures { MatchOption (absent_page (flag_pages image.now) image.now)
         (IsReport (flags_lines image.now) (result_map_both (λ text. text.items) (λ fault. fault) result))
         (λ fault. result ≡ Err fault) }
 {
-    if let Some(fault) = refusal(image, flag_pages(image)) {
+    if let Some(fault) = absent_page(image, flag_pages(image)) {
         return Err(fault);
     }
     Ok(report_of(alloc, image)?)
@@ -60,19 +61,19 @@ fn state_lines(image: &Image) -> [Line; 1]
 }
 
 fn push_lanes(report: &mut String, image: &Image) -> Result<(), AllocError>
-    ensures { OnOk result (string_bytes report.new ≡ string_bytes report.old ++ text_of (lane_lines image.now)) }
+    ensures { OnOk result (string_bytes report.new ≡ string_bytes report.old ++ text_of (lane_states image.now)) }
 {
     for before in 0..8 {
-        push_lines(report, &[lane_line(image, before + 1)])?;
+        push_lines(report, &[state_line(image, before + 1)])?;
     }
     Ok(())
 }
 
-#[tactic(auto, unfolding(crate::specs::CmisFlags::lane_line, crate::specs::Values::shown_text))]
-fn lane_line(image: &Image, lane: u8) -> Line
+#[tactic(auto, unfolding(crate::specs::CmisFlags::state_line, crate::specs::Values::shown_text))]
+fn state_line(image: &Image, lane: u8) -> Line
     requires first { 1 ≤ lane }
     requires last { lane ≤ 8 }
-    ensures { line_text result ≡ lane_line image.now lane }
+    ensures { line_text result ≡ state_line image.now lane }
 {
     let state = number_at::<8>(image, Field::CPathStates, lane);
     let status = number_at::<8>(image, Field::CConfigStatus, lane);
@@ -84,20 +85,14 @@ fn raised_flags(alloc: Global, image: &Image) -> Result<Vec<Flag>, AllocError>
     ensures { IfOk result (λ flags. flags.items ≡ raised (all_flags image.now)) }
 {
     let mut flags = Vec::new(alloc);
-    push_module_flags(&mut flags, &module_flags(image))?;
+    let temperature = module_levels(image, 1);
+    push_module_flags(&mut flags, &of_levels(Quantity::Temperature, temperature))?;
+    let vcc = module_levels(image, 5);
+    push_module_flags(&mut flags, &of_levels(Quantity::Vcc, vcc))?;
     if !is_flat(image) {
         push_flags_of_lanes(&mut flags, image)?;
     }
     Ok(flags)
-}
-
-#[tactic(auto, unfolding(crate::specs::CmisFlags::module_flags))]
-fn module_flags(image: &Image) -> [(FlagName, bool); 8]
-    ensures { result ≡ module_flags image.now }
-{
-    let [a, b, c, d] = of_levels(Quantity::Temperature, module_levels(image, 1));
-    let [e, f, g, h] = of_levels(Quantity::Vcc, module_levels(image, 5));
-    [a, b, c, d, e, f, g, h]
 }
 
 // Four flags of the module, from this one on.
@@ -107,10 +102,10 @@ fn module_levels(image: &Image, first: u8) -> Levels<bool>
     ensures { result ≡ module_levels image.now first }
 {
     Levels {
-        high_alarm: number_at::<8>(image, Field::CModuleFlag, first) == 1,
-        low_alarm: number_at::<8>(image, Field::CModuleFlag, first + 1) == 1,
-        high_warning: number_at::<8>(image, Field::CModuleFlag, first + 2) == 1,
-        low_warning: number_at::<8>(image, Field::CModuleFlag, first + 3) == 1,
+        high_alarm: bit_at::<8>(image, Field::CModuleFlag, first),
+        low_alarm: bit_at::<8>(image, Field::CModuleFlag, first + 1),
+        high_warning: bit_at::<8>(image, Field::CModuleFlag, first + 2),
+        low_warning: bit_at::<8>(image, Field::CModuleFlag, first + 3),
     }
 }
 
@@ -118,16 +113,16 @@ fn module_levels(image: &Image, first: u8) -> Levels<bool>
 fn push_flags_of_lanes(flags: &mut Vec<Flag>, image: &Image) -> Result<(), AllocError>
     ensures { OnOk result (flags.new.items ≡ flags.old.items ++ raised (flat_map of_lanes (lane_flags image.now))) }
 {
-    push_lane_flags(flags, &tx_signals(image))?;
+    push_lane_flags(flags, &path_and_tx_signals(image))?;
     push_lane_flags(flags, &tx_power_flags(image))?;
     push_lane_flags(flags, &tx_bias_flags(image))?;
     push_lane_flags(flags, &rx_signals(image))?;
     push_lane_flags(flags, &rx_power_flags(image))
 }
 
-#[tactic(auto, unfolding(crate::specs::CmisFlags::tx_signals))]
-fn tx_signals(image: &Image) -> [(FlagName, [bool; 8]); 5]
-    ensures { result ≡ spec.tx_signals image.now }
+#[tactic(auto, unfolding(crate::specs::CmisFlags::path_and_tx_signals))]
+fn path_and_tx_signals(image: &Image) -> [(FlagName, [bool; 8]); 5]
+    ensures { result ≡ spec.path_and_tx_signals image.now }
 {
     [
         (

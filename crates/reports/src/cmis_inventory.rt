@@ -1,14 +1,15 @@
 ghost use Rattle.std.specs.Prelude.{◌≡◌, ◌^◌, ◌<◌, ◌≤ℤ◌, pos, FitsSigned, map, MatchOption};
 ghost use Rattle.std.specs.Int.{w64};
 ghost use Rattle.std.specs.Result.{result_map_both};
+ghost use Rattle.reports.specs.Families.{absent_page};
 ghost use Rattle.reports.specs.Lines.{IsReport};
 ghost use Rattle.reports.specs.Values.{line_text};
-ghost use Rattle.reports.specs.Inventory.{inventory_fault, inventory_lines, kind_lines, vendor_lines, build_lines, memory_word, max_power_of, length_of};
+ghost use Rattle.reports.specs.CmisInventory.{inventory_pages, inventory_lines, kind_lines, vendor_lines, build_lines, memory_word, max_power_of, length_of};
 
+use crate::family::{absent_page, is_flat};
 use crate::fault::ReportFault;
 use crate::line::{Line, push_lines};
 use crate::readings::oui;
-use crate::refusal::{is_flat, refusal};
 use crate::shown::{Shown, Thousandths};
 use crate::words::sum_word;
 use field_tables::{Field, Sum, TextField, Unit, is_sum_right, millis, number, text};
@@ -17,11 +18,11 @@ use std::alloc::Global;
 
 /// What the module is, line by line.
 pub fn inventory(alloc: Global, image: &Image) -> Result<Vec<u8>, ReportFault>
-    ensures { MatchOption (inventory_fault image.now)
+    ensures { MatchOption (absent_page inventory_pages image.now)
         (IsReport (inventory_lines image.now) (result_map_both (λ text. text.items) (λ fault. fault) result))
         (λ fault. result ≡ Err fault) }
 {
-    if let Some(fault) = refusal(image, &[0x00]) {
+    if let Some(fault) = absent_page(image, &[0x00]) {
         return Err(fault);
     }
     let mut report = String::new(alloc);
@@ -32,7 +33,7 @@ pub fn inventory(alloc: Global, image: &Image) -> Result<Vec<u8>, ReportFault>
 }
 
 // Identifier, revision and memory.
-#[tactic(auto, unfolding(crate::specs::Inventory::kind_lines, crate::specs::Values::shown_text))]
+#[tactic(auto, unfolding(crate::specs::CmisInventory::kind_lines, crate::specs::Values::shown_text))]
 fn kind_lines(image: &Image) -> [Line; 5]
     ensures { map line_text result ≡ kind_lines image.now }
 {
@@ -46,7 +47,7 @@ fn kind_lines(image: &Image) -> [Line; 5]
 }
 
 // Who made the module.
-#[tactic(auto, unfolding(crate::specs::Inventory::vendor_lines, crate::specs::Values::shown_text))]
+#[tactic(auto, unfolding(crate::specs::CmisInventory::vendor_lines, crate::specs::Values::shown_text))]
 fn vendor_lines(image: &Image) -> [Line; 6]
     ensures { map line_text result ≡ vendor_lines image.now }
 {
@@ -64,7 +65,7 @@ fn vendor_lines(image: &Image) -> [Line; 6]
 }
 
 // How the module is built.
-#[tactic(auto, unfolding(crate::specs::Inventory::build_lines, crate::specs::Values::shown_text))]
+#[tactic(auto, unfolding(crate::specs::CmisInventory::build_lines, crate::specs::Values::shown_text))]
 fn build_lines(image: &Image) -> [Line; 6]
     ensures { map line_text result ≡ build_lines image.now }
 {

@@ -5,16 +5,17 @@ ghost use Rattle.text_lines.specs.Lines.{text_of};
 ghost use Rattle.field_tables.specs.FieldRows.{row_of};
 ghost use Rattle.field_tables.specs.Readings as readings;
 ghost use Rattle.field_tables.specs.Readings.{IsWord, all_readings};
-ghost use Rattle.reports.specs.CmisMonitors.{bias_factor, instead_lines, lanes_lines, limits_unless_flat, module_lines, monitor_pages, monitors_fault, monitors_lines, multiplied, rx_power_lines, sum_lines, tx_bias_lines, tx_power_lines};
+ghost use Rattle.reports.specs.CmisMonitors.{bias_factor, instead_lines, paged_lines, limits_unless_flat, module_lines, monitor_pages, monitors_lines, multiplied, rx_power_lines, sum_lines, tx_bias_lines, tx_power_lines};
+ghost use Rattle.reports.specs.Families.{absent_page};
 ghost use Rattle.reports.specs.Lines.{IsReport};
 ghost use Rattle.reports.specs.Monitors.{each_level};
 ghost use Rattle.reports.specs.Values.{line_text};
 
+use crate::family::{absent_page, is_flat};
 use crate::fault::ReportFault;
 use crate::line::{Line, push_lines};
 use crate::monitor::{push_lane_monitor, push_module_monitor};
 use crate::quantity::Quantity;
-use crate::refusal::{is_flat, refusal};
 use crate::shown::Shown;
 use crate::words::sum_word;
 use field_tables::{
@@ -25,11 +26,11 @@ use std::alloc::{AllocError, Global};
 
 /// What the module measures, line by line.
 pub fn monitors(alloc: Global, image: &Image) -> Result<Vec<u8>, ReportFault>
-    ensures { MatchOption (monitors_fault image.now)
+    ensures { MatchOption (absent_page (monitor_pages image.now) image.now)
         (IsReport (monitors_lines image.now) (result_map_both (λ text. text.items) (λ fault. fault) result))
         (λ fault. result ≡ Err fault) }
 {
-    if let Some(fault) = refusal(image, monitor_pages(image)) {
+    if let Some(fault) = absent_page(image, monitor_pages(image)) {
         return Err(fault);
     }
     Ok(report_of(alloc, image)?)
@@ -68,7 +69,7 @@ fn push_module(report: &mut String, image: &Image) -> Result<(), AllocError>
 }
 
 fn push_lanes(report: &mut String, image: &Image) -> Result<(), AllocError>
-    ensures { OnOk result (string_bytes report.new ≡ string_bytes report.old ++ text_of (lanes_lines image.now)) }
+    ensures { OnOk result (string_bytes report.new ≡ string_bytes report.old ++ text_of (paged_lines image.now)) }
 {
     push_tx_power(report, image)?;
     push_tx_bias(report, image)?;

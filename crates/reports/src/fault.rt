@@ -1,7 +1,8 @@
 ghost use Rattle.std.specs.Prelude.{◌≡◌};
-ghost use Rattle.reports.specs.declared.fault.ReportFault.TheVariants.{Memory};
+ghost use Rattle.reports.specs.declared.fault.ReportFault.TheVariants.{Memory, Sff};
 
 use applications::AdvertFault;
+use field_tables::SffFault;
 use paged_memory::Key;
 use std::alloc::AllocError;
 use thiserror::Error;
@@ -21,6 +22,9 @@ pub enum ReportFault {
     /// The CMIS revision is of a major number other than 4 and 5.
     #[error("revision {0:#04x} is not read")]
     Revision(u8),
+    /// The memory of the SFF module is not read.
+    #[error(transparent)]
+    Sff(SffFault),
     /// The module's Applications are not read.
     #[error(transparent)]
     Advert(AdvertFault),
@@ -31,5 +35,13 @@ impl From<AllocError> for ReportFault {
 
     fn from(_error: AllocError) -> ReportFault {
         ReportFault::Memory
+    }
+}
+
+impl From<SffFault> for ReportFault {
+    ghost from_gives = { λ refused fault. fault ≡ Sff refused };
+
+    fn from(fault: SffFault) -> ReportFault {
+        ReportFault::Sff(fault)
     }
 }

@@ -19,6 +19,7 @@ pub enum Level {
 pub enum Signal {
     PathStateChanged,
     TxFailure,
+    TxFault,
     /// Loss of signal.
     TxLos,
     /// Loss of lock.
@@ -66,6 +67,7 @@ impl Signal {
         match self {
             Signal::PathStateChanged => "path-state-changed",
             Signal::TxFailure => "tx-failure",
+            Signal::TxFault => "tx-fault",
             Signal::TxLos => "tx-los",
             Signal::TxLol => "tx-lol",
             Signal::TxEqFail => "tx-eq-fail",

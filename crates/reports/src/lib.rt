@@ -1,10 +1,12 @@
 //! What the program reports of a module, as text.
 #![tactic(auto)]
 
+mod by_family;
 mod cmis_apps;
 mod cmis_flags;
 mod cmis_inventory;
 mod cmis_monitors;
+mod family;
 mod fault;
 mod flag;
 mod line;
@@ -12,16 +14,16 @@ mod monitor;
 mod quantity;
 mod raised;
 mod readings;
-mod refusal;
+mod sff_flags;
+mod sff_inventory;
+mod sff_monitors;
 mod shown;
 mod shown_app;
 mod shown_state;
 mod words;
 
+pub use by_family::{flags, inventory, monitors};
 pub use cmis_apps::apps;
-pub use cmis_flags::flags;
-pub use cmis_inventory::inventory;
-pub use cmis_monitors::monitors;
 pub use fault::ReportFault;
 
 #[cfg(test)]

@@ -67,6 +67,7 @@ fn push_flag(
 }
 
 /// The flags of what is measured, each with what it is for.
+#[tactic(auto, unfolding(crate::specs::Flags::of_levels))]
 pub fn of_levels<T>(quantity: Quantity, levels: Levels<T>) -> [(FlagName, T); 4]
     ensures { result ≡ of_levels quantity levels }
 {

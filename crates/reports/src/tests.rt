@@ -1,5 +1,6 @@
 use crate::{ReportFault, apps, flags, inventory, monitors};
 use applications::AdvertFault;
+use field_tables::SffFault;
 use paged_memory::{Dev, Image, ImageFault, Key, PAGE_LEN, Page};
 use std::test::Fail;
 
@@ -161,5 +162,85 @@ fn what_is_measured_is_told(rt: HostRuntime) -> Result<(), Fail> {
 fn what_is_raised_is_told(rt: HostRuntime) -> Result<(), Fail> {
     let report = flags(rt.alloc(), &measuring(0x09)?)?;
     assert_eq!(rt; report.as_slice(), RAISED.as_bytes());
+    Ok(())
+}
+
+// A QSFP28 and an SFP+ module, each with an alarm.
+fn qsfp() -> Result<Image, ImageFault> {
+    let mut image = Image::new();
+    let lower: [(usize, &[u8]); 5] = [
+        (0, &[0x11]),
+        (3, &[0x42]),
+        (6, &[0x80]),
+        (9, &[0x41]),
+        (22, &[0xFF, 0xC0, 0, 0, 0x80, 0xE8]),
+    ];
+    image.put(Key::lower(Dev::A0), half(&lower))?;
+    let identity: [(usize, &[u8]); 5] = [
+        (2, &[0x0C]),
+        (20, b"EXAMPLE"),
+        (37, &[0, 0x11, 0x22]),
+        (40, b"QSFP28-SR4"),
+        (63, &[0xC3]),
+    ];
+    image.put(Key::upper(Dev::A0, 0, 0x00), half(&identity))?;
+    Ok(image)
+}
+
+fn sfp() -> Result<Image, ImageFault> {
+    let mut image = Image::new();
+    let identity: [(usize, &[u8]); 4] = [
+        (0, &[0x03, 0, 0x07]),
+        (20, b"EXAMPLE"),
+        (40, b"SFP-10G-LR"),
+        (92, &[0x60, 0, 0, 0x60]),
+    ];
+    image.put(Key::lower(Dev::A0), half(&identity))?;
+    let diagnostics: [(usize, &[u8]); 3] = [
+        (96, &[0xFF, 0xFF, 0x80, 0xE8]),
+        (112, &[0x80, 0x40]),
+        (117, &[0x80]),
+    ];
+    image.put(Key::lower(Dev::A2), half(&diagnostics))?;
+    Ok(image)
+}
+
+const QSFP: [&str; 2] = [
+    "family SFF-8636\nidentifier 11h\nvendor EXAMPLE\noui 001122\npart QSFP28-SR4\n\
+     part-revision \nserial \ndate \nconnector 0Ch\nsum-base wrong\nsum-ext right\n",
+    "flag temperature-high-alarm\nflag tx-los 3\nflag rx-los 2\nflag rx-power-low-alarm 1\n\
+     flag rx-power-low-warning 2\n",
+];
+
+const SFP: [&str; 3] = [
+    "family SFF-8472\nidentifier 03h\nvendor EXAMPLE\noui 000000\npart SFP-10G-LR\n\
+     part-revision \nserial \ndate \nconnector 07h\nsum-base wrong\nsum-ext right\n",
+    "temperature -0.004 C\ntemperature-limits 0.000 0.000 0.000 0.000\n\
+     vcc 3300.000 mV\nvcc-limits 0.000 0.000 0.000 0.000\n\
+     tx-power 1 0.000 uW\ntx-power-limits 0.000 0.000 0.000 0.000\n\
+     tx-bias 1 0.000 mA\ntx-bias-limits 0.000 0.000 0.000 0.000\n\
+     rx-power 1 0.000 uW\nrx-power-limits 0.000 0.000 0.000 0.000\nsum-a2 right\n",
+    "flag temperature-high-alarm\nflag rx-power-low-alarm 1\nflag rx-power-high-warning 1\n",
+];
+
+#[test]
+fn sff_modules_are_told(rt: HostRuntime) -> Result<(), Fail> {
+    let image = qsfp()?;
+    let [told, warned] = QSFP;
+    assert_eq!(rt; inventory(rt.alloc(), &image)?.as_slice(), told.as_bytes());
+    assert_eq!(rt; flags(rt.alloc(), &image)?.as_slice(), warned.as_bytes());
+    let absent = SffFault::Absent(Key::upper(Dev::A0, 0, 0x03));
+    assert_eq!(rt;
+        monitors(rt.alloc(), &image).err(),
+        Some(ReportFault::Sff(absent))
+    );
+    let image = sfp()?;
+    let [told, measured, warned] = SFP;
+    assert_eq!(rt; inventory(rt.alloc(), &image)?.as_slice(), told.as_bytes());
+    assert_eq!(rt;
+        monitors(rt.alloc(), &image)?.as_slice(),
+        measured.as_bytes()
+    );
+    assert_eq!(rt; flags(rt.alloc(), &image)?.as_slice(), warned.as_bytes());
     Ok(())
 }

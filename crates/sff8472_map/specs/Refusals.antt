@@ -11,11 +11,14 @@ use Rattle.field_tables.specs.FirstFault.{first_fault}
 use Rattle.field_tables.specs.Halves.{is_absent}
 use Rattle.field_tables.specs.Readings.{bit, number}
 
--- the SFP family has the identifier 3 (SFF-8024)
+-- the SFP family (SFF-8024)
+abbrev pub is_sfp : ℕ → Bool
+is_sfp identifier = identifier == 0x03
+
 abbrev pub module_faults : Memory → List (Bool × SffFault)
 module_faults memory =
     (is_absent memory (lower_key A0), Absent (lower_key A0))
-    ∷ (not (number memory SIdentifier == 0x03), WrongIdentifier (number memory SIdentifier))
+    ∷ (not (is_sfp (number memory SIdentifier)), WrongIdentifier (number memory SIdentifier))
     ∷ []
 
 -- of what device A2 has
@@ -37,14 +40,14 @@ abbrev pub measured_faults : Memory → List (Bool × SffFault)
 measured_faults memory = diagnostics_faults memory ++ (bit memory SExternal, ExternalCalibration) ∷ absent_diagnostics memory ∷ []
 
 -- of the identity, too
-abbrev pub module_fault : Memory → Option SffFault
+unfoldable pub module_fault : Memory → Option SffFault
 module_fault memory = first_fault (module_faults memory)
 
-abbrev pub diagnostics_fault : Memory → Option SffFault
+unfoldable pub diagnostics_fault : Memory → Option SffFault
 diagnostics_fault memory = first_fault (diagnostics_faults memory)
 
-abbrev pub flags_fault : Memory → Option SffFault
+unfoldable pub flags_fault : Memory → Option SffFault
 flags_fault memory = first_fault (flags_faults memory)
 
-abbrev pub measured_fault : Memory → Option SffFault
+unfoldable pub measured_fault : Memory → Option SffFault
 measured_fault memory = first_fault (measured_faults memory)

@@ -11,6 +11,7 @@ pub use field_tables::{Levels, SffFault};
 pub use flags::Flags;
 pub use identity::Identity;
 pub use monitors::Monitors;
+pub use refusal::is_sfp;
 pub use thresholds::Thresholds;
 
 #[cfg(test)]

@@ -1,11 +1,12 @@
 ghost use Rattle.std.specs.Prelude.{◌≡◌};
-ghost use Rattle.sff8472_map.specs.Refusals.{diagnostics_fault, flags_fault, measured_fault, module_fault};
+ghost use Rattle.sff8472_map.specs.Refusals.{diagnostics_fault, flags_fault, is_sfp, measured_fault, module_fault};
 
 use bus_model::Dev;
 use field_tables::{Field, SffFault, bit, number};
 use paged_memory::{Image, Key};
 
 /// Why the lower memory of device A0 is not read.
+#[tactic(auto, unfolding(crate::specs::Refusals::module_fault))]
 pub fn module_refusal(image: &Image) -> Option<SffFault>
     ensures { result ≡ module_fault image.now }
 {
@@ -14,13 +15,14 @@ pub fn module_refusal(image: &Image) -> Option<SffFault>
         return Some(SffFault::Absent(lower));
     }
     let identifier = number(image, Field::SIdentifier);
-    if identifier != 0x03 {
+    if !is_sfp(identifier) {
         return Some(SffFault::WrongIdentifier(identifier));
     }
     None
 }
 
 // Why the diagnostics are not looked for.
+#[tactic(auto, unfolding(crate::specs::Refusals::diagnostics_fault, crate::specs::Refusals::module_fault))]
 fn diagnostics_refusal(image: &Image) -> Option<SffFault>
     ensures { result ≡ diagnostics_fault image.now }
 {
@@ -37,6 +39,7 @@ fn diagnostics_refusal(image: &Image) -> Option<SffFault>
 }
 
 /// Why an image has no flags.
+#[tactic(auto, unfolding(crate::specs::Refusals::flags_fault, crate::specs::Refusals::diagnostics_fault))]
 pub fn flags_refusal(image: &Image) -> Option<SffFault>
     ensures { result ≡ flags_fault image.now }
 {
@@ -51,6 +54,7 @@ pub fn flags_refusal(image: &Image) -> Option<SffFault>
 }
 
 /// Why an image has no measured values, and no limits of these.
+#[tactic(auto, unfolding(crate::specs::Refusals::measured_fault, crate::specs::Refusals::diagnostics_fault))]
 pub fn measured_refusal(image: &Image) -> Option<SffFault>
     ensures { result ≡ measured_fault image.now }
 {
@@ -65,4 +69,11 @@ pub fn measured_refusal(image: &Image) -> Option<SffFault>
         return Some(SffFault::Absent(diagnostics));
     }
     None
+}
+
+/// Whether the identifier is that of the SFP family (SFF-8024).
+pub fn is_sfp(identifier: u8) -> bool
+    ensures { result ≡ is_sfp identifier }
+{
+    identifier == 0x03
 }

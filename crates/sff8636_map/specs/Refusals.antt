@@ -31,11 +31,11 @@ threshold_faults memory =
     ∷ []
 
 -- of monitors and flags, which are in lower memory
-abbrev pub module_fault : Memory → Option SffFault
+unfoldable pub module_fault : Memory → Option SffFault
 module_fault memory = first_fault (module_faults memory)
 
-abbrev pub identity_fault : Memory → Option SffFault
+unfoldable pub identity_fault : Memory → Option SffFault
 identity_fault memory = first_fault (identity_faults memory)
 
-abbrev pub threshold_fault : Memory → Option SffFault
+unfoldable pub threshold_fault : Memory → Option SffFault
 threshold_fault memory = first_fault (threshold_faults memory)

@@ -1,11 +1,12 @@
 ghost use Rattle.std.specs.Prelude.{◌≡◌};
-ghost use Rattle.sff8636_map.specs.Refusals.{identity_fault, module_fault, threshold_fault};
+ghost use Rattle.sff8636_map.specs.Refusals.{identity_fault, is_qsfp, module_fault, threshold_fault};
 
 use bus_model::Dev;
 use field_tables::{Field, SffFault, bit, number};
 use paged_memory::{Image, Key};
 
 /// Why the lower memory of an image is not read.
+#[tactic(auto, unfolding(crate::specs::Refusals::module_fault))]
 pub fn module_refusal(image: &Image) -> Option<SffFault>
     ensures { result ≡ module_fault image.now }
 {
@@ -14,13 +15,21 @@ pub fn module_refusal(image: &Image) -> Option<SffFault>
         return Some(SffFault::Absent(lower));
     }
     let identifier = number(image, Field::QIdentifier);
-    match identifier {
-        0x0C | 0x0D | 0x11 => None,
-        _ => Some(SffFault::WrongIdentifier(identifier)),
+    if !is_qsfp(identifier) {
+        return Some(SffFault::WrongIdentifier(identifier));
     }
+    None
+}
+
+/// Whether the identifier is one of QSFP, QSFP+ or QSFP28 (SFF-8024).
+pub fn is_qsfp(identifier: u8) -> bool
+    ensures { result ≡ is_qsfp identifier }
+{
+    matches!(identifier, 0x0C | 0x0D | 0x11)
 }
 
 /// Why an image has no identity.
+#[tactic(auto, unfolding(crate::specs::Refusals::identity_fault, crate::specs::Refusals::module_fault))]
 pub fn identity_refusal(image: &Image) -> Option<SffFault>
     ensures { result ≡ identity_fault image.now }
 {
@@ -35,6 +44,7 @@ pub fn identity_refusal(image: &Image) -> Option<SffFault>
 }
 
 /// Why an image has no thresholds.
+#[tactic(auto, unfolding(crate::specs::Refusals::threshold_fault, crate::specs::Refusals::module_fault))]
 pub fn threshold_refusal(image: &Image) -> Option<SffFault>
     ensures { result ≡ threshold_fault image.now }
 {

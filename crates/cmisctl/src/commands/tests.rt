@@ -205,13 +205,21 @@ fn other_modules_are_told_or_refused(rt: HostRuntime) -> Result<(), Fail> {
             ],
         ),
         (
+            "025000",
+            ["fault RP1 2", "fault AD1 2", "fault RP1 2", "fault RP1 2"],
+        ),
+        (
             "115000",
             [
-                "fault RP1 17",
+                "family SFF-8636",
                 "fault AD1 17",
-                "fault RP1 17",
-                "fault RP1 17",
+                "fault SF3 upper A0 00 03",
+                "flag rx-los 2",
             ],
+        ),
+        (
+            "035000",
+            ["family SFF-8472", "fault AD1 3", "fault SF4", "fault SF4"],
         ),
     ] {
         let input = format!(in rt.alloc(); "module-image 1\nlower A0 {bytes}{rest}")?;

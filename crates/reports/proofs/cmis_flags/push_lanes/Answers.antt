@@ -3,12 +3,12 @@ use Rattle.std.proofs.lemmas.Grind.{common_steps, flat_map-append}
 use Rattle.std.proofs.lemmas.List.FromFn.{map-range_with_len_more}
 use Rattle.std.specs.List.{range_with_len}
 use Rattle.text_lines.specs.Lines.{text_of}
-use Rattle.reports.specs.CmisFlags.{lane_line}
+use Rattle.reports.specs.CmisFlags.{state_line}
 use Rattle.reports.proofs.cmis_flags.push_lanes.Goals as goal
 
 pub loop-before-preserved : goal.loop-before-preserved
 loop-before-preserved c =
-    let line = lane_line c.args.image.now in
+    let line = state_line c.args.image.now in
     let k = c.loop-before.before in
     let before = map line (range_with_len 1 k) in
     let next : 1 + k ≡ k + 1 = omega arith in

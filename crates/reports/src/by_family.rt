@@ -1,0 +1,55 @@
+// The reports of modules of whatever family.
+ghost use Rattle.std.specs.Prelude.{◌≡◌, MatchOption};
+ghost use Rattle.std.specs.Result.{result_map_both};
+ghost use Rattle.reports.specs.Lines.{IsReport};
+ghost use Rattle.reports.specs.Inventory.{inventory_fault, inventory_lines};
+ghost use Rattle.reports.specs.Measured.{monitors_fault, monitors_lines};
+ghost use Rattle.reports.specs.Warned.{flags_fault, flags_lines};
+
+use crate::family::{Family, family_of};
+use crate::fault::ReportFault;
+use crate::{cmis_flags, cmis_inventory, cmis_monitors, sff_flags, sff_inventory, sff_monitors};
+use paged_memory::Image;
+use std::alloc::Global;
+
+/// What the module is, line by line.
+#[tactic(auto, unfolding(crate::specs::Inventory::inventory_fault, crate::specs::Inventory::inventory_lines))]
+pub fn inventory(alloc: Global, image: &Image) -> Result<Vec<u8>, ReportFault>
+    ensures { MatchOption (inventory_fault image.now)
+        (IsReport (inventory_lines image.now) (result_map_both (λ text. text.items) (λ fault. fault) result))
+        (λ fault. result ≡ Err fault) }
+{
+    match family_of(image)? {
+        Family::Cmis => cmis_inventory::inventory(alloc, image),
+        Family::Sff8636 => sff_inventory::sff8636(alloc, image),
+        Family::Sff8472 => sff_inventory::sff8472(alloc, image),
+    }
+}
+
+/// What the module measures, line by line.
+#[tactic(auto, unfolding(crate::specs::Measured::monitors_fault, crate::specs::Measured::monitors_lines))]
+pub fn monitors(alloc: Global, image: &Image) -> Result<Vec<u8>, ReportFault>
+    ensures { MatchOption (monitors_fault image.now)
+        (IsReport (monitors_lines image.now) (result_map_both (λ text. text.items) (λ fault. fault) result))
+        (λ fault. result ≡ Err fault) }
+{
+    match family_of(image)? {
+        Family::Cmis => cmis_monitors::monitors(alloc, image),
+        Family::Sff8636 => sff_monitors::sff8636(alloc, image),
+        Family::Sff8472 => sff_monitors::sff8472(alloc, image),
+    }
+}
+
+/// The flags that are raised, and of a CMIS module the states before them, line by line.
+#[tactic(auto, unfolding(crate::specs::Warned::flags_fault, crate::specs::Warned::flags_lines))]
+pub fn flags(alloc: Global, image: &Image) -> Result<Vec<u8>, ReportFault>
+    ensures { MatchOption (flags_fault image.now)
+        (IsReport (flags_lines image.now) (result_map_both (λ text. text.items) (λ fault. fault) result))
+        (λ fault. result ≡ Err fault) }
+{
+    match family_of(image)? {
+        Family::Cmis => cmis_flags::flags(alloc, image),
+        Family::Sff8636 => sff_flags::sff8636(alloc, image),
+        Family::Sff8472 => sff_flags::sff8472(alloc, image),
+    }
+}
