@@ -1,5 +1,6 @@
 -- The states of a CMIS module and of its lanes, and the flags that it raises. (docs/formats.md, "flags"; OIF-CMIS-05.0,
--- "Module State" and "Module-Level Flags" of lower memory, "Lane-Specific Flags" and "Data Path States" of page 11h)
+-- "Global Status Information" and "Module-Level Flags" of lower memory; of page 11h the data path states, the
+-- lane-specific flags and "Configuration Command Status")
 use Rattle.std.specs.Prelude.{ℕ, ◌+◌, Bool, if◌then◌else◌, List, [], ◌∷◌, ◌++◌, map, codes}
 use Rattle.std.specs.List.{flat_map, range_with_len}
 use Rattle.paged_memory.specs.Images.{Memory}

@@ -1,5 +1,6 @@
--- What a CMIS module measures. (docs/formats.md, "monitors"; OIF-CMIS-05.0, "Module-Level Monitor Values" of lower
--- memory, "Monitors Supported" of page 01h, the thresholds of page 02h and "Lane-Specific Monitors" of page 11h)
+-- What a CMIS module measures. (docs/formats.md, "monitors"; OIF-CMIS-05.0, "Module-Level Monitor Values" of lower memory,
+-- "Supported Monitors Advertisement" of page 01h, the monitor thresholds of page 02h and "Lane-Specific Monitors" of page
+-- 11h)
 use Rattle.std.specs.Prelude.{ℕ, ℤ, pos, ◌*ℤ◌, ◌^◌, ◌==◌, if◌then◌else◌, List, [], ◌∷◌, ◌++◌, map, Option, Some, None, codes}
 use Rattle.paged_memory.specs.Images.{Memory}
 use Rattle.field_tables.specs.declared.field.Field.{Field}
@@ -36,7 +37,7 @@ instead_lines quantity word = line (name_of quantity) word ∷ []
 abbrev pub where_supported : Memory → Field → Quantity → List (List ℕ) → List (List ℕ)
 where_supported memory support quantity lines = if number memory support == 1 then lines else instead_lines quantity (codes "unsupported")
 
--- what each step of bias counts, for a multiplier code below 3: once, twice or four times
+-- what each step of bias counts: once, twice or four times by the codes 0, 1 and 2; code 3 is reserved and never counts
 abbrev pub bias_factor : Memory → ℤ
 bias_factor memory = pos (2 ^ number memory fields.CBiasMultiplier)
 

@@ -1,5 +1,5 @@
--- Flags that modules raise, and their lines. (docs/formats.md, "flags"; OIF-CMIS-05.0, "Module-Level Flags" of lower
--- memory and "Lane-Specific Flags" of page 11h)
+-- Flags that modules raise, and their lines. (docs/formats.md, "flags"; OIF-CMIS-05.0, "Module-Level Flags" and the
+-- lane-specific flags of page 11h; SFF-8636, "Interrupt Flags"; SFF-8472, "Alarm and Warning Flag Bits")
 use Rattle.std.specs.Prelude.{ℕ, Bool, List, [], ◌∷◌, ◌++◌, map, filter, Option, Some, None, codes}
 use Rattle.std.specs.Fmt.{decimal}
 use Rattle.std.specs.List.{enumerate_from}

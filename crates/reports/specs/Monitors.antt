@@ -1,5 +1,6 @@
 -- The lines of a monitor: a value of the module or one of each lane, and the limits where there are any.
--- (docs/formats.md, "monitors"; OIF-CMIS-05.0, "Lane-Specific Monitors" and "Module-Level Monitor Thresholds")
+-- (docs/formats.md, "monitors"; OIF-CMIS-05.0, "Lane-Specific Monitors" and the monitor thresholds of page 02h; SFF-8636,
+-- "Channel Monitors"; SFF-8472, "Real Time Diagnostic and Control Registers")
 use Rattle.std.specs.Prelude.{ℕ, ℤ, List, [], ◌∷◌, ◌++◌, map, Option, Some, None}
 use Rattle.std.specs.Fmt.{decimal}
 use Rattle.std.specs.List.{enumerate_from}

@@ -1,17 +1,19 @@
 -- What a module of SFF-8636 or SFF-8472 is. (docs/formats.md, "inventory"; SFF-8636, "Upper Page 00h"; SFF-8472, "Serial
 -- ID: Data Fields")
-use Rattle.std.specs.Prelude.{ℕ, Bool, true, false, if◌then◌else◌, List, [], ◌∷◌, codes}
+use Rattle.std.specs.Prelude.{ℕ, List, [], ◌∷◌, codes}
 use Rattle.hex.specs.Hex.{encode_lower}
 use Rattle.sff8636_map.specs.declared.identity.Identity as qsfp
 use Rattle.sff8472_map.specs.declared.identity.Identity as sfp
+use Rattle.reports.specs.declared.family.Family.TheVariants.{Sff8636, Sff8472}
 use Rattle.reports.specs.declared.sff_inventory.SffIdentity.{SffIdentity}
+use Rattle.reports.specs.Families.{family_name}
 use Rattle.reports.specs.Lines.{line}
 use Rattle.reports.specs.Shown.{byte_code, printable}
 use Rattle.reports.specs.Words.{sum_word}
 
 abbrev pub of_qsfp : qsfp.Identity → SffIdentity
 of_qsfp identity = record {
-  is_qsfp = true;
+  family = Sff8636;
   identifier = identity.identifier;
   vendor = identity.vendor;
   oui = identity.oui;
@@ -26,7 +28,7 @@ of_qsfp identity = record {
 
 abbrev pub of_sfp : sfp.Identity → SffIdentity
 of_sfp identity = record {
-  is_qsfp = false;
+  family = Sff8472;
   identifier = identity.identifier;
   vendor = identity.vendor;
   oui = identity.oui;
@@ -39,12 +41,9 @@ of_sfp identity = record {
   sum_ext = identity.sum_ext;
 }
 
-abbrev pub family_word : Bool → List ℕ
-family_word is_qsfp = if is_qsfp then codes "SFF-8636" else codes "SFF-8472"
-
 unfoldable pub identity_lines : SffIdentity → List (List ℕ)
 identity_lines identity =
-    line (codes "family") (family_word identity.is_qsfp)
+    line (codes "family") (family_name identity.family)
     ∷ line (codes "identifier") (byte_code identity.identifier)
     ∷ line (codes "vendor") (printable identity.vendor.items)
     ∷ line (codes "oui") (encode_lower identity.oui)

@@ -1,5 +1,6 @@
--- What a module of SFF-8636 or SFF-8472 measures. (docs/formats.md, "monitors"; SFF-8636, "Free Side Device Monitors" and
--- "Channel Monitors"; SFF-8472, "Diagnostics")
+-- What a module of SFF-8636 or SFF-8472 measures. (docs/formats.md, "monitors"; SFF-8636, "Free Side Device Monitors",
+-- "Channel Monitors" and their thresholds; SFF-8472, "Real Time Diagnostic and Control Registers" and "Alarm and Warning
+-- Thresholds")
 use Rattle.std.specs.Prelude.{ℕ, ℤ, Bool, if◌then◌else◌, List, [], ◌∷◌, ◌++◌, Option, Some, None, codes}
 use Rattle.std.specs.Option.{option_or}
 use Rattle.paged_memory.specs.Images.{Memory}
@@ -45,13 +46,14 @@ of_sfp_limits thresholds = record {
 abbrev pub no_limits : Limits
 no_limits = record { temperature = None; vcc = None; tx_power = None; tx_bias = None; rx_power = None }
 
-unfoldable pub module_lines : ℤ → ℤ → Limits → List (List ℕ)
-module_lines temperature vcc limits = module_monitor Temperature temperature limits.temperature ++ module_monitor Vcc vcc limits.vcc
-
--- of each lane the transmitted light, the bias current and the received light
-unfoldable pub lane_lines : List ℤ → List ℤ → List ℤ → Limits → List (List ℕ)
-lane_lines tx_power tx_bias rx_power limits =
-    lane_monitor TxPower tx_power limits.tx_power ++ lane_monitor TxBias tx_bias limits.tx_bias ++ lane_monitor RxPower rx_power limits.rx_power
+-- what the module measures, and the transmitted light of all lanes, then their bias currents, then the received light
+unfoldable pub measured_lines : ℤ → ℤ → List ℤ → List ℤ → List ℤ → Limits → List (List ℕ)
+measured_lines temperature vcc tx_power tx_bias rx_power limits =
+    module_monitor Temperature temperature limits.temperature
+    ++ module_monitor Vcc vcc limits.vcc
+    ++ lane_monitor TxPower tx_power limits.tx_power
+    ++ lane_monitor TxBias tx_bias limits.tx_bias
+    ++ lane_monitor RxPower rx_power limits.rx_power
 
 -- a module of SFF-8636 with flat memory has no limits
 unfoldable pub qsfp_limits : Memory → Limits
@@ -65,8 +67,7 @@ sff8636_fault memory = of_sff (option_or (qsfp_refusals.module_fault memory) (qs
 
 abbrev pub qsfp_lines : qsfp_monitor.Monitors 4 → Limits → List (List ℕ)
 qsfp_lines measured limits =
-    module_lines measured.temperature measured.vcc limits
-    ++ lane_lines measured.tx_power measured.tx_bias measured.rx_power limits
+    measured_lines measured.temperature measured.vcc measured.tx_power measured.tx_bias measured.rx_power limits
 
 abbrev pub sff8636_lines : Memory → List (List ℕ)
 sff8636_lines memory = qsfp_lines (qsfp_monitors.monitors_of {N = 4} memory) (qsfp_limits memory)
@@ -79,8 +80,7 @@ sum_lines right = line (codes "sum-a2") (sum_word right) ∷ []
 
 abbrev pub sfp_lines : sfp_monitor.Monitors 1 → Limits → List (List ℕ)
 sfp_lines measured limits =
-    module_lines measured.temperature measured.vcc limits
-    ++ lane_lines measured.tx_power measured.tx_bias measured.rx_power limits
+    measured_lines measured.temperature measured.vcc measured.tx_power measured.tx_bias measured.rx_power limits
     ++ sum_lines measured.sum_dmi
 
 abbrev pub sff8472_lines : Memory → List (List ℕ)

@@ -1,5 +1,5 @@
--- The names of states and statuses. (docs/formats.md, "flags"; OIF-CMIS-05.0, "Module State", "Data Path States" and
--- "Configuration Command Status")
+-- The names of states and statuses. (docs/formats.md, "flags"; docs/states.md; OIF-CMIS-05.0, "Module State Machine", "Data
+-- Path State Machine" and "Configuration Command Status")
 use Rattle.std.specs.Prelude.{ℕ, List, ◌∷◌, ◌++◌, codes}
 use Rattle.std.specs.Fmt.{decimal}
 use Rattle.std.specs.Option.{option_map_or}

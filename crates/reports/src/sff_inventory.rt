@@ -8,9 +8,10 @@ ghost use Rattle.sff8472_map.specs.Identity as sfp;
 ghost use Rattle.sff8472_map.specs.Refusals as sfp_refusals;
 ghost use Rattle.reports.specs.Families.{of_sff};
 ghost use Rattle.reports.specs.Lines.{IsReport};
-ghost use Rattle.reports.specs.SffInventory.{family_word, identity_lines, of_qsfp, of_sfp};
+ghost use Rattle.reports.specs.SffInventory.{identity_lines, of_qsfp, of_sfp};
 ghost use Rattle.reports.specs.Values.{line_text};
 
+use crate::family::Family;
 use crate::fault::ReportFault;
 use crate::line::{Line, push_lines};
 use crate::shown::Shown;
@@ -22,8 +23,7 @@ use std::alloc::{AllocError, Global};
 /// What a module tells of itself in either standard.
 #[derive(Debug, Drop)]
 pub struct SffIdentity {
-    /// Whether the standard is SFF-8636; else it is SFF-8472.
-    pub is_qsfp: bool,
+    pub family: Family,
     pub identifier: u8,
     pub vendor: ArrayVec<u8, 16>,
     pub oui: [u8; 3],
@@ -42,7 +42,7 @@ impl From<sff8636_map::Identity> for SffIdentity {
     fn from(identity: sff8636_map::Identity) -> SffIdentity {
         let oui = identity.oui;
         SffIdentity {
-            is_qsfp: true,
+            family: Family::Sff8636,
             identifier: identity.identifier,
             vendor: identity.vendor,
             oui,
@@ -63,7 +63,7 @@ impl From<sff8472_map::Identity> for SffIdentity {
     fn from(identity: sff8472_map::Identity) -> SffIdentity {
         let oui = identity.oui;
         SffIdentity {
-            is_qsfp: false,
+            family: Family::Sff8472,
             identifier: identity.identifier,
             vendor: identity.vendor,
             oui,
@@ -112,7 +112,7 @@ fn identity_lines(identity: SffIdentity) -> [Line; 11]
 {
     let oui = identity.oui;
     [
-        ("family", Shown::Word(family_word(identity.is_qsfp))),
+        ("family", Shown::Word(identity.family.name())),
         ("identifier", Shown::Code(identity.identifier)),
         ("vendor", Shown::Text(identity.vendor)),
         ("oui", Shown::Digits(oui)),
@@ -124,10 +124,4 @@ fn identity_lines(identity: SffIdentity) -> [Line; 11]
         ("sum-base", Shown::Word(sum_word(identity.sum_base))),
         ("sum-ext", Shown::Word(sum_word(identity.sum_ext))),
     ]
-}
-
-fn family_word(is_qsfp: bool) -> &'static str
-    ensures { result.now ≡ family_word is_qsfp }
-{
-    if is_qsfp { "SFF-8636" } else { "SFF-8472" }
 }

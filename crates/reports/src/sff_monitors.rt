@@ -6,7 +6,7 @@ ghost use Rattle.text_lines.specs.Lines.{text_of};
 ghost use Rattle.sff8636_map.specs.Monitors as qsfp;
 ghost use Rattle.sff8472_map.specs.Monitors as sfp;
 ghost use Rattle.reports.specs.Lines.{IsReport};
-ghost use Rattle.reports.specs.SffMonitors.{lane_lines, module_lines, no_limits, of_qsfp_limits, of_sfp_limits, qsfp_limits, qsfp_limits_fault, qsfp_lines, sff8472_fault, sff8472_lines, sff8636_fault, sff8636_lines, sfp_lines, sum_lines};
+ghost use Rattle.reports.specs.SffMonitors.{measured_lines, no_limits, of_qsfp_limits, of_sfp_limits, qsfp_limits, qsfp_limits_fault, qsfp_lines, sff8472_fault, sff8472_lines, sff8636_fault, sff8636_lines, sfp_lines, sum_lines};
 ghost use Rattle.reports.specs.Values.{line_text};
 
 use crate::fault::ReportFault;
@@ -78,9 +78,10 @@ fn qsfp_report(
     ensures { IfOk result (λ text. text.items ≡ text_of (qsfp_lines measured.now limits.now)) }
 {
     let mut report = String::new(alloc);
-    push_module(&mut report, measured.temperature, measured.vcc, limits)?;
-    push_lanes(
+    push_measured(
         &mut report,
+        measured.temperature,
+        measured.vcc,
         &measured.tx_power,
         &measured.tx_bias,
         &measured.rx_power,
@@ -108,9 +109,10 @@ fn sfp_report(
     ensures { IfOk result (λ text. text.items ≡ text_of (sfp_lines measured.now limits.now)) }
 {
     let mut report = String::new(alloc);
-    push_module(&mut report, measured.temperature, measured.vcc, limits)?;
-    push_lanes(
+    push_measured(
         &mut report,
+        measured.temperature,
+        measured.vcc,
         &measured.tx_power,
         &measured.tx_bias,
         &measured.rx_power,
@@ -146,14 +148,19 @@ fn no_limits() -> Limits
     }
 }
 
-#[tactic(auto, unfolding(crate::specs::SffMonitors::module_lines))]
-fn push_module(
+// Adds what the module measures, and of its lanes the transmitted light, the bias currents and the received light.
+#[tactic(auto, unfolding(crate::specs::SffMonitors::measured_lines))]
+fn push_measured<const N: usize>(
     report: &mut String,
     temperature: i32,
     vcc: i32,
+    tx_power: &[i32; N],
+    tx_bias: &[i32; N],
+    rx_power: &[i32; N],
     limits: &Limits,
 ) -> Result<(), AllocError>
-    ensures { OnOk result (string_bytes report.new ≡ string_bytes report.old ++ text_of (module_lines temperature vcc limits.now)) }
+    requires { N ≤ 8 }
+    ensures { OnOk result (string_bytes report.new ≡ string_bytes report.old ++ text_of (measured_lines temperature vcc tx_power.now tx_bias.now rx_power.now limits.now)) }
 {
     push_module_monitor(
         report,
@@ -161,20 +168,7 @@ fn push_module(
         temperature,
         limits.temperature,
     )?;
-    push_module_monitor(report, Quantity::Vcc, vcc, limits.vcc)
-}
-
-#[tactic(auto, unfolding(crate::specs::SffMonitors::lane_lines))]
-fn push_lanes<const N: usize>(
-    report: &mut String,
-    tx_power: &[i32; N],
-    tx_bias: &[i32; N],
-    rx_power: &[i32; N],
-    limits: &Limits,
-) -> Result<(), AllocError>
-    requires { N ≤ 8 }
-    ensures { OnOk result (string_bytes report.new ≡ string_bytes report.old ++ text_of (lane_lines tx_power.now tx_bias.now rx_power.now limits.now)) }
-{
+    push_module_monitor(report, Quantity::Vcc, vcc, limits.vcc)?;
     push_lane_monitor(report, Quantity::TxPower, tx_power, limits.tx_power)?;
     push_lane_monitor(report, Quantity::TxBias, tx_bias, limits.tx_bias)?;
     push_lane_monitor(report, Quantity::RxPower, rx_power, limits.rx_power)

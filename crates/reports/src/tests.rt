@@ -165,15 +165,32 @@ fn what_is_raised_is_told(rt: HostRuntime) -> Result<(), Fail> {
     Ok(())
 }
 
-// A QSFP28 and an SFP+ module, each with an alarm.
-fn qsfp() -> Result<Image, ImageFault> {
+// The limits of temperature and supply voltage that follow are those of the modules below.
+const MODULE_LIMITS: &str = "temperature-limits 75.000 -5.000 70.000 0.000\n\
+    vcc 3300.000 mV\nvcc-limits 3630.000 2970.000 3465.000 3135.000\n";
+
+const TEMPERATURES: &[u8] = &[0x4B, 0x00, 0xFB, 0x00, 0x46, 0x00, 0x00, 0x00];
+
+const VOLTAGES: &[u8] = &[0x8D, 0xCC, 0x74, 0x04, 0x87, 0x5A, 0x7A, 0x76];
+
+const RX_POWERS: &[u8] = &[0x9C, 0x40, 0x03, 0xE8, 0x75, 0x30, 0x07, 0xD0];
+
+const BIASES: &[u8] = &[0xC3, 0x50, 0x13, 0x88, 0xAF, 0xC8, 0x27, 0x10];
+
+const TX_POWERS: &[u8] = &[0x8C, 0xA0, 0x03, 0x84, 0x6D, 0x60, 0x07, 0x08];
+
+// A QSFP28 module with alarms, of which some lanes measure little.
+fn qsfp(memory: u8) -> Result<Image, ImageFault> {
     let mut image = Image::new();
-    let lower: [(usize, &[u8]); 5] = [
-        (0, &[0x11]),
+    let lower: [(usize, &[u8]); 8] = [
+        (0, &[0x11, 0, memory]),
         (3, &[0x42]),
         (6, &[0x80]),
         (9, &[0x41]),
         (22, &[0xFF, 0xC0, 0, 0, 0x80, 0xE8]),
+        (34, &[0x27, 0x10, 0, 1, 0, 2, 0, 3]),
+        (42, &[0x61, 0xA8, 0, 1, 0, 2, 0, 3]),
+        (50, &[0x3A, 0x98, 0, 4, 0, 5, 0, 6]),
     ];
     image.put(Key::lower(Dev::A0), half(&lower))?;
     let identity: [(usize, &[u8]); 5] = [
@@ -187,6 +204,19 @@ fn qsfp() -> Result<Image, ImageFault> {
     Ok(image)
 }
 
+// Its limits.
+fn limited(mut image: Image) -> Result<Image, ImageFault> {
+    let limits = [
+        (0, TEMPERATURES),
+        (16, VOLTAGES),
+        (48, RX_POWERS),
+        (56, BIASES),
+        (64, TX_POWERS),
+    ];
+    image.put(Key::upper(Dev::A0, 0, 0x03), half(&limits))?;
+    Ok(image)
+}
+
 fn sfp() -> Result<Image, ImageFault> {
     let mut image = Image::new();
     let identity: [(usize, &[u8]); 4] = [
@@ -196,8 +226,16 @@ fn sfp() -> Result<Image, ImageFault> {
         (92, &[0x60, 0, 0, 0x60]),
     ];
     image.put(Key::lower(Dev::A0), half(&identity))?;
-    let diagnostics: [(usize, &[u8]); 3] = [
-        (96, &[0xFF, 0xFF, 0x80, 0xE8]),
+    let diagnostics: [(usize, &[u8]); 8] = [
+        (0, TEMPERATURES),
+        (8, VOLTAGES),
+        (16, BIASES),
+        (24, TX_POWERS),
+        (32, RX_POWERS),
+        (
+            96,
+            &[0xFF, 0xFF, 0x80, 0xE8, 0x61, 0xA8, 0x3A, 0x98, 0x27, 0x10],
+        ),
         (112, &[0x80, 0x40]),
         (117, &[0x80]),
     ];
@@ -212,20 +250,30 @@ const QSFP: [&str; 2] = [
      flag rx-power-low-warning 2\n",
 ];
 
+const QSFP_MEASURED: &str = "tx-power 1 1500.000 uW\ntx-power 2 0.400 uW\n\
+    tx-power 3 0.500 uW\ntx-power 4 0.600 uW\ntx-power-limits 3600.000 90.000 2800.000 180.000\n\
+    tx-bias 1 50.000 mA\ntx-bias 2 0.002 mA\ntx-bias 3 0.004 mA\ntx-bias 4 0.006 mA\n\
+    tx-bias-limits 100.000 10.000 90.000 20.000\n\
+    rx-power 1 1000.000 uW\nrx-power 2 0.100 uW\nrx-power 3 0.200 uW\nrx-power 4 0.300 uW\n\
+    rx-power-limits 4000.000 100.000 3000.000 200.000\n";
+
+const QSFP_FLAT: &str = "temperature -0.250 C\nvcc 3300.000 mV\n\
+    tx-power 1 1500.000 uW\ntx-power 2 0.400 uW\ntx-power 3 0.500 uW\ntx-power 4 0.600 uW\n\
+    tx-bias 1 50.000 mA\ntx-bias 2 0.002 mA\ntx-bias 3 0.004 mA\ntx-bias 4 0.006 mA\n\
+    rx-power 1 1000.000 uW\nrx-power 2 0.100 uW\nrx-power 3 0.200 uW\nrx-power 4 0.300 uW\n";
+
 const SFP: [&str; 3] = [
     "family SFF-8472\nidentifier 03h\nvendor EXAMPLE\noui 000000\npart SFP-10G-LR\n\
      part-revision \nserial \ndate \nconnector 07h\nsum-base wrong\nsum-ext right\n",
-    "temperature -0.004 C\ntemperature-limits 0.000 0.000 0.000 0.000\n\
-     vcc 3300.000 mV\nvcc-limits 0.000 0.000 0.000 0.000\n\
-     tx-power 1 0.000 uW\ntx-power-limits 0.000 0.000 0.000 0.000\n\
-     tx-bias 1 0.000 mA\ntx-bias-limits 0.000 0.000 0.000 0.000\n\
-     rx-power 1 0.000 uW\nrx-power-limits 0.000 0.000 0.000 0.000\nsum-a2 right\n",
+    "tx-power 1 1500.000 uW\ntx-power-limits 3600.000 90.000 2800.000 180.000\n\
+     tx-bias 1 50.000 mA\ntx-bias-limits 100.000 10.000 90.000 20.000\n\
+     rx-power 1 1000.000 uW\nrx-power-limits 4000.000 100.000 3000.000 200.000\nsum-a2 wrong\n",
     "flag temperature-high-alarm\nflag rx-power-low-alarm 1\nflag rx-power-high-warning 1\n",
 ];
 
 #[test]
-fn sff_modules_are_told(rt: HostRuntime) -> Result<(), Fail> {
-    let image = qsfp()?;
+fn a_qsfp_module_is_told(rt: HostRuntime) -> Result<(), Fail> {
+    let image = qsfp(0)?;
     let [told, warned] = QSFP;
     assert_eq!(rt; inventory(rt.alloc(), &image)?.as_slice(), told.as_bytes());
     assert_eq!(rt; flags(rt.alloc(), &image)?.as_slice(), warned.as_bytes());
@@ -234,13 +282,21 @@ fn sff_modules_are_told(rt: HostRuntime) -> Result<(), Fail> {
         monitors(rt.alloc(), &image).err(),
         Some(ReportFault::Sff(absent))
     );
+    let flat = monitors(rt.alloc(), &qsfp(0x04)?)?;
+    assert_eq!(rt; flat.as_slice(), QSFP_FLAT.as_bytes());
+    let text = format!(in rt.alloc(); "temperature -0.250 C\n{MODULE_LIMITS}{QSFP_MEASURED}")?;
+    let measured = monitors(rt.alloc(), &limited(image)?)?;
+    assert_eq!(rt; measured.as_slice(), text.as_bytes());
+    Ok(())
+}
+
+#[test]
+fn an_sfp_module_is_told(rt: HostRuntime) -> Result<(), Fail> {
     let image = sfp()?;
     let [told, measured, warned] = SFP;
     assert_eq!(rt; inventory(rt.alloc(), &image)?.as_slice(), told.as_bytes());
-    assert_eq!(rt;
-        monitors(rt.alloc(), &image)?.as_slice(),
-        measured.as_bytes()
-    );
+    let text = format!(in rt.alloc(); "temperature -0.004 C\n{MODULE_LIMITS}{measured}")?;
+    assert_eq!(rt; monitors(rt.alloc(), &image)?.as_slice(), text.as_bytes());
     assert_eq!(rt; flags(rt.alloc(), &image)?.as_slice(), warned.as_bytes());
     Ok(())
 }

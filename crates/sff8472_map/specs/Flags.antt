@@ -8,7 +8,7 @@ use Rattle.field_tables.specs.declared.readings.Levels.{Levels}
 use Rattle.field_tables.specs.Readings.{bit, bit_at}
 use Rattle.sff8472_map.specs.declared.flags.Flags.{Flags}
 
--- of a monitored value, from the number of its high flags: the low ones come next
+-- of a monitored value: its high alarm and its high warning have this number in their fields, its low ones the next
 abbrev pub level_flags : Memory → Field → Field → ℕ → Levels Bool
 level_flags memory alarms warnings high = record {
   high_alarm = bit_at memory alarms high;

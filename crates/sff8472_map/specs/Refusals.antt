@@ -39,7 +39,7 @@ flags_faults memory = diagnostics_faults memory ++ absent_diagnostics memory ∷
 abbrev pub measured_faults : Memory → List (Bool × SffFault)
 measured_faults memory = diagnostics_faults memory ++ (bit memory SExternal, ExternalCalibration) ∷ absent_diagnostics memory ∷ []
 
--- of the identity, too
+-- of the identity; the other records' faults begin with these
 unfoldable pub module_fault : Memory → Option SffFault
 module_fault memory = first_fault (module_faults memory)
 

@@ -5,7 +5,7 @@ use bus_model::Dev;
 use field_tables::{Field, SffFault, bit, number};
 use paged_memory::{Image, Key};
 
-/// Why the lower memory of an image is not read.
+/// Why the module of an image is none of this standard.
 #[tactic(auto, unfolding(crate::specs::Refusals::module_fault))]
 pub fn module_refusal(image: &Image) -> Option<SffFault>
     ensures { result ≡ module_fault image.now }

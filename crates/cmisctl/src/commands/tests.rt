@@ -164,7 +164,7 @@ fn what_is_measured_and_raised_comes(rt: HostRuntime) -> Result<(), Fail> {
     Ok(())
 }
 
-/// What begins with other bytes than the worked image, and what the four reports then say in their first line.
+/// The image above with other first bytes, and what each of the four reports then says in its first line.
 #[test]
 fn other_modules_are_told_or_refused(rt: HostRuntime) -> Result<(), Fail> {
     let rest = IMAGE
