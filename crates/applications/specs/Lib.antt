@@ -3,3 +3,4 @@ pub mod Descriptors
 pub mod Advertised
 pub mod AdvertisedCode
 pub mod Refusals
+pub mod Weights

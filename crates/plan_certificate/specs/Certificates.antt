@@ -1,0 +1,44 @@
+-- Certificates: a plan with a bound, for each state, on what can still be gained from it. (docs/planning.md,
+-- "Certificates")
+use Rattle.std.specs.Prelude.{◌≡◌, ℕ, ◌+◌, ◌*◌, ◌<◌, ◌≤◌, List, All, AllPairs, Contains}
+use Rattle.field_tables.specs.LaneSets.{lanes_in}
+use Rattle.applications.specs.Advertised.{Advertised}
+use Rattle.applications.specs.Weights.{HostWeights}
+use Rattle.plan_certificate.specs.declared.path.Path.{Path}
+use Rattle.plan_certificate.specs.declared.certificate.Entry.{Entry}
+use Rattle.plan_certificate.specs.declared.state.State.{State}
+use Rattle.plan_certificate.specs.declared.state.Step.{Step}
+use Rattle.plan_certificate.specs.Plans.{IsAdmissible, plan_weight}
+use Rattle.plan_certificate.specs.States.{start, steps_from}
+
+pub record Certified : Type 0 where
+  pub weight : ℕ
+  pub paths : List Path
+  pub entries : List Entry
+
+abbrev pub state_of : Entry → State
+state_of entry = record { boundary = entry.boundary; used = lanes_in entry.used }
+
+-- by boundary, then by the byte of used media lanes
+abbrev pub place_of : Entry → ℕ
+place_of entry = 256 * entry.boundary + entry.used
+
+-- the states of entries: each once, rising, none past host lane 8
+pub record HasStates (entries : List Entry) : Type 0 where
+  pub rising : AllPairs (λ entry later. place_of entry < place_of later) entries
+  pub within : All (λ entry. entry.boundary ≤ 8) entries
+
+-- the entry of a state, which bounds what can be gained from there by at most so much
+abbrev pub IsBound : List Entry → State → ℕ → Type 0
+IsBound entries state potential = (entry : Entry) × Contains entries entry × (state_of entry ≡ state) × (entry.potential ≡ potential)
+
+-- a step leads to the state of an entry, and what can be gained from there is no more than what is left of the potential
+abbrev pub IsCovered : List Entry → ℕ → Step → Type 0
+IsCovered entries potential step = (later : ℕ) × IsBound entries step.end later × (step.weight + later ≤ potential)
+
+-- the certificate is right for these Applications and weights
+pub record IsGood (advert : Advertised) (weights : HostWeights) (certificate : Certified) : Type 0 where
+  pub admissible : IsAdmissible advert certificate.paths
+  pub weighs : certificate.weight ≡ plan_weight advert weights certificate.paths
+  pub closed : All (λ entry. All (IsCovered certificate.entries entry.potential) (steps_from advert weights (state_of entry))) certificate.entries
+  pub begun : IsBound certificate.entries start certificate.weight

@@ -1,0 +1,4 @@
+pub mod Paths
+pub mod Plans
+pub mod States
+pub mod Certificates

@@ -1,0 +1,48 @@
+-- Data paths: which are allowed on a module, the lanes that they take, and what they weigh. (docs/planning.md, "Data
+-- paths"; OIF-CMIS-05.0, chapter 6 "Core Management Features", "Data Paths", and chapter 8, "Applications Advertising")
+use Rattle.std.specs.Prelude.{ℕ, ◌+◌, ◌==◌, ◌&&◌, Bool, nat_le, find}
+use Rattle.std.specs.Option.{unwrap_or}
+use Rattle.std.specs.FinSet as set
+use Rattle.field_tables.specs.LaneSets.{Lanes, run_of, is_disjoint}
+use Rattle.applications.specs.declared.app.App.{App}
+use Rattle.applications.specs.Advertised.{Advertised}
+use Rattle.applications.specs.Usable.{is_usable}
+use Rattle.applications.specs.Weights.{HostWeights, weight_at}
+use Rattle.plan_certificate.specs.declared.path.Path.{Path}
+
+-- an Application that isn't advertised: it takes no lanes
+abbrev pub no_app : App
+no_app = record {
+  number = 0;
+  host_id = 0;
+  media_id = 0;
+  host_lanes = 0;
+  media_lanes = 0;
+  host_starts = set.empty;
+  media_starts = set.empty;
+}
+
+-- the Application of a path
+unfoldable pub app_of : Advertised → Path → App
+app_of advert path = unwrap_or (find (λ app. app.number == path.app) advert.apps) no_app
+
+abbrev pub host_lanes : Advertised → Path → Lanes
+host_lanes advert path = run_of path.host (app_of advert path).host_lanes
+
+abbrev pub media_lanes : Advertised → Path → Lanes
+media_lanes advert path = run_of path.media (app_of advert path).media_lanes
+
+-- so many lanes from the first on, which the Application offers, and none over 8
+abbrev pub is_run : Lanes → ℕ → ℕ → Bool
+is_run starts first count = set.contains starts first && nat_le (first + count) 9
+
+-- a path that the module can carry
+unfoldable pub is_allowed : Advertised → Path → Bool
+is_allowed advert path =
+    is_usable (app_of advert path)
+    && is_run (app_of advert path).host_starts path.host (app_of advert path).host_lanes
+    && is_run (app_of advert path).media_starts path.media (app_of advert path).media_lanes
+    && is_disjoint (media_lanes advert path) advert.unsupported
+
+abbrev pub path_weight : Advertised → HostWeights → Path → ℕ
+path_weight advert weights path = weight_at weights (app_of advert path).host_id

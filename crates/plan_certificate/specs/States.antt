@@ -1,0 +1,49 @@
+-- How a plan grows, one host lane after another: states, and the steps from a state. (docs/planning.md, "States and
+-- steps")
+use Rattle.std.specs.Prelude.{ℕ, ◌+◌, ◌&&◌, Bool, nat_lt, if◌then◌else◌, List, [], ◌∷◌, map, filter, flat_map}
+use Rattle.std.specs.List.{range_with_len}
+use Rattle.std.specs.FinSet as set
+use Rattle.field_tables.specs.LaneSets.{is_disjoint}
+use Rattle.applications.specs.declared.app.App.{App}
+use Rattle.applications.specs.Advertised.{Advertised}
+use Rattle.applications.specs.Weights.{HostWeights}
+use Rattle.plan_certificate.specs.declared.path.Path.{Path}
+use Rattle.plan_certificate.specs.declared.state.State.{State}
+use Rattle.plan_certificate.specs.declared.state.Step.{Step}
+use Rattle.plan_certificate.specs.Paths.{app_of, media_lanes, is_allowed, path_weight}
+
+-- no host lane is decided, no media lane used
+abbrev pub start : State
+start = record { boundary = 0; used = set.empty }
+
+-- the next host lane stays free
+abbrev pub free_step : State → Step
+free_step state = record { weight = 0; end = record { boundary = state.boundary + 1; used = state.used } }
+
+-- a path begins at the next host lane
+abbrev pub path_step : Advertised → HostWeights → State → Path → Step
+path_step advert weights state path = record {
+  weight = path_weight advert weights path;
+  end = record {
+    boundary = state.boundary + (app_of advert path).host_lanes;
+    used = set.union state.used (media_lanes advert path);
+  };
+}
+
+-- the paths of an Application from a host lane on, by rising media lane
+abbrev pub paths_of_app : ℕ → App → List Path
+paths_of_app host app = map (λ media. record { app = app.number; host = host; media = media }) (range_with_len 1 8)
+
+-- all paths from a host lane on, by rising Application and media lane
+abbrev pub paths_at : Advertised → ℕ → List Path
+paths_at advert host = flat_map (paths_of_app host) advert.apps
+
+abbrev pub fits : Advertised → State → Path → Bool
+fits advert state path = is_allowed advert path && is_disjoint (media_lanes advert path) state.used
+
+-- the free lane's step, then those of the paths that fit
+unfoldable pub steps_from : Advertised → HostWeights → State → List Step
+steps_from advert weights state =
+    if nat_lt state.boundary 8
+    then free_step state ∷ map (path_step advert weights state) (filter (fits advert state) (paths_at advert (state.boundary + 1)))
+    else []

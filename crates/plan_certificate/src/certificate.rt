@@ -1,0 +1,33 @@
+use crate::plan::Plan;
+use arrayvec::ArrayVec;
+use std::marker::Model;
+
+/// A state and a bound on what can still be gained from it.
+#[derive(Clone, Copy, Debug, PartialEq, Eq, Default)]
+pub struct Entry {
+    /// How many host lanes are decided, 0 to 8.
+    pub boundary: u8,
+    /// The used media lanes: bit i-1 is 1 where lane i is used.
+    pub used: u8,
+    /// No steps that follow one another from the state weigh more.
+    pub potential: u64,
+}
+
+/// A plan, its weight, and entries that show that no plan weighs more.
+#[derive(Debug, Drop)]
+pub struct Certificate<const STATES: usize> {
+    pub weight: u64,
+    pub plan: Plan,
+    /// The states rise by boundary, then by the byte of used media lanes.
+    pub entries: ArrayVec<Entry, STATES>,
+}
+
+impl<const STATES: usize> Model for Certificate<STATES> {
+    ghost use Rattle.plan_certificate.specs.Certificates.{Certified, HasStates};
+
+    ghost Value = { Certified };
+
+    ghost view = { λ certificate. record { weight = certificate.weight; paths = certificate.plan; entries = certificate.entries.items } };
+
+    ghost invariant = { λ certificate. HasStates certificate.entries.items };
+}

@@ -1,0 +1,12 @@
+//! Plans of data paths for a module's lanes, and certificates that no plan weighs more.
+#![tactic(auto)]
+
+mod certificate;
+mod path;
+mod plan;
+mod state;
+
+pub use certificate::{Certificate, Entry};
+pub use path::Path;
+pub use plan::{MAX_PATHS, Plan};
+pub use state::{State, Step};
