@@ -1,4 +1,5 @@
 mod LaneRuns
 mod Lists
 mod Picked
+mod Searches
 mod Heaviest

@@ -5,8 +5,10 @@ mod certificate;
 mod path;
 mod plan;
 mod state;
+mod verdict;
 
 pub use certificate::{Certificate, Entry};
 pub use path::Path;
 pub use plan::{MAX_PATHS, Plan};
 pub use state::{State, Step};
+pub use verdict::{Reason, Verdict};
