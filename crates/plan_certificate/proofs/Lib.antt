@@ -2,4 +2,5 @@ mod LaneRuns
 mod Lists
 mod Picked
 mod Searches
+mod Grown
 mod Heaviest

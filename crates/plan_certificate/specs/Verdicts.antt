@@ -1,5 +1,5 @@
 -- How a certificate is judged: its flaws in order, of which the first counts. (docs/planning.md, "The checker")
-use Rattle.std.specs.Prelude.{ℕ, ◌+◌, ◌-◌, ◌*◌, ◌==◌, Bool, not, nat_lt, List, [], ◌∷◌, ◌++◌, Option, map, take, find, flat_map}
+use Rattle.std.specs.Prelude.{ℕ, ◌+◌, ◌-◌, ◌*◌, ◌==◌, Bool, not, nat_lt, List, [], ◌∷◌, ◌++◌, Option, Some, None, map, take, find, flat_map}
 use Rattle.std.specs.List.{enumerate_from, list_all}
 use Rattle.std.specs.Option.{option_map, unwrap_or, is_none}
 use Rattle.field_tables.specs.FirstFault.{first_fault}
@@ -12,22 +12,27 @@ use Rattle.plan_certificate.specs.declared.state.Step.{Step}
 use Rattle.plan_certificate.specs.declared.certificate.Entry.{Entry}
 use Rattle.plan_certificate.specs.declared.verdict.Verdict.{Verdict}
 use Rattle.plan_certificate.specs.declared.verdict.Verdict.TheVariants.{Good, Bad}
+use Rattle.plan_certificate.specs.declared.verdict.Reason.{Reason}
 use Rattle.plan_certificate.specs.declared.verdict.Reason.TheVariants.{PathNotAllowed, LaneTwice, WeightWrong, NoStart, NotClosed, TooLow, StartNotWeight}
 use Rattle.plan_certificate.specs.Paths.{is_allowed}
 use Rattle.plan_certificate.specs.Plans.{are_apart, plan_weight}
 use Rattle.plan_certificate.specs.States.{start, steps_from}
 use Rattle.plan_certificate.specs.Certificates.{Certified, state_of, place_of}
 
+-- whether it applies, the reason, and the number
+abbrev pub Flaw : Type 0
+Flaw = Bool × (Reason × ℕ)
+
 abbrev pub Flaws : Type 0
-Flaws = List (Bool × Verdict)
+Flaws = List Flaw
 
 -- a path that isn't allowed; paths count from 1
-abbrev pub path_flaw : Advertised → ℕ × Path → Bool × Verdict
-path_flaw advert (number, path) = (not (is_allowed advert path), Bad PathNotAllowed number)
+abbrev pub path_flaw : Advertised → ℕ × Path → Flaw
+path_flaw advert (number, path) = (not (is_allowed advert path), (PathNotAllowed, number))
 
 -- a path that shares a lane with an earlier one
-abbrev pub lane_flaw : Advertised → List Path → ℕ × Path → Bool × Verdict
-lane_flaw advert paths (number, path) = (not (list_all (λ earlier. are_apart advert earlier path) (take (number - 1) paths)), Bad LaneTwice number)
+abbrev pub lane_flaw : Advertised → List Path → ℕ × Path → Flaw
+lane_flaw advert paths (number, path) = (not (list_all (λ earlier. are_apart advert earlier path) (take (number - 1) paths)), (LaneTwice, number))
 
 unfoldable pub path_flaws : Advertised → List Path → Flaws
 path_flaws advert paths = map (path_flaw advert) (enumerate_from 1 paths)
@@ -45,8 +50,8 @@ potential_of entries state = option_map (λ entry. entry.potential) (find (λ en
 -- a step to a state without an entry, or to one from which too much can still be gained; entries count from 1
 abbrev pub step_flaws : List Entry → ℕ × Entry → Step → Flaws
 step_flaws entries (number, entry) step =
-    (is_none (potential_of entries step.end), Bad NotClosed number)
-    ∷ (nat_lt entry.potential (step.weight + unwrap_or (potential_of entries step.end) 0), Bad TooLow number)
+    (is_none (potential_of entries step.end), (NotClosed, number))
+    ∷ (nat_lt entry.potential (step.weight + unwrap_or (potential_of entries step.end) 0), (TooLow, number))
     ∷ []
 
 abbrev pub entry_flaws : Advertised → HostWeights → List Entry → ℕ × Entry → Flaws
@@ -59,11 +64,15 @@ abbrev pub all_flaws : Advertised → HostWeights → Certified → Flaws
 all_flaws advert weights certificate =
     path_flaws advert certificate.paths
     ++ lane_flaws advert certificate.paths
-    ++ (not (certificate.weight == plan_weight advert weights certificate.paths), Bad WeightWrong 0)
-    ∷ (is_none (potential_of certificate.entries start), Bad NoStart 0)
+    ++ (not (certificate.weight == plan_weight advert weights certificate.paths), (WeightWrong, 0))
+    ∷ (is_none (potential_of certificate.entries start), (NoStart, 0))
     ∷ entries_flaws advert weights certificate.entries
-    ++ (not (unwrap_or (potential_of certificate.entries start) 0 == certificate.weight), Bad StartNotWeight 0)
+    ++ (not (unwrap_or (potential_of certificate.entries start) 0 == certificate.weight), (StartNotWeight, 0))
     ∷ []
 
+abbrev pub judged : Option (Reason × ℕ) → Verdict
+judged None = Good
+judged (Some flaw) = Bad flaw.0 flaw.1
+
 unfoldable pub verdict : Advertised → HostWeights → Certified → Verdict
-verdict advert weights certificate = unwrap_or (first_fault (all_flaws advert weights certificate)) Good
+verdict advert weights certificate = judged (first_fault (all_flaws advert weights certificate))
