@@ -1,9 +1,10 @@
 -- Searches from the front of a list, one element after another: what is left to search.
-use Rattle.std.proofs.Common.{◌≡◌, ℕ, suc, ◌+◌, ◌<◌, ◌≤◌, Bool, true, false, List, [], ◌∷◌, ◌++◌, Some, None, length, drop, get_or, refl, ap, ◌∙◌, cond, arith}
+use Rattle.std.proofs.Common.{◌≡◌, ◌&&◌, map, option_map, ℕ, suc, ◌+◌, ◌<◌, ◌≤◌, Bool, true, false, List, [], ◌∷◌, ◌++◌, Some, None, length, drop, get_or, refl, ap, ◌∙◌, cond, arith}
 use Rattle.std.proofs.Math.Seq.{drop-cons}
 use Rattle.std.proofs.Math.ListN.{drop_of_length-le}
+use Rattle.std.proofs.lemmas.List.Concat.{flat_map_single}
 use Rattle.std.proofs.lemmas.List.FromFn.{get_or-enumerate_from, length-enumerate_from}
-use Rattle.std.specs.List.{find, flat_map, enumerate_from}
+use Rattle.std.specs.List.{find, flat_map, enumerate_from, list_all}
 use Rattle.field_tables.specs.FirstFault.{first_fault}
 
 abbrev rest_from : {X : Type 0} → ℕ → List X → List X
@@ -59,3 +60,42 @@ numbered_below xs k below = omega (arith, below, length-enumerate_from 1 xs)
 
 pub none_left_numbered : {X : Type 0} (xs : List X) (k : ℕ) → length xs ≤ k → drop k (enumerate_from 1 xs) ≡ []
 none_left_numbered xs k past = none_left (enumerate_from 1 xs) k (omega (arith, past, length-enumerate_from 1 xs))
+
+-- ---- one fault of each element
+
+abbrev pub each_alone : {X F : Type 0} → (X → Bool × F) → List X → Faults F
+each_alone fault xs = flat_map (λ x. fault x ∷ []) xs
+
+pub alone : {X F : Type 0} (fault : X → Bool × F) (xs : List X) → each_alone fault xs ≡ map fault xs
+alone fault xs = flat_map_single fault xs
+
+-- ---- whether each element passes a test
+
+pub all_later : {X : Type 0} (test : X → Bool) (xs : List X) (k : ℕ) (d : X) → k < length xs → test (get_or xs k d) ≡ true → list_all test (drop k xs) ≡ list_all test (drop (k + 1) xs)
+all_later test xs k d below passes =
+    ap (list_all test) (next xs k d below) ∙ ap (λ b. b && list_all test (rest_from k xs)) passes
+
+pub not_all : {X : Type 0} (test : X → Bool) (xs : List X) (k : ℕ) (d : X) → k < length xs → test (get_or xs k d) ≡ false → list_all test (drop k xs) ≡ false
+not_all test xs k d below fails =
+    ap (list_all test) (next xs k d below) ∙ ap (λ b. b && list_all test (rest_from k xs)) fails
+
+-- ---- numbered elements, one fault each
+
+pub flaw_here : {X F : Type 0} (fault : ℕ × X → Bool × F) (xs : List X) (k : ℕ) (d : X) (v : F) → k < length xs → fault (k + 1, get_or xs k d) ≡ (true, v) → first_fault (each_alone fault (drop k (enumerate_from 1 xs))) ≡ Some v
+flaw_here {X} {F} fault xs k d v below is =
+    let at = numbered_at xs k d below in
+    let one : first_fault (fault (get_or (enumerate_from 1 xs) k (k + 1, d)) ∷ []) ≡ Some v = ap (λ (p : ℕ × X). first_fault (fault p ∷ [])) at ∙ ap (λ (p : Bool × F). first_fault (p ∷ [])) is in
+    fault_here (λ x. fault x ∷ []) (enumerate_from 1 xs) k (k + 1, d) v (numbered_below xs k below) one
+
+pub flaw_later : {X F : Type 0} (fault : ℕ × X → Bool × F) (xs : List X) (k : ℕ) (d : X) → k < length xs → (fault (k + 1, get_or xs k d)).0 ≡ false
+    → first_fault (each_alone fault (drop k (enumerate_from 1 xs))) ≡ first_fault (each_alone fault (drop (k + 1) (enumerate_from 1 xs)))
+flaw_later {X} {F} fault xs k d below is =
+    let at = numbered_at xs k d below in
+    let one : first_fault (fault (get_or (enumerate_from 1 xs) k (k + 1, d)) ∷ []) ≡ None = ap (λ (p : ℕ × X). first_fault (fault p ∷ [])) at ∙ no_fault (fault (k + 1, get_or xs k d)) is in
+    fault_later (λ x. fault x ∷ []) (enumerate_from 1 xs) k (k + 1, d) (numbered_below xs k below) one
+  where
+    no_fault : (p : Bool × F) → p.0 ≡ false → first_fault (p ∷ []) ≡ None
+    no_fault p fails = ap (λ b. option_map (λ (q : Bool × F). q.1) (cond b (Some p) None)) fails
+
+pub flaws_end : {X F : Type 0} (fault : ℕ × X → Bool × F) (xs : List X) (k : ℕ) → length xs ≤ k → first_fault (each_alone fault (drop k (enumerate_from 1 xs))) ≡ None
+flaws_end fault xs k past = ap (λ ys. first_fault (each_alone fault ys)) (none_left_numbered xs k past)

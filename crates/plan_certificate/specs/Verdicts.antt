@@ -57,18 +57,20 @@ step_flaws entries (number, entry) step =
 abbrev pub entry_flaws : Advertised → HostWeights → List Entry → ℕ × Entry → Flaws
 entry_flaws advert weights entries entry = flat_map (step_flaws entries entry) (steps_from advert weights (state_of entry.1))
 
-unfoldable pub entries_flaws : Advertised → HostWeights → List Entry → Flaws
-entries_flaws advert weights entries = flat_map (entry_flaws advert weights entries) (enumerate_from 1 entries)
+-- entries that don't bound what can be gained, or not by the weight
+unfoldable pub bound_flaws : Advertised → HostWeights → List Entry → ℕ → Flaws
+bound_flaws advert weights entries weight =
+    (is_none (potential_of entries start), (NoStart, 0))
+    ∷ flat_map (entry_flaws advert weights entries) (enumerate_from 1 entries)
+    ++ (not (unwrap_or (potential_of entries start) 0 == weight), (StartNotWeight, 0))
+    ∷ []
 
 abbrev pub all_flaws : Advertised → HostWeights → Certified → Flaws
 all_flaws advert weights certificate =
     path_flaws advert certificate.paths
     ++ lane_flaws advert certificate.paths
     ++ (not (certificate.weight == plan_weight advert weights certificate.paths), (WeightWrong, 0))
-    ∷ (is_none (potential_of certificate.entries start), (NoStart, 0))
-    ∷ entries_flaws advert weights certificate.entries
-    ++ (not (unwrap_or (potential_of certificate.entries start) 0 == certificate.weight), (StartNotWeight, 0))
-    ∷ []
+    ∷ bound_flaws advert weights certificate.entries certificate.weight
 
 abbrev pub judged : Option (Reason × ℕ) → Verdict
 judged None = Good

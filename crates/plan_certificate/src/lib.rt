@@ -2,6 +2,8 @@
 #![tactic(auto)]
 
 mod certificate;
+mod checker;
+mod flaws;
 mod path;
 mod plan;
 mod state;
@@ -9,8 +11,9 @@ mod steps;
 mod verdict;
 
 pub use certificate::{Certificate, Entry};
+pub use checker::check;
 pub use path::Path;
-pub use plan::{MAX_PATHS, Plan};
+pub use plan::{MAX_PATHS, Plan, admissible, weight_of};
 pub use state::{State, Step};
 pub use steps::{MAX_STEPS, steps_from};
 pub use verdict::{Reason, Verdict};

@@ -1,4 +1,6 @@
+use crate::flaws::{lane_flaw, path_flaw};
 use crate::path::Path;
+use applications::{Advert, Weights};
 use arrayvec::ArrayVec;
 use std::marker::Model;
 
@@ -18,4 +20,27 @@ impl Model for Plan {
     ghost Value = { List Path };
 
     ghost view = { λ plan. plan.paths.items };
+}
+
+ghost use Rattle.std.specs.Prelude.{◌≡◌, ◌↔◌, IsTrue};
+ghost use Rattle.plan_certificate.specs.Plans.{IsAdmissible, plan_weight};
+
+/// Whether the module can carry the plan: its paths are allowed, and no two share a lane.
+pub fn admissible(advert: &Advert, plan: &Plan) -> bool
+    ensures { IsTrue result ↔ IsAdmissible advert.now plan.now }
+{
+    let paths = plan.paths.as_slice();
+    path_flaw(advert, paths).is_none() && lane_flaw(advert, paths).is_none()
+}
+
+/// What a plan weighs.
+pub fn weight_of(advert: &Advert, weights: &Weights, plan: &Plan) -> u64
+    requires { IsAdmissible advert.now plan.now }
+    ensures { result ≡ plan_weight advert.now weights.now plan.now }
+{
+    let mut weight = 0;
+    for path in plan.paths.as_slice() {
+        weight += u64::from(path.weight(advert, weights));
+    }
+    weight
 }
