@@ -1,5 +1,7 @@
 mod LaneRuns
 mod Lists
+mod Lookups
+mod NoFlaw
 mod Picked
 mod Searches
 mod Grown

@@ -40,6 +40,9 @@ path_flaws advert paths = map (path_flaw advert) (enumerate_from 1 paths)
 unfoldable pub lane_flaws : Advertised → List Path → Flaws
 lane_flaws advert paths = map (lane_flaw advert paths) (enumerate_from 1 paths)
 
+abbrev pub plan_flaws : Advertised → List Path → Flaws
+plan_flaws advert paths = path_flaws advert paths ++ lane_flaws advert paths
+
 abbrev pub place_of_state : State → ℕ
 place_of_state state = 256 * state.boundary + byte_of state.used
 
@@ -67,8 +70,7 @@ bound_flaws advert weights entries weight =
 
 abbrev pub all_flaws : Advertised → HostWeights → Certified → Flaws
 all_flaws advert weights certificate =
-    path_flaws advert certificate.paths
-    ++ lane_flaws advert certificate.paths
+    plan_flaws advert certificate.paths
     ++ (not (certificate.weight == plan_weight advert weights certificate.paths), (WeightWrong, 0))
     ∷ bound_flaws advert weights certificate.entries certificate.weight
 

@@ -6,7 +6,7 @@ ghost use Rattle.plan_certificate.specs.Certificates.{HasStates, IsGood};
 ghost use Rattle.plan_certificate.specs.Verdicts as spec;
 
 use crate::certificate::{Certificate, Entry};
-use crate::flaws::{lane_flaw, path_flaw};
+use crate::flaws::plan_flaw;
 use crate::plan::weight_of;
 use crate::state::{State, Step};
 use crate::steps::steps_from;
@@ -29,10 +29,7 @@ fn flaw<const STATES: usize>(advert: &Advert, weights: &Weights, certificate: &C
     ensures { result ≡ first_fault (spec.all_flaws advert.now weights.now certificate.now) }
 {
     let paths = certificate.plan.paths.as_slice();
-    if let Some(flaw) = path_flaw(advert, paths) {
-        return Some(flaw);
-    }
-    if let Some(flaw) = lane_flaw(advert, paths) {
+    if let Some(flaw) = plan_flaw(advert, paths) {
         return Some(flaw);
     }
     if certificate.weight != weight_of(advert, weights, &certificate.plan) {

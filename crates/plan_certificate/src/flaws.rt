@@ -1,17 +1,28 @@
 // What is wrong with the paths of a plan.
-ghost use Rattle.std.specs.Prelude.{◌≡◌, All, true};
+ghost use Rattle.std.specs.Prelude.{◌≡◌, ◌↔◌, All, None, true};
 ghost use Rattle.std.specs.List.{list_all};
 ghost use Rattle.field_tables.specs.FirstFault.{first_fault};
 ghost use Rattle.plan_certificate.specs.Paths.{is_allowed};
-ghost use Rattle.plan_certificate.specs.Plans.{are_apart};
-ghost use Rattle.plan_certificate.specs.Verdicts.{path_flaws, lane_flaws};
+ghost use Rattle.plan_certificate.specs.Plans.{are_apart, IsAdmissible};
+ghost use Rattle.plan_certificate.specs.Verdicts.{path_flaws, lane_flaws, plan_flaws};
 
 use crate::path::Path;
 use crate::verdict::Reason;
 use applications::Advert;
 
-/// The first path that the module can't carry.
-pub fn path_flaw(advert: &Advert, paths: &[Path]) -> Option<(Reason, usize)>
+/// What is wrong with the paths of a plan.
+pub fn plan_flaw(advert: &Advert, paths: &[Path]) -> Option<(Reason, usize)>
+    ensures flaw { result ≡ first_fault (plan_flaws advert.now paths.now) }
+    ensures none { (result ≡ None) ↔ IsAdmissible advert.now paths.now }
+{
+    if let Some(flaw) = path_flaw(advert, paths) {
+        return Some(flaw);
+    }
+    lane_flaw(advert, paths)
+}
+
+// The first path that the module can't carry.
+fn path_flaw(advert: &Advert, paths: &[Path]) -> Option<(Reason, usize)>
     ensures { result ≡ first_fault (path_flaws advert.now paths.now) }
 {
     for (place, path) in paths.iter().enumerate() {
@@ -22,8 +33,8 @@ pub fn path_flaw(advert: &Advert, paths: &[Path]) -> Option<(Reason, usize)>
     None
 }
 
-/// The first path that shares a lane with an earlier one.
-pub fn lane_flaw(advert: &Advert, paths: &[Path]) -> Option<(Reason, usize)>
+// The first path that shares a lane with an earlier one.
+fn lane_flaw(advert: &Advert, paths: &[Path]) -> Option<(Reason, usize)>
     requires { All (λ path. is_allowed advert.now path ≡ true) paths.now }
     ensures { result ≡ first_fault (lane_flaws advert.now paths.now) }
 {

@@ -1,4 +1,4 @@
-use crate::flaws::{lane_flaw, path_flaw};
+use crate::flaws::plan_flaw;
 use crate::path::Path;
 use applications::{Advert, Weights};
 use arrayvec::ArrayVec;
@@ -29,8 +29,7 @@ ghost use Rattle.plan_certificate.specs.Plans.{IsAdmissible, plan_weight};
 pub fn admissible(advert: &Advert, plan: &Plan) -> bool
     ensures { IsTrue result ↔ IsAdmissible advert.now plan.now }
 {
-    let paths = plan.paths.as_slice();
-    path_flaw(advert, paths).is_none() && lane_flaw(advert, paths).is_none()
+    plan_flaw(advert, plan.paths.as_slice()).is_none()
 }
 
 /// What a plan weighs.

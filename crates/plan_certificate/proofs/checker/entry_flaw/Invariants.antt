@@ -1,8 +1,6 @@
 use Rattle.std.proofs.Common.{◌≡◌, drop}
 use Rattle.std.specs.List.{flat_map}
 use Rattle.field_tables.specs.FirstFault.{first_fault}
-use Rattle.plan_certificate.specs.Certificates.{state_of}
-use Rattle.plan_certificate.specs.States.{steps_from}
 use Rattle.plan_certificate.specs.Verdicts.{step_flaws, entry_flaws}
 use Rattle.plan_certificate.proofs.checker.entry_flaw.Given as goal
 
