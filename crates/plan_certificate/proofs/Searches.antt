@@ -31,6 +31,12 @@ none_left xs k past = drop_of_length-le xs past
 abbrev Faults : Type 0 → Type 0
 Faults F = List (Bool × F)
 
+pub applies : {F : Type 0} (b : Bool) (v : F) (rest : Faults F) → b ≡ true → first_fault ((b, v) ∷ rest) ≡ Some v
+applies b v rest is = ap (λ c. first_fault ((c, v) ∷ rest)) is
+
+pub passes : {F : Type 0} (b : Bool) (v : F) (rest : Faults F) → b ≡ false → first_fault ((b, v) ∷ rest) ≡ first_fault rest
+passes b v rest is = ap (λ c. first_fault ((c, v) ∷ rest)) is
+
 pub first_then : {F : Type 0} (xs ys : Faults F) (v : F) → first_fault xs ≡ Some v → first_fault (xs ++ ys) ≡ Some v
 first_then [] ys v is = absurd cc
 first_then ((true, f) ∷ xs) ys v is = is
@@ -42,11 +48,11 @@ none_then ((true, f) ∷ xs) ys is = absurd cc
 none_then ((false, f) ∷ xs) ys is = none_then xs ys is
 
 -- of the faults of each element in turn
-pub fault_here : {X F : Type 0} (faults : X → Faults F) (xs : List X) (k : ℕ) (d : X) (v : F) → k < length xs → first_fault (faults (get_or xs k d)) ≡ Some v → first_fault (flat_map faults (drop k xs)) ≡ Some v
+fault_here : {X F : Type 0} (faults : X → Faults F) (xs : List X) (k : ℕ) (d : X) (v : F) → k < length xs → first_fault (faults (get_or xs k d)) ≡ Some v → first_fault (flat_map faults (drop k xs)) ≡ Some v
 fault_here faults xs k d v below is =
     ap (λ ys. first_fault (flat_map faults ys)) (next xs k d below) ∙ first_then (faults (get_or xs k d)) (flat_map faults (rest_from k xs)) v is
 
-pub fault_later : {X F : Type 0} (faults : X → Faults F) (xs : List X) (k : ℕ) (d : X) → k < length xs → first_fault (faults (get_or xs k d)) ≡ None → first_fault (flat_map faults (drop k xs)) ≡ first_fault (flat_map faults (drop (k + 1) xs))
+fault_later : {X F : Type 0} (faults : X → Faults F) (xs : List X) (k : ℕ) (d : X) → k < length xs → first_fault (faults (get_or xs k d)) ≡ None → first_fault (flat_map faults (drop k xs)) ≡ first_fault (flat_map faults (drop (k + 1) xs))
 fault_later faults xs k d below is =
     ap (λ ys. first_fault (flat_map faults ys)) (next xs k d below) ∙ none_then (faults (get_or xs k d)) (flat_map faults (rest_from k xs)) is
 
@@ -58,7 +64,7 @@ numbered_at xs k d below = get_or-enumerate_from 1 xs k (k + 1, d) below ∙ (le
 pub numbered_below : {X : Type 0} (xs : List X) (k : ℕ) → k < length xs → k < length (enumerate_from 1 xs)
 numbered_below xs k below = omega (arith, below, length-enumerate_from 1 xs)
 
-pub none_left_numbered : {X : Type 0} (xs : List X) (k : ℕ) → length xs ≤ k → drop k (enumerate_from 1 xs) ≡ []
+none_left_numbered : {X : Type 0} (xs : List X) (k : ℕ) → length xs ≤ k → drop k (enumerate_from 1 xs) ≡ []
 none_left_numbered xs k past = none_left (enumerate_from 1 xs) k (omega (arith, past, length-enumerate_from 1 xs))
 
 -- ---- one fault of each element
@@ -79,23 +85,28 @@ pub not_all : {X : Type 0} (test : X → Bool) (xs : List X) (k : ℕ) (d : X) �
 not_all test xs k d below fails =
     ap (list_all test) (next xs k d below) ∙ ap (λ b. b && list_all test (rest_from k xs)) fails
 
--- ---- numbered elements, one fault each
+-- ---- faults of numbered elements
+
+pub numbered_here : {X F : Type 0} (faults : ℕ × X → Faults F) (xs : List X) (k : ℕ) (d : X) (v : F) → k < length xs → first_fault (faults (k + 1, get_or xs k d)) ≡ Some v → first_fault (flat_map faults (drop k (enumerate_from 1 xs))) ≡ Some v
+numbered_here {X} faults xs k d v below is =
+    fault_here faults (enumerate_from 1 xs) k (k + 1, d) v (numbered_below xs k below) (ap (λ (p : ℕ × X). first_fault (faults p)) (numbered_at xs k d below) ∙ is)
+
+pub numbered_later : {X F : Type 0} (faults : ℕ × X → Faults F) (xs : List X) (k : ℕ) (d : X) → k < length xs → first_fault (faults (k + 1, get_or xs k d)) ≡ None
+    → first_fault (flat_map faults (drop k (enumerate_from 1 xs))) ≡ first_fault (flat_map faults (drop (k + 1) (enumerate_from 1 xs)))
+numbered_later {X} faults xs k d below is =
+    fault_later faults (enumerate_from 1 xs) k (k + 1, d) (numbered_below xs k below) (ap (λ (p : ℕ × X). first_fault (faults p)) (numbered_at xs k d below) ∙ is)
+
+pub numbered_end : {X F : Type 0} (faults : ℕ × X → Faults F) (xs : List X) (k : ℕ) → length xs ≤ k → first_fault (flat_map faults (drop k (enumerate_from 1 xs))) ≡ None
+numbered_end faults xs k past = ap (λ ys. first_fault (flat_map faults ys)) (none_left_numbered xs k past)
 
 pub flaw_here : {X F : Type 0} (fault : ℕ × X → Bool × F) (xs : List X) (k : ℕ) (d : X) (v : F) → k < length xs → fault (k + 1, get_or xs k d) ≡ (true, v) → first_fault (each_alone fault (drop k (enumerate_from 1 xs))) ≡ Some v
-flaw_here {X} {F} fault xs k d v below is =
-    let at = numbered_at xs k d below in
-    let one : first_fault (fault (get_or (enumerate_from 1 xs) k (k + 1, d)) ∷ []) ≡ Some v = ap (λ (p : ℕ × X). first_fault (fault p ∷ [])) at ∙ ap (λ (p : Bool × F). first_fault (p ∷ [])) is in
-    fault_here (λ x. fault x ∷ []) (enumerate_from 1 xs) k (k + 1, d) v (numbered_below xs k below) one
+flaw_here {X} {F} fault xs k d v below is = numbered_here (λ x. fault x ∷ []) xs k d v below (ap (λ (p : Bool × F). first_fault (p ∷ [])) is)
 
 pub flaw_later : {X F : Type 0} (fault : ℕ × X → Bool × F) (xs : List X) (k : ℕ) (d : X) → k < length xs → (fault (k + 1, get_or xs k d)).0 ≡ false
     → first_fault (each_alone fault (drop k (enumerate_from 1 xs))) ≡ first_fault (each_alone fault (drop (k + 1) (enumerate_from 1 xs)))
 flaw_later {X} {F} fault xs k d below is =
-    let at = numbered_at xs k d below in
-    let one : first_fault (fault (get_or (enumerate_from 1 xs) k (k + 1, d)) ∷ []) ≡ None = ap (λ (p : ℕ × X). first_fault (fault p ∷ [])) at ∙ no_fault (fault (k + 1, get_or xs k d)) is in
-    fault_later (λ x. fault x ∷ []) (enumerate_from 1 xs) k (k + 1, d) (numbered_below xs k below) one
-  where
-    no_fault : (p : Bool × F) → p.0 ≡ false → first_fault (p ∷ []) ≡ None
-    no_fault p fails = ap (λ b. option_map (λ (q : Bool × F). q.1) (cond b (Some p) None)) fails
+    let one : Bool × F = fault (k + 1, get_or xs k d) in
+    numbered_later (λ x. fault x ∷ []) xs k d below (ap (λ (b : Bool). option_map (λ (q : Bool × F). q.1) (cond b (Some one) None)) is)
 
 pub flaws_end : {X F : Type 0} (fault : ℕ × X → Bool × F) (xs : List X) (k : ℕ) → length xs ≤ k → first_fault (each_alone fault (drop k (enumerate_from 1 xs))) ≡ None
-flaws_end fault xs k past = ap (λ ys. first_fault (each_alone fault ys)) (none_left_numbered xs k past)
+flaws_end fault xs k past = numbered_end (λ x. fault x ∷ []) xs k past

@@ -60,11 +60,14 @@ step_flaws entries (number, entry) step =
 abbrev pub entry_flaws : Advertised → HostWeights → List Entry → ℕ × Entry → Flaws
 entry_flaws advert weights entries entry = flat_map (step_flaws entries entry) (steps_from advert weights (state_of entry.1))
 
+unfoldable pub entries_flaws : Advertised → HostWeights → List Entry → Flaws
+entries_flaws advert weights entries = flat_map (entry_flaws advert weights entries) (enumerate_from 1 entries)
+
 -- entries that don't bound what can be gained, or not by the weight
 unfoldable pub bound_flaws : Advertised → HostWeights → List Entry → ℕ → Flaws
 bound_flaws advert weights entries weight =
     (is_none (potential_of entries start), (NoStart, 0))
-    ∷ flat_map (entry_flaws advert weights entries) (enumerate_from 1 entries)
+    ∷ entries_flaws advert weights entries
     ++ (not (unwrap_or (potential_of entries start) 0 == weight), (StartNotWeight, 0))
     ∷ []
 

@@ -7,7 +7,7 @@ ghost use Rattle.plan_certificate.specs.Verdicts as spec;
 
 use crate::certificate::{Certificate, Entry};
 use crate::flaws::plan_flaw;
-use crate::plan::weight_of;
+use crate::plan::{Plan, weight_of};
 use crate::state::{State, Step};
 use crate::steps::steps_from;
 use crate::verdict::{Reason, Verdict};
@@ -19,23 +19,23 @@ pub fn check<const STATES: usize>(advert: &Advert, weights: &Weights, certificat
     ensures good { (result ≡ Verdict.Good) ↔ IsGood advert.now weights.now certificate.now }
     ensures best { result ≡ Verdict.Good → IsBest advert.now weights.now certificate.now.paths }
 {
-    match flaw(advert, weights, certificate) {
+    match flaw(advert, weights, certificate.weight, &certificate.plan, certificate.entries.as_slice()) {
         None => Verdict::Good,
         Some((reason, number)) => Verdict::Bad(reason, number),
     }
 }
 
-fn flaw<const STATES: usize>(advert: &Advert, weights: &Weights, certificate: &Certificate<STATES>) -> Option<(Reason, usize)>
-    ensures { result ≡ first_fault (spec.all_flaws advert.now weights.now certificate.now) }
+fn flaw(advert: &Advert, weights: &Weights, weight: u64, plan: &Plan, entries: &[Entry]) -> Option<(Reason, usize)>
+    requires { HasStates entries.now }
+    ensures { result ≡ first_fault (spec.all_flaws advert.now weights.now (record { weight = weight; paths = plan.now; entries = entries.now })) }
 {
-    let paths = certificate.plan.paths.as_slice();
-    if let Some(flaw) = plan_flaw(advert, paths) {
+    if let Some(flaw) = plan_flaw(advert, plan.paths.as_slice()) {
         return Some(flaw);
     }
-    if certificate.weight != weight_of(advert, weights, &certificate.plan) {
+    if weight != weight_of(advert, weights, plan) {
         return Some((Reason::WeightWrong, 0));
     }
-    bound_flaw(advert, weights, certificate.entries.as_slice(), certificate.weight)
+    bound_flaw(advert, weights, entries, weight)
 }
 
 // What is wrong with the entries, as bounds on what can be gained.
@@ -46,13 +46,23 @@ fn bound_flaw(advert: &Advert, weights: &Weights, entries: &[Entry], weight: u64
     let Some(start) = potential_of(entries, State::start()) else {
         return Some((Reason::NoStart, 0));
     };
+    if let Some(flaw) = entries_flaw(advert, weights, entries) {
+        return Some(flaw);
+    }
+    if start != weight {
+        return Some((Reason::StartNotWeight, 0));
+    }
+    None
+}
+
+fn entries_flaw(advert: &Advert, weights: &Weights, entries: &[Entry]) -> Option<(Reason, usize)>
+    requires { HasStates entries.now }
+    ensures { result ≡ first_fault (spec.entries_flaws advert.now weights.now entries.now) }
+{
     for (place, entry) in entries.iter().enumerate() {
         if let Some(flaw) = entry_flaw(advert, weights, entries, place + 1, entry) {
             return Some(flaw);
         }
-    }
-    if start != weight {
-        return Some((Reason::StartNotWeight, 0));
     }
     None
 }
