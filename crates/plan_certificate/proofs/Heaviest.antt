@@ -22,15 +22,15 @@ use Rattle.plan_certificate.proofs.Lists.{each_of_map, each_of_filter, each_of_f
 use Rattle.plan_certificate.proofs.Picked.{AreApart, IsApart, from_pairs, pick}
 
 -- what an allowed path's Application and first lanes are
-record Allowed (advert : Advertised) (path : Path) : Type 0 where
-  host_from : 1 ≤ path.host
-  host_to : path.host + (app_of advert path).host_lanes ≤ 9
-  media_from : 1 ≤ path.media
-  media_to : path.media + (app_of advert path).media_lanes ≤ 9
-  host_some : 1 ≤ (app_of advert path).host_lanes
-  media_some : 1 ≤ (app_of advert path).media_lanes
+pub record Allowed (advert : Advertised) (path : Path) : Type 0 where
+  pub host_from : 1 ≤ path.host
+  pub host_to : path.host + (app_of advert path).host_lanes ≤ 9
+  pub media_from : 1 ≤ path.media
+  pub media_to : path.media + (app_of advert path).media_lanes ≤ 9
+  pub host_some : 1 ≤ (app_of advert path).host_lanes
+  pub media_some : 1 ≤ (app_of advert path).media_lanes
 
-allowed : (advert : Advertised) (path : Path) → is_allowed advert path ≡ true → Allowed advert path
+pub allowed : (advert : Advertised) (path : Path) → is_allowed advert path ≡ true → Allowed advert path
 unfolding is_allowed
 allowed advert path can = record {
   host_from = grind (arith, nat_tests);

@@ -4,5 +4,6 @@ mod Lookups
 mod NoFlaw
 mod Picked
 mod Searches
+mod ByteLanes
 mod Grown
 mod Heaviest
