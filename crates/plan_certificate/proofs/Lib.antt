@@ -5,5 +5,6 @@ mod NoFlaw
 mod Picked
 mod Searches
 mod ByteLanes
+mod GoodVerdicts
 mod Grown
 mod Heaviest

@@ -76,7 +76,7 @@ nondecreasing entries place rises i j d upto below =
 abbrev pub is_there : ℕ → Entry → Bool
 is_there place entry = place_of entry == place
 
-found_there : (entries : List Entry) (place i : ℕ) (d : Entry) → Rises entries → i < length entries → place_of (get_or entries i d) ≡ place → find (is_there place) entries ≡ Some (get_or entries i d)
+pub found_there : (entries : List Entry) (place i : ℕ) (d : Entry) → Rises entries → i < length entries → place_of (get_or entries i d) ≡ place → find (is_there place) entries ≡ Some (get_or entries i d)
 found_there [] place i d rises below is = absurd (omega (arith, below))
 found_there (entry ∷ entries) place zero d rises below is = ap (λ (b : Bool). cond b (Some entry) (find (is_there place) entries)) (eq-eqb _ _ is)
 found_there (entry ∷ entries) place (suc i) d rises below is =
