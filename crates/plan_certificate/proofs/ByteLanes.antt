@@ -1,9 +1,8 @@
 -- Sets of used media lanes that a byte can say: those of entries, and of where their steps lead.
-use Rattle.std.proofs.Common.{◌≡◌, ℕ, ◌+◌, ◌-◌, ◌^◌, ◌<◌, ◌≤◌, Bool, true, false, List, [], ◌∷◌, map, filter, cond, nat_lt, refl, sym, subst, ap, ◌∙◌, inl, inr, arith, bit_or}
+use Rattle.std.proofs.Common.{◌≡◌, ℕ, ◌+◌, ◌-◌, ◌^◌, ◌<◌, ◌≤◌, Bool, true, false, List, [], ◌∷◌, map, filter, cond, nat_lt, sym, subst, ap, ◌∙◌, inl, inr, arith, bit_or}
 use Rattle.std.specs.List.{AllByRecursion}
 use Rattle.std.specs.FinSet as set
 use Rattle.std.proofs.lemmas.Bool.{cases_Bool, and_parts}
-use Rattle.std.proofs.lemmas.Bool.Decides.{nat_tests}
 use Rattle.std.proofs.Math.Nat.{one-le-pow}
 use Rattle.std.proofs.Math.Pow.{pow_mono, pow-sub-lt}
 use Rattle.std.proofs.lemmas.Nat.{or_lt}
@@ -15,9 +14,9 @@ use Rattle.applications.specs.Weights.{HostWeights}
 use Rattle.plan_certificate.specs.declared.path.Path.{Path}
 use Rattle.plan_certificate.specs.declared.state.State.{State}
 use Rattle.plan_certificate.specs.declared.state.Step.{Step}
-use Rattle.plan_certificate.specs.Paths.{app_of, media_lanes, is_allowed}
-use Rattle.plan_certificate.specs.States.{start, fits, free_step, path_step, path_steps, paths_at, steps_from}
-use Rattle.plan_certificate.proofs.Heaviest.{Allowed, allowed}
+use Rattle.plan_certificate.specs.Paths.{app_of}
+use Rattle.plan_certificate.specs.States.{fits, free_step, path_step, path_steps, paths_at, steps_from}
+use Rattle.plan_certificate.proofs.Heaviest.{allowed}
 
 pub record IsByte (lanes : Lanes) : Type 0 where
   pub byte : ℕ

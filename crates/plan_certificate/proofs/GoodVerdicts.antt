@@ -1,27 +1,29 @@
 -- Where a certificate has no flaw, it is good, and the other way round.
-use Rattle.std.proofs.Common.{◌≡◌, ◌↔◌, ◌==◌, ℕ, suc, ◌+◌, ◌*◌, ◌<◌, ◌≤◌, Bool, true, false, not, List, [], ◌∷◌, ◌++◌, Option, Some, None, length, get_or, cond, nat_lt, refl, sym, subst, ap, ◌∙◌, inl, inr, arith}
-use Rattle.std.specs.List.{All, AllByRecursion, Contains, find, flat_map, enumerate_from}
+use Rattle.std.proofs.Common.{◌≡◌, ◌↔◌, ◌==◌, ℕ, ◌+◌, ◌*◌, ◌<◌, Bool, true, false, not, List, [], ◌∷◌, ◌++◌, Option, Some, None, nat_lt, refl, sym, ap, ◌∙◌, arith}
+use Rattle.std.specs.List.{All, AllByRecursion, Contains, find, enumerate_from}
 use Rattle.std.specs.Option.{is_none, option_map, unwrap_or}
 use Rattle.std.proofs.lemmas.List.Elements.{All-contains, All-contains_itself, All-from_recursion, recursion_from_All}
-use Rattle.std.proofs.lemmas.Bool.{cases_Bool, eqb-true, eq-eqb}
+use Rattle.std.proofs.lemmas.Bool.{eqb-true, eq-eqb}
 use Rattle.std.proofs.lemmas.Bool.Decides.{nat_tests}
 use Rattle.field_tables.specs.FirstFault.{first_fault}
-use Rattle.field_tables.specs.LaneSets.{Lanes, lanes_in, byte_of}
+use Rattle.field_tables.specs.LaneSets.{lanes_in, byte_of}
 use Rattle.field_tables.specs.LaneBytes.{byte_of-lanes_in}
 use Rattle.applications.specs.Advertised.{Advertised}
 use Rattle.applications.specs.Weights.{HostWeights}
 use Rattle.plan_certificate.specs.declared.certificate.Entry.{Entry}
 use Rattle.plan_certificate.specs.declared.state.State.{State}
 use Rattle.plan_certificate.specs.declared.state.Step.{Step}
+use Rattle.plan_certificate.specs.declared.verdict.Verdict.TheVariants.{Good}
+use Rattle.plan_certificate.specs.declared.verdict.Reason.{Reason}
 use Rattle.plan_certificate.specs.declared.verdict.Reason.TheVariants.{WeightWrong, NoStart, NotClosed, TooLow, StartNotWeight}
-use Rattle.plan_certificate.specs.Plans.{IsAdmissible, plan_weight}
+use Rattle.plan_certificate.specs.Plans.{plan_weight}
 use Rattle.plan_certificate.specs.States.{start, steps_from}
 use Rattle.plan_certificate.specs.Certificates.{Certified, HasStates, IsBound, IsCovered, IsGood, state_of, place_of}
-use Rattle.plan_certificate.specs.Verdicts.{Flaw, Flaws, potential_of, place_of_state, plan_flaws, step_flaws, entry_flaws, entries_flaws, bound_flaws, all_flaws}
+use Rattle.plan_certificate.specs.Verdicts.{Flaw, Flaws, potential_of, place_of_state, plan_flaws, step_flaws, entry_flaws, entries_flaws, bound_flaws, all_flaws, judged, verdict}
 use Rattle.plan_certificate.proofs.ByteLanes.{IsByte, lanes_of_byte, start_is_byte, each_end_is_byte}
 use Rattle.plan_certificate.proofs.Lists.{found}
 use Rattle.plan_certificate.proofs.Lookups.{is_there, found_there}
-use Rattle.plan_certificate.proofs.NoFlaw.{NoFlaw, neither_flaw, flaw_first, none_of_each, plan_admissible}
+use Rattle.plan_certificate.proofs.NoFlaw.{NoFlaw, not_false, neither_flaw, flaw_first, none_of_each, plan_admissible}
 
 -- ---- looking up an entry
 
@@ -139,3 +141,63 @@ entries_covered advert weights entries states =
     each.1
     (each_one (λ (p : ℕ × Entry). CoveredAt advert weights entries p.1) (λ (p : ℕ × Entry). NoFlaw (entry_flaws advert weights entries p)) (enumerate_from 1 entries) (λ p covered. covered_entry advert weights entries p states covered)
     (numbered (CoveredAt advert weights entries) 1 entries (recursion_from_All (CoveredAt advert weights entries) entries all))))
+
+-- ---- the whole certificate
+
+abbrev start_flaw : List Entry → Flaw
+start_flaw entries = (is_none (potential_of entries start), (NoStart, 0))
+
+abbrev is_other : ℕ → Option ℕ → Bool
+is_other weight found = not (unwrap_or found 0 == weight)
+
+abbrev end_flaw : List Entry → ℕ → Flaw
+end_flaw entries weight = (is_other weight (potential_of entries start), (StartNotWeight, 0))
+
+record IsBounded (advert : Advertised) (weights : HostWeights) (entries : List Entry) (weight : ℕ) : Type 0 where
+  closed : All (CoveredAt advert weights entries) entries
+  begun : IsBound entries start weight
+
+bounded : (advert : Advertised) (weights : HostWeights) (entries : List Entry) (weight : ℕ) → HasStates entries → NoFlaw (bound_flaws advert weights entries weight) ↔ IsBounded advert weights entries weight
+unfolding bound_flaws
+bounded advert weights entries weight states =
+    let of_entries = entries_flaws advert weights entries in
+    let ending : Flaws = end_flaw entries weight ∷ [] in
+    let first = flaw_first (start_flaw entries) (of_entries ++ ending) in
+    let middle = neither_flaw of_entries ending in
+    let last = flaw_first (end_flaw entries weight) [] in
+    let covered = entries_covered advert weights entries states in
+    (λ none.
+    let begins = first.0 none in
+    let rest = middle.0 begins.1 in
+    let found = not_none (potential_of entries start) begins.0 in
+    let same : found.0 ≡ weight = eqb-true _ _ (not_false (found.0 == weight) (ap (is_other weight) (sym found.1) ∙ (last.0 rest.1).0)) in
+    record { closed = covered.0 rest.0; begun = bound_from entries start weight states start_is_byte (found.1 ∙ ap (λ (p : ℕ). Some p) same) }, λ is.
+    let found = bound_to entries start weight states is.begun in
+    first.1 (ap is_none found, middle.1 (covered.1 is.closed, last.1 (ap (is_other weight) found ∙ ap not (eq-eqb weight weight refl), refl))))
+
+pub no_flaw_is_good : (advert : Advertised) (weights : HostWeights) (c : Certified) → HasStates c.entries → NoFlaw (all_flaws advert weights c) ↔ IsGood advert weights c
+no_flaw_is_good advert weights c states =
+    let right : ℕ = plan_weight advert weights c.paths in
+    let bounds = bound_flaws advert weights c.entries c.weight in
+    let weighed : Flaw = (not (c.weight == right), (WeightWrong, 0)) in
+    let first = neither_flaw (plan_flaws advert c.paths) (weighed ∷ bounds) in
+    let second = flaw_first weighed bounds in
+    let is_plan = plan_admissible advert c.paths in
+    let is_bounded = bounded advert weights c.entries c.weight states in
+    (λ none.
+    let parts = first.0 none in
+    let rest = second.0 parts.1 in
+    let bound = is_bounded.0 rest.1 in
+    record { admissible = is_plan.0 parts.0; weighs = eqb-true _ _ (not_false (c.weight == right) rest.0); closed = bound.closed; begun = bound.begun }, λ good.
+    first.1 (is_plan.1 good.admissible, second.1 (ap not (eq-eqb c.weight right good.weighs), is_bounded.1 (record { closed = good.closed; begun = good.begun }))))
+
+judged_good : (found : Option (Reason × ℕ)) → (judged found ≡ Good) ↔ (found ≡ None)
+judged_good None = (λ is. refl, λ is. refl)
+judged_good (Some flaw) = (λ is. absurd cc, λ is. absurd cc)
+
+pub good_verdict : (advert : Advertised) (weights : HostWeights) (c : Certified) → HasStates c.entries → (verdict advert weights c ≡ Good) ↔ IsGood advert weights c
+unfolding verdict
+good_verdict advert weights c states =
+    let by_flaw = judged_good (first_fault (all_flaws advert weights c)) in
+    let by_none = no_flaw_is_good advert weights c states in
+    (λ is. by_none.0 (by_flaw.0 is), λ good. by_flaw.1 (by_none.1 good))

@@ -61,7 +61,7 @@ none_at {X} flaw xs =
 
 -- ---- the paths of a plan
 
-not_false : (b : Bool) → not b ≡ false → b ≡ true
+pub not_false : (b : Bool) → not b ≡ false → b ≡ true
 not_false true is = refl
 not_false false is = absurd cc
 
