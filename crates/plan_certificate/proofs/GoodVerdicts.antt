@@ -55,7 +55,7 @@ bound_to : (entries : List Entry) (state : State) (potential : ℕ) → HasState
 unfolding potential_of
 bound_to entries state potential states (entry, contains, same, is) =
     let place : place_of entry ≡ place_of_state state =
-        (λ i. 256 * entry.boundary + sym (byte_of-lanes_in entry.used (entry_is_byte entries entry states contains)) i) ∙ ap place_of_state same in
+    (λ i. 256 * entry.boundary + sym (byte_of-lanes_in entry.used (entry_is_byte entries entry states contains)) i) ∙ ap place_of_state same in
     let at = found_there entries (place_of_state state) contains.0 entry states.rising contains.1 (ap place_of contains.2 ∙ place) in
     ap (option_map (λ (e : Entry). e.potential)) at ∙ ap (λ (e : Entry). Some e.potential) contains.2 ∙ ap (λ (p : ℕ). Some p) is
 
@@ -133,14 +133,16 @@ entries_covered : (advert : Advertised) (weights : HostWeights) (entries : List 
 unfolding entries_flaws
 entries_covered advert weights entries states =
     let each = none_of_each (entry_flaws advert weights entries) (enumerate_from 1 entries) in
-    let bytes = numbered Below 1 entries (recursion_from_All Below entries states.bytes) in
-    (λ none. All-from_recursion (CoveredAt advert weights entries) entries
-    (unnumbered (CoveredAt advert weights entries) 1 entries
-    (each_pair (λ (p : ℕ × Entry). Below p.1) (λ (p : ℕ × Entry). NoFlaw (entry_flaws advert weights entries p)) (λ (p : ℕ × Entry). CoveredAt advert weights entries p.1) (enumerate_from 1 entries)
-    (λ p fits no. entry_is_covered advert weights entries p states fits no) bytes (each.0 none))), λ all.
-    each.1
-    (each_one (λ (p : ℕ × Entry). CoveredAt advert weights entries p.1) (λ (p : ℕ × Entry). NoFlaw (entry_flaws advert weights entries p)) (enumerate_from 1 entries) (λ p covered. covered_entry advert weights entries p states covered)
-    (numbered (CoveredAt advert weights entries) 1 entries (recursion_from_All (CoveredAt advert weights entries) entries all))))
+    let bytes = numbered Below 1 entries (recursion_from_All Below entries states.bytes) in (
+      λ none. All-from_recursion (CoveredAt advert weights entries) entries
+          (unnumbered (CoveredAt advert weights entries) 1 entries
+          (each_pair (λ (p : ℕ × Entry). Below p.1) (λ (p : ℕ × Entry). NoFlaw (entry_flaws advert weights entries p)) (λ (p : ℕ × Entry). CoveredAt advert weights entries p.1) (enumerate_from 1 entries)
+          (λ p fits no. entry_is_covered advert weights entries p states fits no) bytes (each.0 none))),
+      λ all.
+          each.1
+          (each_one (λ (p : ℕ × Entry). CoveredAt advert weights entries p.1) (λ (p : ℕ × Entry). NoFlaw (entry_flaws advert weights entries p)) (enumerate_from 1 entries) (λ p covered. covered_entry advert weights entries p states covered)
+          (numbered (CoveredAt advert weights entries) 1 entries (recursion_from_All (CoveredAt advert weights entries) entries all))),
+    )
 
 -- ---- the whole certificate
 
@@ -165,15 +167,17 @@ bounded advert weights entries weight states =
     let first = flaw_first (start_flaw entries) (of_entries ++ ending) in
     let middle = neither_flaw of_entries ending in
     let last = flaw_first (end_flaw entries weight) [] in
-    let covered = entries_covered advert weights entries states in
-    (λ none.
-    let begins = first.0 none in
-    let rest = middle.0 begins.1 in
-    let found = not_none (potential_of entries start) begins.0 in
-    let same : found.0 ≡ weight = eqb-true _ _ (not_false (found.0 == weight) (ap (is_other weight) (sym found.1) ∙ (last.0 rest.1).0)) in
-    record { closed = covered.0 rest.0; begun = bound_from entries start weight states start_is_byte (found.1 ∙ ap (λ (p : ℕ). Some p) same) }, λ is.
-    let found = bound_to entries start weight states is.begun in
-    first.1 (ap is_none found, middle.1 (covered.1 is.closed, last.1 (ap (is_other weight) found ∙ ap not (eq-eqb weight weight refl), refl))))
+    let covered = entries_covered advert weights entries states in (
+      λ none.
+          let begins = first.0 none in
+          let rest = middle.0 begins.1 in
+          let found = not_none (potential_of entries start) begins.0 in
+          let same : found.0 ≡ weight = eqb-true _ _ (not_false (found.0 == weight) (ap (is_other weight) (sym found.1) ∙ (last.0 rest.1).0)) in
+          record { closed = covered.0 rest.0; begun = bound_from entries start weight states start_is_byte (found.1 ∙ ap (λ (p : ℕ). Some p) same) },
+      λ is.
+          let found = bound_to entries start weight states is.begun in
+          first.1 (ap is_none found, middle.1 (covered.1 is.closed, last.1 (ap (is_other weight) found ∙ ap not (eq-eqb weight weight refl), refl))),
+    )
 
 pub no_flaw_is_good : (advert : Advertised) (weights : HostWeights) (c : Certified) → HasStates c.entries → NoFlaw (all_flaws advert weights c) ↔ IsGood advert weights c
 no_flaw_is_good advert weights c states =
@@ -183,13 +187,15 @@ no_flaw_is_good advert weights c states =
     let first = neither_flaw (plan_flaws advert c.paths) (weighed ∷ bounds) in
     let second = flaw_first weighed bounds in
     let is_plan = plan_admissible advert c.paths in
-    let is_bounded = bounded advert weights c.entries c.weight states in
-    (λ none.
-    let parts = first.0 none in
-    let rest = second.0 parts.1 in
-    let bound = is_bounded.0 rest.1 in
-    record { admissible = is_plan.0 parts.0; weighs = eqb-true _ _ (not_false (c.weight == right) rest.0); closed = bound.closed; begun = bound.begun }, λ good.
-    first.1 (is_plan.1 good.admissible, second.1 (ap not (eq-eqb c.weight right good.weighs), is_bounded.1 (record { closed = good.closed; begun = good.begun }))))
+    let is_bounded = bounded advert weights c.entries c.weight states in (
+      λ none.
+          let parts = first.0 none in
+          let rest = second.0 parts.1 in
+          let bound = is_bounded.0 rest.1 in
+          record { admissible = is_plan.0 parts.0; weighs = eqb-true _ _ (not_false (c.weight == right) rest.0); closed = bound.closed; begun = bound.begun },
+      λ good.
+          first.1 (is_plan.1 good.admissible, second.1 (ap not (eq-eqb c.weight right good.weighs), is_bounded.1 (record { closed = good.closed; begun = good.begun }))),
+    )
 
 judged_good : (found : Option (Reason × ℕ)) → (judged found ≡ Good) ↔ (found ≡ None)
 judged_good None = (λ is. refl, λ is. refl)

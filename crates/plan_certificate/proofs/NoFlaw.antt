@@ -50,14 +50,16 @@ none_at : {X : Type 0} (flaw : ℕ × X → Flaw) (xs : List X) → NoFlaw (map 
 none_at {X} flaw xs =
     let Passes : ℕ × X → Type 0 = λ p. (flaw p).0 ≡ false in
     let numbered = enumerate_from 1 xs in
-    let by_list = none_of_map flaw numbered in
-    (λ none k d below.
-    let each : All Passes numbered = All-from_recursion Passes numbered (by_list.0 none) in
-    subst Passes (numbered_at xs k d below) (each k (k + 1, d) (numbered_below xs k below)), λ each.
-    by_list.1 (recursion_from_All Passes numbered (λ k d below.
-    let within : k < length xs = omega (arith, below, length-enumerate_from 1 xs) in
-    let number : k + 1 ≡ 1 + k = omega arith in
-    subst Passes (ap (λ (n : ℕ). (n, get_or xs k d.1)) number ∙ sym (get_or-enumerate_from 1 xs k d within)) (each k d.1 within))))
+    let by_list = none_of_map flaw numbered in (
+      λ none k d below.
+          let each : All Passes numbered = All-from_recursion Passes numbered (by_list.0 none) in
+          subst Passes (numbered_at xs k d below) (each k (k + 1, d) (numbered_below xs k below)),
+      λ each.
+          by_list.1 (recursion_from_All Passes numbered (λ k d below.
+          let within : k < length xs = omega (arith, below, length-enumerate_from 1 xs) in
+          let number : k + 1 ≡ 1 + k = omega arith in
+          subst Passes (ap (λ (n : ℕ). (n, get_or xs k d.1)) number ∙ sym (get_or-enumerate_from 1 xs k d within)) (each k d.1 within))),
+    )
 
 -- ---- the paths of a plan
 
@@ -74,26 +76,30 @@ none_not_allowed advert paths =
 pub none_share : (advert : Advertised) (paths : List Path) → NoFlaw (lane_flaws advert paths) ↔ AllPairs (λ path other. are_apart advert path other ≡ true) paths
 unfolding lane_flaws
 none_share advert paths =
-    let by_number = none_at (lane_flaw advert paths) paths in
-    (λ none i j d before below.
-    let path : Path = get_or paths j d in
-    let place : j + 1 - 1 ≡ j = omega arith in
-    let within : j ≤ length paths = omega (arith, below) in
-    let here : list_all (λ (earlier : Path). are_apart advert earlier path) (take j paths) ≡ true =
-        ap (λ (n : ℕ). list_all (λ (earlier : Path). are_apart advert earlier path) (take n paths)) (sym place) ∙ not_false _ (by_number.0 none j d below) in
-    let each = AllPass-from_list_all (λ (earlier : Path). are_apart advert earlier path) (take j paths) here in
-    ap (λ (earlier : Path). are_apart advert earlier path) (sym (get_or-take j paths i d before)) ∙ each i d (omega (arith, before, length-take-le j paths within)), λ pairs.
-    by_number.1 (λ j d below.
-    let path : Path = get_or paths j d in
-    let place : j + 1 - 1 ≡ j = omega arith in
-    let within : j ≤ length paths = omega (arith, below) in
-    let each = list_all-from_AllPass (λ (earlier : Path). are_apart advert earlier path) (take j paths) (λ i e inside.
-        let before : i < j = omega (arith, inside, length-take-le j paths within) in
-        ap (λ (earlier : Path). are_apart advert earlier path) (get_or-take j paths i e before) ∙ ap (are_apart advert (get_or paths i e)) (get_or_default paths j d e below) ∙ pairs i j e before below) in
-    ap not (ap (λ (n : ℕ). list_all (λ (earlier : Path). are_apart advert earlier path) (take n paths)) place ∙ each)))
+    let by_number = none_at (lane_flaw advert paths) paths in (
+      λ none i j d before below.
+          let path : Path = get_or paths j d in
+          let place : j + 1 - 1 ≡ j = omega arith in
+          let within : j ≤ length paths = omega (arith, below) in
+          let here : list_all (λ (earlier : Path). are_apart advert earlier path) (take j paths) ≡ true =
+          ap (λ (n : ℕ). list_all (λ (earlier : Path). are_apart advert earlier path) (take n paths)) (sym place) ∙ not_false _ (by_number.0 none j d below) in
+          let each = AllPass-from_list_all (λ (earlier : Path). are_apart advert earlier path) (take j paths) here in
+          ap (λ (earlier : Path). are_apart advert earlier path) (sym (get_or-take j paths i d before)) ∙ each i d (omega (arith, before, length-take-le j paths within)),
+      λ pairs.
+          by_number.1 (λ j d below.
+          let path : Path = get_or paths j d in
+          let place : j + 1 - 1 ≡ j = omega arith in
+          let within : j ≤ length paths = omega (arith, below) in
+          let each = list_all-from_AllPass (λ (earlier : Path). are_apart advert earlier path) (take j paths) (λ i e inside.
+          let before : i < j = omega (arith, inside, length-take-le j paths within) in
+          ap (λ (earlier : Path). are_apart advert earlier path) (get_or-take j paths i e before) ∙ ap (are_apart advert (get_or paths i e)) (get_or_default paths j d e below) ∙ pairs i j e before below) in
+          ap not (ap (λ (n : ℕ). list_all (λ (earlier : Path). are_apart advert earlier path) (take n paths)) place ∙ each)),
+    )
 
 pub plan_admissible : (advert : Advertised) (paths : List Path) → NoFlaw (plan_flaws advert paths) ↔ IsAdmissible advert paths
 plan_admissible advert paths =
-    let parts = neither_flaw (path_flaws advert paths) (lane_flaws advert paths) in
-    (λ none. record { allowed = (none_not_allowed advert paths).0 (parts.0 none).0; apart = (none_share advert paths).0 (parts.0 none).1 }, λ plan.
-    parts.1 ((none_not_allowed advert paths).1 plan.allowed, (none_share advert paths).1 plan.apart))
+    let parts = neither_flaw (path_flaws advert paths) (lane_flaws advert paths) in (
+      λ none. record { allowed = (none_not_allowed advert paths).0 (parts.0 none).0; apart = (none_share advert paths).0 (parts.0 none).1 },
+      λ plan.
+          parts.1 ((none_not_allowed advert paths).1 plan.allowed, (none_share advert paths).1 plan.apart),
+    )

@@ -20,7 +20,7 @@ impl Entry {
     ghost use Rattle.plan_certificate.specs.Certificates.{place_of, state_of};
 
     /// The state that the entry bounds.
-    pub fn state(&self) -> State
+    pub(crate) fn state(&self) -> State
         ensures { result ≡ state_of self.now }
     {
         State {
@@ -30,7 +30,7 @@ impl Entry {
     }
 
     /// The place of its state among all states, by boundary and then by the byte of used media lanes.
-    pub fn place(&self) -> u16
+    pub(crate) fn place(&self) -> u16
         ensures { result ≡ place_of self.now }
     {
         256 * u16::from(self.boundary) + u16::from(self.used)

@@ -14,18 +14,34 @@ use crate::verdict::{Reason, Verdict};
 use applications::{Advert, Weights};
 
 /// Judges a certificate, whoever made it: whether its plan is allowed, and none weighs more.
-pub fn check<const STATES: usize>(advert: &Advert, weights: &Weights, certificate: &Certificate<STATES>) -> Verdict
+pub fn check<const STATES: usize>(
+    advert: &Advert,
+    weights: &Weights,
+    certificate: &Certificate<STATES>,
+) -> Verdict
     ensures verdict { result ≡ spec.verdict advert.now weights.now certificate.now }
     ensures good { (result ≡ Verdict.Good) ↔ IsGood advert.now weights.now certificate.now }
     ensures best { result ≡ Verdict.Good → IsBest advert.now weights.now certificate.now.paths }
 {
-    match flaw(advert, weights, certificate.weight, &certificate.plan, certificate.entries.as_slice()) {
+    match flaw(
+        advert,
+        weights,
+        certificate.weight,
+        &certificate.plan,
+        certificate.entries.as_slice(),
+    ) {
         None => Verdict::Good,
         Some((reason, number)) => Verdict::Bad(reason, number),
     }
 }
 
-fn flaw(advert: &Advert, weights: &Weights, weight: u64, plan: &Plan, entries: &[Entry]) -> Option<(Reason, usize)>
+fn flaw(
+    advert: &Advert,
+    weights: &Weights,
+    weight: u64,
+    plan: &Plan,
+    entries: &[Entry],
+) -> Option<(Reason, usize)>
     requires { HasStates entries.now }
     ensures { result ≡ first_fault (spec.all_flaws advert.now weights.now (record { weight = weight; paths = plan.now; entries = entries.now })) }
 {
@@ -39,7 +55,12 @@ fn flaw(advert: &Advert, weights: &Weights, weight: u64, plan: &Plan, entries: &
 }
 
 // What is wrong with the entries, as bounds on what can be gained.
-fn bound_flaw(advert: &Advert, weights: &Weights, entries: &[Entry], weight: u64) -> Option<(Reason, usize)>
+fn bound_flaw(
+    advert: &Advert,
+    weights: &Weights,
+    entries: &[Entry],
+    weight: u64,
+) -> Option<(Reason, usize)>
     requires { HasStates entries.now }
     ensures { result ≡ first_fault (spec.bound_flaws advert.now weights.now entries.now weight) }
 {
@@ -67,7 +88,13 @@ fn entries_flaw(advert: &Advert, weights: &Weights, entries: &[Entry]) -> Option
     None
 }
 
-fn entry_flaw(advert: &Advert, weights: &Weights, entries: &[Entry], number: usize, entry: &Entry) -> Option<(Reason, usize)>
+fn entry_flaw(
+    advert: &Advert,
+    weights: &Weights,
+    entries: &[Entry],
+    number: usize,
+    entry: &Entry,
+) -> Option<(Reason, usize)>
     requires { HasStates entries.now }
     ensures { result ≡ first_fault (spec.entry_flaws advert.now weights.now entries.now (number, entry.now)) }
 {
@@ -80,7 +107,12 @@ fn entry_flaw(advert: &Advert, weights: &Weights, entries: &[Entry], number: usi
     None
 }
 
-fn step_flaw(entries: &[Entry], number: usize, entry: &Entry, step: &Step) -> Option<(Reason, usize)>
+fn step_flaw(
+    entries: &[Entry],
+    number: usize,
+    entry: &Entry,
+    step: &Step,
+) -> Option<(Reason, usize)>
     requires { HasStates entries.now }
     ensures { result ≡ first_fault (spec.step_flaws entries.now (number, entry.now) step.now) }
 {

@@ -12,7 +12,7 @@ unfolding verdict
 returns-in-None-clause-verdict g c =
     let of : Certified → Option (Reason × ℕ) = λ certificate. first_fault (all_flaws c.args.advert.now c.args.weights.now certificate) in
     let whole : record { weight = c.certificate.inside.weight; paths = c.certificate.inside.plan; entries = c.as_slice.result.now } ≡ c.args.certificate.now =
-        (λ i. record { weight = c.certificate.inside.weight; paths = c.certificate.inside.plan; entries = c.as_slice.ensures.value i }) ∙ c.certificate.view_is in
+    (λ i. record { weight = c.certificate.inside.weight; paths = c.certificate.inside.plan; entries = c.as_slice.ensures.value i }) ∙ c.certificate.view_is in
     ap judged (sym c.in-None.is ∙ c.flaw.ensures ∙ ap of whole)
 
 pub returns-in-None-clause-good : goal.returns-in-None-clause-good
@@ -29,7 +29,7 @@ unfolding verdict
 returns-in-Some-clause-verdict g c =
     let of : Certified → Option (Reason × ℕ) = λ certificate. first_fault (all_flaws c.args.advert.now c.args.weights.now certificate) in
     let whole : record { weight = c.certificate.inside.weight; paths = c.certificate.inside.plan; entries = c.as_slice.result.now } ≡ c.args.certificate.now =
-        (λ i. record { weight = c.certificate.inside.weight; paths = c.certificate.inside.plan; entries = c.as_slice.ensures.value i }) ∙ c.certificate.view_is in
+    (λ i. record { weight = c.certificate.inside.weight; paths = c.certificate.inside.plan; entries = c.as_slice.ensures.value i }) ∙ c.certificate.view_is in
     ap judged (sym c.in-Some.is ∙ c.flaw.ensures ∙ ap of whole)
 
 pub returns-in-Some-clause-good : goal.returns-in-Some-clause-good
