@@ -6,12 +6,14 @@ mod app;
 mod descriptors;
 mod fault;
 mod refusal;
+mod weights;
 
 pub use advert::Advert;
 pub use app::{App, MAX_APPS};
 pub use fault::AdvertFault;
 pub use field_tables::LaneSet;
 pub use refusal::{is_cmis, is_read_revision};
+pub use weights::{Weights, WeightsFault};
 
 #[cfg(test)]
 mod tests;
