@@ -1,4 +1,4 @@
--- Why a text lists no weights. (docs/formats.md, "Weights")
+-- Why a text lists no weights, and what reading one answers. (docs/formats.md, "Weights")
 use Rattle.std.specs.Prelude.{◌≡◌, ℕ, Bool, true, false, not, List, [], ◌∷◌, ◌++◌, codes, Option, Some, None, is_none, Result, Ok, Err}
 use Rattle.std.specs.List.{list_any}
 use Rattle.std.specs.Option.{option_map_or, option_and_then}
@@ -44,7 +44,7 @@ weights_faults document =
 unfoldable pub weights_fault : Option Members → Option WeightsFault
 weights_fault document = first_fault (weights_faults document)
 
--- what reading a text may answer: memory may be wanting, unless the text isn't UTF-8 or is blank
+-- what reading a text may answer: memory may be wanting, unless the text isn't UTF-8 or has only white space and comments
 abbrev pub IsAnswer : List ℕ → Result HostWeights WeightsFault → Type 0
 IsAnswer text (Ok weights) = (weights_fault (document_of text) ≡ None) × (weights ≡ weights_of (host_members (document_of text)))
 IsAnswer text (Err Memory) = (is_utf8 text ≡ true) × ¬ IsBlank text

@@ -1,4 +1,4 @@
-//! The Applications that a CMIS module advertises: what it can do on which lanes.
+//! The Applications that a CMIS module advertises: what it can do on which lanes. Weights say how much each is wanted.
 #![tactic(auto)]
 
 mod advert;
