@@ -2,11 +2,14 @@
 #![tactic(auto)]
 
 mod certificate;
+mod fault;
+mod line;
 mod path;
 mod plan;
 mod state;
 
 pub use certificate::{Certificate, Entry};
+pub use fault::CertificateFault;
 pub use path::Path;
 pub use plan::{MAX_PATHS, Plan};
 pub use state::{State, Step};
