@@ -1,1 +1,3 @@
 pub mod LineWords
+pub mod NextLines
+pub mod Drafts

@@ -51,7 +51,7 @@ IsLine End = Unit {0}
 
 -- the lines of a certificate
 abbrev pub lines_in : Certified → List Line
-lines_in certificate = Header ∷ Weight certificate.weight ∷ map PathLine certificate.paths ++ (map StateLine certificate.entries ++ End ∷ [])
+lines_in certificate = Header ∷ Weight certificate.weight ∷ map PathLine certificate.paths ++ map StateLine certificate.entries ++ End ∷ []
 
 abbrev pub certificate_lines : Certified → List (List ℕ)
 certificate_lines certificate = map line_text (lines_in certificate)

@@ -3,3 +3,5 @@ pub mod Plans
 pub mod States
 pub mod Certificates
 pub mod CertificateText
+pub mod CertificateFaults
+pub mod CertificateDrafts

@@ -1,3 +1,5 @@
+mod text;
+
 use crate::plan::Plan;
 use arrayvec::ArrayVec;
 use std::marker::Model;

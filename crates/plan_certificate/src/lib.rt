@@ -6,6 +6,7 @@ mod fault;
 mod line;
 mod path;
 mod plan;
+mod stage;
 mod state;
 
 pub use certificate::{Certificate, Entry};
