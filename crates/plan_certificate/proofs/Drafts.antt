@@ -17,7 +17,7 @@ use Rattle.plan_certificate.proofs.NextLines.{NextIn, next_in, comes_in_turn, Ne
 
 -- ---- the lines so far begin a text
 
-rest_of : Stage → Certified → List Line
+pub rest_of : Stage → Certified → List Line
 rest_of Start certificate = lines_in certificate
 rest_of Headed certificate = Weight certificate.weight ∷ map PathLine certificate.paths ++ map StateLine certificate.entries ++ End ∷ []
 rest_of Weighed certificate = End ∷ []
@@ -34,13 +34,9 @@ pub begins_so_far : (Is : Certified → Type 0) (stage : Stage) (certificate : C
 begins_so_far Is stage certificate is =
     (certificate, is, map line_text (rest_of stage certificate), ap (map line_text) (parted stage certificate) ∙ map-append line_text (lines_so_far stage certificate) (rest_of stage certificate))
 
-front : {A : Type 0} (P : A → Type 0) (xs ys : List A) → AllByRecursion P (xs ++ ys) → AllByRecursion P xs
+pub front : {A : Type 0} (P : A → Type 0) (xs ys : List A) → AllByRecursion P (xs ++ ys) → AllByRecursion P xs
 front P [] ys h = tt
 front P (x ∷ xs) ys h = (h.0, front P xs ys h.1)
-
-put_between : {A : Type 0} (P : A → Type 0) (xs ys : List A) (y : A) → P y → AllByRecursion P (xs ++ ys) → AllByRecursion P ((xs ++ y ∷ []) ++ ys)
-put_between P [] ys y p h = (p, h)
-put_between P (x ∷ xs) ys y p h = (h.0, put_between P xs ys y p h.1)
 
 -- ---- where the next line stops them
 

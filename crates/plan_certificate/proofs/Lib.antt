@@ -1,3 +1,4 @@
 pub mod LineWords
 pub mod NextLines
 pub mod Drafts
+pub mod AddedLines
