@@ -1,7 +1,8 @@
 -- One more path or state in what has been read of a certificate's text.
-use Rattle.std.proofs.Common.{◌≡◌, ◌≢◌, ◌≤◌, ◌<◌, ◌+◌, ℕ, zero, suc, List, [], ◌∷◌, ◌++◌, length, get_or, map, refl, sym, ap, subst, ◌∙◌, inl, inr, append_assoc, arith}
+use Rattle.std.proofs.Common.{◌≡◌, ◌≢◌, ◌≤◌, ◌<◌, ◌+◌, ◌-◌, ℕ, zero, suc, List, [], ◌∷◌, ◌++◌, length, get_or, map, refl, sym, ap, subst, ◌∙◌, inl, inr, append_assoc, arith}
 use Rattle.std.specs.List.{All, AllPairs, AllByRecursion}
 use Rattle.std.proofs.lemmas.List.{append-nil, length-append, map-append, get_or_append_left}
+use Rattle.std.proofs.lemmas.Bool.{cases_lt}
 use Rattle.std.proofs.lemmas.List.Quantifiers.{all_pairs_push}
 use Rattle.std.proofs.lemmas.List.Elements.{All-append}
 use Rattle.std.proofs.Math.Seq.{get_or-append_seam}
@@ -109,6 +110,23 @@ module _ (states : ℕ) (certificate : Certified) (path : Path) (fits : IsPath p
 
 abbrev pub IsAbove : List Entry → Entry → Type 0
 IsAbove entries entry = All (λ before. place_of before < place_of entry) entries
+
+-- what is above the last entry is above all
+pub above_last : (entries : List Entry) (last entry : Entry) → HasStates entries → 0 < length entries → ((d : Entry) → last ≡ get_or entries (length entries - 1) d) → place_of last < place_of entry → IsAbove entries entry
+above_last entries last entry states some is less k d lt =
+    elim (cases_lt k (length entries - 1)) [
+      | inl earlier ↦
+          let pair = states.rising k (length entries - 1) d earlier (omega arith) in
+          omega (arith, pair, ap place_of (is d))
+      | inr later ↦
+          let here : k ≡ length entries - 1 = omega arith in
+          rw (here, ← is d) less
+    ]
+
+pub last_above : (entries : List Entry) (last entry : Entry) → 0 < length entries → ((d : Entry) → last ≡ get_or entries (length entries - 1) d) → IsAbove entries entry → place_of last < place_of entry
+last_above entries last entry some is above =
+    let here = above (length entries - 1) last (omega arith) in
+    omega (arith, here, ap place_of (is last))
 
 above_at : (entries more : List Entry) (entry : Entry) → AllPairs (λ before later. place_of before < place_of later) (entries ++ entry ∷ more) → IsAbove entries entry
 above_at entries more entry rising k d lt =

@@ -10,14 +10,16 @@ use Rattle.plan_certificate.specs.declared.stage.Stage.{Stage}
 use Rattle.plan_certificate.specs.declared.stage.Stage.TheVariants.{Start, Headed, Weighed, Ended}
 use Rattle.plan_certificate.specs.Certificates.{Certified, HasStates, place_of}
 use Rattle.plan_certificate.specs.CertificateText.{line_text, certificate_lines, lines_in, IsLine, IsEntry, InRange, IsOrdered, HasRoom}
-use Rattle.plan_certificate.specs.CertificateFaults.{Begins}
+use Rattle.plan_certificate.specs.declared.fault.CertificateFault.{CertificateFault}
+use Rattle.plan_certificate.specs.declared.fault.CertificateFault.TheVariants.{BadLine, OutOfOrder, TooMany, NoEnd}
+use Rattle.plan_certificate.specs.CertificateFaults.{Begins, IsLineFault, IsFirstFault}
 use Rattle.plan_certificate.specs.CertificateDrafts.{lines_before_end, lines_so_far, MayCome, IsDraft}
 use Rattle.plan_certificate.proofs.LineWords.{same_line}
 use Rattle.plan_certificate.proofs.NextLines.{NextIn, next_in, comes_in_turn, Next, behind_weight}
 
 -- ---- the lines so far begin a text
 
-pub rest_of : Stage → Certified → List Line
+rest_of : Stage → Certified → List Line
 rest_of Start certificate = lines_in certificate
 rest_of Headed certificate = Weight certificate.weight ∷ map PathLine certificate.paths ++ map StateLine certificate.entries ++ End ∷ []
 rest_of Weighed certificate = End ∷ []
@@ -34,9 +36,12 @@ pub begins_so_far : (Is : Certified → Type 0) (stage : Stage) (certificate : C
 begins_so_far Is stage certificate is =
     (certificate, is, map line_text (rest_of stage certificate), ap (map line_text) (parted stage certificate) ∙ map-append line_text (lines_so_far stage certificate) (rest_of stage certificate))
 
-pub front : {A : Type 0} (P : A → Type 0) (xs ys : List A) → AllByRecursion P (xs ++ ys) → AllByRecursion P xs
+front : {A : Type 0} (P : A → Type 0) (xs ys : List A) → AllByRecursion P (xs ++ ys) → AllByRecursion P xs
 front P [] ys h = tt
 front P (x ∷ xs) ys h = (h.0, front P xs ys h.1)
+
+pub so_far_in_range : (stage : Stage) (certificate : Certified) → InRange certificate → AllByRecursion IsLine (lines_so_far stage certificate)
+so_far_in_range stage certificate in_range = front IsLine (lines_so_far stage certificate) (rest_of stage certificate) (subst (AllByRecursion IsLine) (parted stage certificate) in_range)
 
 -- ---- where the next line stops them
 
@@ -53,7 +58,7 @@ module _ (stage : Stage) (certificate : Certified) (in_range : InRange certifica
 
   pub line_in : (Is : Certified → Type 0) → ((other : Certified) → Is other → InRange other) → GoesOn Is → (other : Certified) × Is other × NextIn before (lines_in other) text
   line_in Is ranges (other, is, rest, e) =
-      (other, is, next_in before (lines_in other) text rest (front IsLine before (rest_of stage certificate) (subst (AllByRecursion IsLine) (parted stage certificate) in_range))
+      (other, is, next_in before (lines_in other) text rest (so_far_in_range stage certificate in_range)
         (ranges other is) (e ∙ append_assoc (map line_text before) (text ∷ []) rest))
 
   pub not_spelled : ((line : Line) → IsLine line → text ≢ line_text line) → ¬ (GoesOn InRange)
@@ -66,3 +71,11 @@ module _ (stage : Stage) (certificate : Certified) (in_range : InRange certifica
       let found = line_in InRange (λ other h. h) goes in
       let same = same_line found.2.0 line found.2.3 fits (sym found.2.4 ∙ spelled) in
       late (subst (MayCome stage certificate) same (comes_in_turn stage certificate found.0 found.2.0 found.2.1 found.2.2))
+
+-- the fault at which reading stops
+pub fault_after : (states : ℕ) (lines before : List (List ℕ)) (line : List ℕ) (rest : List (List ℕ)) (fault : CertificateFault) → lines ≡ before ++ line ∷ rest → Begins (HasRoom states) before
+    → IsLineFault states (before ++ line ∷ []) fault → IsFirstFault states lines fault
+fault_after states lines before line rest (BadLine number) is begins stops = (before, line, rest, record { lines_are = is; begins = begins; stops = stops })
+fault_after states lines before line rest (OutOfOrder number) is begins stops = (before, line, rest, record { lines_are = is; begins = begins; stops = stops })
+fault_after states lines before line rest TooMany is begins stops = (before, line, rest, record { lines_are = is; begins = begins; stops = stops })
+fault_after states lines before line rest NoEnd is begins stops = absurd stops

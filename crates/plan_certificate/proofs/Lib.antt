@@ -2,3 +2,4 @@ pub mod LineWords
 pub mod NextLines
 pub mod Drafts
 pub mod AddedLines
+pub mod WholeTexts

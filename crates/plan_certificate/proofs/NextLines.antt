@@ -68,7 +68,7 @@ may_come certificate other line after (inl next) = subst (MayCome Weighed certif
 may_come certificate other line after (inr (inl next)) = subst (MayCome Weighed certificate) (sym next.2) (refl, tt)
 may_come certificate other line after (inr (inr end)) = subst (MayCome Weighed certificate) (sym end.0) (refl, tt)
 
-nothing_left : (certificate other : Certified) (line : Line) (after : List Line) → Next certificate other End (line ∷ after) → ⊥
+pub nothing_left : (certificate other : Certified) (line : Line) (after : List Line) → Next certificate other End (line ∷ after) → ⊥
 nothing_left certificate other line after (inl next) = cc
 nothing_left certificate other line after (inr (inl next)) = cc
 nothing_left certificate other line after (inr (inr end)) = cc
