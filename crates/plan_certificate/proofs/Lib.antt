@@ -3,3 +3,5 @@ pub mod NextLines
 pub mod Drafts
 pub mod AddedLines
 pub mod WholeTexts
+pub mod OneAnswer
+pub mod WrittenCertificates
