@@ -1,5 +1,5 @@
 -- One more path or state in what has been read of a certificate's text.
-use Rattle.std.proofs.Common.{◌≡◌, ◌≢◌, ◌≤◌, ◌<◌, ◌+◌, ◌-◌, ℕ, zero, suc, List, [], ◌∷◌, ◌++◌, length, get_or, map, refl, sym, ap, subst, ◌∙◌, inl, inr, append_assoc, arith}
+use Rattle.std.proofs.Common.{◌≡◌, ◌≤◌, ◌<◌, ◌-◌, ℕ, zero, suc, List, [], ◌∷◌, ◌++◌, length, get_or, map, sym, ap, subst, ◌∙◌, inl, inr, append_assoc, arith}
 use Rattle.std.specs.List.{All, AllPairs, AllByRecursion}
 use Rattle.std.proofs.lemmas.List.{append-nil, length-append, map-append, get_or_append_left}
 use Rattle.std.proofs.lemmas.Bool.{cases_lt}
@@ -12,7 +12,7 @@ use Rattle.plan_certificate.specs.declared.line.Line.{Line}
 use Rattle.plan_certificate.specs.declared.line.Line.TheVariants.{Header, Weight, PathLine, StateLine, End}
 use Rattle.plan_certificate.specs.declared.stage.Stage.TheVariants.{Weighed}
 use Rattle.plan_certificate.specs.Certificates.{Certified, HasStates, place_of}
-use Rattle.plan_certificate.specs.CertificateText.{line_text, lines_in, IsLine, IsPath, IsEntry, InRange, IsOrdered, HasRoom}
+use Rattle.plan_certificate.specs.CertificateText.{line_text, IsLine, IsPath, IsEntry, InRange, IsOrdered, HasRoom}
 use Rattle.plan_certificate.specs.CertificateFaults.{Begins}
 use Rattle.plan_certificate.specs.CertificateDrafts.{lines_before_end, IsDraft}
 use Rattle.plan_certificate.proofs.LineWords.{same_line}

@@ -1,21 +1,19 @@
 -- What has been read of a certificate's text, one line more, and where it stops.
-use Rattle.std.proofs.Common.{◌≡◌, ◌≢◌, ◌≤◌, ◌<◌, ◌+◌, ℕ, List, [], ◌∷◌, ◌++◌, length, get_or, map, refl, sym, ap, subst, ◌∙◌, inl, inr, append_assoc, arith}
-use Rattle.std.specs.List.{All, AllPairs, AllByRecursion}
+use Rattle.std.proofs.Common.{◌≡◌, ◌≢◌, ◌+◌, ℕ, List, [], ◌∷◌, ◌++◌, length, map, refl, sym, ap, subst, ◌∙◌, append_assoc, arith}
+use Rattle.std.specs.List.{AllByRecursion}
 use Rattle.std.proofs.lemmas.List.{append-nil, length-append, length-map, map-append}
-use Rattle.plan_certificate.specs.declared.path.Path.{Path}
-use Rattle.plan_certificate.specs.declared.certificate.Entry.{Entry}
 use Rattle.plan_certificate.specs.declared.line.Line.{Line}
-use Rattle.plan_certificate.specs.declared.line.Line.TheVariants.{Header, Weight, PathLine, StateLine, End}
+use Rattle.plan_certificate.specs.declared.line.Line.TheVariants.{Weight, PathLine, StateLine, End}
 use Rattle.plan_certificate.specs.declared.stage.Stage.{Stage}
 use Rattle.plan_certificate.specs.declared.stage.Stage.TheVariants.{Start, Headed, Weighed, Ended}
-use Rattle.plan_certificate.specs.Certificates.{Certified, HasStates, place_of}
-use Rattle.plan_certificate.specs.CertificateText.{line_text, certificate_lines, lines_in, IsLine, IsEntry, InRange, IsOrdered, HasRoom}
+use Rattle.plan_certificate.specs.Certificates.{Certified}
+use Rattle.plan_certificate.specs.CertificateText.{line_text, lines_in, IsLine, InRange, HasRoom}
 use Rattle.plan_certificate.specs.declared.fault.CertificateFault.{CertificateFault}
 use Rattle.plan_certificate.specs.declared.fault.CertificateFault.TheVariants.{BadLine, OutOfOrder, TooMany, NoEnd}
 use Rattle.plan_certificate.specs.CertificateFaults.{Begins, IsLineFault, IsFirstFault}
-use Rattle.plan_certificate.specs.CertificateDrafts.{lines_before_end, lines_so_far, MayCome, IsDraft}
+use Rattle.plan_certificate.specs.CertificateDrafts.{lines_so_far, MayCome}
 use Rattle.plan_certificate.proofs.LineWords.{same_line}
-use Rattle.plan_certificate.proofs.NextLines.{NextIn, next_in, comes_in_turn, Next, behind_weight}
+use Rattle.plan_certificate.proofs.NextLines.{NextIn, next_in, comes_in_turn}
 
 -- ---- the lines so far begin a text
 
@@ -46,20 +44,23 @@ so_far_in_range stage certificate in_range = front IsLine (lines_so_far stage ce
 -- ---- where the next line stops them
 
 module _ (stage : Stage) (certificate : Certified) (in_range : InRange certificate) (text : List ℕ) where
-  abbrev before : List Line
-  before = lines_so_far stage certificate
+  abbrev so_far : List Line
+  so_far = lines_so_far stage certificate
 
   -- the texts that begin with the lines so far and this line
   abbrev GoesOn : (Certified → Type 0) → Type 0
-  GoesOn Is = Begins Is (map line_text before ++ text ∷ [])
+  GoesOn Is = Begins Is (map line_text so_far ++ text ∷ [])
 
-  pub number_is : (number : ℕ) → number ≡ length before + 1 → number ≡ length (map line_text before ++ text ∷ [])
-  number_is number e = e ∙ omega (arith, length-append (map line_text before) (text ∷ []), length-map before line_text)
+  pub number_is : (number : ℕ) → number ≡ length so_far + 1 → number ≡ length (map line_text so_far ++ text ∷ [])
+  number_is number e = e ∙ omega (arith, length-append (map line_text so_far) (text ∷ []), length-map so_far line_text)
 
-  pub line_in : (Is : Certified → Type 0) → ((other : Certified) → Is other → InRange other) → GoesOn Is → (other : Certified) × Is other × NextIn before (lines_in other) text
-  line_in Is ranges (other, is, rest, e) =
-      (other, is, next_in before (lines_in other) text rest (so_far_in_range stage certificate in_range)
-        (ranges other is) (e ∙ append_assoc (map line_text before) (text ∷ []) rest))
+  pub line_in : (Is : Certified → Type 0) → ((other : Certified) → Is other → InRange other) → GoesOn Is → (other : Certified) × Is other × NextIn so_far (lines_in other) text
+  line_in Is ranges (other, is, rest, e) = (
+    other,
+    is,
+    next_in so_far (lines_in other) text rest (so_far_in_range stage certificate in_range)
+        (ranges other is) (e ∙ append_assoc (map line_text so_far) (text ∷ []) rest),
+  )
 
   pub not_spelled : ((line : Line) → IsLine line → text ≢ line_text line) → ¬ (GoesOn InRange)
   not_spelled none goes =

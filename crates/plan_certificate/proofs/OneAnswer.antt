@@ -1,10 +1,10 @@
 -- Lines have one answer at most.
-use Rattle.std.proofs.Common.{◌≡◌, ℕ, List, [], ◌∷◌, ◌++◌, length, Result, Ok, Err, refl, sym, ap, subst, ◌∙◌, ◌⊎◌, inl, inr, append_assoc}
+use Rattle.std.proofs.Common.{◌≡◌, ℕ, List, [], ◌∷◌, ◌++◌, Result, Ok, Err, refl, sym, ap, subst, ◌∙◌, ◌⊎◌, inl, inr, append_assoc}
 use Rattle.std.proofs.lemmas.List.{append-nil}
 use Rattle.plan_certificate.specs.declared.fault.CertificateFault.{CertificateFault}
 use Rattle.plan_certificate.specs.declared.fault.CertificateFault.TheVariants.{BadLine, OutOfOrder, TooMany, NoEnd}
 use Rattle.plan_certificate.specs.Certificates.{Certified}
-use Rattle.plan_certificate.specs.CertificateText.{certificate_lines, InRange, IsOrdered, HasRoom, IsTextOf}
+use Rattle.plan_certificate.specs.CertificateText.{InRange, IsOrdered, HasRoom, IsTextOf}
 use Rattle.plan_certificate.specs.CertificateFaults.{Begins, IsLineFault, Stops, IsFirstFault, IsAnswer}
 use Rattle.plan_certificate.proofs.WholeTexts.{same_certificate}
 

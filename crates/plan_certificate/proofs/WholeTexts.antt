@@ -1,11 +1,10 @@
 -- Whole texts of certificates, and texts that lack their end.
-use Rattle.std.proofs.Common.{◌≡◌, ◌≢◌, List, [], ◌∷◌, ◌++◌, map, refl, sym, ap, subst, ◌∙◌, append_assoc}
+use Rattle.std.proofs.Common.{◌≡◌, ◌≢◌, List, [], ◌∷◌, ◌++◌, map, refl, sym, ap, ◌∙◌, append_assoc}
 use Rattle.std.specs.List.{AllByRecursion}
-use Rattle.std.proofs.lemmas.List.{append-nil}
 use Rattle.plan_certificate.specs.declared.path.Path.{Path}
 use Rattle.plan_certificate.specs.declared.certificate.Entry.{Entry}
 use Rattle.plan_certificate.specs.declared.line.Line.{Line}
-use Rattle.plan_certificate.specs.declared.line.Line.TheVariants.{Header, Weight, PathLine, StateLine, End}
+use Rattle.plan_certificate.specs.declared.line.Line.TheVariants.{PathLine, StateLine, End}
 use Rattle.plan_certificate.specs.declared.stage.Stage.{Stage}
 use Rattle.plan_certificate.specs.declared.stage.Stage.TheVariants.{Start, Headed, Weighed, Ended}
 use Rattle.plan_certificate.specs.Certificates.{Certified}

@@ -1,11 +1,11 @@
--- How much of a certificate's text has been read: its lines so far. (docs/formats.md, "Certificate")
+-- What has been read of a certificate's text: its lines so far. (docs/formats.md, "Certificate")
 use Rattle.std.specs.Prelude.{◌≡◌, ℕ, List, [], ◌∷◌, ◌++◌, map}
 use Rattle.plan_certificate.specs.declared.line.Line.{Line}
 use Rattle.plan_certificate.specs.declared.line.Line.TheVariants.{Header, Weight, PathLine, StateLine, End}
 use Rattle.plan_certificate.specs.declared.stage.Stage.{Stage}
 use Rattle.plan_certificate.specs.declared.stage.Stage.TheVariants.{Start, Headed, Weighed, Ended}
 use Rattle.plan_certificate.specs.Certificates.{Certified}
-use Rattle.plan_certificate.specs.CertificateText.{HasRoom, lines_in}
+use Rattle.plan_certificate.specs.CertificateText.{line_text, lines_in, HasRoom}
 
 -- the lines of a certificate up to its last state
 abbrev pub lines_before_end : Certified → List Line
@@ -17,16 +17,23 @@ lines_so_far Headed certificate = Header ∷ []
 lines_so_far Weighed certificate = lines_before_end certificate
 lines_so_far Ended certificate = lines_in certificate
 
--- neither paths nor states come before the weight
-abbrev pub ListsAreDue : Stage → Certified → Type 0
-ListsAreDue Start certificate = (certificate.paths ≡ []) × (certificate.entries ≡ [])
-ListsAreDue Headed certificate = (certificate.paths ≡ []) × (certificate.entries ≡ [])
-ListsAreDue Weighed certificate = Unit {0}
-ListsAreDue Ended certificate = Unit {0}
+abbrev pub text_so_far : Stage → Certified → List (List ℕ)
+text_so_far stage certificate = map line_text (lines_so_far stage certificate)
 
+abbrev pub HasNoLists : Certified → Type 0
+HasNoLists certificate = (certificate.paths ≡ []) × (certificate.entries ≡ [])
+
+-- neither paths nor states come before the weight
+abbrev pub IsAt : Stage → Certified → Type 0
+IsAt Start certificate = HasNoLists certificate
+IsAt Headed certificate = HasNoLists certificate
+IsAt Weighed certificate = Unit {0}
+IsAt Ended certificate = Unit {0}
+
+-- what has been read, while no line has been refused
 pub record IsDraft (states : ℕ) (stage : Stage) (certificate : Certified) : Type 0 where
   pub room : HasRoom states certificate
-  pub lists : ListsAreDue stage certificate
+  pub lists : IsAt stage certificate
 
 -- how much has been read where this line comes next
 abbrev pub due : Line → Stage

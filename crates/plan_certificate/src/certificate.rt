@@ -1,4 +1,7 @@
-mod text;
+mod reading;
+#[cfg(test)]
+mod tests;
+mod writing;
 
 use crate::plan::Plan;
 use arrayvec::ArrayVec;

@@ -1,6 +1,5 @@
 use Rattle.std.proofs.Common.{◌≤◌, length, arith}
 use Rattle.text_lines.specs.Words.{words_of}
-use Rattle.plan_certificate.specs.CertificateText.{line_text}
 use Rattle.plan_certificate.proofs.LineWords.{words_of-line_text, line_of_words, word_count}
 use Rattle.plan_certificate.proofs.line.read_line.Goals as goal
 

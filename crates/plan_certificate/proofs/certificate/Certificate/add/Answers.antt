@@ -1,5 +1,4 @@
 use Rattle.std.proofs.Common.{◌≡◌, ◌≤◌, List, ◌∷◌, ◌++◌, [], length, sym, ap, subst, ◌∙◌, rules}
-use Rattle.plan_certificate.specs.declared.path.Path.{Path}
 use Rattle.plan_certificate.specs.declared.certificate.Entry.{Entry}
 use Rattle.plan_certificate.specs.Certificates.{Certified}
 use Rattle.plan_certificate.specs.declared.line.Line.TheVariants.{StateLine}
@@ -9,20 +8,20 @@ use Rattle.plan_certificate.proofs.Drafts.{number_is}
 use Rattle.plan_certificate.proofs.AddedLines.{IsAbove, ninth_path, low_state, last_state, states_more, path_fits, state_fits}
 use Rattle.plan_certificate.proofs.certificate.Certificate.add.Goals as goal
 
-pub returns-then-not-push_path-clause-fault : goal.returns-then-not-push_path-clause-fault
-returns-then-not-push_path-clause-fault g c =
+pub returns-then-not-add_path-clause-fault : goal.returns-then-not-add_path-clause-fault
+returns-then-not-add_path-clause-fault g c =
     let none = rw c.in-PathLine.is at c.requires.in_turn in
     let fits = rw c.in-PathLine.is at c.requires.fits in
     let here : length c.self.inside.plan ≡ 8 = search rules in
     let full = sym (ap (λ (v : Certified). length v.paths) c.self.view_is) ∙ here in
     rw c.in-PathLine.is (ninth_path g.row.STATES c.args.self.now c.in-PathLine.path fits none c.requires.drafted.room.ordered full)
 
-pub returns-else-not-push_path-clause-drafted : goal.returns-else-not-push_path-clause-drafted
-returns-else-not-push_path-clause-drafted g c =
+pub returns-else-not-add_path-clause-drafted : goal.returns-else-not-add_path-clause-drafted
+returns-else-not-add_path-clause-drafted g c =
     let none = rw c.in-PathLine.is at c.requires.in_turn in
     let fits = rw c.in-PathLine.is at c.requires.fits in
-    let pushed : c.push_path.new.plan ≡ c.self.inside.plan ++ c.in-PathLine.path ∷ [] = search rules in
-    let few : length c.push_path.new.plan ≤ 8 = search rules in
+    let pushed : c.add_path.new.plan ≡ c.self.inside.plan ++ c.in-PathLine.path ∷ [] = search rules in
+    let few : length c.add_path.new.plan ≤ 8 = search rules in
     let view = c.self.view_is in
     path_fits g.row.STATES c.args.self.now c.in-PathLine.path fits none _
     (λ i. record { weight = (view i).weight; paths = (pushed ∙ ap (λ (v : Certified). v.paths ++ c.in-PathLine.path ∷ []) view) i; entries = (view i).entries })
@@ -35,8 +34,8 @@ returns-then-not-is_above_all-clause-fault g c =
     let ranges = c.requires.drafted.room.ordered.in_range in
     let entries = c.deref.ensures.0 ∙ ap (λ (v : Certified). v.entries) c.self.view_is in
     let low : ¬ (IsAbove c.args.self.now.entries c.in-StateLine.entry) = λ above.
-        let yes = c.is_above_all.ensures.1 (subst (λ (l : List Entry). IsAbove l c.in-StateLine.entry) (sym entries) above) in
-        search rules in
+    let yes = c.is_above_all.ensures.1 (subst (λ (l : List Entry). IsAbove l c.in-StateLine.entry) (sym entries) above) in
+    search rules in
     let text = line_text (StateLine c.in-StateLine.entry) in
     let stops = low_state g.row.STATES c.args.self.now c.in-StateLine.entry fits ranges low in
     rw c.in-StateLine.is (number_is Weighed c.args.self.now ranges text c.args.number counted, stops.0, stops.1)

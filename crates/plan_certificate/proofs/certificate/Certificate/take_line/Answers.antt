@@ -1,8 +1,5 @@
-use Rattle.std.proofs.Common.{◌≡◌, ◌∷◌, ◌++◌, [], map, sym, subst, rules}
-use Rattle.std.specs.Prelude.{IfErr}
-use Rattle.plan_certificate.specs.CertificateText.{line_text}
-use Rattle.plan_certificate.specs.CertificateFaults.{IsLineFault}
-use Rattle.plan_certificate.specs.CertificateDrafts.{lines_so_far, due, MayCome}
+use Rattle.std.proofs.Common.{◌≡◌, rules}
+use Rattle.plan_certificate.specs.CertificateDrafts.{due, MayCome}
 use Rattle.plan_certificate.proofs.Drafts.{number_is, not_spelled, not_in_turn}
 use Rattle.plan_certificate.proofs.certificate.Certificate.take_line.Goals as goal
 use Rattle.plan_certificate.proofs.certificate.Certificate.take_line.Goals.{then-ne-via-then-ne, then-ne-via-else-ne+then-not-is_in_turn}
@@ -15,8 +12,7 @@ returns-in_default-clause-fault g c =
 pub returns-then-ne-clause-fault : goal.returns-then-ne-clause-fault
 returns-then-ne-clause-fault g c =
     let ranges = c.requires.drafted.room.ordered.in_range in
-    let late : ¬ (MayCome c.args.stage c.args.self.now c.in-Some.line) = λ may. elim c.then-ne.branch [ then-ne-via-then-ne w ↦ search rules | then-ne-via-else-ne+then-not-is_in_turn w ↦ let yes = w.is_in_turn.ensures.1 may.1 in search rules ] in
-    (
+    let late : ¬ (MayCome c.args.stage c.args.self.now c.in-Some.line) = λ may. elim c.then-ne.branch [ then-ne-via-then-ne w ↦ search rules | then-ne-via-else-ne+then-not-is_in_turn w ↦ let yes = w.is_in_turn.ensures.1 may.1 in search rules ] in (
       number_is c.args.stage c.args.self.now ranges c.args.line.now c.args.number c.requires.counted,
       not_in_turn c.args.stage c.args.self.now ranges c.args.line.now c.in-Some.line c.in-Some.ensures.0 c.in-Some.ensures.1 late,
     )

@@ -1,4 +1,4 @@
-// The text of a certificate: a header, the weight, the paths, the entries by rising states, and `end`.
+// Reading a certificate from its text, one line after another.
 ghost use Rattle.std.specs.Prelude.{◌≡◌, ◌↔◌, ◌<◌, ◌≤◌, ◌+◌, ◌++◌, ◌∷◌, [], ℕ, IsTrue, IfOk, IfErr, map, length};
 ghost use Rattle.std.specs.Bool.{OnTrue, OnFalse};
 ghost use Rattle.std.specs.List.{All};
@@ -8,7 +8,7 @@ ghost use Rattle.plan_certificate.specs.declared.plan.TheConstants.{MAX_PATHS};
 ghost use Rattle.plan_certificate.specs.Certificates.{place_of, HasStates};
 ghost use Rattle.plan_certificate.specs.CertificateText.{line_text, IsLine, IsEntry, IsTextOf};
 ghost use Rattle.plan_certificate.specs.CertificateFaults.{IsLineFault, IsFirstFault};
-ghost use Rattle.plan_certificate.specs.CertificateDrafts.{lines_so_far, due, IsInTurn, IsDraft};
+ghost use Rattle.plan_certificate.specs.CertificateDrafts.{lines_so_far, text_so_far, due, IsInTurn, IsDraft};
 
 use super::{Certificate, Entry};
 use crate::fault::CertificateFault;
@@ -57,12 +57,17 @@ impl<const STATES: usize> Certificate<STATES> {
     }
 
     // Takes the line of this number, which follows the lines so far.
-    fn take_line(&mut self, stage: Stage, line: &[u8], number: usize) -> Result<Stage, CertificateFault>
+    fn take_line(
+        &mut self,
+        stage: Stage,
+        line: &[u8],
+        number: usize,
+    ) -> Result<Stage, CertificateFault>
         requires drafted { IsDraft STATES stage self.old }
         requires counted { number ≡ length (lines_so_far stage self.old) + 1 }
         ensures drafted { IfOk result (λ next. IsDraft STATES next self.new) }
-        ensures added { IfOk result (λ next. map line_text (lines_so_far next self.new) ≡ map line_text (lines_so_far stage self.old) ++ line.now ∷ []) }
-        ensures fault { IfErr result (IsLineFault STATES (map line_text (lines_so_far stage self.old) ++ line.now ∷ [])) }
+        ensures added { IfOk result (λ next. text_so_far next self.new ≡ text_so_far stage self.old ++ line.now ∷ []) }
+        ensures fault { IfErr result (IsLineFault STATES (text_so_far stage self.old ++ line.now ∷ [])) }
     {
         let Some(line) = read_line(line) else {
             return Err(CertificateFault::BadLine(number));
@@ -91,7 +96,7 @@ impl<const STATES: usize> Certificate<STATES> {
         requires counted { number ≡ length (lines_so_far (due line) self.old) + 1 }
         ensures drafted { IfOk result (λ next. IsDraft STATES next self.new) }
         ensures added { IfOk result (λ next. lines_so_far next self.new ≡ lines_so_far (due line) self.old ++ line ∷ []) }
-        ensures fault { IfErr result (IsLineFault STATES (map line_text (lines_so_far (due line) self.old) ++ line_text line ∷ [])) }
+        ensures fault { IfErr result (IsLineFault STATES (text_so_far (due line) self.old ++ line_text line ∷ [])) }
     {
         match line {
             Line::Header => Ok(Stage::Headed),
@@ -100,7 +105,7 @@ impl<const STATES: usize> Certificate<STATES> {
                 Ok(Stage::Weighed)
             }
             Line::PathLine(path) => {
-                if !push_path(&mut self.plan, path) {
+                if !add_path(&mut self.plan, path) {
                     return Err(CertificateFault::TooMany);
                 }
                 Ok(Stage::Weighed)
@@ -130,7 +135,7 @@ fn due(line: Line) -> Stage
     }
 }
 
-fn push_path(plan: &mut Plan, path: Path) -> bool
+fn add_path(plan: &mut Plan, path: Path) -> bool
     ensures pushed { OnTrue result (plan.new ≡ plan.old ++ path ∷ []) }
     ensures room { OnTrue result (length plan.new ≤ MAX_PATHS) }
     ensures full { OnFalse result (length plan.old ≡ MAX_PATHS) }

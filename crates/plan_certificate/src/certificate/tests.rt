@@ -1,0 +1,112 @@
+use crate::{Certificate, CertificateFault, Entry, Path};
+use std::alloc::{AllocError, Global};
+use std::test::Fail;
+
+const HEAD: &str = "certificate 1\nweight 5\n";
+
+const PATH: &str = "path 1 1 1\n";
+
+const STATES: &str = "state 0 00 5\nstate 1 00 0\nstate 2 00 0\nstate 3 00 0\nstate 4 00 0\n\
+    state 5 00 0\nstate 6 00 0\nstate 7 00 0\nstate 8 00 0\nstate 8 ff 0\n";
+
+fn whole(alloc: Global) -> Result<String, AllocError> {
+    format!(in alloc; "{HEAD}{PATH}{STATES}end\n")
+}
+
+#[test]
+fn reads_and_writes_a_certificate(rt: HostRuntime) -> Result<(), Fail> {
+    let text = whole(rt.alloc())?;
+    let certificate = Certificate::<10>::read(text.as_bytes())?;
+    assert_eq!(rt; certificate.weight, 5);
+    let path = Path {
+        app: 1,
+        host: 1,
+        media: 1,
+    };
+    assert_eq!(rt; certificate.plan.paths.as_slice(), [path].as_slice());
+    let last = Entry {
+        boundary: 8,
+        used: 0xff,
+        potential: 0,
+    };
+    assert_eq!(rt; certificate.entries.len(), 10);
+    assert_eq!(rt; certificate.entries.last(), Some(&last));
+    assert_eq!(rt; certificate.write(rt.alloc())?.as_slice(), text.as_bytes());
+
+    let unended = text.as_bytes().strip_suffix(b"\n").ok_or("no line ends")?;
+    assert_eq!(rt; Certificate::<10>::read(unended)?.entries.len(), 10);
+    Ok(())
+}
+
+#[test]
+fn finds_the_first_fault(rt: HostRuntime) -> Result<(), Fail> {
+    let alloc = rt.alloc();
+    let whole = whole(alloc)?;
+    let eight = PATH.repeat(alloc, 8)?;
+    let texts: [([&str; 4], CertificateFault); 15] = [
+        (["", "", "", ""], CertificateFault::NoEnd),
+        (["certificate 1", "", "", ""], CertificateFault::NoEnd),
+        ([HEAD, PATH, STATES, ""], CertificateFault::NoEnd),
+        (
+            ["certificate 2\n", "weight 5\n", "end\n", ""],
+            CertificateFault::BadLine(1),
+        ),
+        (["\n", HEAD, "end\n", ""], CertificateFault::BadLine(1)),
+        (
+            [
+                "certificate 1\n",
+                "weight 18446744073709551616\n",
+                "end\n",
+                "",
+            ],
+            CertificateFault::BadLine(2),
+        ),
+        (
+            [HEAD, "path 256 1 1\n", "end\n", ""],
+            CertificateFault::BadLine(3),
+        ),
+        (
+            [HEAD, "state 9 00 0\n", "end\n", ""],
+            CertificateFault::BadLine(3),
+        ),
+        (
+            [HEAD, "state 8 FF 0\n", "end\n", ""],
+            CertificateFault::BadLine(3),
+        ),
+        (
+            [HEAD, "state 0 00 5\n", PATH, "end\n"],
+            CertificateFault::BadLine(4),
+        ),
+        ([&whole, "\n", "", ""], CertificateFault::BadLine(15)),
+        (
+            [HEAD, STATES, "state 8 fe 0\n", "end\n"],
+            CertificateFault::OutOfOrder(13),
+        ),
+        (
+            [HEAD, "state 0 00 5\n", "state 0 00 4\n", "end\n"],
+            CertificateFault::OutOfOrder(4),
+        ),
+        ([HEAD, &eight, PATH, "end\n"], CertificateFault::TooMany),
+        (
+            [HEAD, "state 0 00 5\n", &eight, "end\n"],
+            CertificateFault::BadLine(4),
+        ),
+    ];
+    for ([a, b, c, d], fault) in texts {
+        let text = format!(in alloc; "{a}{b}{c}{d}")?;
+        let found = Certificate::<10>::read(text.as_bytes()).err();
+        assert_eq!(rt; found, Some(fault), "{text}");
+    }
+    Ok(())
+}
+
+#[test]
+fn has_room_for_so_many_states(rt: HostRuntime) -> Result<(), Fail> {
+    let text = whole(rt.alloc())?;
+    assert_eq!(rt; Certificate::<10>::read(text.as_bytes()).err(), None);
+    assert_eq!(rt;
+        Certificate::<9>::read(text.as_bytes()).err(),
+        Some(CertificateFault::TooMany)
+    );
+    Ok(())
+}
