@@ -60,10 +60,13 @@ pub fn read_line(bytes: &[u8]) -> Option<Line>
 fn read_words(words: &[&[u8]]) -> Option<Line>
     ensures { MatchOption result ((line : Line) → IsLine line → map (λ word. word.now) words.now ≢ line_words line) (λ line. IsLine line × (map (λ word. word.now) words.now ≡ line_words line)) }
 {
-    match words {
-        [name] => read_end(name),
-        [name, value] => read_head(name, value),
-        [name, first, second, third] => read_item(name, first, second, third),
+    let Some((name, values)) = words.split_first() else {
+        return None;
+    };
+    match values {
+        [] => read_end(name),
+        [value] => read_head(name, value),
+        [first, second, third] => read_item(name, first, second, third),
         _ => None,
     }
 }
