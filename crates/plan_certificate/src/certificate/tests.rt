@@ -1,3 +1,4 @@
+use crate::CertificateFault::{BadLine, NoEnd, OutOfOrder, TooMany};
 use crate::{Certificate, CertificateFault, Entry, Path};
 use std::alloc::{AllocError, Global};
 use std::test::Fail;
@@ -9,8 +10,12 @@ const PATH: &str = "path 1 1 1\n";
 const STATES: &str = "state 0 00 5\nstate 1 00 0\nstate 2 00 0\nstate 3 00 0\nstate 4 00 0\n\
     state 5 00 0\nstate 6 00 0\nstate 7 00 0\nstate 8 00 0\nstate 8 ff 0\n";
 
+const END: &str = "end\n";
+
+const TOO_HEAVY: &str = "weight 18446744073709551616\n";
+
 fn whole(alloc: Global) -> Result<String, AllocError> {
-    format!(in alloc; "{HEAD}{PATH}{STATES}end\n")
+    format!(in alloc; "{HEAD}{PATH}{STATES}{END}")
 }
 
 #[test]
@@ -41,59 +46,25 @@ fn reads_and_writes_a_certificate(rt: HostRuntime) -> Result<(), Fail> {
 #[test]
 fn finds_the_first_fault(rt: HostRuntime) -> Result<(), Fail> {
     let alloc = rt.alloc();
-    let whole = whole(alloc)?;
-    let eight = PATH.repeat(alloc, 8)?;
-    let texts: [([&str; 4], CertificateFault); 15] = [
-        (["", "", "", ""], CertificateFault::NoEnd),
-        (["certificate 1", "", "", ""], CertificateFault::NoEnd),
-        ([HEAD, PATH, STATES, ""], CertificateFault::NoEnd),
-        (
-            ["certificate 2\n", "weight 5\n", "end\n", ""],
-            CertificateFault::BadLine(1),
-        ),
-        (["\n", HEAD, "end\n", ""], CertificateFault::BadLine(1)),
-        (
-            [
-                "certificate 1\n",
-                "weight 18446744073709551616\n",
-                "end\n",
-                "",
-            ],
-            CertificateFault::BadLine(2),
-        ),
-        (
-            [HEAD, "path 256 1 1\n", "end\n", ""],
-            CertificateFault::BadLine(3),
-        ),
-        (
-            [HEAD, "state 9 00 0\n", "end\n", ""],
-            CertificateFault::BadLine(3),
-        ),
-        (
-            [HEAD, "state 8 FF 0\n", "end\n", ""],
-            CertificateFault::BadLine(3),
-        ),
-        (
-            [HEAD, "state 0 00 5\n", PATH, "end\n"],
-            CertificateFault::BadLine(4),
-        ),
-        ([&whole, "\n", "", ""], CertificateFault::BadLine(15)),
-        (
-            [HEAD, STATES, "state 8 fe 0\n", "end\n"],
-            CertificateFault::OutOfOrder(13),
-        ),
-        (
-            [HEAD, "state 0 00 5\n", "state 0 00 4\n", "end\n"],
-            CertificateFault::OutOfOrder(4),
-        ),
-        ([HEAD, &eight, PATH, "end\n"], CertificateFault::TooMany),
-        (
-            [HEAD, "state 0 00 5\n", &eight, "end\n"],
-            CertificateFault::BadLine(4),
-        ),
+    let (whole, eight) = (whole(alloc)?, PATH.repeat(alloc, 8)?);
+    let texts: [([&str; 3], CertificateFault); 14] = [
+        (["", "", ""], NoEnd),
+        (["certificate 1", "", ""], NoEnd),
+        ([HEAD, STATES, ""], NoEnd),
+        (["certificate 2\n", "weight 5\n", END], BadLine(1)),
+        (["certificate 1\n", TOO_HEAVY, END], BadLine(2)),
+        ([HEAD, "path 256 1 1\n", END], BadLine(3)),
+        ([HEAD, "state 9 00 0\n", END], BadLine(3)),
+        ([HEAD, "state 8 FF 0\n", END], BadLine(3)),
+        ([HEAD, "state 0 00 5\npath 1 1 1\n", END], BadLine(4)),
+        ([&whole, "\n", ""], BadLine(15)),
+        ([HEAD, "state 0 00 5\nstate 0 00 4\n", END], OutOfOrder(4)),
+        ([HEAD, STATES, "state 8 fe 0\n"], OutOfOrder(13)),
+        ([HEAD, &eight, PATH], TooMany),
+        ([HEAD, STATES, &eight], BadLine(13)),
     ];
-    for ([a, b, c, d], fault) in texts {
-        let text = format!(in alloc; "{a}{b}{c}{d}")?;
+    for ([a, b, c], fault) in texts {
+        let text = format!(in alloc; "{a}{b}{c}")?;
         let found = Certificate::<10>::read(text.as_bytes()).err();
         assert_eq!(rt; found, Some(fault), "{text}");
     }
@@ -106,7 +77,7 @@ fn has_room_for_so_many_states(rt: HostRuntime) -> Result<(), Fail> {
     assert_eq!(rt; Certificate::<10>::read(text.as_bytes()).err(), None);
     assert_eq!(rt;
         Certificate::<9>::read(text.as_bytes()).err(),
-        Some(CertificateFault::TooMany)
+        Some(TooMany)
     );
     Ok(())
 }
