@@ -8,3 +8,10 @@ mod ByteLanes
 mod GoodVerdicts
 mod Grown
 mod Heaviest
+pub mod LineWords
+pub mod NextLines
+pub mod Drafts
+pub mod AddedLines
+pub mod WholeTexts
+pub mod OneAnswer
+pub mod WrittenCertificates
