@@ -3,10 +3,12 @@
 
 mod certificate;
 mod path;
+mod path_app;
 mod plan;
 mod state;
 
 pub use certificate::{Certificate, Entry};
 pub use path::Path;
+pub use path_app::app_of;
 pub use plan::{MAX_PATHS, Plan};
 pub use state::{State, Step};
