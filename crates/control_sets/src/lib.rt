@@ -1,13 +1,12 @@
-// A library with one function.
+//! The control bytes of a control set: those of a plan, and the host paths that they tell.
 #![tactic(auto)]
 
-ghost use Rattle.std.specs.Prelude.{◌≡◌};
-ghost use Rattle.control_sets.specs.Echo.{echo_of};
+mod control_byte;
+mod fault;
+mod host_path;
 
-// The `ensures` clause is the contract: what `echo` returns is `echo_of` of its argument, a definition
-// in `specs/Echo.antt`, which a caller's clause can cite too.
-pub fn echo(x: usize) -> usize
-    ensures { result ≡ echo_of x }
-{
-    x
-}
+
+pub use control_byte::ControlByte;
+pub use fault::ControlFault;
+pub use host_path::{HostPath, paths_of};
+

@@ -1,0 +1,2 @@
+pub mod ControlBytes
+pub mod HostPaths
