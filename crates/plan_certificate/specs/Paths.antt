@@ -32,9 +32,13 @@ host_lanes advert path = run_of path.host (app_of advert path).host_lanes
 abbrev pub media_lanes : Advertised → Path → Lanes
 media_lanes advert path = run_of path.media (app_of advert path).media_lanes
 
--- so many lanes from the first on, which the Application offers, and none over 8
+-- so many lanes from the first on are among the lanes 1 to 8
+abbrev pub is_within : ℕ → ℕ → Bool
+is_within first count = nat_le 1 first && nat_le (first + count) 9
+
+-- the lanes are there, and a path may begin at the first of them
 abbrev pub is_run : Lanes → ℕ → ℕ → Bool
-is_run starts first count = set.contains starts first && nat_le (first + count) 9
+is_run starts first count = is_within first count && set.contains starts first
 
 -- a path that the module can carry
 unfoldable pub is_allowed : Advertised → Path → Bool

@@ -1,0 +1,4 @@
+mod LaneRuns
+mod Lists
+mod Picked
+mod Heaviest
