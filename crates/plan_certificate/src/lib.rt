@@ -9,6 +9,5 @@ mod state;
 
 pub use certificate::{Certificate, Entry};
 pub use path::Path;
-pub use path_app::app_of;
 pub use plan::{MAX_PATHS, Plan};
 pub use state::{State, Step};

@@ -1,18 +1,30 @@
-ghost use Rattle.std.specs.Prelude.{◌≡◌, ◌==◌, find};
+ghost use Rattle.std.specs.Prelude.{◌≡◌, ◌==◌, true, find};
 ghost use Rattle.applications.specs.declared.app.App.{App};
 ghost use Rattle.plan_certificate.specs.Paths as spec;
 
 use crate::path::Path;
 use applications::{Advert, App};
+use field_tables::LaneSet;
 
-/// The Application of a path, or one without lanes where it isn't advertised.
-#[tactic(auto, unfolding(crate::specs::Paths::app_of))]
-pub fn app_of(advert: &Advert, path: Path) -> App
-    ensures { result ≡ spec.app_of advert.now path }
-{
-    match app_numbered(advert.apps(), path.app) {
-        Some(app) => app,
-        None => App::default(),
+impl Path {
+    /// The Application of the path; where none has its number, one without lanes.
+    #[tactic(auto, unfolding(crate::specs::Paths::app_of))]
+    pub fn application(self, advert: &Advert) -> App
+        ensures { result ≡ spec.app_of advert.now self }
+    {
+        match app_numbered(advert.apps(), self.app) {
+            Some(app) => app,
+            None => App::default(),
+        }
+    }
+
+    /// The host lanes of the path.
+    #[tactic(auto, unfolding(crate::specs::Paths::is_allowed))]
+    pub fn host_lanes(self, advert: &Advert) -> LaneSet
+        requires { spec.is_allowed advert.now self ≡ true }
+        ensures { result ≡ spec.host_lanes advert.now self }
+    {
+        LaneSet::run(self.host, self.application(advert).host_lanes)
     }
 }
 
