@@ -33,5 +33,5 @@ unfoldable pub control_byte : Advertised → List Path → ℕ → ℕ
 control_byte advert paths lane = byte_in (path_on advert paths lane)
 
 -- those of host lanes 1 to 8
-abbrev pub control_bytes : Advertised → List Path → List ℕ
+unfoldable pub control_bytes : Advertised → List Path → List ℕ
 control_bytes advert paths = map (control_byte advert paths) (range_with_len 1 8)

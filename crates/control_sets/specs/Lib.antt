@@ -1,2 +1,3 @@
 pub mod ControlBytes
 pub mod HostPaths
+pub mod PlanPaths

@@ -4,9 +4,10 @@
 mod control_byte;
 mod fault;
 mod host_path;
-
+pub mod laws;
+mod plan_bytes;
 
 pub use control_byte::ControlByte;
 pub use fault::ControlFault;
 pub use host_path::{HostPath, paths_of};
-
+pub use plan_bytes::bytes_of;
