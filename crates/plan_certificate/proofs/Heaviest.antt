@@ -1,5 +1,5 @@
 -- Why the plan of a good certificate is best: from each state, what is still gained weighs no more than its potential.
-use Rattle.std.proofs.Common.{◌≡◌, ◌≢◌, ℕ, zero, suc, ◌+◌, ◌<◌, ◌≤◌, ◌&&◌, ◌==◌, Bool, true, List, [], ◌∷◌, Option, Some, None, refl, sym, subst, ap, inl, inr, map, filter, cond, nat_lt, arith}
+use Rattle.std.proofs.Common.{◌≡◌, ◌≢◌, ℕ, zero, suc, ◌+◌, ◌<◌, ◌≤◌, ◌&&◌, Bool, true, List, [], ◌∷◌, Option, Some, None, refl, sym, subst, ap, inl, inr, filter, cond, nat_lt, arith}
 use Rattle.std.specs.List.{All, AllByRecursion, find, range_with_len, sum_by}
 use Rattle.std.specs.Option.{unwrap_or}
 use Rattle.std.proofs.lemmas.List.Elements.{All-contains, recursion_from_All}
@@ -13,9 +13,9 @@ use Rattle.plan_certificate.specs.declared.path.Path.{Path}
 use Rattle.plan_certificate.specs.declared.state.State.{State}
 use Rattle.plan_certificate.specs.declared.state.Step.{Step}
 use Rattle.plan_certificate.specs.declared.certificate.Entry.{Entry}
-use Rattle.plan_certificate.specs.Paths.{app_of, no_app, media_lanes, is_allowed, path_weight}
+use Rattle.plan_certificate.specs.Paths.{app_of, has_number, no_app, media_lanes, is_allowed, path_weight}
 use Rattle.plan_certificate.specs.Plans.{are_apart, IsBest, plan_weight}
-use Rattle.plan_certificate.specs.States.{start, free_step, path_step, paths_at, paths_of_app, fits, steps_from}
+use Rattle.plan_certificate.specs.States.{start, free_step, path_step, paths_at, paths_of_app, fits, path_steps, steps_from}
 use Rattle.plan_certificate.specs.Certificates.{Certified, IsBound, IsCovered, IsGood, state_of}
 use Rattle.plan_certificate.proofs.LaneRuns.{disjoint_back, disjoint_none, disjoint_union, runs_apart}
 use Rattle.plan_certificate.proofs.Lists.{each_of_map, each_of_filter, each_of_flat_map, each_in_range, found}
@@ -41,10 +41,7 @@ allowed advert path can = record {
   media_some = grind (arith, nat_tests);
 }
 
-abbrev names : Path → App → Bool
-names path app = app.number == path.app
-
-app_found : (advert : Advertised) (path : Path) (o : Option App) → find (names path) advert.apps ≡ o → is_allowed advert path ≡ true → (app : App) × (find (names path) advert.apps ≡ Some app)
+app_found : (advert : Advertised) (path : Path) (o : Option App) → find (has_number path) advert.apps ≡ o → is_allowed advert path ≡ true → (app : App) × (find (has_number path) advert.apps ≡ Some app)
 unfolding app_of
 app_found advert path (Some app) is can = (app, is)
 app_found advert path None is can =
@@ -56,8 +53,8 @@ app_found advert path None is can =
 listed : (advert : Advertised) (P : Path → Type 0) (path : Path) (host : ℕ) → path.host ≡ host → is_allowed advert path ≡ true → AllByRecursion P (paths_at advert host) → P path
 listed advert P path host begins can each =
     let lanes = allowed advert path can in
-    let app = app_found advert path (find (names path) advert.apps) refl can in
-    let of_app = found (λ (a : App). AllByRecursion P (paths_of_app host a)) (names path) advert.apps app.0 app.1 (each_of_flat_map P (paths_of_app host) advert.apps each) in
+    let app = app_found advert path (find (has_number path) advert.apps) refl can in
+    let of_app = found (λ (a : App). AllByRecursion P (paths_of_app host a.number)) (has_number path) advert.apps app.0 app.1 (each_of_flat_map P (λ (a : App). paths_of_app host a.number) advert.apps each) in
     let number : app.0.number ≡ path.app = eqb-true _ _ of_app.1 in
     let by_media = each_of_map P (λ (media : ℕ). record { app = app.0.number; host = host; media = media }) (range_with_len 1 8) of_app.0 in
     let one : P (record { app = app.0.number; host = host; media = path.media }) =
@@ -67,10 +64,10 @@ listed advert P path host begins can each =
 -- what holds of each step from a state holds of the free lane's step and of each path's that fits
 each_step : (advert : Advertised) (weights : HostWeights) (P : Step → Type 0) (state : State) → state.boundary < 8 → AllByRecursion P (steps_from advert weights state)
     → P (free_step state) × ((path : Path) → path.host ≡ state.boundary + 1 → is_allowed advert path ≡ true → is_disjoint (media_lanes advert path) state.used ≡ true → P (path_step advert weights state path))
-unfolding steps_from
+unfolding steps_from path_steps
 each_step advert weights P state below each =
     let host : ℕ = state.boundary + 1 in
-    let steps = free_step state ∷ map (path_step advert weights state) (filter (fits advert state) (paths_at advert host)) in
+    let steps = free_step state ∷ path_steps advert weights state (paths_at advert host) in
     let is_below : nat_lt state.boundary 8 ≡ true = grind (arith, nat_tests) in
     let all : AllByRecursion P steps = subst (λ (b : Bool). AllByRecursion P (cond b steps [])) is_below each in
     let of_paths = each_of_filter (λ (path : Path). P (path_step advert weights state path)) (fits advert state) (paths_at advert host) (each_of_map P (path_step advert weights state) (filter (fits advert state) (paths_at advert host)) all.1) in

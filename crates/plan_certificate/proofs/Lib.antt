@@ -1,4 +1,6 @@
 mod LaneRuns
 mod Lists
 mod Picked
+mod Searches
+mod Grown
 mod Heaviest

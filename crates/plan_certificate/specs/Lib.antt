@@ -2,3 +2,4 @@ pub mod Paths
 pub mod Plans
 pub mod States
 pub mod Certificates
+pub mod Verdicts

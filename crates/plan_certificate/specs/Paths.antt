@@ -22,9 +22,12 @@ no_app = record {
   media_starts = set.empty;
 }
 
+abbrev pub has_number : Path → App → Bool
+has_number path app = app.number == path.app
+
 -- the Application of a path
 unfoldable pub app_of : Advertised → Path → App
-app_of advert path = unwrap_or (find (λ app. app.number == path.app) advert.apps) no_app
+app_of advert path = unwrap_or (find (has_number path) advert.apps) no_app
 
 abbrev pub host_lanes : Advertised → Path → Lanes
 host_lanes advert path = run_of path.host (app_of advert path).host_lanes

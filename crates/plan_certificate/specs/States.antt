@@ -4,7 +4,6 @@ use Rattle.std.specs.Prelude.{ℕ, ◌+◌, ◌&&◌, Bool, nat_lt, if◌then◌
 use Rattle.std.specs.List.{range_with_len}
 use Rattle.std.specs.FinSet as set
 use Rattle.field_tables.specs.LaneSets.{is_disjoint}
-use Rattle.applications.specs.declared.app.App.{App}
 use Rattle.applications.specs.Advertised.{Advertised}
 use Rattle.applications.specs.Weights.{HostWeights}
 use Rattle.plan_certificate.specs.declared.path.Path.{Path}
@@ -31,19 +30,23 @@ path_step advert weights state path = record {
 }
 
 -- the paths of an Application from a host lane on, by rising media lane
-abbrev pub paths_of_app : ℕ → App → List Path
-paths_of_app host app = map (λ media. record { app = app.number; host = host; media = media }) (range_with_len 1 8)
+abbrev pub paths_of_app : ℕ → ℕ → List Path
+paths_of_app host app = map (λ media. record { app = app; host = host; media = media }) (range_with_len 1 8)
 
 -- all paths from a host lane on, by rising Application and media lane
 abbrev pub paths_at : Advertised → ℕ → List Path
-paths_at advert host = flat_map (paths_of_app host) advert.apps
+paths_at advert host = flat_map (λ app. paths_of_app host app.number) advert.apps
 
 abbrev pub fits : Advertised → State → Path → Bool
 fits advert state path = is_allowed advert path && is_disjoint (media_lanes advert path) state.used
+
+-- the steps of those of these paths that fit
+unfoldable pub path_steps : Advertised → HostWeights → State → List Path → List Step
+path_steps advert weights state paths = map (path_step advert weights state) (filter (fits advert state) paths)
 
 -- the free lane's step, then those of the paths that fit
 unfoldable pub steps_from : Advertised → HostWeights → State → List Step
 steps_from advert weights state =
     if nat_lt state.boundary 8
-    then free_step state ∷ map (path_step advert weights state) (filter (fits advert state) (paths_at advert (state.boundary + 1)))
+    then free_step state ∷ path_steps advert weights state (paths_at advert (state.boundary + 1))
     else []

@@ -6,8 +6,12 @@ mod path;
 mod path_app;
 mod plan;
 mod state;
+mod steps;
+mod verdict;
 
 pub use certificate::{Certificate, Entry};
 pub use path::Path;
 pub use plan::{MAX_PATHS, Plan};
 pub use state::{State, Step};
+pub use steps::{MAX_STEPS, steps_from};
+pub use verdict::{Reason, Verdict};

@@ -1,3 +1,10 @@
+ghost use Rattle.std.specs.Prelude.{◌≡◌, ◌≤◌, ◌+◌, true};
+ghost use Rattle.plan_certificate.specs.Paths as spec;
+ghost use Rattle.plan_certificate.specs.Plans as plans;
+
+use applications::{Advert, App, Weights};
+use field_tables::LaneSet;
+
 /// A data path: an Application on consecutive host lanes and consecutive media lanes.
 #[derive(Clone, Copy, Debug, PartialEq, Eq, Default)]
 pub struct Path {
@@ -7,4 +14,75 @@ pub struct Path {
     pub host: u8,
     /// The first media lane, 1 to 8.
     pub media: u8,
+}
+
+impl Path {
+    /// The Application of the path; where none has its number, one without lanes.
+    #[tactic(auto, unfolding(crate::specs::Paths::app_of))]
+    pub fn application(self, advert: &Advert) -> App
+        ensures { result ≡ spec.app_of advert.now self }
+    {
+        for app in advert.apps() {
+            if app.number == self.app {
+                return *app;
+            }
+        }
+        App::default()
+    }
+
+    /// Whether the module can carry the path.
+    #[tactic(auto, unfolding(crate::specs::Paths::is_allowed))]
+    pub fn is_allowed(self, advert: &Advert) -> bool
+        ensures { result ≡ spec.is_allowed advert.now self }
+    {
+        let app = self.application(advert);
+        app.is_usable()
+            && is_run(app.host_starts, self.host, app.host_lanes)
+            && is_run(app.media_starts, self.media, app.media_lanes)
+            && LaneSet::run(self.media, app.media_lanes).is_disjoint(advert.unsupported())
+    }
+
+    /// The host lanes of the path.
+    #[tactic(auto, unfolding(crate::specs::Paths::is_allowed))]
+    pub fn host_lanes(self, advert: &Advert) -> LaneSet
+        requires { spec.is_allowed advert.now self ≡ true }
+        ensures { result ≡ spec.host_lanes advert.now self }
+    {
+        LaneSet::run(self.host, self.application(advert).host_lanes)
+    }
+
+    /// The media lanes of the path.
+    #[tactic(auto, unfolding(crate::specs::Paths::is_allowed))]
+    pub fn media_lanes(self, advert: &Advert) -> LaneSet
+        requires { spec.is_allowed advert.now self ≡ true }
+        ensures { result ≡ spec.media_lanes advert.now self }
+    {
+        LaneSet::run(self.media, self.application(advert).media_lanes)
+    }
+
+    /// Whether the paths share neither a host lane nor a media lane.
+    #[tactic(auto, unfolding(crate::specs::Plans::are_apart))]
+    pub fn is_apart(self, other: Path, advert: &Advert) -> bool
+        requires self_allowed { spec.is_allowed advert.now self ≡ true }
+        requires other_allowed { spec.is_allowed advert.now other ≡ true }
+        ensures { result ≡ plans.are_apart advert.now self other }
+    {
+        self.host_lanes(advert).is_disjoint(other.host_lanes(advert))
+            && self.media_lanes(advert).is_disjoint(other.media_lanes(advert))
+    }
+
+    /// What the path weighs.
+    pub fn weight(self, advert: &Advert, weights: &Weights) -> u32
+        ensures { result ≡ spec.path_weight advert.now weights.now self }
+    {
+        weights.of(self.application(advert).host_id)
+    }
+}
+
+// Whether there are so many lanes from the first on, and a path may begin there.
+fn is_run(starts: LaneSet, first: u8, count: u8) -> bool
+    requires { count ≤ 8 }
+    ensures { result ≡ spec.is_run starts first count }
+{
+    1 <= first && u16::from(first) + u16::from(count) <= 9 && starts.contains(first)
 }

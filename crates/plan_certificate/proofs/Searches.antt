@@ -1,0 +1,61 @@
+-- Searches from the front of a list, one element after another: what is left to search.
+use Rattle.std.proofs.Common.{◌≡◌, ℕ, suc, ◌+◌, ◌<◌, ◌≤◌, Bool, true, false, List, [], ◌∷◌, ◌++◌, Some, None, length, drop, get_or, refl, ap, ◌∙◌, cond, arith}
+use Rattle.std.proofs.Math.Seq.{drop-cons}
+use Rattle.std.proofs.Math.ListN.{drop_of_length-le}
+use Rattle.std.proofs.lemmas.List.FromFn.{get_or-enumerate_from, length-enumerate_from}
+use Rattle.std.specs.List.{find, flat_map, enumerate_from}
+use Rattle.field_tables.specs.FirstFault.{first_fault}
+
+abbrev rest_from : {X : Type 0} → ℕ → List X → List X
+rest_from k xs = drop (k + 1) xs
+
+next : {X : Type 0} (xs : List X) (k : ℕ) (d : X) → k < length xs → drop k xs ≡ get_or xs k d ∷ rest_from k xs
+next xs k d below = drop-cons xs k d below ∙ (let one : suc k ≡ k + 1 = omega arith in ap (λ n. get_or xs k d ∷ drop n xs) one)
+
+-- ---- the first element that passes a test
+
+pub find_here : {X : Type 0} (test : X → Bool) (xs : List X) (k : ℕ) (d : X) → k < length xs → test (get_or xs k d) ≡ true → find test (drop k xs) ≡ Some (get_or xs k d)
+find_here test xs k d below passes =
+    ap (find test) (next xs k d below) ∙ ap (λ b. cond b (Some (get_or xs k d)) (find test (rest_from k xs))) passes
+
+pub find_later : {X : Type 0} (test : X → Bool) (xs : List X) (k : ℕ) (d : X) → k < length xs → test (get_or xs k d) ≡ false → find test (drop k xs) ≡ find test (drop (k + 1) xs)
+find_later test xs k d below fails =
+    ap (find test) (next xs k d below) ∙ ap (λ b. cond b (Some (get_or xs k d)) (find test (rest_from k xs))) fails
+
+pub none_left : {X : Type 0} (xs : List X) (k : ℕ) → length xs ≤ k → drop k xs ≡ []
+none_left xs k past = drop_of_length-le xs past
+
+-- ---- the first of several faults
+
+abbrev Faults : Type 0 → Type 0
+Faults F = List (Bool × F)
+
+pub first_then : {F : Type 0} (xs ys : Faults F) (v : F) → first_fault xs ≡ Some v → first_fault (xs ++ ys) ≡ Some v
+first_then [] ys v is = absurd cc
+first_then ((true, f) ∷ xs) ys v is = is
+first_then ((false, f) ∷ xs) ys v is = first_then xs ys v is
+
+pub none_then : {F : Type 0} (xs ys : Faults F) → first_fault xs ≡ None → first_fault (xs ++ ys) ≡ first_fault ys
+none_then [] ys is = refl
+none_then ((true, f) ∷ xs) ys is = absurd cc
+none_then ((false, f) ∷ xs) ys is = none_then xs ys is
+
+-- of the faults of each element in turn
+pub fault_here : {X F : Type 0} (faults : X → Faults F) (xs : List X) (k : ℕ) (d : X) (v : F) → k < length xs → first_fault (faults (get_or xs k d)) ≡ Some v → first_fault (flat_map faults (drop k xs)) ≡ Some v
+fault_here faults xs k d v below is =
+    ap (λ ys. first_fault (flat_map faults ys)) (next xs k d below) ∙ first_then (faults (get_or xs k d)) (flat_map faults (rest_from k xs)) v is
+
+pub fault_later : {X F : Type 0} (faults : X → Faults F) (xs : List X) (k : ℕ) (d : X) → k < length xs → first_fault (faults (get_or xs k d)) ≡ None → first_fault (flat_map faults (drop k xs)) ≡ first_fault (flat_map faults (drop (k + 1) xs))
+fault_later faults xs k d below is =
+    ap (λ ys. first_fault (flat_map faults ys)) (next xs k d below) ∙ none_then (faults (get_or xs k d)) (flat_map faults (rest_from k xs)) is
+
+-- ---- elements that are numbered from 1
+
+pub numbered_at : {X : Type 0} (xs : List X) (k : ℕ) (d : X) → k < length xs → get_or (enumerate_from 1 xs) k (k + 1, d) ≡ (k + 1, get_or xs k d)
+numbered_at xs k d below = get_or-enumerate_from 1 xs k (k + 1, d) below ∙ (let one : 1 + k ≡ k + 1 = omega arith in ap (λ n. (n, get_or xs k d)) one)
+
+pub numbered_below : {X : Type 0} (xs : List X) (k : ℕ) → k < length xs → k < length (enumerate_from 1 xs)
+numbered_below xs k below = omega (arith, below, length-enumerate_from 1 xs)
+
+pub none_left_numbered : {X : Type 0} (xs : List X) (k : ℕ) → length xs ≤ k → drop k (enumerate_from 1 xs) ≡ []
+none_left_numbered xs k past = none_left (enumerate_from 1 xs) k (omega (arith, past, length-enumerate_from 1 xs))

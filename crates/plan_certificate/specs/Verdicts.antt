@@ -1,0 +1,78 @@
+-- How a certificate is judged: its flaws in order, of which the first counts. (docs/planning.md, "The checker")
+use Rattle.std.specs.Prelude.{ℕ, ◌+◌, ◌-◌, ◌*◌, ◌==◌, Bool, not, nat_lt, List, [], ◌∷◌, ◌++◌, Option, Some, None, map, take, find, flat_map}
+use Rattle.std.specs.List.{enumerate_from, list_all}
+use Rattle.std.specs.Option.{option_map, unwrap_or, is_none}
+use Rattle.field_tables.specs.FirstFault.{first_fault}
+use Rattle.field_tables.specs.LaneSets.{byte_of}
+use Rattle.applications.specs.Advertised.{Advertised}
+use Rattle.applications.specs.Weights.{HostWeights}
+use Rattle.plan_certificate.specs.declared.path.Path.{Path}
+use Rattle.plan_certificate.specs.declared.state.State.{State}
+use Rattle.plan_certificate.specs.declared.state.Step.{Step}
+use Rattle.plan_certificate.specs.declared.certificate.Entry.{Entry}
+use Rattle.plan_certificate.specs.declared.verdict.Verdict.{Verdict}
+use Rattle.plan_certificate.specs.declared.verdict.Verdict.TheVariants.{Good, Bad}
+use Rattle.plan_certificate.specs.declared.verdict.Reason.{Reason}
+use Rattle.plan_certificate.specs.declared.verdict.Reason.TheVariants.{PathNotAllowed, LaneTwice, WeightWrong, NoStart, NotClosed, TooLow, StartNotWeight}
+use Rattle.plan_certificate.specs.Paths.{is_allowed}
+use Rattle.plan_certificate.specs.Plans.{are_apart, plan_weight}
+use Rattle.plan_certificate.specs.States.{start, steps_from}
+use Rattle.plan_certificate.specs.Certificates.{Certified, state_of, place_of}
+
+-- whether it applies, the reason, and the number
+abbrev pub Flaw : Type 0
+Flaw = Bool × (Reason × ℕ)
+
+abbrev pub Flaws : Type 0
+Flaws = List Flaw
+
+-- a path that isn't allowed; paths count from 1
+abbrev pub path_flaw : Advertised → ℕ × Path → Flaw
+path_flaw advert (number, path) = (not (is_allowed advert path), (PathNotAllowed, number))
+
+-- a path that shares a lane with an earlier one
+abbrev pub lane_flaw : Advertised → List Path → ℕ × Path → Flaw
+lane_flaw advert paths (number, path) = (not (list_all (λ earlier. are_apart advert earlier path) (take (number - 1) paths)), (LaneTwice, number))
+
+unfoldable pub path_flaws : Advertised → List Path → Flaws
+path_flaws advert paths = map (path_flaw advert) (enumerate_from 1 paths)
+
+unfoldable pub lane_flaws : Advertised → List Path → Flaws
+lane_flaws advert paths = map (lane_flaw advert paths) (enumerate_from 1 paths)
+
+abbrev pub place_of_state : State → ℕ
+place_of_state state = 256 * state.boundary + byte_of state.used
+
+-- the potential of a state, where it has an entry
+unfoldable pub potential_of : List Entry → State → Option ℕ
+potential_of entries state = option_map (λ entry. entry.potential) (find (λ entry. place_of entry == place_of_state state) entries)
+
+-- a step to a state without an entry, or to one from which too much can still be gained; entries count from 1
+abbrev pub step_flaws : List Entry → ℕ × Entry → Step → Flaws
+step_flaws entries (number, entry) step =
+    (is_none (potential_of entries step.end), (NotClosed, number))
+    ∷ (nat_lt entry.potential (step.weight + unwrap_or (potential_of entries step.end) 0), (TooLow, number))
+    ∷ []
+
+abbrev pub entry_flaws : Advertised → HostWeights → List Entry → ℕ × Entry → Flaws
+entry_flaws advert weights entries entry = flat_map (step_flaws entries entry) (steps_from advert weights (state_of entry.1))
+
+unfoldable pub entries_flaws : Advertised → HostWeights → List Entry → Flaws
+entries_flaws advert weights entries = flat_map (entry_flaws advert weights entries) (enumerate_from 1 entries)
+
+abbrev pub all_flaws : Advertised → HostWeights → Certified → Flaws
+all_flaws advert weights certificate =
+    path_flaws advert certificate.paths
+    ++ lane_flaws advert certificate.paths
+    ++ (not (certificate.weight == plan_weight advert weights certificate.paths), (WeightWrong, 0))
+    ∷ (is_none (potential_of certificate.entries start), (NoStart, 0))
+    ∷ entries_flaws advert weights certificate.entries
+    ++ (not (unwrap_or (potential_of certificate.entries start) 0 == certificate.weight), (StartNotWeight, 0))
+    ∷ []
+
+abbrev pub judged : Option (Reason × ℕ) → Verdict
+judged None = Good
+judged (Some flaw) = Bad flaw.0 flaw.1
+
+unfoldable pub verdict : Advertised → HostWeights → Certified → Verdict
+verdict advert weights certificate = judged (first_fault (all_flaws advert weights certificate))
