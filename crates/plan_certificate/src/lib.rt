@@ -3,7 +3,6 @@
 
 mod certificate;
 mod path;
-mod path_app;
 mod plan;
 mod state;
 mod steps;
