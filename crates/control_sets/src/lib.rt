@@ -11,3 +11,6 @@ pub use control_byte::ControlByte;
 pub use fault::ControlFault;
 pub use host_path::{HostPath, paths_of};
 pub use plan_bytes::bytes_of;
+
+#[cfg(test)]
+mod tests;
