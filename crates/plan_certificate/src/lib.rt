@@ -7,6 +7,7 @@ mod plan;
 mod state;
 mod steps;
 mod verdict;
+mod weight;
 
 pub use certificate::{Certificate, Entry};
 pub use path::Path;
@@ -14,3 +15,4 @@ pub use plan::{MAX_PATHS, Plan};
 pub use state::{State, Step};
 pub use steps::{MAX_STEPS, steps_from};
 pub use verdict::{Reason, Verdict};
+pub use weight::weight_of;
