@@ -1,9 +1,8 @@
 -- What a path that a module can carry is like: its number and its host lanes.
-use Rattle.std.proofs.Common.{◌≡◌, ℕ, suc, ◌+◌, ◌<◌, ◌≤◌, Bool, true, false, List, Option, Some, None, find, map, get_or, length, Contains, refl, sym, subst, ap, ◌∙◌, arith, nat_eq, nat_le}
+use Rattle.std.proofs.Common.{◌≡◌, ℕ, ◌+◌, ◌≤◌, Bool, true, List, Option, Some, None, find, get_or, length, Contains, refl, sym, ap, ◌∙◌, arith, nat_eq}
 use Rattle.std.proofs.lemmas.Bool.{and_parts, eqb-true, leb-true}
 use Rattle.std.proofs.lemmas.List.{get_or-map}
 use Rattle.std.proofs.lemmas.List.FromFn.{get_or-range_with_len}
-use Rattle.std.specs.List.{range_with_len}
 use Rattle.std.specs.Option.{unwrap_or}
 use Rattle.applications.specs.declared.app.App.{App}
 use Rattle.applications.specs.Advertised.{Advertised, InOrder}
@@ -33,9 +32,9 @@ numbered : (apps : List App) (app : App) → InOrder apps → Contains apps app 
 numbered apps app in_order (k, below, here) =
     let number : App → ℕ = λ app. app.number in
     let at : app.number ≡ 1 + k =
-        sym (get_or-map number apps k app 0 below ∙ ap number here)
-        ∙ ap (λ (ns : List ℕ). get_or ns k 0) in_order
-        ∙ get_or-range_with_len 1 (length apps) k 0 below in
+    sym (get_or-map number apps k app 0 below ∙ ap number here)
+    ∙ ap (λ (ns : List ℕ). get_or ns k 0) in_order
+    ∙ get_or-range_with_len 1 (length apps) k 0 below in
     (omega (arith, at), omega (arith, at, below))
 
 -- its Application is one of those that are advertised

@@ -1,5 +1,5 @@
 -- How many numbers of a row pass a test.
-use Rattle.std.proofs.Common.{◌≡◌, ℕ, zero, suc, ◌+◌, ◌-◌, ◌<◌, ◌≤◌, ◌&&◌, Bool, true, false, cond, List, [], ◌∷◌, count_by, get_or, length, map, filter, Contains, All, AllPairs, refl, sym, subst, ap, ◌∙◌, inl, inr, min, max, nat_le, nat_lt, arith}
+use Rattle.std.proofs.Common.{◌≡◌, ℕ, zero, suc, ◌+◌, ◌-◌, ◌<◌, ◌≤◌, ◌&&◌, Bool, true, cond, List, [], ◌∷◌, count_by, get_or, length, map, filter, Contains, AllPairs, refl, sym, subst, ap, ◌∙◌, inl, inr, min, max, nat_le, nat_lt, arith}
 use Rattle.std.proofs.lemmas.Bool.{cases_Bool}
 use Rattle.std.proofs.lemmas.Bool.Decides.{nat_tests}
 use Rattle.std.proofs.lemmas.List.{get_or-map}
@@ -49,7 +49,7 @@ kept {X} p (y ∷ ys) k d below passes =
     ] below passes
 
 pub mapped : {X Y : Type 0} (f : X → Y) (xs : List X) (x : X) → Contains xs x → Contains (map f xs) (f x)
-mapped f xs x (k , below, here) = (k, omega (arith, below, length-map xs f), get_or-map f xs k x (f x) below ∙ ap f here)
+mapped f xs x (k, below, here) = (k, omega (arith, below, length-map xs f), get_or-map f xs k x (f x) below ∙ ap f here)
 
 -- what is made of elements in order is in order
 pub pairs_mapped : {Y : Type 0} (R : Y → Y → Type 0) (f : ℕ → Y) (xs : List ℕ) → AllPairs (λ x y. R (f x) (f y)) xs → AllPairs R (map f xs)

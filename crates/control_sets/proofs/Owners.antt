@@ -1,5 +1,5 @@
 -- Each host lane of a plan's path is of that path alone.
-use Rattle.std.proofs.Common.{◌≡◌, ℕ, ◌+◌, ◌<◌, ◌≤◌, ◌&&◌, Bool, true, false, List, Option, Some, None, find, get_or, length, Contains, AllPairs, refl, sym, ap, ◌∙◌, inl, inr, ⊎_elim, nat_le, nat_lt, arith}
+use Rattle.std.proofs.Common.{◌≡◌, ℕ, ◌+◌, ◌<◌, ◌≤◌, ◌&&◌, true, false, List, Option, Some, None, get_or, length, Contains, refl, sym, ap, ◌∙◌, inl, inr, nat_le, nat_lt, arith}
 use Rattle.std.proofs.lemmas.Bool.{and_parts, cases_order, eqb-true, leb-true, ltb-true}
 use Rattle.std.proofs.lemmas.Bool.Decides.{nat_tests}
 use Rattle.std.proofs.lemmas.List.{get_or_default}
@@ -22,7 +22,7 @@ shared_none : (lanes others : Lanes) (lane : ℕ) → is_disjoint lanes others �
 shared_none lanes others lane disjoint in_one in_other =
     let both : set.contains (set.intersection lanes others) lane ≡ true = contains-intersection nat_cmp_total lanes others lane ∙ (λ i. in_one i && in_other i) in
     let neither : set.contains (set.intersection lanes others) lane ≡ false =
-        ap (λ (s : Lanes). set.contains s lane) (empty_of_len (set.intersection lanes others) (eqb-true _ _ disjoint)) ∙ contains-empty nat_cmp lane in
+    ap (λ (s : Lanes). set.contains s lane) (empty_of_len (set.intersection lanes others) (eqb-true _ _ disjoint)) ∙ contains-empty nat_cmp lane in
     let wrong = sym both ∙ neither in
     cc
 

@@ -1,9 +1,9 @@
 -- The host paths that the control bytes of a plan tell are those of the plan.
-use Rattle.std.proofs.Common.{◌≡◌, ℕ, ◌+◌, ◌-◌, ◌/◌, ◌%◌, ◌<◌, ◌≤◌, ◌&&◌, Bool, true, false, List, Some, None, not, count_by, get_or, length, map, filter, Contains, All, AllPairs, refl, sym, subst, ap, ◌∙◌, inl, inr, nat_eq, nat_le, nat_lt, arith}
+use Rattle.std.proofs.Common.{◌≡◌, ℕ, ◌+◌, ◌-◌, ◌/◌, ◌%◌, ◌<◌, ◌&&◌, true, false, List, not, count_by, get_or, map, filter, Contains, All, sym, subst, ap, ◌∙◌, inl, inr, nat_eq, nat_le, nat_lt, arith}
 use Rattle.std.proofs.lemmas.Bool.{and_from, and_parts, cases_Bool, eq-eqb, eqb-true, false_from_ne_true, ne_eqb}
 use Rattle.std.proofs.lemmas.List.{get_or_default}
-use Rattle.std.proofs.lemmas.List.Elements.{All-filter, All-from_get_or, All-map, filter_passes}
-use Rattle.std.proofs.lemmas.List.FromFn.{get_or-range_with_len, length-range_with_len}
+use Rattle.std.proofs.lemmas.List.Elements.{All-filter, All-map, filter_passes}
+use Rattle.std.proofs.lemmas.List.FromFn.{get_or-range_with_len}
 use Rattle.std.proofs.lemmas.List.Kept.{AllPairs-filter}
 use Rattle.std.specs.List.{range_with_len}
 use Rattle.applications.specs.Advertised.{Advertised}
@@ -11,12 +11,12 @@ use Rattle.plan_certificate.specs.declared.path.Path.{Path}
 use Rattle.plan_certificate.specs.Paths.{app_of}
 use Rattle.control_sets.specs.declared.control_byte.ControlByte.{ControlByte}
 use Rattle.control_sets.specs.declared.host_path.HostPath.{HostPath}
-use Rattle.control_sets.specs.ControlBytes.{control_bytes, control_in, control_of, path_on}
+use Rattle.control_sets.specs.ControlBytes.{control_bytes, control_in, control_of}
 use Rattle.control_sets.specs.HostPaths.{IsLane, agree, are_same, begins, control_at, first_lane, host_paths, is_used, path_from}
 use Rattle.control_sets.specs.PlanPaths.{AreHostPathsOf, host_path_of}
 use Rattle.control_sets.proofs.Bytes.{takes}
 use Rattle.control_sets.proofs.Counts.{count_alike, count_within, kept, mapped, pairs_mapped, row_rises}
-use Rattle.control_sets.proofs.Owners.{owner, taken_lane, takes_lane, takes_run}
+use Rattle.control_sets.proofs.Owners.{owner, takes_lane, takes_run}
 use Rattle.control_sets.proofs.ReadBack.{first_of, path_agrees}
 use Rattle.control_sets.proofs.ToldLanes.{IsPlan, IsPathOf, lane_cases, path_of, told_of, told_free}
 
@@ -44,20 +44,20 @@ agrees advert paths path lane plan of within =
     elim (cases_Bool (takes advert lane path)) [
       | inl taken ↦ path_agrees advert paths path path.host lane plan of (takes_first advert paths path of) taken ∙ sym taken
       | inr free ↦ false_from_ne_true (agree bytes path.host lane) (λ same.
-      elim (lane_cases advert paths lane plan) [
-        | inl none ↦
-            let told : are_same (control_in path) (control_of 0) ≡ true = (λ i. are_same (sym first i) (sym (told_free advert paths lane within none) i)) ∙ same in
-            let parts = and_parts (nat_eq path.app (0 / 16)) (nat_eq (path.host - 1) (0 / 2 % 8)) told in
-            let code = eqb-true path.app (0 / 16) parts.0 in
-            absurd (omega (arith, code, of.from_one))
-        | inr (other, other_of, taken) ↦
-            let told : are_same (control_in path) (control_in other) ≡ true = (λ i. are_same (sym first i) (sym (told_of advert paths other lane plan other_of taken) i)) ∙ same in
-            let parts = and_parts (nat_eq path.app other.app) (nat_eq (path.host - 1) (other.host - 1)) told in
-            let id = eqb-true (path.host - 1) (other.host - 1) parts.1 in
-            let one = same_first advert paths path other plan of other_of (omega (arith, id, of.lanes.first, other_of.lanes.first)) in
-            let wrong = sym free ∙ ap (takes advert lane) one ∙ taken in
-            absurd cc
-      ]) ∙ sym free
+          elim (lane_cases advert paths lane plan) [
+            | inl none ↦
+                let told : are_same (control_in path) (control_of 0) ≡ true = (λ i. are_same (sym first i) (sym (told_free advert paths lane within none) i)) ∙ same in
+                let parts = and_parts (nat_eq path.app (0 / 16)) (nat_eq (path.host - 1) (0 / 2 % 8)) told in
+                let code = eqb-true path.app (0 / 16) parts.0 in
+                absurd (omega (arith, code, of.from_one))
+            | inr (other, other_of, taken) ↦
+                let told : are_same (control_in path) (control_in other) ≡ true = (λ i. are_same (sym first i) (sym (told_of advert paths other lane plan other_of taken) i)) ∙ same in
+                let parts = and_parts (nat_eq path.app other.app) (nat_eq (path.host - 1) (other.host - 1)) told in
+                let id = eqb-true (path.host - 1) (other.host - 1) parts.1 in
+                let one = same_first advert paths path other plan of other_of (omega (arith, id, of.lanes.first, other_of.lanes.first)) in
+                let wrong = sym free ∙ ap (takes advert lane) one ∙ taken in
+                absurd cc
+          ]) ∙ sym free
     ]
 
 path_told : (advert : Advertised) (paths : List Path) (path : Path) → IsPlan advert paths → IsPathOf advert paths path → path_from (control_bytes advert paths) path.host ≡ host_path_of advert path
@@ -67,9 +67,9 @@ path_told advert paths path plan of =
     let count = (app_of advert path).host_lanes in
     let control = told_of advert paths path path.host plan of (takes_first advert paths path of) in
     let lanes : count_by (agree bytes path.host) (range_with_len 1 8) ≡ count =
-        count_alike (agree bytes path.host) (λ lane. nat_le path.host lane && nat_lt lane (path.host + count)) 1 8 (λ lane from to. agrees advert paths path lane plan of (from, omega (arith, to)) ∙ takes_run advert path lane)
-        ∙ count_within path.host (path.host + count) 1 8 (omega arith)
-        ∙ omega (arith, of.lanes.first, of.lanes.last) in
+    count_alike (agree bytes path.host) (λ lane. nat_le path.host lane && nat_lt lane (path.host + count)) 1 8 (λ lane from to. agrees advert paths path lane plan of (from, omega (arith, to)) ∙ takes_run advert path lane)
+    ∙ count_within path.host (path.host + count) 1 8 (omega arith)
+    ∙ omega (arith, of.lanes.first, of.lanes.last) in
     (λ i. record { app = (control i).app_sel_code; host = path.host; lanes = lanes i })
 
 -- a path begins at its first lane
@@ -107,7 +107,7 @@ each_told advert paths plan path one =
     let lane : get_or lanes (path.host - 1) 0 ≡ path.host = get_or-range_with_len 1 8 (path.host - 1) 0 (omega (arith, of.lanes.first, of.lanes.some, of.lanes.last)) ∙ omega (arith, of.lanes.first) in
     let passes : begins bytes (get_or lanes (path.host - 1) 0) ≡ true = ap (begins bytes) lane ∙ begun advert paths path plan of in
     let first : Contains (filter (begins bytes) lanes) path.host =
-        subst (λ (k : ℕ). Contains (filter (begins bytes) lanes) k) lane (kept (begins bytes) lanes (path.host - 1) 0 (omega (arith, of.lanes.first, of.lanes.some, of.lanes.last)) passes) in
+    subst (λ (k : ℕ). Contains (filter (begins bytes) lanes) k) lane (kept (begins bytes) lanes (path.host - 1) 0 (omega (arith, of.lanes.first, of.lanes.some, of.lanes.last)) passes) in
     subst (λ (h : HostPath). Contains (host_paths bytes) h) (path_told advert paths path plan of) (mapped (path_from bytes) (filter (begins bytes) lanes) path.host first)
 
 only_plans : (advert : Advertised) (paths : List Path) → IsPlan advert paths →
@@ -123,5 +123,5 @@ told_paths advert paths plan = record {
   each = λ k d below. each_told advert paths plan (get_or paths k d) (k, below, get_or_default paths k (get_or paths k d) d below);
   only = All-map (Contains (map (host_path_of advert) paths)) (path_from (control_bytes advert paths)) (filter (begins (control_bytes advert paths)) (range_with_len 1 8)) (only_plans advert paths plan);
   rising = pairs_mapped (λ (a b : HostPath). a.host < b.host) (path_from (control_bytes advert paths)) (filter (begins (control_bytes advert paths)) (range_with_len 1 8))
-  (AllPairs-filter (λ k later. k < later) (begins (control_bytes advert paths)) (range_with_len 1 8) (row_rises 1 8));
+      (AllPairs-filter (λ k later. k < later) (begins (control_bytes advert paths)) (range_with_len 1 8) (row_rises 1 8));
 }

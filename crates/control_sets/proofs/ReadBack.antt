@@ -1,11 +1,11 @@
 -- The control bytes of a plan are host paths.
-use Rattle.std.proofs.Common.{◌≡◌, ℕ, zero, suc, ◌+◌, ◌-◌, ◌<◌, ◌≤◌, ◌&&◌, ◌||◌, Bool, true, false, List, None, not, refl, sym, subst, ap, ◌∙◌, inl, inr, nat_eq, nat_le, arith}
+use Rattle.std.proofs.Common.{◌≡◌, ℕ, zero, suc, ◌+◌, ◌-◌, ◌<◌, ◌≤◌, ◌&&◌, ◌||◌, Bool, true, List, None, not, refl, sym, subst, ap, ◌∙◌, inl, inr, nat_le, arith}
 use Rattle.std.proofs.lemmas.Bool.{and_from, eq-eqb, le-leb, or_right}
 use Rattle.std.specs.List.{list_all, range_with_len}
 use Rattle.applications.specs.Advertised.{Advertised}
 use Rattle.plan_certificate.specs.declared.path.Path.{Path}
 use Rattle.control_sets.specs.declared.control_byte.ControlByte.{ControlByte}
-use Rattle.control_sets.specs.ControlBytes.{control_bytes, control_in, control_of, path_on}
+use Rattle.control_sets.specs.ControlBytes.{control_bytes, control_in}
 use Rattle.control_sets.specs.HostPaths.{IsLane, agree, all_agree, are_same, control_at, first_lane, is_reached, is_right, is_used, wrong_lane}
 use Rattle.control_sets.proofs.Bytes.{takes}
 use Rattle.control_sets.proofs.Finding.{none_found}

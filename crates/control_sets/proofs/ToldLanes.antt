@@ -1,15 +1,13 @@
 -- What the lanes of a plan are told.
-use Rattle.std.proofs.Common.{◌≡◌, ℕ, ◌+◌, ◌-◌, ◌*◌, ◌/◌, ◌%◌, ◌<◌, ◌≤◌, ◌&&◌, ◌⊎◌, Bool, true, false, List, Option, Some, None, not, get_or, length, Contains, refl, sym, ap, ◌∙◌, inl, inr, nat_le, nat_lt, nat_eq, arith}
-use Rattle.std.proofs.lemmas.Bool.{and_parts, leb-true, ltb-true, ne_eqb, eq-eqb}
-use Rattle.std.proofs.lemmas.Bool.Decides.{nat_tests}
+use Rattle.std.proofs.Common.{◌≡◌, ℕ, ◌+◌, ◌-◌, ◌*◌, ◌/◌, ◌%◌, ◌<◌, ◌≤◌, ◌⊎◌, true, List, Option, Some, None, length, Contains, refl, sym, ap, ◌∙◌, inl, inr, arith}
 use Rattle.std.proofs.lemmas.List.FromFn.{get_or-map-range_with_len}
 use Rattle.applications.specs.Advertised.{Advertised, InOrder}
 use Rattle.plan_certificate.specs.declared.path.Path.{Path}
-use Rattle.plan_certificate.specs.Paths.{app_of, is_allowed}
+use Rattle.plan_certificate.specs.Paths.{is_allowed}
 use Rattle.plan_certificate.specs.Plans.{IsAdmissible}
 use Rattle.control_sets.specs.declared.control_byte.ControlByte.{ControlByte}
 use Rattle.control_sets.specs.ControlBytes.{byte_in, byte_of, control_byte, control_bytes, control_in, control_of, path_on}
-use Rattle.control_sets.specs.HostPaths.{IsLane, control_at, is_used}
+use Rattle.control_sets.specs.HostPaths.{IsLane, control_at}
 use Rattle.control_sets.proofs.Allowed.{HasLanes, lanes_of_allowed, number_of_allowed}
 use Rattle.control_sets.proofs.Bytes.{takes}
 use Rattle.control_sets.proofs.Finding.{found}

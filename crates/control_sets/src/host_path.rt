@@ -2,7 +2,6 @@ ghost use Rattle.std.specs.Prelude.{◌≡◌, IsOk, IfOk, MatchOption, count_by
 ghost use Rattle.std.specs.List.{range_with_len};
 ghost use Rattle.control_sets.specs.HostPaths.{IsLane, agree, all_agree, begins, control_at, host_paths, is_reached, is_right, path_from, wrong_lane};
 
-
 use crate::control_byte::ControlByte;
 use crate::fault::ControlFault;
 use arrayvec::ArrayVec;

@@ -1,6 +1,5 @@
-use Rattle.std.proofs.Common.{◌≡◌, ℕ, ◌+◌, ◌-◌, Bool, true, false, cond, List, [], ◌∷◌, ◌++◌, length, map, filter, refl, sym, ap, ◌∙◌, append-nil, arith}
+use Rattle.std.proofs.Common.{◌≡◌, ℕ, ◌+◌, ◌-◌, Bool, true, false, cond, [], ◌∷◌, ◌++◌, length, map, filter, sym, ap, ◌∙◌, append-nil, arith}
 use Rattle.std.specs.List.{range_with_len}
-use Rattle.control_sets.specs.declared.host_path.HostPath.{HostPath}
 use Rattle.control_sets.specs.HostPaths.{begins, host_paths, path_from}
 use Rattle.control_sets.proofs.Ranges.{kept_more}
 use Rattle.control_sets.proofs.host_path.host_paths.Goals as goal

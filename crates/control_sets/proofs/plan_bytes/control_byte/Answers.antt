@@ -1,8 +1,7 @@
-use Rattle.std.proofs.Common.{◌≡◌, List, sym, ap, ◌∙◌}
+use Rattle.std.proofs.Common.{sym, ap, ◌∙◌}
 use Rattle.std.specs.FinSet as set
 use Rattle.field_tables.specs.LaneSets.{Lanes}
-use Rattle.plan_certificate.specs.declared.path.Path.{Path}
-use Rattle.control_sets.specs.ControlBytes.{byte_of, control_byte}
+use Rattle.control_sets.specs.ControlBytes.{byte_of}
 use Rattle.control_sets.proofs.Bytes.{byte_here, byte_later, byte_none}
 use Rattle.control_sets.proofs.plan_bytes.control_byte.Goals as goal
 

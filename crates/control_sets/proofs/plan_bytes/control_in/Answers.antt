@@ -1,4 +1,4 @@
-use Rattle.std.proofs.Common.{◌≡◌, sym, subst, ap, ◌∙◌, length, arith}
+use Rattle.std.proofs.Common.{subst, ap, length, arith}
 use Rattle.applications.specs.Advertised.{InOrder}
 use Rattle.control_sets.proofs.Allowed.{lanes_of_allowed, number_of_allowed}
 use Rattle.control_sets.proofs.plan_bytes.control_in.Goals as goal
