@@ -14,6 +14,7 @@ use Rattle.control_sets.specs.declared.host_path.HostPath.{HostPath}
 use Rattle.control_sets.specs.ControlBytes.{control_bytes, control_in, control_of}
 use Rattle.control_sets.specs.HostPaths.{IsLane, agree, are_same, begins, control_at, first_lane, host_paths, is_used, path_from}
 use Rattle.control_sets.specs.PlanPaths.{AreHostPathsOf, host_path_of}
+use Rattle.control_sets.proofs.Begun.{are_lanes, begun_is_told}
 use Rattle.control_sets.proofs.Bytes.{takes}
 use Rattle.control_sets.proofs.Counts.{count_alike, count_within, kept, mapped, pairs_mapped, row_rises}
 use Rattle.control_sets.proofs.Owners.{owner, takes_lane, takes_run}
@@ -79,9 +80,6 @@ begun advert paths path plan of =
     ap (λ (control : ControlByte). is_used control && nat_eq (first_lane control) path.host) control
     ∙ and_from _ _ (used advert paths path of) (eq-eqb _ _ (first_of path of.lanes.first))
 
-are_lanes : All IsLane (range_with_len 1 8)
-are_lanes k d below = let at = get_or-range_with_len 1 8 k d below in (omega (arith, at), omega (arith, at, below))
-
 -- where one begins, that path is the plan's
 beginner : (advert : Advertised) (paths : List Path) (lane : ℕ) → IsPlan advert paths → IsLane lane → begins (control_bytes advert paths) lane ≡ true →
     Contains (map (host_path_of advert) paths) (path_from (control_bytes advert paths) lane)
@@ -99,16 +97,11 @@ beginner advert paths lane plan within begun =
     ]
 
 each_told : (advert : Advertised) (paths : List Path) → IsPlan advert paths → (path : Path) → Contains paths path → Contains (host_paths (control_bytes advert paths)) (host_path_of advert path)
-unfolding host_paths
 each_told advert paths plan path one =
     let bytes = control_bytes advert paths in
     let of = path_of advert paths path plan one in
-    let lanes = range_with_len 1 8 in
-    let lane : get_or lanes (path.host - 1) 0 ≡ path.host = get_or-range_with_len 1 8 (path.host - 1) 0 (omega (arith, of.lanes.first, of.lanes.some, of.lanes.last)) ∙ omega (arith, of.lanes.first) in
-    let passes : begins bytes (get_or lanes (path.host - 1) 0) ≡ true = ap (begins bytes) lane ∙ begun advert paths path plan of in
-    let first : Contains (filter (begins bytes) lanes) path.host =
-    subst (λ (k : ℕ). Contains (filter (begins bytes) lanes) k) lane (kept (begins bytes) lanes (path.host - 1) 0 (omega (arith, of.lanes.first, of.lanes.some, of.lanes.last)) passes) in
-    subst (λ (h : HostPath). Contains (host_paths bytes) h) (path_told advert paths path plan of) (mapped (path_from bytes) (filter (begins bytes) lanes) path.host first)
+    let within : IsLane path.host = (of.lanes.first, omega (arith, of.lanes.some, of.lanes.last)) in
+    subst (λ (h : HostPath). Contains (host_paths bytes) h) (path_told advert paths path plan of) (begun_is_told bytes path.host within (begun advert paths path plan of))
 
 only_plans : (advert : Advertised) (paths : List Path) → IsPlan advert paths →
     All (λ lane. Contains (map (host_path_of advert) paths) (path_from (control_bytes advert paths) lane)) (filter (begins (control_bytes advert paths)) (range_with_len 1 8))
