@@ -1,1 +1,4 @@
 mod Listed
+mod DocumentKeys
+mod HostMembers
+mod WeightAnswers

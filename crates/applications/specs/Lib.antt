@@ -4,3 +4,5 @@ pub mod Advertised
 pub mod AdvertisedCode
 pub mod Refusals
 pub mod Weights
+pub mod HostTable
+pub mod WeightFaults

@@ -1,4 +1,4 @@
-//! The Applications that a CMIS module advertises: what it can do on which lanes.
+//! The Applications that a CMIS module advertises: what it can do on which lanes. Weights say how much each is wanted.
 #![tactic(auto)]
 
 mod advert;
@@ -13,7 +13,7 @@ pub use app::{App, MAX_APPS};
 pub use fault::AdvertFault;
 pub use field_tables::LaneSet;
 pub use refusal::{is_cmis, is_read_revision};
-pub use weights::Weights;
+pub use weights::{Weights, WeightsFault};
 
 #[cfg(test)]
 mod tests;

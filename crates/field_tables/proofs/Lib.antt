@@ -1,5 +1,5 @@
 mod TrueTests
-mod LaneLaws
+pub mod LaneLaws
 pub mod PlaceNumbers
 mod PlaceWidths
 mod RowPlaceLaws

@@ -22,15 +22,15 @@ use Rattle.plan_certificate.proofs.Lists.{each_of_map, each_of_filter, each_of_f
 use Rattle.plan_certificate.proofs.Picked.{AreApart, IsApart, from_pairs, pick}
 
 -- what an allowed path's Application and first lanes are
-record Allowed (advert : Advertised) (path : Path) : Type 0 where
-  host_from : 1 ≤ path.host
-  host_to : path.host + (app_of advert path).host_lanes ≤ 9
-  media_from : 1 ≤ path.media
-  media_to : path.media + (app_of advert path).media_lanes ≤ 9
-  host_some : 1 ≤ (app_of advert path).host_lanes
-  media_some : 1 ≤ (app_of advert path).media_lanes
+pub record Allowed (advert : Advertised) (path : Path) : Type 0 where
+  pub host_from : 1 ≤ path.host
+  pub host_to : path.host + (app_of advert path).host_lanes ≤ 9
+  pub media_from : 1 ≤ path.media
+  pub media_to : path.media + (app_of advert path).media_lanes ≤ 9
+  pub host_some : 1 ≤ (app_of advert path).host_lanes
+  pub media_some : 1 ≤ (app_of advert path).media_lanes
 
-allowed : (advert : Advertised) (path : Path) → is_allowed advert path ≡ true → Allowed advert path
+pub allowed : (advert : Advertised) (path : Path) → is_allowed advert path ≡ true → Allowed advert path
 unfolding is_allowed
 allowed advert path can = record {
   host_from = grind (arith, nat_tests);
@@ -58,7 +58,7 @@ listed advert P path host begins can each =
     let number : app.0.number ≡ path.app = eqb-true _ _ of_app.1 in
     let by_media = each_of_map P (λ (media : ℕ). record { app = app.0.number; host = host; media = media }) (range_with_len 1 8) of_app.0 in
     let one : P (record { app = app.0.number; host = host; media = path.media }) =
-        each_in_range (λ (media : ℕ). P (record { app = app.0.number; host = host; media = media })) 1 8 path.media by_media lanes.media_from (omega (arith, lanes.media_to, lanes.media_some)) in
+    each_in_range (λ (media : ℕ). P (record { app = app.0.number; host = host; media = media })) 1 8 path.media by_media lanes.media_from (omega (arith, lanes.media_to, lanes.media_some)) in
     subst P (λ i. record { app = number i; host = sym begins i; media = path.media }) one
 
 -- what holds of each step from a state holds of the free lane's step and of each path's that fits
@@ -125,7 +125,7 @@ bounded advert weights c good (suc left) state potential ends bound paths apart 
           let Covered : Step → Type 0 = IsCovered c.entries potential in
           let at_entry = All-contains (λ (entry : Entry). All (IsCovered c.entries entry.potential) (steps_from advert weights (state_of entry))) c.entries bound.0 good.closed bound.1 in
           let at_state : All Covered (steps_from advert weights state) =
-              subst (λ (s : State). All Covered (steps_from advert weights s)) bound.2 (subst (λ (p : ℕ). All (IsCovered c.entries p) (steps_from advert weights (state_of bound.0))) bound.3 at_entry) in
+          subst (λ (s : State). All Covered (steps_from advert weights s)) bound.2 (subst (λ (p : ℕ). All (IsCovered c.entries p) (steps_from advert weights (state_of bound.0))) bound.3 at_entry) in
           let steps = each_step advert weights Covered state below (recursion_from_All Covered (steps_from advert weights state) at_state) in
           elim (pick advert weigh paths (state.boundary + 1) apart) [
             | inr elsewhere ↦
@@ -136,8 +136,8 @@ bounded advert weights c good (suc left) state potential ends bound paths apart 
                 let step = steps.1 picked.path picked.begins parts.0.can parts.0.unused in
                 let lanes = allowed advert picked.path parts.0.can in
                 let later = map_each (λ path. IsLater advert state path × IsApart advert picked.path path) (IsLater advert (path_step advert weights state picked.path).end) picked.rest
-                    (λ path h. after_path advert weights state picked.path path parts.0 picked.begins h.0 h.1)
-                    (both_each (IsLater advert state) (IsApart advert picked.path) picked.rest parts.1 picked.path_apart) in
+                (λ path h. after_path advert weights state picked.path path parts.0 picked.begins h.0 h.1)
+                (both_each (IsLater advert state) (IsApart advert picked.path) picked.rest parts.1 picked.path_apart) in
                 let rest = bounded advert weights c good left (path_step advert weights state picked.path).end step.0 (omega (arith, ends, lanes.host_some)) step.1 picked.rest picked.rest_apart later in
                 omega (arith, rest, step.2, picked.weighs)
           ]

@@ -35,7 +35,7 @@ neither b c never =
 pub apart_from : (s t : Lanes) → Apart s t → is_disjoint s t ≡ true
 apart_from s t apart =
     let empty : set.intersection s t ≡ set.empty =
-        same_set nat_cmp_total nat_cmp-IsAntisymmetric (set.intersection s t) set.empty (λ q. both s t q ∙ neither (set.contains s q) (set.contains t q) (apart q) ∙ sym (contains-empty nat_cmp q)) in
+    same_set nat_cmp_total nat_cmp-IsAntisymmetric (set.intersection s t) set.empty (λ q. both s t q ∙ neither (set.contains s q) (set.contains t q) (apart q) ∙ sym (contains-empty nat_cmp q)) in
     eq-eqb _ _ (ap set.len empty ∙ len-empty nat_cmp)
 
 pub disjoint_back : (s t : Lanes) → is_disjoint s t ≡ true → is_disjoint t s ≡ true

@@ -23,10 +23,11 @@ state_of entry = record { boundary = entry.boundary; used = lanes_in entry.used 
 abbrev pub place_of : Entry → ℕ
 place_of entry = 256 * entry.boundary + entry.used
 
--- the states of entries: each once, rising, none past host lane 8
+-- the states of entries: each once, rising, none past host lane 8, with a byte of used media lanes
 pub record HasStates (entries : List Entry) : Type 0 where
   pub rising : AllPairs (λ entry later. place_of entry < place_of later) entries
   pub within : All (λ entry. entry.boundary ≤ 8) entries
+  pub bytes : All (λ entry. entry.used < 256) entries
 
 -- the entry of a state, which bounds what can be gained from there by at most so much
 abbrev pub IsBound : List Entry → State → ℕ → Type 0

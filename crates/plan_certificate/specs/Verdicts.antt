@@ -40,6 +40,9 @@ path_flaws advert paths = map (path_flaw advert) (enumerate_from 1 paths)
 unfoldable pub lane_flaws : Advertised → List Path → Flaws
 lane_flaws advert paths = map (lane_flaw advert paths) (enumerate_from 1 paths)
 
+abbrev pub plan_flaws : Advertised → List Path → Flaws
+plan_flaws advert paths = path_flaws advert paths ++ lane_flaws advert paths
+
 abbrev pub place_of_state : State → ℕ
 place_of_state state = 256 * state.boundary + byte_of state.used
 
@@ -60,15 +63,19 @@ entry_flaws advert weights entries entry = flat_map (step_flaws entries entry) (
 unfoldable pub entries_flaws : Advertised → HostWeights → List Entry → Flaws
 entries_flaws advert weights entries = flat_map (entry_flaws advert weights entries) (enumerate_from 1 entries)
 
+-- entries that don't bound what can be gained, or not by the weight
+unfoldable pub bound_flaws : Advertised → HostWeights → List Entry → ℕ → Flaws
+bound_flaws advert weights entries weight =
+    (is_none (potential_of entries start), (NoStart, 0))
+    ∷ entries_flaws advert weights entries
+    ++ (not (unwrap_or (potential_of entries start) 0 == weight), (StartNotWeight, 0))
+    ∷ []
+
 abbrev pub all_flaws : Advertised → HostWeights → Certified → Flaws
 all_flaws advert weights certificate =
-    path_flaws advert certificate.paths
-    ++ lane_flaws advert certificate.paths
+    plan_flaws advert certificate.paths
     ++ (not (certificate.weight == plan_weight advert weights certificate.paths), (WeightWrong, 0))
-    ∷ (is_none (potential_of certificate.entries start), (NoStart, 0))
-    ∷ entries_flaws advert weights certificate.entries
-    ++ (not (unwrap_or (potential_of certificate.entries start) 0 == certificate.weight), (StartNotWeight, 0))
-    ∷ []
+    ∷ bound_flaws advert weights certificate.entries certificate.weight
 
 abbrev pub judged : Option (Reason × ℕ) → Verdict
 judged None = Good

@@ -1,5 +1,12 @@
+mod reading;
+#[cfg(test)]
+mod tests;
+mod writing;
+
 use crate::plan::Plan;
+use crate::state::State;
 use arrayvec::ArrayVec;
+use field_tables::LaneSet;
 use std::marker::Model;
 
 /// A state and a bound on what can still be gained from it.
@@ -11,6 +18,28 @@ pub struct Entry {
     pub used: u8,
     /// No steps that follow one another from the state weigh more.
     pub potential: u64,
+}
+
+impl Entry {
+    ghost use Rattle.std.specs.Prelude.{◌≡◌};
+    ghost use Rattle.plan_certificate.specs.Certificates.{place_of, state_of};
+
+    /// The state that the entry bounds.
+    pub(crate) fn state(&self) -> State
+        ensures { result ≡ state_of self.now }
+    {
+        State {
+            boundary: self.boundary,
+            used: LaneSet::from(self.used),
+        }
+    }
+
+    /// The place of its state among all states, by boundary and then by the byte of used media lanes.
+    pub(crate) fn place(&self) -> u16
+        ensures { result ≡ place_of self.now }
+    {
+        256 * u16::from(self.boundary) + u16::from(self.used)
+    }
 }
 
 /// A plan, its weight, and entries that show that no plan weighs more.

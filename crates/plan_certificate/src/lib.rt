@@ -2,17 +2,23 @@
 #![tactic(auto)]
 
 mod certificate;
+mod checker;
+mod fault;
+mod flaws;
+pub mod laws;
+mod line;
 mod path;
 mod plan;
+mod stage;
 mod state;
 mod steps;
 mod verdict;
-mod weight;
 
 pub use certificate::{Certificate, Entry};
+pub use checker::check;
+pub use fault::CertificateFault;
 pub use path::Path;
-pub use plan::{MAX_PATHS, Plan};
+pub use plan::{MAX_PATHS, Plan, admissible, weight_of};
 pub use state::{State, Step};
 pub use steps::{MAX_STEPS, steps_from};
 pub use verdict::{Reason, Verdict};
-pub use weight::weight_of;

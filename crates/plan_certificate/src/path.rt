@@ -67,8 +67,11 @@ impl Path {
         requires other_allowed { spec.is_allowed advert.now other ≡ true }
         ensures { result ≡ plans.are_apart advert.now self other }
     {
-        self.host_lanes(advert).is_disjoint(other.host_lanes(advert))
-            && self.media_lanes(advert).is_disjoint(other.media_lanes(advert))
+        self.host_lanes(advert)
+            .is_disjoint(other.host_lanes(advert))
+            && self
+                .media_lanes(advert)
+                .is_disjoint(other.media_lanes(advert))
     }
 
     /// What the path weighs.

@@ -1,4 +1,6 @@
+use crate::flaws::plan_flaw;
 use crate::path::Path;
+use applications::{Advert, Weights};
 use arrayvec::ArrayVec;
 use std::marker::Model;
 
@@ -18,4 +20,26 @@ impl Model for Plan {
     ghost Value = { List Path };
 
     ghost view = { λ plan. plan.paths.items };
+}
+
+ghost use Rattle.std.specs.Prelude.{◌≡◌, ◌↔◌, IsTrue};
+ghost use Rattle.plan_certificate.specs.Plans.{IsAdmissible, plan_weight};
+
+/// Whether the module can carry the plan: its paths are allowed, and no two share a lane.
+pub fn admissible(advert: &Advert, plan: &Plan) -> bool
+    ensures { IsTrue result ↔ IsAdmissible advert.now plan.now }
+{
+    plan_flaw(advert, plan.paths.as_slice()).is_none()
+}
+
+/// What a plan weighs.
+pub fn weight_of(advert: &Advert, weights: &Weights, plan: &Plan) -> u64
+    requires { IsAdmissible advert.now plan.now }
+    ensures { result ≡ plan_weight advert.now weights.now plan.now }
+{
+    let mut weight = 0;
+    for path in plan.paths.as_slice() {
+        weight += u64::from(path.weight(advert, weights));
+    }
+    weight
 }

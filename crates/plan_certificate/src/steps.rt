@@ -29,7 +29,13 @@ pub fn steps_from(advert: &Advert, weights: &Weights, state: State) -> ArrayVec<
 }
 
 // The steps of one Application's paths.
-fn push_steps(steps: &mut ArrayVec<Step, MAX_STEPS>, advert: &Advert, weights: &Weights, state: &State, app: u8)
+fn push_steps(
+    steps: &mut ArrayVec<Step, MAX_STEPS>,
+    advert: &Advert,
+    weights: &Weights,
+    state: &State,
+    app: u8,
+)
     requires room { length steps.old.items + 8 ≤ MAX_STEPS }
     requires open { state.now.boundary < 8 }
     ensures steps { steps.new.items ≡ steps.old.items ++ spec.path_steps advert.now weights.now state.now (spec.paths_of_app (state.now.boundary + 1) app) }

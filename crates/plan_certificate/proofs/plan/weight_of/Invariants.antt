@@ -1,6 +1,6 @@
 use Rattle.std.proofs.Common.{◌≡◌, ◌*◌, ◌≤◌, take}
 use Rattle.plan_certificate.specs.Plans.{plan_weight}
-use Rattle.plan_certificate.proofs.weight.weight_of.Given as goal
+use Rattle.plan_certificate.proofs.plan.weight_of.Given as goal
 
 -- the weight of the paths so far
 abbrev pub invariant-loop-path : goal.invariant-loop-path

@@ -1,0 +1,26 @@
+-- The keys of a table and those of the members that it stands for.
+use Rattle.std.proofs.Common.{◌≡◌, Bool, not, ◌||◌, List, [], ◌∷◌, String, Global, Less, map, nat_cmp, string_bytes, refl, ap}
+use Rattle.std.specs.Cmp.Lexicographic.{slice_cmp}
+use Rattle.std.specs.List.{AllByRecursion, list_any}
+use Rattle.std.specs.List.Sorted.{IsStrictlySortedBy}
+use Rattle.std.specs.Map.{keys_of}
+use Rattle.std.specs.String.{string_cmp}
+use Rattle.toml.specs.View.{members_view}
+use Rattle.toml.specs.declared.value.Value.{Value}
+use Rattle.applications.specs.HostTable.{KeysRise, Member, members_of}
+use Rattle.applications.specs.WeightFaults.{has_other_key, is_host}
+
+pub has_other_key-view : (entries : List (String Global × Value)) → has_other_key (members_of (members_view entries)) ≡ list_any (λ key. not (is_host (string_bytes key))) (keys_of entries)
+has_other_key-view [] = refl
+has_other_key-view (entry ∷ entries) = ap (λ (b : Bool). not (is_host (string_bytes entry.0)) || b) (has_other_key-view entries)
+
+-- keys that rise in a map rise among its members
+all_below : (key : String Global) (entries : List (String Global × Value)) → AllByRecursion (λ y. string_cmp key y ≡ Less) (keys_of entries)
+    → AllByRecursion (λ y. slice_cmp nat_cmp (string_bytes key) y ≡ Less) (map (λ (member : Member). member.0) (members_of (members_view entries)))
+all_below key [] below = tt
+all_below key (entry ∷ entries) below = (below.0, all_below key entries below.1)
+
+pub KeysRise-view : (entries : List (String Global × Value)) → IsStrictlySortedBy string_cmp (keys_of entries) → KeysRise (members_of (members_view entries))
+unfolding IsStrictlySortedBy
+KeysRise-view [] rise = tt
+KeysRise-view (entry ∷ entries) rise = (all_below entry.0 entries rise.0, KeysRise-view entries rise.1)

@@ -1,0 +1,66 @@
+-- Sets of used media lanes that a byte can say: those of entries, and of where their steps lead.
+use Rattle.std.proofs.Common.{◌≡◌, ℕ, ◌+◌, ◌-◌, ◌^◌, ◌<◌, ◌≤◌, Bool, true, false, List, [], ◌∷◌, map, filter, cond, nat_lt, sym, subst, ap, ◌∙◌, inl, inr, arith, bit_or}
+use Rattle.std.specs.List.{AllByRecursion}
+use Rattle.std.specs.FinSet as set
+use Rattle.std.proofs.lemmas.Bool.{cases_Bool, and_parts}
+use Rattle.std.proofs.Math.Nat.{one-le-pow}
+use Rattle.std.proofs.Math.Pow.{pow_mono, pow-sub-lt}
+use Rattle.std.proofs.lemmas.Nat.{or_lt}
+use Rattle.field_tables.specs.LaneSets.{Lanes, lanes_in, byte_of, run_of}
+use Rattle.field_tables.specs.LaneBytes.{byte_of-lanes_in}
+use Rattle.field_tables.proofs.LaneLaws.{lanes_in-or, lanes_in-mask, lanes_in-zero}
+use Rattle.applications.specs.Advertised.{Advertised}
+use Rattle.applications.specs.Weights.{HostWeights}
+use Rattle.plan_certificate.specs.declared.path.Path.{Path}
+use Rattle.plan_certificate.specs.declared.state.State.{State}
+use Rattle.plan_certificate.specs.declared.state.Step.{Step}
+use Rattle.plan_certificate.specs.Paths.{app_of}
+use Rattle.plan_certificate.specs.States.{fits, free_step, path_step, path_steps, paths_at, steps_from}
+use Rattle.plan_certificate.proofs.Heaviest.{allowed}
+
+pub record IsByte (lanes : Lanes) : Type 0 where
+  pub byte : ℕ
+  pub below : byte < 256
+  pub is : lanes ≡ lanes_in byte
+
+pub lanes_of_byte : (lanes : Lanes) → IsByte lanes → lanes_in (byte_of lanes) ≡ lanes
+lanes_of_byte lanes h = ap (λ (l : Lanes). lanes_in (byte_of l)) h.is ∙ ap lanes_in (byte_of-lanes_in h.byte h.below) ∙ sym h.is
+
+union_is_byte : (lanes : Lanes) (first count : ℕ) → IsByte lanes → 1 ≤ first → first + count ≤ 9 → IsByte (set.union lanes (run_of first count))
+union_is_byte lanes first count h from to =
+    let mask : ℕ = 2 ^ (first - 1 + count) - 2 ^ (first - 1) in
+    let last : first - 1 + count ≤ 8 = omega (arith, from, to) in
+    let small : mask < 2 ^ 8 = omega (arith, pow-sub-lt (first - 1 + count) (one-le-pow (first - 1) 2 (omega arith)), pow_mono last) in
+    record {
+      byte = bit_or h.byte mask;
+      below = or_lt 8 h.byte mask (omega (arith, h.below)) small;
+      is = (λ i. set.union (h.is i) (sym (lanes_in-mask first count from to) i)) ∙ sym (lanes_in-or h.byte mask);
+    }
+
+pub start_is_byte : IsByte set.empty
+start_is_byte = record { byte = 0; below = omega arith; is = sym lanes_in-zero }
+
+abbrev EndsAtByte : Step → Type 0
+EndsAtByte step = IsByte step.end.used
+
+steps_end_at_bytes : (advert : Advertised) (weights : HostWeights) (state : State) (paths : List Path) → IsByte state.used → AllByRecursion EndsAtByte (path_steps advert weights state paths)
+unfolding path_steps
+steps_end_at_bytes advert weights state [] is_byte = tt
+steps_end_at_bytes advert weights state (path ∷ paths) is_byte =
+    let rest = steps_end_at_bytes advert weights state paths is_byte in
+    let Made : Bool → Type 0 = λ b. AllByRecursion EndsAtByte (map (path_step advert weights state) (cond b (path ∷ filter (fits advert state) paths) (filter (fits advert state) paths))) in
+    elim (cases_Bool (fits advert state path)) [
+      | inl does ↦
+          let lanes = allowed advert path (and_parts _ _ does).0 in
+          subst Made (sym does) (union_is_byte state.used path.media (app_of advert path).media_lanes is_byte lanes.media_from lanes.media_to, rest)
+      | inr fails ↦ subst Made (sym fails) rest
+    ]
+
+pub each_end_is_byte : (advert : Advertised) (weights : HostWeights) (state : State) → IsByte state.used → AllByRecursion EndsAtByte (steps_from advert weights state)
+unfolding steps_from
+each_end_is_byte advert weights state is_byte =
+    let steps = free_step state ∷ path_steps advert weights state (paths_at advert (state.boundary + 1)) in
+    elim (nat_lt state.boundary 8) as (λ (b : Bool). AllByRecursion EndsAtByte (cond b steps [])) [
+      | true ↦ (is_byte, steps_end_at_bytes advert weights state (paths_at advert (state.boundary + 1)) is_byte)
+      | false ↦ tt
+    ]

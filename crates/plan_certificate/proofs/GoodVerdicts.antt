@@ -1,0 +1,209 @@
+-- Where a certificate has no flaw, it is good, and the other way round.
+use Rattle.std.proofs.Common.{◌≡◌, ◌↔◌, ◌==◌, ℕ, ◌+◌, ◌*◌, ◌<◌, Bool, true, false, not, List, [], ◌∷◌, ◌++◌, Option, Some, None, nat_lt, refl, sym, ap, ◌∙◌, arith}
+use Rattle.std.specs.List.{All, AllByRecursion, Contains, find, enumerate_from}
+use Rattle.std.specs.Option.{is_none, option_map, unwrap_or}
+use Rattle.std.proofs.lemmas.List.Elements.{All-contains, All-contains_itself, All-from_recursion, recursion_from_All}
+use Rattle.std.proofs.lemmas.Bool.{eqb-true, eq-eqb}
+use Rattle.std.proofs.lemmas.Bool.Decides.{nat_tests}
+use Rattle.field_tables.specs.FirstFault.{first_fault}
+use Rattle.field_tables.specs.LaneSets.{lanes_in, byte_of}
+use Rattle.field_tables.specs.LaneBytes.{byte_of-lanes_in}
+use Rattle.applications.specs.Advertised.{Advertised}
+use Rattle.applications.specs.Weights.{HostWeights}
+use Rattle.plan_certificate.specs.declared.certificate.Entry.{Entry}
+use Rattle.plan_certificate.specs.declared.state.State.{State}
+use Rattle.plan_certificate.specs.declared.state.Step.{Step}
+use Rattle.plan_certificate.specs.declared.verdict.Verdict.TheVariants.{Good}
+use Rattle.plan_certificate.specs.declared.verdict.Reason.{Reason}
+use Rattle.plan_certificate.specs.declared.verdict.Reason.TheVariants.{WeightWrong, NoStart, NotClosed, TooLow, StartNotWeight}
+use Rattle.plan_certificate.specs.Plans.{plan_weight}
+use Rattle.plan_certificate.specs.States.{start, steps_from}
+use Rattle.plan_certificate.specs.Certificates.{Certified, HasStates, IsBound, IsCovered, IsGood, state_of, place_of}
+use Rattle.plan_certificate.specs.Verdicts.{Flaw, Flaws, potential_of, place_of_state, plan_flaws, step_flaws, entry_flaws, entries_flaws, bound_flaws, all_flaws, judged, verdict}
+use Rattle.plan_certificate.proofs.ByteLanes.{IsByte, lanes_of_byte, start_is_byte, each_end_is_byte}
+use Rattle.plan_certificate.proofs.Lists.{found}
+use Rattle.plan_certificate.proofs.Lookups.{is_there, found_there}
+use Rattle.plan_certificate.proofs.NoFlaw.{NoFlaw, not_false, neither_flaw, flaw_first, none_of_each, plan_admissible}
+
+-- ---- looking up an entry
+
+first_found : (test : Entry → Bool) (entries : List Entry) (entry : Entry) → find test entries ≡ Some entry → Contains entries entry × (test entry ≡ true)
+first_found test entries entry is = found (Contains entries) test entries entry is (recursion_from_All (Contains entries) entries (All-contains_itself entries))
+
+entry_is_byte : (entries : List Entry) (entry : Entry) → HasStates entries → Contains entries entry → entry.used < 256
+entry_is_byte entries entry states contains = All-contains (λ (e : Entry). e.used < 256) entries entry states.bytes contains
+
+-- an entry found at the place of a state bounds it
+bound_of : (entries : List Entry) (state : State) (potential : ℕ) → HasStates entries → IsByte state.used → (o : Option Entry) → find (is_there (place_of_state state)) entries ≡ o → option_map (λ (entry : Entry). entry.potential) o ≡ Some potential → IsBound entries state potential
+bound_of entries state potential states is_byte None at is = absurd cc
+bound_of entries state potential states is_byte (Some entry) at is =
+    let here = first_found (is_there (place_of_state state)) entries entry at in
+    let place : place_of entry ≡ place_of_state state = eqb-true _ _ here.1 in
+    let byte : byte_of state.used ≡ is_byte.byte = ap byte_of is_byte.is ∙ byte_of-lanes_in is_byte.byte is_byte.below in
+    let fits = entry_is_byte entries entry states here.0 in
+    let boundary : entry.boundary ≡ state.boundary = omega (arith, place, byte, is_byte.below, fits) in
+    let used : entry.used ≡ byte_of state.used = omega (arith, place, byte, is_byte.below, fits) in
+    let same : entry.potential ≡ potential = cc in
+    (entry, here.0, (λ i. record { boundary = boundary i; used = (ap lanes_in used ∙ lanes_of_byte state.used is_byte) i }), same)
+
+bound_from : (entries : List Entry) (state : State) (potential : ℕ) → HasStates entries → IsByte state.used → potential_of entries state ≡ Some potential → IsBound entries state potential
+unfolding potential_of
+bound_from entries state potential states is_byte is = bound_of entries state potential states is_byte (find (is_there (place_of_state state)) entries) refl is
+
+-- and an entry that bounds a state is found there
+bound_to : (entries : List Entry) (state : State) (potential : ℕ) → HasStates entries → IsBound entries state potential → potential_of entries state ≡ Some potential
+unfolding potential_of
+bound_to entries state potential states (entry, contains, same, is) =
+    let place : place_of entry ≡ place_of_state state =
+    (λ i. 256 * entry.boundary + sym (byte_of-lanes_in entry.used (entry_is_byte entries entry states contains)) i) ∙ ap place_of_state same in
+    let at = found_there entries (place_of_state state) contains.0 entry states.rising contains.1 (ap place_of contains.2 ∙ place) in
+    ap (option_map (λ (e : Entry). e.potential)) at ∙ ap (λ (e : Entry). Some e.potential) contains.2 ∙ ap (λ (p : ℕ). Some p) is
+
+-- ---- the steps of an entry
+
+not_none : (o : Option ℕ) → is_none o ≡ false → (potential : ℕ) × (o ≡ Some potential)
+not_none None is = absurd cc
+not_none (Some potential) is = (potential, refl)
+
+abbrev open_flaw : List Entry → ℕ → Step → Flaw
+open_flaw entries number step = (is_none (potential_of entries step.end), (NotClosed, number))
+
+abbrev low_flaw : List Entry → ℕ → Entry → Step → Flaw
+low_flaw entries number entry step = (nat_lt entry.potential (step.weight + unwrap_or (potential_of entries step.end) 0), (TooLow, number))
+
+abbrev is_low : Entry → Step → Option ℕ → Bool
+is_low entry step later = nat_lt entry.potential (step.weight + unwrap_or later 0)
+
+step_covered : (entries : List Entry) (entry : ℕ × Entry) (step : Step) → HasStates entries → IsByte step.end.used → NoFlaw (step_flaws entries entry step) → IsCovered entries entry.1.potential step
+step_covered entries (number, entry) step states is_byte none =
+    let low = low_flaw entries number entry step in
+    let first = (flaw_first (open_flaw entries number step) (low ∷ [])).0 none in
+    let second = (flaw_first low []).0 first.1 in
+    let later = not_none (potential_of entries step.end) first.0 in
+    let test : is_low entry step (Some later.0) ≡ false = ap (is_low entry step) (sym later.1) ∙ second.0 in
+    (later.0, bound_from entries step.end later.0 states is_byte later.1, grind (arith, nat_tests))
+
+covered_step : (entries : List Entry) (entry : ℕ × Entry) (step : Step) → HasStates entries → IsCovered entries entry.1.potential step → NoFlaw (step_flaws entries entry step)
+covered_step entries (number, entry) step states (later, bound, covers) =
+    let low = low_flaw entries number entry step in
+    let is = bound_to entries step.end later states bound in
+    let test : is_low entry step (Some later) ≡ false = grind (arith, nat_tests) in
+    (flaw_first (open_flaw entries number step) (low ∷ [])).1 (ap is_none is, (flaw_first low []).1 (ap (is_low entry step) is ∙ test, refl))
+
+-- ---- all entries
+
+each_pair : {X : Type 0} (P Q R : X → Type 0) (xs : List X) → ((x : X) → P x → Q x → R x) → AllByRecursion P xs → AllByRecursion Q xs → AllByRecursion R xs
+each_pair P Q R [] f p q = tt
+each_pair P Q R (x ∷ xs) f p q = (f x p.0 q.0, each_pair P Q R xs f p.1 q.1)
+
+each_one : {X : Type 0} (P R : X → Type 0) (xs : List X) → ((x : X) → P x → R x) → AllByRecursion P xs → AllByRecursion R xs
+each_one P R [] f p = tt
+each_one P R (x ∷ xs) f p = (f x p.0, each_one P R xs f p.1)
+
+-- what holds of the second members of numbered elements, and of the elements
+unnumbered : {X : Type 0} (P : X → Type 0) (n : ℕ) (xs : List X) → AllByRecursion (λ (p : ℕ × X). P p.1) (enumerate_from n xs) → AllByRecursion P xs
+unnumbered P n [] h = tt
+unnumbered P n (x ∷ xs) h = (h.0, unnumbered P (n + 1) xs h.1)
+
+numbered : {X : Type 0} (P : X → Type 0) (n : ℕ) (xs : List X) → AllByRecursion P xs → AllByRecursion (λ (p : ℕ × X). P p.1) (enumerate_from n xs)
+numbered P n [] h = tt
+numbered P n (x ∷ xs) h = (h.0, numbered P (n + 1) xs h.1)
+
+abbrev CoveredAt : Advertised → HostWeights → List Entry → Entry → Type 0
+CoveredAt advert weights entries entry = All (IsCovered entries entry.potential) (steps_from advert weights (state_of entry))
+
+abbrev Below : Entry → Type 0
+Below entry = entry.used < 256
+
+entry_is_covered : (advert : Advertised) (weights : HostWeights) (entries : List Entry) (entry : ℕ × Entry) → HasStates entries → entry.1.used < 256 → NoFlaw (entry_flaws advert weights entries entry) → CoveredAt advert weights entries entry.1
+entry_is_covered advert weights entries entry states fits none =
+    let steps = steps_from advert weights (state_of entry.1) in
+    let ends = each_end_is_byte advert weights (state_of entry.1) (record { byte = entry.1.used; below = fits; is = refl }) in
+    let each = (none_of_each (step_flaws entries entry) steps).0 none in
+    All-from_recursion (IsCovered entries entry.1.potential) steps
+    (each_pair (λ (step : Step). IsByte step.end.used) (λ (step : Step). NoFlaw (step_flaws entries entry step)) (IsCovered entries entry.1.potential) steps (λ step is_byte no. step_covered entries entry step states is_byte no) ends each)
+
+covered_entry : (advert : Advertised) (weights : HostWeights) (entries : List Entry) (entry : ℕ × Entry) → HasStates entries → CoveredAt advert weights entries entry.1 → NoFlaw (entry_flaws advert weights entries entry)
+covered_entry advert weights entries entry states covered =
+    let steps = steps_from advert weights (state_of entry.1) in
+    (none_of_each (step_flaws entries entry) steps).1
+    (each_one (IsCovered entries entry.1.potential) (λ (step : Step). NoFlaw (step_flaws entries entry step)) steps (λ step covers. covered_step entries entry step states covers) (recursion_from_All (IsCovered entries entry.1.potential) steps covered))
+
+entries_covered : (advert : Advertised) (weights : HostWeights) (entries : List Entry) → HasStates entries → NoFlaw (entries_flaws advert weights entries) ↔ All (CoveredAt advert weights entries) entries
+unfolding entries_flaws
+entries_covered advert weights entries states =
+    let each = none_of_each (entry_flaws advert weights entries) (enumerate_from 1 entries) in
+    let bytes = numbered Below 1 entries (recursion_from_All Below entries states.bytes) in (
+      λ none. All-from_recursion (CoveredAt advert weights entries) entries
+          (unnumbered (CoveredAt advert weights entries) 1 entries
+          (each_pair (λ (p : ℕ × Entry). Below p.1) (λ (p : ℕ × Entry). NoFlaw (entry_flaws advert weights entries p)) (λ (p : ℕ × Entry). CoveredAt advert weights entries p.1) (enumerate_from 1 entries)
+          (λ p fits no. entry_is_covered advert weights entries p states fits no) bytes (each.0 none))),
+      λ all.
+          each.1
+          (each_one (λ (p : ℕ × Entry). CoveredAt advert weights entries p.1) (λ (p : ℕ × Entry). NoFlaw (entry_flaws advert weights entries p)) (enumerate_from 1 entries) (λ p covered. covered_entry advert weights entries p states covered)
+          (numbered (CoveredAt advert weights entries) 1 entries (recursion_from_All (CoveredAt advert weights entries) entries all))),
+    )
+
+-- ---- the whole certificate
+
+abbrev start_flaw : List Entry → Flaw
+start_flaw entries = (is_none (potential_of entries start), (NoStart, 0))
+
+abbrev is_other : ℕ → Option ℕ → Bool
+is_other weight found = not (unwrap_or found 0 == weight)
+
+abbrev end_flaw : List Entry → ℕ → Flaw
+end_flaw entries weight = (is_other weight (potential_of entries start), (StartNotWeight, 0))
+
+record IsBounded (advert : Advertised) (weights : HostWeights) (entries : List Entry) (weight : ℕ) : Type 0 where
+  closed : All (CoveredAt advert weights entries) entries
+  begun : IsBound entries start weight
+
+bounded : (advert : Advertised) (weights : HostWeights) (entries : List Entry) (weight : ℕ) → HasStates entries → NoFlaw (bound_flaws advert weights entries weight) ↔ IsBounded advert weights entries weight
+unfolding bound_flaws
+bounded advert weights entries weight states =
+    let of_entries = entries_flaws advert weights entries in
+    let ending : Flaws = end_flaw entries weight ∷ [] in
+    let first = flaw_first (start_flaw entries) (of_entries ++ ending) in
+    let middle = neither_flaw of_entries ending in
+    let last = flaw_first (end_flaw entries weight) [] in
+    let covered = entries_covered advert weights entries states in (
+      λ none.
+          let begins = first.0 none in
+          let rest = middle.0 begins.1 in
+          let found = not_none (potential_of entries start) begins.0 in
+          let same : found.0 ≡ weight = eqb-true _ _ (not_false (found.0 == weight) (ap (is_other weight) (sym found.1) ∙ (last.0 rest.1).0)) in
+          record { closed = covered.0 rest.0; begun = bound_from entries start weight states start_is_byte (found.1 ∙ ap (λ (p : ℕ). Some p) same) },
+      λ is.
+          let found = bound_to entries start weight states is.begun in
+          first.1 (ap is_none found, middle.1 (covered.1 is.closed, last.1 (ap (is_other weight) found ∙ ap not (eq-eqb weight weight refl), refl))),
+    )
+
+pub no_flaw_is_good : (advert : Advertised) (weights : HostWeights) (c : Certified) → HasStates c.entries → NoFlaw (all_flaws advert weights c) ↔ IsGood advert weights c
+no_flaw_is_good advert weights c states =
+    let right : ℕ = plan_weight advert weights c.paths in
+    let bounds = bound_flaws advert weights c.entries c.weight in
+    let weighed : Flaw = (not (c.weight == right), (WeightWrong, 0)) in
+    let first = neither_flaw (plan_flaws advert c.paths) (weighed ∷ bounds) in
+    let second = flaw_first weighed bounds in
+    let is_plan = plan_admissible advert c.paths in
+    let is_bounded = bounded advert weights c.entries c.weight states in (
+      λ none.
+          let parts = first.0 none in
+          let rest = second.0 parts.1 in
+          let bound = is_bounded.0 rest.1 in
+          record { admissible = is_plan.0 parts.0; weighs = eqb-true _ _ (not_false (c.weight == right) rest.0); closed = bound.closed; begun = bound.begun },
+      λ good.
+          first.1 (is_plan.1 good.admissible, second.1 (ap not (eq-eqb c.weight right good.weighs), is_bounded.1 (record { closed = good.closed; begun = good.begun }))),
+    )
+
+judged_good : (found : Option (Reason × ℕ)) → (judged found ≡ Good) ↔ (found ≡ None)
+judged_good None = (λ is. refl, λ is. refl)
+judged_good (Some flaw) = (λ is. absurd cc, λ is. absurd cc)
+
+pub good_verdict : (advert : Advertised) (weights : HostWeights) (c : Certified) → HasStates c.entries → (verdict advert weights c ≡ Good) ↔ IsGood advert weights c
+unfolding verdict
+good_verdict advert weights c states =
+    let by_flaw = judged_good (first_fault (all_flaws advert weights c)) in
+    let by_none = no_flaw_is_good advert weights c states in
+    (λ is. by_none.0 (by_flaw.0 is), λ good. by_flaw.1 (by_none.1 good))
