@@ -15,5 +15,5 @@ begun_is_told bytes host (from, to) begun =
     let lanes = range_with_len 1 8 in
     let at : get_or lanes (host - 1) 0 ≡ host = get_or-range_with_len 1 8 (host - 1) 0 (omega (arith, from, to)) ∙ omega (arith, from) in
     let first : Contains (filter (begins bytes) lanes) host =
-        subst (λ (k : ℕ). Contains (filter (begins bytes) lanes) k) at (kept (begins bytes) lanes (host - 1) 0 (omega (arith, from, to)) (ap (begins bytes) at ∙ begun)) in
+    subst (λ (k : ℕ). Contains (filter (begins bytes) lanes) k) at (kept (begins bytes) lanes (host - 1) 0 (omega (arith, from, to)) (ap (begins bytes) at ∙ begun)) in
     mapped (path_from bytes) (filter (begins bytes) lanes) host first

@@ -68,11 +68,12 @@ agreeing bytes host lane none begun within same =
     let parts = begun_parts bytes host begun in
     let told : control_at bytes host ≡ control_at bytes lane = same_control (control_at bytes host) (control_at bytes lane) same in
     let start : first_lane (control_at bytes lane) ≡ host = ap first_lane (sym told) ∙ parts.1 in
-    let lane_reached = reached bytes lane none within (ap is_used (sym told) ∙ parts.0) in
-    (omega (arith, lane_reached.first, start),
-    λ other from to.
-    (λ i. are_same (control_at bytes host) ((lane_reached.same other (omega (arith, from, start)) to ∙ sym told) i))
-    ∙ same_itself (control_at bytes host))
+    let lane_reached = reached bytes lane none within (ap is_used (sym told) ∙ parts.0) in (
+      omega (arith, lane_reached.first, start),
+      λ other from to.
+          (λ i. are_same (control_at bytes host) ((lane_reached.same other (omega (arith, from, start)) to ∙ sym told) i))
+          ∙ same_itself (control_at bytes host),
+    )
 
 -- how many lanes agree, from the first one on
 agrees_within : (bytes : List ℕ) (host lane : ℕ) → wrong_lane bytes ≡ None → IsLane host → begins bytes host ≡ true → IsLane lane →
@@ -83,17 +84,18 @@ agrees_within bytes host lane none (host_from, host_to) begun (lane_from, lane_t
     let from_host : (k : ℕ) → IsLane k → test k ≡ true → host ≤ k = λ k within yes. (agreeing bytes host k none begun within yes).0 in
     let count = count_by test (range_with_len 1 8) in
     let later : count ≡ count_by test (range_with_len host (9 - host)) =
-        count_later test 1 8 host host_from (omega (arith, host_to))
-        (λ k from before. false_from_ne_true (test k) (λ yes. omega (arith, from_host k (from, omega (arith, before, host_to)) yes, before))) in
+    count_later test 1 8 host host_from (omega (arith, host_to))
+    (λ k from before. false_from_ne_true (test k) (λ yes. omega (arith, from_host k (from, omega (arith, before, host_to)) yes, before))) in
     let front : host ≤ lane → test lane ≡ nat_lt lane (host + count) = λ from.
-        front_counted test host (9 - host)
-        (λ j k above order below yes. (agreeing bytes host k none begun (omega (arith, host_from, above, order), omega (arith, below)) yes).1 j above order)
-        lane from (omega (arith, from, lane_to, host_to))
-        ∙ ap (λ (n : ℕ). nat_lt lane (host + n)) (sym later) in
-    (λ yes.
-    let from = from_host lane (lane_from, lane_to) yes in
-    (from, ltb-true lane (host + count) (sym (front from) ∙ yes)),
-    λ (from, to). front from ∙ lt-ltb lane (host + count) to)
+    front_counted test host (9 - host)
+    (λ j k above order below yes. (agreeing bytes host k none begun (omega (arith, host_from, above, order), omega (arith, below)) yes).1 j above order)
+    lane from (omega (arith, from, lane_to, host_to))
+    ∙ ap (λ (n : ℕ). nat_lt lane (host + n)) (sym later) in (
+      λ yes.
+          let from = from_host lane (lane_from, lane_to) yes in
+          (from, ltb-true lane (host + count) (sym (front from) ∙ yes)),
+      λ (from, to). front from ∙ lt-ltb lane (host + count) to,
+    )
 
 pub lanes_taken : (bytes : List ℕ) → wrong_lane bytes ≡ None → All (TakesWhatAgrees bytes) (host_paths bytes)
 unfolding host_paths path_from
