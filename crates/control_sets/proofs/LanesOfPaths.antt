@@ -1,12 +1,11 @@
 -- Lanes that agree are a path.
-use Rattle.std.proofs.Common.{◌≡◌, ℕ, ◌+◌, ◌-◌, ◌<◌, ◌≤◌, ◌&&◌, ◌||◌, ◌↔◌, Bool, true, false, List, None, IsTrue, not, count_by, get_or, map, filter, All, Any, Contains, refl, sym, subst, ap, ◌∙◌, inl, inr, nat_eq, nat_le, nat_lt, arith}
+use Rattle.std.proofs.Common.{◌≡◌, ℕ, ◌+◌, ◌-◌, ◌≤◌, ◌||◌, ◌↔◌, Bool, true, false, List, None, IsTrue, not, count_by, get_or, filter, All, Any, refl, sym, ap, ◌∙◌, nat_eq, nat_le, nat_lt, arith}
 use Rattle.std.proofs.lemmas.Bool.{and_from, and_parts, eq-eqb, eqb-true, false_from_ne_true, leb-true, lt-ltb, ltb-true, not-false}
 use Rattle.std.proofs.lemmas.List.Elements.{All-filter, All-map, filter_passes}
 use Rattle.std.proofs.lemmas.List.FromFn.{get_or-range_with_len, length-range_with_len}
 use Rattle.std.proofs.lemmas.List.Sums.{AllPass-from_list_all}
 use Rattle.std.specs.List.{range_with_len}
 use Rattle.control_sets.specs.declared.control_byte.ControlByte.{ControlByte}
-use Rattle.control_sets.specs.declared.host_path.HostPath.{HostPath}
 use Rattle.control_sets.specs.HostPaths.{IsLane, agree, all_agree, are_same, begins, control_at, first_lane, host_paths, is_reached, is_right, is_used, path_from, wrong_lane}
 use Rattle.control_sets.specs.LanesOfPaths.{HasLane, IsOnLane, TakesWhatAgrees}
 use Rattle.control_sets.proofs.Begun.{are_lanes, begun_is_told}
