@@ -1,12 +1,11 @@
 -- Lanes that agree are a path.
-use Rattle.std.proofs.Common.{◌≡◌, ℕ, ◌+◌, ◌-◌, ◌<◌, ◌≤◌, ◌&&◌, ◌||◌, ◌↔◌, Bool, true, false, List, None, IsTrue, not, count_by, get_or, map, filter, All, Any, Contains, refl, sym, subst, ap, ◌∙◌, inl, inr, nat_eq, nat_le, nat_lt, arith}
+use Rattle.std.proofs.Common.{◌≡◌, ℕ, ◌+◌, ◌-◌, ◌≤◌, ◌||◌, ◌↔◌, Bool, true, false, List, None, IsTrue, not, count_by, get_or, filter, All, Any, refl, sym, ap, ◌∙◌, nat_eq, nat_le, nat_lt, arith}
 use Rattle.std.proofs.lemmas.Bool.{and_from, and_parts, eq-eqb, eqb-true, false_from_ne_true, leb-true, lt-ltb, ltb-true, not-false}
 use Rattle.std.proofs.lemmas.List.Elements.{All-filter, All-map, filter_passes}
 use Rattle.std.proofs.lemmas.List.FromFn.{get_or-range_with_len, length-range_with_len}
 use Rattle.std.proofs.lemmas.List.Sums.{AllPass-from_list_all}
 use Rattle.std.specs.List.{range_with_len}
 use Rattle.control_sets.specs.declared.control_byte.ControlByte.{ControlByte}
-use Rattle.control_sets.specs.declared.host_path.HostPath.{HostPath}
 use Rattle.control_sets.specs.HostPaths.{IsLane, agree, all_agree, are_same, begins, control_at, first_lane, host_paths, is_reached, is_right, is_used, path_from, wrong_lane}
 use Rattle.control_sets.specs.LanesOfPaths.{HasLane, IsOnLane, TakesWhatAgrees}
 use Rattle.control_sets.proofs.Begun.{are_lanes, begun_is_told}
@@ -68,11 +67,12 @@ agreeing bytes host lane none begun within same =
     let parts = begun_parts bytes host begun in
     let told : control_at bytes host ≡ control_at bytes lane = same_control (control_at bytes host) (control_at bytes lane) same in
     let start : first_lane (control_at bytes lane) ≡ host = ap first_lane (sym told) ∙ parts.1 in
-    let lane_reached = reached bytes lane none within (ap is_used (sym told) ∙ parts.0) in
-    (omega (arith, lane_reached.first, start),
-    λ other from to.
-    (λ i. are_same (control_at bytes host) ((lane_reached.same other (omega (arith, from, start)) to ∙ sym told) i))
-    ∙ same_itself (control_at bytes host))
+    let lane_reached = reached bytes lane none within (ap is_used (sym told) ∙ parts.0) in (
+      omega (arith, lane_reached.first, start),
+      λ other from to.
+          (λ i. are_same (control_at bytes host) ((lane_reached.same other (omega (arith, from, start)) to ∙ sym told) i))
+          ∙ same_itself (control_at bytes host),
+    )
 
 -- how many lanes agree, from the first one on
 agrees_within : (bytes : List ℕ) (host lane : ℕ) → wrong_lane bytes ≡ None → IsLane host → begins bytes host ≡ true → IsLane lane →
@@ -83,17 +83,18 @@ agrees_within bytes host lane none (host_from, host_to) begun (lane_from, lane_t
     let from_host : (k : ℕ) → IsLane k → test k ≡ true → host ≤ k = λ k within yes. (agreeing bytes host k none begun within yes).0 in
     let count = count_by test (range_with_len 1 8) in
     let later : count ≡ count_by test (range_with_len host (9 - host)) =
-        count_later test 1 8 host host_from (omega (arith, host_to))
-        (λ k from before. false_from_ne_true (test k) (λ yes. omega (arith, from_host k (from, omega (arith, before, host_to)) yes, before))) in
+    count_later test 1 8 host host_from (omega (arith, host_to))
+    (λ k from before. false_from_ne_true (test k) (λ yes. omega (arith, from_host k (from, omega (arith, before, host_to)) yes, before))) in
     let front : host ≤ lane → test lane ≡ nat_lt lane (host + count) = λ from.
-        front_counted test host (9 - host)
-        (λ j k above order below yes. (agreeing bytes host k none begun (omega (arith, host_from, above, order), omega (arith, below)) yes).1 j above order)
-        lane from (omega (arith, from, lane_to, host_to))
-        ∙ ap (λ (n : ℕ). nat_lt lane (host + n)) (sym later) in
-    (λ yes.
-    let from = from_host lane (lane_from, lane_to) yes in
-    (from, ltb-true lane (host + count) (sym (front from) ∙ yes)),
-    λ (from, to). front from ∙ lt-ltb lane (host + count) to)
+    front_counted test host (9 - host)
+    (λ j k above order below yes. (agreeing bytes host k none begun (omega (arith, host_from, above, order), omega (arith, below)) yes).1 j above order)
+    lane from (omega (arith, from, lane_to, host_to))
+    ∙ ap (λ (n : ℕ). nat_lt lane (host + n)) (sym later) in (
+      λ yes.
+          let from = from_host lane (lane_from, lane_to) yes in
+          (from, ltb-true lane (host + count) (sym (front from) ∙ yes)),
+      λ (from, to). front from ∙ lt-ltb lane (host + count) to,
+    )
 
 pub lanes_taken : (bytes : List ℕ) → wrong_lane bytes ≡ None → All (TakesWhatAgrees bytes) (host_paths bytes)
 unfolding host_paths path_from

@@ -3,7 +3,6 @@ use Rattle.std.proofs.Common.{◌≡◌, ℕ, ◌+◌, ◌-◌, ◌/◌, ◌%◌
 use Rattle.std.proofs.lemmas.Bool.{and_from, and_parts, cases_Bool, eq-eqb, eqb-true, false_from_ne_true, ne_eqb}
 use Rattle.std.proofs.lemmas.List.{get_or_default}
 use Rattle.std.proofs.lemmas.List.Elements.{All-filter, All-map, filter_passes}
-use Rattle.std.proofs.lemmas.List.FromFn.{get_or-range_with_len}
 use Rattle.std.proofs.lemmas.List.Kept.{AllPairs-filter}
 use Rattle.std.specs.List.{range_with_len}
 use Rattle.applications.specs.Advertised.{Advertised}
@@ -16,7 +15,7 @@ use Rattle.control_sets.specs.HostPaths.{IsLane, agree, are_same, begins, contro
 use Rattle.control_sets.specs.PlanPaths.{AreHostPathsOf, host_path_of}
 use Rattle.control_sets.proofs.Begun.{are_lanes, begun_is_told}
 use Rattle.control_sets.proofs.Bytes.{takes}
-use Rattle.control_sets.proofs.Counts.{count_alike, count_within, kept, mapped, pairs_mapped, row_rises}
+use Rattle.control_sets.proofs.Counts.{count_alike, count_within, mapped, pairs_mapped, row_rises}
 use Rattle.control_sets.proofs.Owners.{owner, takes_lane, takes_run}
 use Rattle.control_sets.proofs.ReadBack.{first_of, path_agrees}
 use Rattle.control_sets.proofs.ToldLanes.{IsPlan, IsPathOf, lane_cases, path_of, told_of, told_free}

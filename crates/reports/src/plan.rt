@@ -14,7 +14,12 @@ use std::fmt::Write;
 
 /// What a plan weighs, its paths, and the control bytes that ask for it, line by line.
 #[tactic(auto, unfolding(crate::specs::Lines::line, crate::specs::PlanText::weight_line, crate::specs::PlanText::control_line))]
-pub fn plan_text(alloc: Global, advert: &Advert, weights: &Weights, plan: &Plan) -> Result<Vec<u8>, AllocError>
+pub fn plan_text(
+    alloc: Global,
+    advert: &Advert,
+    weights: &Weights,
+    plan: &Plan,
+) -> Result<Vec<u8>, AllocError>
     requires { IsAdmissible advert.now plan.now }
     ensures { IfOk result (λ text. text.items ≡ text_of (plan_lines advert.now weights.now plan.now)) }
 {
@@ -70,3 +75,6 @@ fn span_of(first: u8, count: u8) -> LaneSpan
         last: first + count - 1,
     }
 }
+
+#[cfg(test)]
+mod tests;
