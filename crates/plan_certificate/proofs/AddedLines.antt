@@ -103,9 +103,6 @@ module _ (states : ℕ) (certificate : Certified) (path : Path) (fits : IsPath p
         lists = tt;
       }
 
-  pub path_added : (new : Certified) → new ≡ with_path certificate path → lines_before_end new ≡ lines_before_end certificate ++ PathLine path ∷ []
-  path_added new is = ap lines_before_end is ∙ path_lines certificate path none
-
 -- ---- the order of states, and room for them
 
 abbrev pub IsAbove : List Entry → Entry → Type 0

@@ -41,9 +41,6 @@ module _ (p : ℕ → Bool) (passes : Passes p) where
       let digit = digit_at (decimal n) k (decimal_is_IsNumeral n fits).0.1 lt in
       rw (get_or_default (decimal n) k d 0 lt) (passes.decimals _ digit.0 digit.1)
 
-  small_passes : (n limit : ℕ) → n ≤ limit → limit < 2 ^ 64 → AllPass p (decimal n)
-  small_passes n limit le lt = decimal_passes n (omega arith)
-
   name_passes : (name : List ℕ) → list_all p name ≡ true → AllPass p name
   name_passes = AllPass-from_list_all p
 

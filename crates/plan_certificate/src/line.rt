@@ -48,7 +48,8 @@ impl fmt::Display for Line {
 
 /// The line that bytes spell.
 pub fn read_line(bytes: &[u8]) -> Option<Line>
-    ensures { MatchOption result ((line : Line) → IsLine line → bytes.now ≢ line_text line) (λ line. IsLine line × (bytes.now ≡ line_text line)) }
+    ensures { MatchOption result ((line : Line) → IsLine line → bytes.now ≢ line_text line)
+        (λ line. IsLine line × (bytes.now ≡ line_text line)) }
 {
     let Some(words) = split_words::<4>(bytes) else {
         return None;
@@ -58,7 +59,8 @@ pub fn read_line(bytes: &[u8]) -> Option<Line>
 
 #[tactic(auto, unfolding(crate::specs::CertificateText::line_words))]
 fn read_words(words: &[&[u8]]) -> Option<Line>
-    ensures { MatchOption result ((line : Line) → IsLine line → map (λ word. word.now) words.now ≢ line_words line) (λ line. IsLine line × (map (λ word. word.now) words.now ≡ line_words line)) }
+    ensures { MatchOption result ((line : Line) → IsLine line → map (λ word. word.now) words.now ≢ line_words line)
+        (λ line. IsLine line × (map (λ word. word.now) words.now ≡ line_words line)) }
 {
     let Some((name, values)) = words.split_first() else {
         return None;
@@ -73,7 +75,8 @@ fn read_words(words: &[&[u8]]) -> Option<Line>
 
 #[tactic(auto, unfolding(crate::specs::CertificateText::line_words))]
 fn read_end(name: &[u8]) -> Option<Line>
-    ensures { MatchOption result ((line : Line) → IsLine line → name.now ∷ [] ≢ line_words line) (λ line. IsLine line × (name.now ∷ [] ≡ line_words line)) }
+    ensures { MatchOption result ((line : Line) → IsLine line → name.now ∷ [] ≢ line_words line)
+        (λ line. IsLine line × (name.now ∷ [] ≡ line_words line)) }
 {
     if name == b"end".as_slice() {
         Some(Line::End)
@@ -85,7 +88,8 @@ fn read_end(name: &[u8]) -> Option<Line>
 // The header or the weight.
 #[tactic(auto, unfolding(crate::specs::CertificateText::line_words))]
 fn read_head(name: &[u8], value: &[u8]) -> Option<Line>
-    ensures { MatchOption result ((line : Line) → IsLine line → name.now ∷ value.now ∷ [] ≢ line_words line) (λ line. IsLine line × (name.now ∷ value.now ∷ [] ≡ line_words line)) }
+    ensures { MatchOption result ((line : Line) → IsLine line → name.now ∷ value.now ∷ [] ≢ line_words line)
+        (λ line. IsLine line × (name.now ∷ value.now ∷ [] ≡ line_words line)) }
 {
     if name == b"certificate".as_slice() {
         return if value == b"1".as_slice() {
