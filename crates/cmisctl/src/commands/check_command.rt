@@ -68,7 +68,12 @@ pub fn read_weights(alloc: Global, text: &[u8]) -> Result<Weights, Fault>
 }
 
 #[tactic(auto, unfolding(crate::specs::CheckCommand::good_line))]
-fn good_text(alloc: Global, advert: &Advert, weights: &Weights, plan: &Plan) -> Result<Vec<u8>, AllocError>
+fn good_text(
+    alloc: Global,
+    advert: &Advert,
+    weights: &Weights,
+    plan: &Plan,
+) -> Result<Vec<u8>, AllocError>
     requires { IsAdmissible advert.now plan.now }
     ensures { IfOk result (λ text. text.items ≡ text_of (good_line ∷ plan_lines advert.now weights.now plan.now)) }
 {

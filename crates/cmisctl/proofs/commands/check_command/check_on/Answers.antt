@@ -42,8 +42,11 @@ returns-in-Ok-good_text-clause-answer c =
 
 pub returns-in-Bad-clause-answer : goal.returns-in-Bad-clause-answer
 returns-in-Bad-clause-answer c =
-    let read = c.in_ok-image in
-    (c.in_ok-advert.advert, c.in_ok-weights.weights, c.in-Ok.certificate, record {
+    let read = c.in_ok-image in (
+      c.in_ok-advert.advert,
+      c.in_ok-weights.weights,
+      c.in-Ok.certificate,
+      record {
         image_text = read.image.now;
         weights_text = read.weights.now;
         certificate_text = read.certificate.now;
@@ -51,4 +54,6 @@ returns-in-Bad-clause-answer c =
         is_advert = c.in_ok-advert.ensures;
         are_weights = c.in_ok-weights.ensures;
         is_certificate = c.in-Ok.ensures.ok;
-      }, sym c.in-Bad.ensures.verdict)
+      },
+      sym c.in-Bad.ensures.verdict,
+    )
