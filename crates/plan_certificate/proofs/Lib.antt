@@ -1,10 +1,10 @@
-mod LaneRuns
-mod Lists
+pub mod LaneRuns
+pub mod Lists
 mod Lookups
 mod NoFlaw
-mod Picked
-mod Searches
-mod ByteLanes
+pub mod Picked
+pub mod Searches
+pub mod ByteLanes
 mod GoodVerdicts
 mod Grown
-mod Heaviest
+pub mod Heaviest
