@@ -50,7 +50,7 @@ app_found advert path None is can =
     absurd (omega (arith, ap (λ (app : App). app.host_lanes) none, lanes))
 
 -- an allowed path is among those that begin at its host lane
-listed : (advert : Advertised) (P : Path → Type 0) (path : Path) (host : ℕ) → path.host ≡ host → is_allowed advert path ≡ true → AllByRecursion P (paths_at advert host) → P path
+pub listed : (advert : Advertised) (P : Path → Type 0) (path : Path) (host : ℕ) → path.host ≡ host → is_allowed advert path ≡ true → AllByRecursion P (paths_at advert host) → P path
 listed advert P path host begins can each =
     let lanes = allowed advert path can in
     let app = app_found advert path (find (has_number path) advert.apps) refl can in
@@ -62,7 +62,7 @@ listed advert P path host begins can each =
     subst P (λ i. record { app = number i; host = sym begins i; media = path.media }) one
 
 -- what holds of each step from a state holds of the free lane's step and of each path's that fits
-each_step : (advert : Advertised) (weights : HostWeights) (P : Step → Type 0) (state : State) → state.boundary < 8 → AllByRecursion P (steps_from advert weights state)
+pub each_step : (advert : Advertised) (weights : HostWeights) (P : Step → Type 0) (state : State) → state.boundary < 8 → AllByRecursion P (steps_from advert weights state)
     → P (free_step state) × ((path : Path) → path.host ≡ state.boundary + 1 → is_allowed advert path ≡ true → is_disjoint (media_lanes advert path) state.used ≡ true → P (path_step advert weights state path))
 unfolding steps_from path_steps
 each_step advert weights P state below each =
@@ -74,16 +74,16 @@ each_step advert weights P state below each =
     (all.0, λ path begins can unused. listed advert (λ (p : Path). fits advert state p ≡ true → P (path_step advert weights state p)) path host begins can of_paths (λ i. can i && unused i))
 
 -- a path that may still come: it begins past the boundary, at lanes that aren't used
-record IsLater (advert : Advertised) (state : State) (path : Path) : Type 0 where
-  can : is_allowed advert path ≡ true
-  past : state.boundary < path.host
-  unused : is_disjoint (media_lanes advert path) state.used ≡ true
+pub record IsLater (advert : Advertised) (state : State) (path : Path) : Type 0 where
+  pub can : is_allowed advert path ≡ true
+  pub past : state.boundary < path.host
+  pub unused : is_disjoint (media_lanes advert path) state.used ≡ true
 
-map_each : {X : Type 0} (P Q : X → Type 0) (xs : List X) → ((x : X) → P x → Q x) → AllByRecursion P xs → AllByRecursion Q xs
+pub map_each : {X : Type 0} (P Q : X → Type 0) (xs : List X) → ((x : X) → P x → Q x) → AllByRecursion P xs → AllByRecursion Q xs
 map_each P Q [] f h = tt
 map_each P Q (x ∷ xs) f h = (f x h.0, map_each P Q xs f h.1)
 
-both_each : {X : Type 0} (P Q : X → Type 0) (xs : List X) → AllByRecursion P xs → AllByRecursion Q xs → AllByRecursion (λ x. P x × Q x) xs
+pub both_each : {X : Type 0} (P Q : X → Type 0) (xs : List X) → AllByRecursion P xs → AllByRecursion Q xs → AllByRecursion (λ x. P x × Q x) xs
 both_each P Q [] h k = tt
 both_each P Q (x ∷ xs) h k = ((h.0, k.0), both_each P Q xs h.1 k.1)
 
@@ -113,23 +113,27 @@ after_path advert weights state taken path is_taken begins later apart =
       unused = disjoint_union (media_lanes advert path) state.used (media_lanes advert taken) later.unused (disjoint_back (media_lanes advert taken) (media_lanes advert path) parts.1);
     }
 
--- from the state of an entry, no paths that may still come weigh more than its potential
-bounded : (advert : Advertised) (weights : HostWeights) (c : Certified) → IsGood advert weights c → (left : ℕ) (state : State) (potential : ℕ) → 8 ≤ state.boundary + left → IsBound c.entries state potential
+-- a step leads to where this bounds what can be gained by what is left of the potential
+abbrev pub LeavesEnough : (State → ℕ → Type 0) → ℕ → Step → Type 0
+LeavesEnough Bounds potential step = (later : ℕ) × Bounds step.end later × (step.weight + later ≤ potential)
+
+-- what bounds the gain at a state does so after each step
+abbrev pub IsKept : Advertised → HostWeights → (State → ℕ → Type 0) → Type 0
+IsKept advert weights Bounds = (state : State) (potential : ℕ) → Bounds state potential → AllByRecursion (LeavesEnough Bounds potential) (steps_from advert weights state)
+
+-- then no paths that may still come weigh more
+pub bounded : (advert : Advertised) (weights : HostWeights) (Bounds : State → ℕ → Type 0) → IsKept advert weights Bounds → (left : ℕ) (state : State) (potential : ℕ) → 8 ≤ state.boundary + left → Bounds state potential
     → (paths : List Path) → AreApart advert paths → AllByRecursion (IsLater advert state) paths → plan_weight advert weights paths ≤ potential
-bounded advert weights c good zero state potential ends bound paths apart each = omega (arith, none_later advert (path_weight advert weights) state paths (omega (arith, ends)) each)
-bounded advert weights c good (suc left) state potential ends bound paths apart each =
+bounded advert weights Bounds kept zero state potential ends bound paths apart each = omega (arith, none_later advert (path_weight advert weights) state paths (omega (arith, ends)) each)
+bounded advert weights Bounds kept (suc left) state potential ends bound paths apart each =
     let weigh = path_weight advert weights in
     elim (cases_lt state.boundary 8) [
       | inr ended ↦ omega (arith, none_later advert weigh state paths (omega (arith, ended)) each)
       | inl below ↦
-          let Covered : Step → Type 0 = IsCovered c.entries potential in
-          let at_entry = All-contains (λ (entry : Entry). All (IsCovered c.entries entry.potential) (steps_from advert weights (state_of entry))) c.entries bound.0 good.closed bound.1 in
-          let at_state : All Covered (steps_from advert weights state) =
-          subst (λ (s : State). All Covered (steps_from advert weights s)) bound.2 (subst (λ (p : ℕ). All (IsCovered c.entries p) (steps_from advert weights (state_of bound.0))) bound.3 at_entry) in
-          let steps = each_step advert weights Covered state below (recursion_from_All Covered (steps_from advert weights state) at_state) in
+          let steps = each_step advert weights (LeavesEnough Bounds potential) state below (kept state potential bound) in
           elim (pick advert weigh paths (state.boundary + 1) apart) [
             | inr elsewhere ↦
-                let rest = bounded advert weights c good left (free_step state).end steps.0.0 (omega (arith, ends)) steps.0.1 paths apart (stay_later advert state paths each elsewhere) in
+                let rest = bounded advert weights Bounds kept left (free_step state).end steps.0.0 (omega (arith, ends)) steps.0.1 paths apart (stay_later advert state paths each elsewhere) in
                 omega (arith, rest, steps.0.2)
             | inl picked ↦
                 let parts = picked.each (IsLater advert state) each in
@@ -138,10 +142,19 @@ bounded advert weights c good (suc left) state potential ends bound paths apart 
                 let later = map_each (λ path. IsLater advert state path × IsApart advert picked.path path) (IsLater advert (path_step advert weights state picked.path).end) picked.rest
                 (λ path h. after_path advert weights state picked.path path parts.0 picked.begins h.0 h.1)
                 (both_each (IsLater advert state) (IsApart advert picked.path) picked.rest parts.1 picked.path_apart) in
-                let rest = bounded advert weights c good left (path_step advert weights state picked.path).end step.0 (omega (arith, ends, lanes.host_some)) step.1 picked.rest picked.rest_apart later in
+                let rest = bounded advert weights Bounds kept left (path_step advert weights state picked.path).end step.0 (omega (arith, ends, lanes.host_some)) step.1 picked.rest picked.rest_apart later in
                 omega (arith, rest, step.2, picked.weighs)
           ]
     ]
+
+-- the potentials of a good certificate's entries do
+entries_kept : (advert : Advertised) (weights : HostWeights) (c : Certified) → IsGood advert weights c → IsKept advert weights (IsBound c.entries)
+entries_kept advert weights c good state potential bound =
+    let Covered : Step → Type 0 = IsCovered c.entries potential in
+    let at_entry = All-contains (λ (entry : Entry). All (IsCovered c.entries entry.potential) (steps_from advert weights (state_of entry))) c.entries bound.0 good.closed bound.1 in
+    let at_state : All Covered (steps_from advert weights state) =
+    subst (λ (s : State). All Covered (steps_from advert weights s)) bound.2 (subst (λ (p : ℕ). All (IsCovered c.entries p) (steps_from advert weights (state_of bound.0))) bound.3 at_entry) in
+    recursion_from_All Covered (steps_from advert weights state) at_state
 
 pub good_is_best : (advert : Advertised) (weights : HostWeights) (c : Certified) → IsGood advert weights c → IsBest advert weights c.paths
 good_is_best advert weights c good = record {
@@ -149,5 +162,5 @@ good_is_best advert weights c good = record {
   heaviest = λ others is_plan.
       let can = recursion_from_All (λ path. is_allowed advert path ≡ true) others is_plan.allowed in
       let each = map_each (λ path. is_allowed advert path ≡ true) (IsLater advert start) others (λ path one. record { can = one; past = (allowed advert path one).host_from; unused = disjoint_none (media_lanes advert path) }) can in
-      omega (arith, good.weighs, bounded advert weights c good 8 start c.weight (omega arith) good.begun others (from_pairs advert others is_plan.apart) each);
+      omega (arith, good.weighs, bounded advert weights (IsBound c.entries) (entries_kept advert weights c good) 8 start c.weight (omega arith) good.begun others (from_pairs advert others is_plan.apart) each);
 }

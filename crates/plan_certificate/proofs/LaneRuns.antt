@@ -9,7 +9,7 @@ use Rattle.std.specs.Ordering.{nat_cmp}
 use Rattle.field_tables.specs.LaneSets.{Lanes, run_of, is_disjoint}
 use Rattle.field_tables.specs.LaneBytes.{contains-run_of}
 
-abbrev Apart : Lanes → Lanes → Type 0
+abbrev pub Apart : Lanes → Lanes → Type 0
 Apart s t = (q : ℕ) → set.contains s q ≡ true → set.contains t q ≡ true → ⊥
 
 both : (s t : Lanes) (q : ℕ) → set.contains (set.intersection s t) q ≡ (set.contains s q && set.contains t q)

@@ -1,17 +1,17 @@
-mod LaneRuns
-mod Lists
+pub mod LaneRuns
+pub mod Lists
 mod Lookups
 mod NoFlaw
-mod Picked
-mod Searches
-mod ByteLanes
+pub mod Picked
+pub mod Searches
+pub mod ByteLanes
 mod GoodVerdicts
 mod Grown
-mod Heaviest
-pub mod LineWords
-pub mod NextLines
-pub mod Drafts
-pub mod AddedLines
-pub mod WholeTexts
-pub mod OneAnswer
-pub mod WrittenCertificates
+pub mod Heaviest
+mod LineWords
+mod NextLines
+mod Drafts
+mod AddedLines
+mod WholeTexts
+mod OneAnswer
+mod WrittenCertificates

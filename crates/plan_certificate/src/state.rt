@@ -36,14 +36,14 @@ impl State {
     }
 
     /// The place among all states, by boundary and then by the byte of used media lanes.
-    pub(crate) fn place(self) -> u16
+    pub fn place(self) -> u16
         ensures { result ≡ place_of_state self }
     {
         256 * u16::from(self.boundary) + u16::from(self.used.byte())
     }
 
     /// The step that leaves the next host lane free.
-    pub(crate) fn free_step(self) -> Step
+    pub fn free_step(self) -> Step
         requires { self.boundary < 8 }
         ensures { result ≡ spec.free_step self }
     {
@@ -57,7 +57,7 @@ impl State {
     }
 
     /// Whether the module can carry the path, and it uses no media lane twice.
-    pub(crate) fn fits(self, path: Path, advert: &Advert) -> bool
+    pub fn fits(self, path: Path, advert: &Advert) -> bool
         ensures { result ≡ spec.fits advert.now self path }
     {
         path.is_allowed(advert) && path.media_lanes(advert).is_disjoint(self.used)
@@ -65,7 +65,7 @@ impl State {
 
     /// The step of a path that begins at the next host lane.
     #[tactic(auto, unfolding(crate::specs::Paths::is_allowed))]
-    pub(crate) fn path_step(self, path: Path, advert: &Advert, weights: &Weights) -> Step
+    pub fn path_step(self, path: Path, advert: &Advert, weights: &Weights) -> Step
         requires fits { spec.fits advert.now self path ≡ true }
         requires next { path.host ≡ self.boundary + 1 }
         ensures { result ≡ spec.path_step advert.now weights.now self path }

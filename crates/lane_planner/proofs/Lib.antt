@@ -1,0 +1,10 @@
+mod Lanes
+mod StepKinds
+mod RunPaths
+mod GainLaws
+mod Places
+mod FirstPaths
+mod Ends
+mod Rising
+mod ReadOffs
+mod TableEntries

@@ -1,0 +1,85 @@
+-- Plans that grow by a path at a later host lane: what is kept.
+use Rattle.std.proofs.Common.{◌≡◌, ℕ, ◌+◌, ◌<◌, ◌≤◌, ◌&&◌, true, List, [], ◌∷◌, ◌++◌, length, get_or, sym, subst, ap, ◌∙◌, inl, inr, arith}
+use Rattle.std.specs.List.{All, AllPairs}
+use Rattle.std.proofs.Math.ListN.{get_or-append}
+use Rattle.std.proofs.Math.Seq.{get_or-append_seam}
+use Rattle.std.proofs.lemmas.Bool.{cases_lt}
+use Rattle.std.proofs.lemmas.List.{length-append}
+use Rattle.std.proofs.lemmas.List.Elements.{All-append, All-from_recursion}
+use Rattle.std.proofs.lemmas.List.Sums.{sum_by-append, sum_by-cons}
+use Rattle.field_tables.specs.LaneSets.{Lanes, is_disjoint}
+use Rattle.applications.specs.Advertised.{Advertised}
+use Rattle.applications.specs.Weights.{HostWeights}
+use Rattle.plan_certificate.specs.declared.path.Path.{Path}
+use Rattle.plan_certificate.specs.declared.state.State.{State}
+use Rattle.plan_certificate.specs.Paths.{app_of, media_lanes, is_allowed, path_weight}
+use Rattle.plan_certificate.specs.Plans.{are_apart, plan_weight}
+use Rattle.plan_certificate.specs.States.{free_step, path_step}
+use Rattle.plan_certificate.proofs.Heaviest.{allowed}
+use Rattle.plan_certificate.proofs.LaneRuns.{disjoint_back}
+use Rattle.lane_planner.proofs.Lanes.{runs_disjoint, disjoint_first, disjoint_second}
+
+-- ---- pairs of a list that grows at its end
+
+pub pairs_more : {X : Type 0} (R : X → X → Type 0) (xs : List X) (x : X) → AllPairs R xs → All (λ y. R y x) xs → AllPairs R (xs ++ x ∷ [])
+pairs_more {X} R xs x pairs last i j d before below =
+    let total : length (xs ++ x ∷ []) ≡ length xs + 1 = length-append xs (x ∷ []) in
+    let first : get_or (xs ++ x ∷ []) i d ≡ get_or xs i d = get_or-append xs (x ∷ []) d i (omega (arith, before, below, total)) in
+    elim (cases_lt j (length xs)) [
+      | inl within ↦
+          let second : get_or (xs ++ x ∷ []) j d ≡ get_or xs j d = get_or-append xs (x ∷ []) d j within in
+          subst (λ (y : X). R y (get_or (xs ++ x ∷ []) j d)) (sym first) (subst (R (get_or xs i d)) (sym second) (pairs i j d before within))
+      | inr past ↦
+          let end : j ≡ length xs = omega (arith, past, below, total) in
+          let second : get_or (xs ++ x ∷ []) j d ≡ x = ap (λ (n : ℕ). get_or (xs ++ x ∷ []) n d) end ∙ get_or-append_seam xs x [] d in
+          subst (λ (y : X). R y (get_or (xs ++ x ∷ []) j d)) (sym first) (subst (R (get_or xs i d)) (sym second) (last i d (omega (arith, before, end))))
+    ]
+
+pub all_more : {X : Type 0} (P : X → Type 0) (xs : List X) (x : X) → All P xs → P x → All P (xs ++ x ∷ [])
+all_more P xs x all last = All-append P xs (x ∷ []) all (All-from_recursion P (x ∷ []) (last, tt))
+
+-- ---- the paths before a state
+
+-- a path that ends at or below the boundary, at used media lanes
+pub record IsEarlier (advert : Advertised) (weights : HostWeights) (state : State) (path : Path) : Type 0 where
+  pub can : is_allowed advert path ≡ true
+  pub before : path.host + (app_of advert path).host_lanes ≤ state.boundary + 1
+  pub used : (others : Lanes) → is_disjoint others state.used ≡ true → is_disjoint others (media_lanes advert path) ≡ true
+  pub weighs : 0 < path_weight advert weights path
+
+-- any two: the one ahead is at lower host lanes, and they share no lane
+pub record AreInOrder (advert : Advertised) (path later : Path) : Type 0 where
+  pub apart : are_apart advert path later ≡ true
+  pub rises : path.host < later.host
+
+pub earlier_free : (advert : Advertised) (weights : HostWeights) (state : State) (path : Path) → IsEarlier advert weights state path → IsEarlier advert weights (free_step state).end path
+earlier_free advert weights state path is = record { can = is.can; before = omega (arith, is.before); used = is.used; weighs = is.weighs }
+
+pub earlier_path : (advert : Advertised) (weights : HostWeights) (state : State) (taken path : Path) → IsEarlier advert weights state path → IsEarlier advert weights (path_step advert weights state taken).end path
+earlier_path advert weights state taken path is = record {
+  can = is.can;
+  before = omega (arith, is.before);
+  used = λ others none. is.used others (disjoint_first others state.used (media_lanes advert taken) none);
+  weighs = is.weighs;
+}
+
+pub taken_earlier : (advert : Advertised) (weights : HostWeights) (state : State) (taken : Path) → taken.host ≡ state.boundary + 1 → is_allowed advert taken ≡ true → 0 < path_weight advert weights taken → IsEarlier advert weights (path_step advert weights state taken).end taken
+taken_earlier advert weights state taken begins can weighs = record {
+  can = can;
+  before = omega (arith, begins);
+  used = λ others none. disjoint_second others state.used (media_lanes advert taken) none;
+  weighs = weighs;
+}
+
+pub in_order : (advert : Advertised) (weights : HostWeights) (state : State) (path taken : Path) → IsEarlier advert weights state path → taken.host ≡ state.boundary + 1 → is_disjoint (media_lanes advert taken) state.used ≡ true → AreInOrder advert path taken
+unfolding are_apart
+in_order advert weights state path taken is begins unused =
+    let lanes = allowed advert path is.can in
+    let hosts = runs_disjoint path.host (app_of advert path).host_lanes taken.host (app_of advert taken).host_lanes (omega (arith, is.before, begins)) in
+    let media = disjoint_back (media_lanes advert taken) (media_lanes advert path) (is.used (media_lanes advert taken) unused) in
+    record { apart = (λ i. hosts i && media i); rises = omega (arith, is.before, begins, lanes.host_some) }
+
+pub weight_more : (advert : Advertised) (weights : HostWeights) (paths : List Path) (path : Path) → plan_weight advert weights (paths ++ path ∷ []) ≡ plan_weight advert weights paths + path_weight advert weights path
+weight_more advert weights paths path =
+    let weigh : Path → ℕ = path_weight advert weights in
+    omega (arith, sum_by-append weigh paths (path ∷ []), sum_by-cons weigh path [])

@@ -1,0 +1,12 @@
+//! The plan of data paths that weighs most, with a certificate that none weighs more.
+#![tactic(auto)]
+
+mod choices;
+mod gains;
+mod planner;
+
+pub use gains::STATES;
+pub use planner::plan;
+
+#[cfg(test)]
+mod tests;
