@@ -11,7 +11,7 @@ use Rattle.plan_certificate.specs.Plans.{IsBest}
 use Rattle.plan_certificate.specs.Verdicts.{verdict}
 use Rattle.plan_certificate.specs.declared.verdict.Verdict.TheVariants.{Good, Bad}
 use Rattle.reports.specs.PlanText.{plan_lines}
-use Rattle.cmisctl.specs.declared.commands.check_command.TheConstants.{MAX_STATES}
+use Rattle.lane_planner.specs.declared.gains.TheConstants.{STATES}
 use Rattle.cmisctl.specs.declared.fault.Fault.TheVariants as fault
 use Rattle.cmisctl.specs.Limits.{input_limit}
 use Rattle.cmisctl.specs.Parts.{parts_of}
@@ -34,7 +34,7 @@ pub record IsCheckInput (input : List ℕ) (advert : Advertised) (weights : Host
   pub parts : AreParts input image_text weights_text certificate_text
   pub is_advert : IsAdvertText image_text advert
   pub are_weights : IsAnswer weights_text (Ok weights)
-  pub is_certificate : IsTextOf MAX_STATES (lines_of certificate_text) certificate
+  pub is_certificate : IsTextOf STATES (lines_of certificate_text) certificate
 
 -- the certificate is good, so its plan is best, and the plan is told
 pub record IsGoodAnswer (input text : List ℕ) : Type 0 where
@@ -55,7 +55,7 @@ IsCheckAnswer input (Ok text) = IsGoodAnswer input text
 IsCheckAnswer input (Err (fault.Bad reason number)) =
     (advert : Advertised) × (weights : HostWeights) × (certificate : Certified) × IsCheckInput input advert weights certificate × (verdict advert weights certificate ≡ Bad reason number)
 IsCheckAnswer input (Err (fault.Certificate f)) = IsFirstRefusal input (λ image weights certificate.
-    ((advert : Advertised) × IsAdvertText image advert) × ((listed : HostWeights) × IsAnswer weights (Ok listed)) × IsFirstFault MAX_STATES (lines_of certificate) f)
+    ((advert : Advertised) × IsAdvertText image advert) × ((listed : HostWeights) × IsAnswer weights (Ok listed)) × IsFirstFault STATES (lines_of certificate) f)
 IsCheckAnswer input (Err (fault.Weights f)) = IsFirstRefusal input (λ image weights certificate.
     ((advert : Advertised) × IsAdvertText image advert) × IsWeightsRefusal weights (fault.Weights f))
 IsCheckAnswer input (Err (fault.Parts n)) = (length input ≤ input_limit) × (n ≡ length (parts_of input)) × (n ≢ 3)

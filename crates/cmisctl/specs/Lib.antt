@@ -14,5 +14,6 @@ pub mod Runs
 pub mod PartFaults
 pub mod ReportCommands
 pub mod PlanningInputs
+pub mod PlanCommand
 pub mod CheckCommand
 pub mod Program

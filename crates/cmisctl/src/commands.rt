@@ -1,11 +1,14 @@
 //! The program's commands: each reads its whole input and writes one answer.
 ghost use Rattle.cmisctl.specs.CheckCommand.{IsCheckAnswer};
+ghost use Rattle.cmisctl.specs.PlanCommand.{IsPlanAnswer};
 ghost use Rattle.cmisctl.specs.ReportCommands.{IsReportAnswer};
 ghost use Rattle.cmisctl.specs.declared.commands.report_command.Report.TheVariants as report;
 ghost use Rattle.cmisctl.specs.Runs.{IsCommandRun};
 
 mod check_command;
 mod command;
+mod plan_command;
+mod planning_inputs;
 mod report_command;
 
 use crate::choice::commands::CommandName;
@@ -58,6 +61,17 @@ pub fn flags<R: Read, W: Write>(
     ensures { IsCommandRun R.remaining W.contents (IsReportAnswer report.Flags) reader.old reader.new writer.old writer.new result }
 {
     command(alloc, CommandName::Flags, reader, writer)
+}
+
+/// Reads the texts of an image and of weights, and writes the certificate of the plan that weighs most.
+pub fn plan<R: Read, W: Write>(
+    alloc: Global,
+    reader: &mut CountedReader<R>,
+    writer: &mut StoppingWriter<W>,
+) -> Status
+    ensures { IsCommandRun R.remaining W.contents IsPlanAnswer reader.old reader.new writer.old writer.new result }
+{
+    command(alloc, CommandName::Plan, reader, writer)
 }
 
 /// Reads the texts of an image, of weights and of a certificate, and writes whether the certificate is good, and its plan

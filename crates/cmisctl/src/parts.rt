@@ -45,6 +45,21 @@ pub fn only_part(input: &[u8]) -> Result<&[u8], Fault>
     Ok(parts[0])
 }
 
+/// The input's two parts.
+pub fn two_parts(input: &[u8]) -> Result<(&[u8], &[u8]), Fault>
+    requires { length input.now ≤ input_limit }
+    ensures { MatchResult result (λ parts. parts_of input.now ≡ parts.0.now ∷ parts.1.now ∷ []) (IsPartsFault 2 input.now) }
+{
+    let count = count_parts(input);
+    if count != 2 {
+        return Err(Fault::Parts(count));
+    }
+    let Some(parts) = split_parts::<2>(input) else {
+        return Err(Fault::Parts(count));
+    };
+    Ok((parts[0], parts[1]))
+}
+
 /// The input's three parts.
 pub fn three_parts(input: &[u8]) -> Result<(&[u8], &[u8], &[u8]), Fault>
     requires { length input.now ≤ input_limit }

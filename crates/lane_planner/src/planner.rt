@@ -3,6 +3,8 @@ ghost use Rattle.std.specs.List.{All, AllPairs};
 ghost use Rattle.plan_certificate.specs.Paths.{path_weight};
 ghost use Rattle.plan_certificate.specs.Plans.{IsBest};
 ghost use Rattle.plan_certificate.specs.Certificates.{IsGood, place_of, state_of};
+ghost use Rattle.plan_certificate.specs.Verdicts.{verdict};
+ghost use Rattle.plan_certificate.specs.declared.verdict.Verdict.TheVariants as verdicts;
 ghost use Rattle.lane_planner.specs.Gains.{IsGain};
 ghost use Rattle.lane_planner.specs.Tables.{HasGains, IsReadOff, entry_at, every_place};
 
@@ -15,6 +17,7 @@ use plan_certificate::{Certificate, Entry, Plan, State};
 /// The plan that weighs most, with what can still be gained from each state.
 pub fn plan(advert: &Advert, weights: &Weights) -> Certificate<STATES>
     ensures good { IsGood advert.now weights.now result }
+    ensures judged { verdict advert.now weights.now result ≡ verdicts.Good }
     ensures best { IsBest advert.now weights.now result.paths }
     ensures rising { AllPairs (λ path later. path.host < later.host) result.paths }
     ensures weighing { All (λ path. 0 < path_weight advert.now weights.now path) result.paths }

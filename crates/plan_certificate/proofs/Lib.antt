@@ -5,7 +5,7 @@ mod NoFlaw
 pub mod Picked
 pub mod Searches
 pub mod ByteLanes
-mod GoodVerdicts
+pub mod GoodVerdicts
 mod Grown
 pub mod Heaviest
 mod LineWords

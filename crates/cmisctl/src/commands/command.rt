@@ -8,6 +8,7 @@ ghost use Rattle.cmisctl.specs.Runs.{IsCommandRun, SaysReading};
 
 use crate::choice::commands::CommandName;
 use crate::commands::check_command::check_on;
+use crate::commands::plan_command::plan_on;
 use crate::commands::report_command::{Report, report_on};
 use crate::fault::Fault;
 use crate::input::{CountedReader, read_input};
@@ -54,6 +55,7 @@ fn answer_to(alloc: Global, name: CommandName, input: &[u8]) -> Result<Vec<u8>, 
         CommandName::Apps => report_on(alloc, Report::Apps, input),
         CommandName::Monitors => report_on(alloc, Report::Monitors, input),
         CommandName::Flags => report_on(alloc, Report::Flags, input),
+        CommandName::Plan => plan_on(alloc, input),
         CommandName::Check => check_on(alloc, input),
     }
 }

@@ -2,10 +2,10 @@
 ghost use Rattle.std.specs.Prelude.{◌≡◌, ◌≤◌, ◌++◌, ◌∷◌, [], IfOk, OnOk, map};
 ghost use Rattle.std.specs.String.{string_bytes};
 ghost use Rattle.std.specs.List.{AllByRecursion};
-ghost use Rattle.text_lines.specs.Lines.{text_of};
+ghost use Rattle.text_lines.specs.Lines.{lines_of, text_of};
 ghost use Rattle.plan_certificate.specs.declared.line.Line.{Line};
 ghost use Rattle.plan_certificate.specs.Certificates.{HasStates};
-ghost use Rattle.plan_certificate.specs.CertificateText.{line_text, certificate_lines, IsPath, IsEntry, HasRoom};
+ghost use Rattle.plan_certificate.specs.CertificateText.{line_text, certificate_lines, IsPath, IsEntry, HasRoom, IsTextOf};
 
 use super::{Certificate, Entry};
 use crate::line::Line;
@@ -18,6 +18,7 @@ impl<const STATES: usize> Certificate<STATES> {
     pub fn write(&self, alloc: Global) -> Result<Vec<u8>, AllocError>
         ensures written { IfOk result (λ text. text.items ≡ text_of (certificate_lines self.now)) }
         ensures room { OnOk result (HasRoom STATES self.now) }
+        ensures read_back { IfOk result (λ text. IsTextOf STATES (lines_of text.items) self.now) }
     {
         let (weight, plan) = (self.weight, &self.plan);
         let mut text = String::new(alloc);

@@ -4,6 +4,7 @@ use Rattle.plan_certificate.specs.declared.certificate.Entry.{Entry}
 use Rattle.plan_certificate.specs.Certificates.{HasStates, IsBound, IsCovered, place_of, state_of}
 use Rattle.plan_certificate.specs.States.{start, steps_from}
 use Rattle.plan_certificate.proofs.ByteLanes.{start_is_byte}
+use Rattle.plan_certificate.proofs.GoodVerdicts.{good_verdict}
 use Rattle.plan_certificate.proofs.Heaviest.{good_is_best}
 use Rattle.lane_planner.specs.Gains.{IsGain}
 use Rattle.lane_planner.specs.Tables.{gain_at}
@@ -29,6 +30,9 @@ returns-clause-good c =
       closed = subst Closed (sym c.entries_of.ensures) (each_covers advert weights table c.gains_of-table.ensures);
       begun = subst Begun (sym c.entries_of.ensures) (subst (λ (n : ℕ). IsBound (entries_at table) start n) (sym weight) (bound_at table start (omega arith) start_is_byte));
     }
+
+pub returns-clause-judged : goal.returns-clause-judged
+returns-clause-judged c = (good_verdict c.args.advert.now c.args.weights.now _ (invariant_of-result c)).1 (returns-clause-good c)
 
 pub returns-clause-best : goal.returns-clause-best
 returns-clause-best c = good_is_best c.args.advert.now c.args.weights.now _ (returns-clause-good c)

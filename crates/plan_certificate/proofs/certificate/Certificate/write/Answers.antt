@@ -1,5 +1,7 @@
-use Rattle.std.proofs.Common.{◌<◌, ◌≤◌, ◌^◌, length, arith}
-use Rattle.plan_certificate.proofs.WrittenCertificates.{has_room, whole_text}
+use Rattle.std.proofs.Common.{◌<◌, ◌≤◌, ◌^◌, ℕ, List, length, sym, subst, arith}
+use Rattle.text_lines.specs.Lines.{lines_of}
+use Rattle.plan_certificate.specs.CertificateText.{IsTextOf}
+use Rattle.plan_certificate.proofs.WrittenCertificates.{has_room, whole_text, written_lines}
 use Rattle.plan_certificate.proofs.certificate.Certificate.write.Goals as goal
 
 pub returns-clause-room : goal.returns-clause-room
@@ -18,3 +20,8 @@ returns-clause-written g c =
     let entries = rw c.deref-2.ensures.0 at c.in_ok-write_entries.ensures.written in
     rw (c.into_bytes.ensures.value, ← c.self.view_is)
     (whole_text _ _ _ _ _ _ (rw c.new-text.ensures.bytes at header) c.in_ok-write_line-2.ensures paths entries c.in_ok-write_line-3.ensures)
+
+pub returns-clause-read_back : goal.returns-clause-read_back
+returns-clause-read_back g c =
+    let room = returns-clause-room g c in
+    subst (λ (text : List ℕ). IsTextOf g.row.STATES (lines_of text) c.args.self.now) (sym (returns-clause-written g c)) (written_lines g.row.STATES c.args.self.now room)
