@@ -1,5 +1,5 @@
 mod CommandLineLemmas
 mod FoldLemmas
 mod PartCuts
-mod CheckAnswers
+mod PlanningAnswers
 mod ReportAnswers

@@ -4,7 +4,7 @@ use Rattle.plan_certificate.specs.Certificates.{Certified}
 use Rattle.reports.specs.PlanText.{plan_lines}
 use Rattle.cmisctl.specs.CheckCommand.{good_line}
 use Rattle.std.proofs.lemmas.Result.{err_from_is_err_and}
-use Rattle.cmisctl.proofs.CheckAnswers.{weights_refused}
+use Rattle.cmisctl.proofs.PlanningAnswers.{weights_refused}
 use Rattle.cmisctl.proofs.commands.check_command.check_on.Goals as goal
 
 pub returns-in_err-weights-clause-answer : goal.returns-in_err-weights-clause-answer

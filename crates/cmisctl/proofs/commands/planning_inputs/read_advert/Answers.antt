@@ -1,5 +1,5 @@
 use Rattle.applications.specs.Refusals.{advert_fault}
-use Rattle.cmisctl.proofs.CheckAnswers.{answered, refused}
+use Rattle.cmisctl.proofs.PlanningAnswers.{answered, refused}
 use Rattle.cmisctl.proofs.commands.planning_inputs.read_advert.Goals as goal
 
 pub returns-in-Ok-of : goal.returns-in-Ok-of

@@ -1,4 +1,4 @@
--- The answer of the command `check`, by what reading its parts answers.
+-- The answers of commands that plan, by what reading their parts answers.
 use Rattle.std.proofs.Common.{◌≡◌, ℕ, List, Option, Some, None, Result, Ok, Err, refl}
 use Rattle.std.specs.Prelude.{MatchOption}
 use Rattle.paged_memory.specs.Images.{Memory}
@@ -7,6 +7,7 @@ use Rattle.applications.specs.declared.fault.AdvertFault.{AdvertFault}
 use Rattle.cmisctl.specs.declared.fault.Fault.{Fault}
 use Rattle.cmisctl.specs.declared.fault.Fault.TheVariants as fault
 use Rattle.cmisctl.specs.CheckCommand.{AreParts, IsCheckAnswer}
+use Rattle.cmisctl.specs.PlanCommand.{ArePlanParts, IsPlanAnswer}
 use Rattle.cmisctl.specs.PlanningInputs.{IsAdvertText, IsWeightsRefusal}
 
 abbrev Read : Type 0
@@ -22,6 +23,11 @@ answered memory advert (Some f) h = absurd cc
 pub refused : (memory : Memory) (f : AdvertFault) (o : Option AdvertFault) → Answers o (advertised_by memory) (Err f) → o ≡ Some f
 refused memory f None h = absurd cc
 refused memory f (Some g) h = cc
+
+pub plan_weights_refused : (input image weights : List ℕ) (advert : Advertised) (f : Fault) → ArePlanParts input image weights → IsAdvertText image advert → IsWeightsRefusal weights f → IsPlanAnswer input (Err f)
+plan_weights_refused input image weights advert (fault.Weights f) parts told is = (image, weights, parts, ((advert, told), is))
+plan_weights_refused input image weights advert fault.Memory parts told is = tt
+plan_weights_refused input image weights advert f parts told is = absurd is
 
 pub weights_refused : (input image weights certificate : List ℕ) (advert : Advertised) (f : Fault) → AreParts input image weights certificate → IsAdvertText image advert → IsWeightsRefusal weights f → IsCheckAnswer input (Err f)
 weights_refused input image weights certificate advert (fault.Weights f) parts told is = (image, weights, certificate, parts, ((advert, told), is))
