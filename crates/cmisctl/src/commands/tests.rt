@@ -1,9 +1,10 @@
 use super::command::command;
-use super::{apps, check, flags, inventory, monitors};
+use super::{apps, check, flags, inventory, monitors, plan};
 use crate::choice::commands::CommandName;
 use crate::input::CountedReader;
 use crate::output::StoppingWriter;
 use crate::status::Status;
+use std::alloc::Global;
 use std::io;
 use std::io::{ErrorKind, Read, Write};
 use std::process::Abort;
@@ -254,23 +255,74 @@ const LATER_STATES: &str = "state 1 00 0\n\
     state 8 ff 0\n\
     end\n";
 
-/// A certificate for the module above with one Application, which takes all lanes and weighs 5, and what else it may be.
-#[test]
-fn a_certificate_is_judged(rt: HostRuntime) -> Result<(), Fail> {
+// The module above with one Application, which takes all lanes.
+fn one_application(alloc: Global) -> Result<String, Fail> {
     let (head, rest) = IMAGE
         .split_once("111c84010d142155ff")
         .ok_or("no Applications")?;
     let rest = rest.strip_suffix("end\n").ok_or("the image has no end")?;
     let (page, starts) = PAGE_01.split_once("010f").ok_or("no media starts")?;
     let starts = starts.strip_suffix("17\n").ok_or("another sum")?;
-    let image = format!(in rt.alloc();
-        "{head}111c8801ff00000000{rest}{page}0100{starts}08\nend\n"
-    )?;
+    Ok(format!(in alloc; "{head}111c8801ff00000000{rest}{page}0100{starts}08\nend\n")?)
+}
+
+const GOOD: &str =
+    "good\nweight 5\npath app 1 host 1-8 media 1-8\ncontrol 10 10 10 10 10 10 10 10\n";
+
+/// The certificate that `plan` writes is good, and what `plan` refuses.
+#[test]
+fn a_plan_is_certified(rt: HostRuntime) -> Result<(), Fail> {
+    let image = one_application(rt.alloc())?;
+    let input = format!(in rt.alloc(); "{image}---\n[host]\n11h = 5\n")?;
+    let mut certificate = Vec::new(rt.alloc());
+    let mut reader = CountedReader::new(input.as_bytes());
+    let status = plan(
+        rt.alloc(),
+        &mut reader,
+        &mut StoppingWriter::new(&mut certificate),
+    );
+    assert_eq!(rt; status, Status::Done);
+    let certificate = String::from_utf8(certificate)?;
+    let begins = "certificate 1\nweight 5\npath 1 1 1\nstate 0 00 5\nstate 0 01 0\n";
+    assert!(rt; certificate.starts_with(begins));
+    assert!(rt; certificate.ends_with("\nstate 8 ff 0\nend\n"));
+    assert_eq!(rt; certificate.lines().count(), 2308);
+    let input = format!(in rt.alloc(); "{input}---\n{certificate}")?;
+    let mut written = Vec::new(rt.alloc());
+    let mut reader = CountedReader::new(input.as_bytes());
+    let status = check(
+        rt.alloc(),
+        &mut reader,
+        &mut StoppingWriter::new(&mut written),
+    );
+    assert_eq!(rt; status, Status::Done);
+    assert_eq!(rt; written.as_slice(), GOOD.as_bytes());
+    for (input, text) in [
+        ("", "fault PT1 1\n"),
+        ("---\n", "fault IM1\n"),
+        (image.as_str(), "fault PT1 1\n"),
+    ] {
+        let mut written = Vec::new(rt.alloc());
+        let mut reader = CountedReader::new(input.as_bytes());
+        let status = plan(
+            rt.alloc(),
+            &mut reader,
+            &mut StoppingWriter::new(&mut written),
+        );
+        assert_eq!(rt; status, Status::Refused);
+        assert_eq!(rt; written.as_slice(), text.as_bytes());
+    }
+    Ok(())
+}
+
+/// A certificate for the module with one Application, which weighs 5, and what else it may be.
+#[test]
+fn a_certificate_is_judged(rt: HostRuntime) -> Result<(), Fail> {
+    let image = one_application(rt.alloc())?;
     let plan = "weight 5\npath 1 1 1\nstate 0 00";
     let weights = "[host]\n11h = 5\n";
-    let good = "good\nweight 5\npath app 1 host 1-8 media 1-8\ncontrol 10 10 10 10 10 10 10 10\n";
     for (image, weights, certificate, ends, text) in [
-        (image.as_str(), weights, (plan, "5"), Status::Done, good),
+        (image.as_str(), weights, (plan, "5"), Status::Done, GOOD),
         (
             &image,
             weights,
