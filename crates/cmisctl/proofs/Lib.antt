@@ -1,4 +1,5 @@
 mod CommandLineLemmas
 mod FoldLemmas
 mod PartCuts
+mod CheckAnswers
 mod ReportAnswers

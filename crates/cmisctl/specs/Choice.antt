@@ -8,7 +8,7 @@ use Rattle.clap.specs.Words.{fault_of, with_rule, with_subcommand, Kinds}
 use Rattle.clap.specs.Simple.{on_top}
 use Rattle.clap.specs.declared.builder.action.ArgAction.TheVariants.{SetTrue}
 use Rattle.cmisctl.specs.declared.choice.commands.CommandName.{CommandName}
-use Rattle.cmisctl.specs.declared.choice.commands.CommandName.TheVariants.{Inventory, Apps, Monitors, Flags}
+use Rattle.cmisctl.specs.declared.choice.commands.CommandName.TheVariants.{Inventory, Apps, Monitors, Flags, Check}
 use Rattle.cmisctl.specs.declared.choice.commands.Choice.{Choice}
 
 -- a command, by its name among the words, and the names of its flags
@@ -23,6 +23,7 @@ commands =
     ∷ record { name = codes "apps"; command = Apps; flags = [] }
     ∷ record { name = codes "monitors"; command = Monitors; flags = [] }
     ∷ record { name = codes "flags"; command = Flags; flags = [] }
+    ∷ record { name = codes "check"; command = Check; flags = [] }
     ∷ []
 
 -- `--name`, without a value and at most once

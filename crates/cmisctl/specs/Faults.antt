@@ -8,6 +8,12 @@ use Rattle.field_tables.specs.declared.sff_fault.SffFault.{SffFault}
 use Rattle.field_tables.specs.declared.sff_fault.SffFault.TheVariants as sff
 use Rattle.applications.specs.declared.fault.AdvertFault.{AdvertFault}
 use Rattle.applications.specs.declared.fault.AdvertFault.TheVariants as advert
+use Rattle.applications.specs.declared.weights.fault.WeightsFault.{WeightsFault}
+use Rattle.applications.specs.declared.weights.fault.WeightsFault.TheVariants as weights
+use Rattle.plan_certificate.specs.declared.fault.CertificateFault.{CertificateFault}
+use Rattle.plan_certificate.specs.declared.fault.CertificateFault.TheVariants as certificate
+use Rattle.plan_certificate.specs.declared.verdict.Reason.{Reason}
+use Rattle.plan_certificate.specs.declared.verdict.Reason.TheVariants as reason
 use Rattle.reports.specs.declared.fault.ReportFault.{ReportFault}
 use Rattle.reports.specs.declared.fault.ReportFault.TheVariants as report
 use Rattle.cmisctl.specs.declared.input.InputFault.{InputFault}
@@ -53,6 +59,30 @@ report_fault_text (report.Revision revision) = with_number (codes "RP4") revisio
 report_fault_text (report.Sff f) = sff_fault_text f
 report_fault_text (report.Advert f) = advert_fault_text f
 
+unfoldable pub weights_fault_text : WeightsFault → List ℕ
+weights_fault_text weights.NotToml = codes "WT1"
+weights_fault_text weights.NoHostTable = codes "WT2"
+weights_fault_text weights.BadKey = codes "WT3"
+weights_fault_text (weights.SameKeyTwice host_id) = with_number (codes "WT4") host_id
+weights_fault_text (weights.BadWeight host_id) = with_number (codes "WT5") host_id
+weights_fault_text weights.OtherKey = codes "WT6"
+weights_fault_text weights.Memory = codes "memory"
+
+unfoldable pub certificate_fault_text : CertificateFault → List ℕ
+certificate_fault_text (certificate.BadLine n) = with_number (codes "CT1") n
+certificate_fault_text (certificate.OutOfOrder n) = with_number (codes "CT2") n
+certificate_fault_text certificate.TooMany = codes "CT3"
+certificate_fault_text certificate.NoEnd = codes "CT4"
+
+unfoldable pub reason_text : Reason → List ℕ
+reason_text reason.PathNotAllowed = codes "VR1"
+reason_text reason.LaneTwice = codes "VR2"
+reason_text reason.WeightWrong = codes "VR3"
+reason_text reason.NoStart = codes "VR4"
+reason_text reason.NotClosed = codes "VR5"
+reason_text reason.TooLow = codes "VR6"
+reason_text reason.StartNotWeight = codes "VR7"
+
 unfoldable pub fault_text : Fault → List ℕ
 fault_text fault.Memory = codes "memory"
 fault_text fault.Io = codes "IO"
@@ -60,15 +90,25 @@ fault_text fault.TooLong = codes "PT2"
 fault_text (fault.Parts n) = with_number (codes "PT1") n
 fault_text (fault.Image f) = image_fault_text f
 fault_text (fault.Report f) = report_fault_text f
+fault_text (fault.Advert f) = advert_fault_text f
+fault_text (fault.Weights f) = weights_fault_text f
+fault_text (fault.Certificate f) = certificate_fault_text f
+fault_text (fault.Bad r n) = with_number (reason_text r) n
+
+-- the word that begins the line
+abbrev pub word_of : Fault → List ℕ
+word_of (fault.Bad r n) = codes "bad"
+word_of _ = codes "fault"
 
 -- the line that the program writes
 unfoldable pub fault_line : Fault → List ℕ
-fault_line f = codes "fault " ++ fault_text f ++ 10 ∷ []
+fault_line f = word_of f ++ 32 ∷ fault_text f ++ 10 ∷ []
 
 -- how the program ends
 abbrev pub status_of : Fault → Status
 status_of fault.Memory = status.Memory
 status_of fault.Io = status.ReadOrWrite
+status_of (fault.Bad r n) = status.BadCertificate
 status_of _ = status.Refused
 
 abbrev pub fault_of_input : InputFault → Fault

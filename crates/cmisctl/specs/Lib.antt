@@ -11,5 +11,8 @@ pub mod Parts
 pub mod PartsLeft
 pub mod Faults
 pub mod Runs
+pub mod PartFaults
 pub mod ReportCommands
+pub mod PlanningInputs
+pub mod CheckCommand
 pub mod Program

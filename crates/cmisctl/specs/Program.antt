@@ -7,11 +7,12 @@ use Rattle.std.specs.declared.io.ErrorKind.TheVariants.{OutOfMemory}
 use Rattle.clap.specs.Words.{Text, takes}
 use Rattle.cmisctl.specs.Choice.{choice_of, faults_of, program}
 use Rattle.cmisctl.specs.ChoiceFault.{IsFaultAmong, memory_line, status_of_fault}
+use Rattle.cmisctl.specs.CheckCommand.{IsCheckAnswer}
 use Rattle.cmisctl.specs.ReportCommands.{IsReportAnswer}
 use Rattle.cmisctl.specs.Runs.{Answer, IsRun, ended}
 use Rattle.cmisctl.specs.declared.choice.commands.Choice.{Choice}
 use Rattle.cmisctl.specs.declared.choice.commands.CommandName.{CommandName}
-use Rattle.cmisctl.specs.declared.choice.commands.CommandName.TheVariants.{Inventory, Apps, Monitors, Flags}
+use Rattle.cmisctl.specs.declared.choice.commands.CommandName.TheVariants.{Inventory, Apps, Monitors, Flags, Check}
 use Rattle.cmisctl.specs.declared.choice.fault.ChoiceFault.{ChoiceFault}
 use Rattle.cmisctl.specs.declared.choice.fault.ChoiceFault.TheVariants.{Memory}
 use Rattle.cmisctl.specs.declared.commands.report_command.Report.TheVariants as report
@@ -24,6 +25,7 @@ IsAnswerOf Inventory = IsReportAnswer report.Inventory
 IsAnswerOf Apps = IsReportAnswer report.Apps
 IsAnswerOf Monitors = IsReportAnswer report.Monitors
 IsAnswerOf Flags = IsReportAnswer report.Flags
+IsAnswerOf Check = IsCheckAnswer
 
 -- the words give no choice: `clap` refuses them, or an allocation was refused
 abbrev pub IsRefusalOf : List Text → ChoiceFault → Type 0

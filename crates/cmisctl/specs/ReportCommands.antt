@@ -51,3 +51,5 @@ IsReportAnswer report input (Err fault.TooLong) = input_limit < length input
 -- an allocation or a read may fail on any input
 IsReportAnswer report input (Err fault.Memory) = Unit {0}
 IsReportAnswer report input (Err fault.Io) = Unit {0}
+-- the faults of other commands don't come
+IsReportAnswer report input (Err f) = ⊥

@@ -1,13 +1,18 @@
 //! The program's commands: each reads its whole input and writes one answer.
+ghost use Rattle.cmisctl.specs.CheckCommand.{IsCheckAnswer};
 ghost use Rattle.cmisctl.specs.ReportCommands.{IsReportAnswer};
+ghost use Rattle.cmisctl.specs.declared.commands.report_command.Report.TheVariants as report;
 ghost use Rattle.cmisctl.specs.Runs.{IsCommandRun};
 
+mod check_command;
+mod command;
 mod report_command;
 
+use crate::choice::commands::CommandName;
 use crate::input::CountedReader;
 use crate::output::StoppingWriter;
 use crate::status::Status;
-use report_command::{Report, report_command};
+use command::command;
 use std::alloc::Global;
 use std::io::{Read, Write};
 
@@ -17,9 +22,9 @@ pub fn inventory<R: Read, W: Write>(
     reader: &mut CountedReader<R>,
     writer: &mut StoppingWriter<W>,
 ) -> Status
-    ensures { IsCommandRun R.remaining W.contents (IsReportAnswer Report.Inventory) reader.old reader.new writer.old writer.new result }
+    ensures { IsCommandRun R.remaining W.contents (IsReportAnswer report.Inventory) reader.old reader.new writer.old writer.new result }
 {
-    report_command(alloc, Report::Inventory, reader, writer)
+    command(alloc, CommandName::Inventory, reader, writer)
 }
 
 /// Reads the text of an image, and writes the Applications that the module advertises or why they are not read.
@@ -28,9 +33,9 @@ pub fn apps<R: Read, W: Write>(
     reader: &mut CountedReader<R>,
     writer: &mut StoppingWriter<W>,
 ) -> Status
-    ensures { IsCommandRun R.remaining W.contents (IsReportAnswer Report.Apps) reader.old reader.new writer.old writer.new result }
+    ensures { IsCommandRun R.remaining W.contents (IsReportAnswer report.Apps) reader.old reader.new writer.old writer.new result }
 {
-    report_command(alloc, Report::Apps, reader, writer)
+    command(alloc, CommandName::Apps, reader, writer)
 }
 
 /// Reads the text of an image, and writes what the module measures or why it is not told.
@@ -39,9 +44,9 @@ pub fn monitors<R: Read, W: Write>(
     reader: &mut CountedReader<R>,
     writer: &mut StoppingWriter<W>,
 ) -> Status
-    ensures { IsCommandRun R.remaining W.contents (IsReportAnswer Report.Monitors) reader.old reader.new writer.old writer.new result }
+    ensures { IsCommandRun R.remaining W.contents (IsReportAnswer report.Monitors) reader.old reader.new writer.old writer.new result }
 {
-    report_command(alloc, Report::Monitors, reader, writer)
+    command(alloc, CommandName::Monitors, reader, writer)
 }
 
 /// Reads the text of an image, and writes the module's states and the flags that are raised or why they are not told.
@@ -50,9 +55,21 @@ pub fn flags<R: Read, W: Write>(
     reader: &mut CountedReader<R>,
     writer: &mut StoppingWriter<W>,
 ) -> Status
-    ensures { IsCommandRun R.remaining W.contents (IsReportAnswer Report.Flags) reader.old reader.new writer.old writer.new result }
+    ensures { IsCommandRun R.remaining W.contents (IsReportAnswer report.Flags) reader.old reader.new writer.old writer.new result }
 {
-    report_command(alloc, Report::Flags, reader, writer)
+    command(alloc, CommandName::Flags, reader, writer)
+}
+
+/// Reads the texts of an image, of weights and of a certificate, and writes whether the certificate is good, and its plan
+/// where it is.
+pub fn check<R: Read, W: Write>(
+    alloc: Global,
+    reader: &mut CountedReader<R>,
+    writer: &mut StoppingWriter<W>,
+) -> Status
+    ensures { IsCommandRun R.remaining W.contents IsCheckAnswer reader.old reader.new writer.old writer.new result }
+{
+    command(alloc, CommandName::Check, reader, writer)
 }
 
 #[cfg(test)]

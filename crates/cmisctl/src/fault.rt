@@ -1,12 +1,13 @@
 //! Why the program refuses its input, and how it says so.
 ghost use Rattle.std.specs.Prelude.{◌≡◌, Some};
-ghost use Rattle.cmisctl.specs.Faults.{advert_fault_text, fault_text, image_fault_text, report_fault_text, sff_fault_text, status_of};
+ghost use Rattle.cmisctl.specs.Faults.{advert_fault_text, certificate_fault_text, fault_text, image_fault_text, reason_text, report_fault_text, sff_fault_text, status_of, weights_fault_text, word_of};
 
 use crate::input::InputFault;
 use crate::status::Status;
-use applications::AdvertFault;
+use applications::{AdvertFault, WeightsFault};
 use field_tables::SffFault;
 use paged_memory::ImageFault;
+use plan_certificate::{CertificateFault, Reason};
 use reports::ReportFault;
 use std::fmt;
 
@@ -25,6 +26,14 @@ pub enum Fault {
     Image(ImageFault),
     /// There is no report of the image.
     Report(ReportFault),
+    /// The module does not say what it advertises.
+    Advert(AdvertFault),
+    /// The weights are none.
+    Weights(WeightsFault),
+    /// The certificate is none.
+    Certificate(CertificateFault),
+    /// The certificate is bad: the reason, and the number of the path or the entry, or else 0.
+    Bad(Reason, usize),
 }
 
 impl Fault {
@@ -35,7 +44,18 @@ impl Fault {
         match self {
             Fault::Memory => Status::Memory,
             Fault::Io => Status::ReadOrWrite,
+            Fault::Bad(..) => Status::BadCertificate,
             _ => Status::Refused,
+        }
+    }
+
+    /// The word that begins the fault's line.
+    pub fn word(self) -> &'static str
+        ensures { result.now ≡ word_of self }
+    {
+        match self {
+            Fault::Bad(..) => "bad",
+            _ => "fault",
         }
     }
 }
@@ -85,6 +105,22 @@ impl fmt::Display for Fault {
             Fault::Report(fault) => {
                 let shown = ShownReportFault(*fault);
                 write!(f, "{shown}")
+            }
+            Fault::Advert(fault) => {
+                let shown = ShownAdvertFault(*fault);
+                write!(f, "{shown}")
+            }
+            Fault::Weights(fault) => {
+                let shown = ShownWeightsFault(*fault);
+                write!(f, "{shown}")
+            }
+            Fault::Certificate(fault) => {
+                let shown = ShownCertificateFault(*fault);
+                write!(f, "{shown}")
+            }
+            Fault::Bad(reason, number) => {
+                let shown = ShownReason(*reason);
+                write!(f, "{shown} {number}")
             }
         }
     }
@@ -168,6 +204,63 @@ impl fmt::Display for ShownAdvertFault {
             AdvertFault::Absent(key) => write!(f, "AD4 {key}"),
             AdvertFault::BadSum(page) => write!(f, "AD5 {page}"),
             AdvertFault::NotEightLanes(identifier) => write!(f, "AD6 {identifier}"),
+        }
+    }
+}
+
+#[derive(Clone, Copy)]
+struct ShownWeightsFault(WeightsFault);
+
+impl fmt::Display for ShownWeightsFault {
+    ghost output = { λ shown. Some (weights_fault_text shown.0) };
+
+    #[tactic(auto, unfolding(crate::specs::Faults::weights_fault_text))]
+    fn fmt<W: fmt::Write>(&self, f: &mut fmt::Formatter<W>) -> fmt::Result {
+        match self.0 {
+            WeightsFault::NotToml => write!(f, "WT1"),
+            WeightsFault::NoHostTable => write!(f, "WT2"),
+            WeightsFault::BadKey => write!(f, "WT3"),
+            WeightsFault::SameKeyTwice(host_id) => write!(f, "WT4 {host_id}"),
+            WeightsFault::BadWeight(host_id) => write!(f, "WT5 {host_id}"),
+            WeightsFault::OtherKey => write!(f, "WT6"),
+            WeightsFault::Memory => write!(f, "memory"),
+        }
+    }
+}
+
+#[derive(Clone, Copy)]
+struct ShownCertificateFault(CertificateFault);
+
+impl fmt::Display for ShownCertificateFault {
+    ghost output = { λ shown. Some (certificate_fault_text shown.0) };
+
+    #[tactic(auto, unfolding(crate::specs::Faults::certificate_fault_text))]
+    fn fmt<W: fmt::Write>(&self, f: &mut fmt::Formatter<W>) -> fmt::Result {
+        match self.0 {
+            CertificateFault::BadLine(number) => write!(f, "CT1 {number}"),
+            CertificateFault::OutOfOrder(number) => write!(f, "CT2 {number}"),
+            CertificateFault::TooMany => write!(f, "CT3"),
+            CertificateFault::NoEnd => write!(f, "CT4"),
+        }
+    }
+}
+
+#[derive(Clone, Copy)]
+struct ShownReason(Reason);
+
+impl fmt::Display for ShownReason {
+    ghost output = { λ shown. Some (reason_text shown.0) };
+
+    #[tactic(auto, unfolding(crate::specs::Faults::reason_text))]
+    fn fmt<W: fmt::Write>(&self, f: &mut fmt::Formatter<W>) -> fmt::Result {
+        match self.0 {
+            Reason::PathNotAllowed => write!(f, "VR1"),
+            Reason::LaneTwice => write!(f, "VR2"),
+            Reason::WeightWrong => write!(f, "VR3"),
+            Reason::NoStart => write!(f, "VR4"),
+            Reason::NotClosed => write!(f, "VR5"),
+            Reason::TooLow => write!(f, "VR6"),
+            Reason::StartNotWeight => write!(f, "VR7"),
         }
     }
 }

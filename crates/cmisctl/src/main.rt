@@ -74,6 +74,7 @@ fn run<R: Read, W: Write>(
             CommandName::Apps => commands::apps(alloc, reader, writer),
             CommandName::Monitors => commands::monitors(alloc, reader, writer),
             CommandName::Flags => commands::flags(alloc, reader, writer),
+            CommandName::Check => commands::check(alloc, reader, writer),
         },
         Err(fault) => choice_refused(&fault, writer),
     }

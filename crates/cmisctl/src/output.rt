@@ -35,10 +35,13 @@ pub fn write_answer<W: Write>(
 {
     let (written, status) = match answer {
         Ok(text) => (writer.put(&text), Status::Done),
-        Err(fault) => (
-            writer.put_text(format_args!("fault {fault}\n")),
-            fault.status(),
-        ),
+        Err(fault) => {
+            let word = fault.word();
+            (
+                writer.put_text(format_args!("{word} {fault}\n")),
+                fault.status(),
+            )
+        }
     };
     match written {
         Ok(()) => status,

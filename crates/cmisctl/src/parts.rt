@@ -1,10 +1,13 @@
 //! The parts of the program's input, between lines that are exactly `---`.
-ghost use Rattle.std.specs.Prelude.{◌≡◌, ◌+◌, ◌^◌, ◌<◌, ◌∷◌, [], map, length, MatchOption};
+ghost use Rattle.std.specs.Prelude.{◌≡◌, ◌+◌, ◌^◌, ◌<◌, ◌≤◌, ◌∷◌, [], map, length, MatchOption, MatchResult};
 ghost use Rattle.std.specs.Option.{option_map_or};
 ghost use Rattle.std.specs.Iterator.{YieldsFirstBy, item_count};
 ghost use Rattle.cmisctl.specs.Parts.{is_separator_line, parts_of};
+ghost use Rattle.cmisctl.specs.Limits.{input_limit};
+ghost use Rattle.cmisctl.specs.PartFaults.{IsPartsFault};
 ghost use Rattle.cmisctl.specs.PartsLeft.{parts_left};
 
+use crate::fault::Fault;
 use arrayvec::ArrayVec;
 use text_lines::{LF, split_ended_line};
 
@@ -25,6 +28,36 @@ pub fn split_parts<const N: usize>(input: &[u8]) -> Option<ArrayVec<&[u8], N>>
         parts.try_push(part).ok()?;
     }
     Some(parts)
+}
+
+/// The input's one part.
+pub fn only_part(input: &[u8]) -> Result<&[u8], Fault>
+    requires { length input.now ≤ input_limit }
+    ensures { MatchResult result (λ part. parts_of input.now ≡ part.now ∷ []) (IsPartsFault 1 input.now) }
+{
+    let count = count_parts(input);
+    if count != 1 {
+        return Err(Fault::Parts(count));
+    }
+    let Some(parts) = split_parts::<1>(input) else {
+        return Err(Fault::Parts(count));
+    };
+    Ok(parts[0])
+}
+
+/// The input's three parts.
+pub fn three_parts(input: &[u8]) -> Result<(&[u8], &[u8], &[u8]), Fault>
+    requires { length input.now ≤ input_limit }
+    ensures { MatchResult result (λ parts. parts_of input.now ≡ parts.0.now ∷ parts.1.now ∷ parts.2.now ∷ []) (IsPartsFault 3 input.now) }
+{
+    let count = count_parts(input);
+    if count != 3 {
+        return Err(Fault::Parts(count));
+    }
+    let Some(parts) = split_parts::<3>(input) else {
+        return Err(Fault::Parts(count));
+    };
+    Ok((parts[0], parts[1], parts[2]))
 }
 
 // The parts of an input from the first to the last; none once the last has been given.

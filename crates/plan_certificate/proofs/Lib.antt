@@ -8,3 +8,10 @@ pub mod ByteLanes
 mod GoodVerdicts
 mod Grown
 pub mod Heaviest
+mod LineWords
+mod NextLines
+mod Drafts
+mod AddedLines
+mod WholeTexts
+mod OneAnswer
+mod WrittenCertificates

@@ -1,3 +1,8 @@
+mod reading;
+#[cfg(test)]
+mod tests;
+mod writing;
+
 use crate::plan::Plan;
 use crate::state::State;
 use arrayvec::ArrayVec;

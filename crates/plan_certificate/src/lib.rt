@@ -3,15 +3,20 @@
 
 mod certificate;
 mod checker;
+mod fault;
 mod flaws;
+pub mod laws;
+mod line;
 mod path;
 mod plan;
+mod stage;
 mod state;
 mod steps;
 mod verdict;
 
 pub use certificate::{Certificate, Entry};
 pub use checker::check;
+pub use fault::CertificateFault;
 pub use path::Path;
 pub use plan::{MAX_PATHS, Plan, admissible, weight_of};
 pub use state::{State, Step};

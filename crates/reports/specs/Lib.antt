@@ -18,3 +18,4 @@ pub mod SffInventory
 pub mod Inventory
 pub mod Apps
 pub mod Values
+pub mod PlanText

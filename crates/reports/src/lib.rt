@@ -11,6 +11,7 @@ mod fault;
 mod flag;
 mod line;
 mod monitor;
+mod plan;
 mod quantity;
 mod raised;
 mod readings;
@@ -19,12 +20,14 @@ mod sff_inventory;
 mod sff_monitors;
 mod shown;
 mod shown_app;
+mod shown_plan;
 mod shown_state;
 mod words;
 
 pub use by_family::{flags, inventory, monitors};
 pub use cmis_apps::apps;
 pub use fault::ReportFault;
+pub use plan::plan_text;
 
 #[cfg(test)]
 mod tests;

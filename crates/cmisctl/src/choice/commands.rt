@@ -10,6 +10,7 @@ pub enum CommandName {
     Apps,
     Monitors,
     Flags,
+    Check,
 }
 
 /// What the command line asks for.
@@ -58,6 +59,7 @@ pub fn commands() -> &'static [CommandEntry]
         "apps" Apps [] "Print the Applications that the module advertises";
         "monitors" Monitors [] "Print what the module measures";
         "flags" Flags [] "Print the states of the module and its lanes, and the flags that are raised";
+        "check" Check [] "Judge a certificate for an image and weights, and print its plan where it is good";
     }
 }
 

@@ -33,6 +33,7 @@ fn chooses_the_command(rt: HostRuntime) -> Result<(), Fail> {
         ("apps", CommandName::Apps),
         ("monitors", CommandName::Monitors),
         ("flags", CommandName::Flags),
+        ("check", CommandName::Check),
     ] {
         let words = strings(rt.alloc(), &["cmisctl", word])?;
         let choice = choice(rt.alloc(), words.as_slice())?;
@@ -50,6 +51,7 @@ Commands:
   apps       Print the Applications that the module advertises
   monitors   Print what the module measures
   flags      Print the states of the module and its lanes, and the flags that are raised
+  check      Judge a certificate for an image and weights, and print its plan where it is good
 
 Options:
   -h, --help  Print help

@@ -1,5 +1,6 @@
-use super::report_command::{Report, report_command};
-use super::{apps, flags, inventory, monitors};
+use super::command::command;
+use super::{apps, check, flags, inventory, monitors};
+use crate::choice::commands::CommandName;
 use crate::input::CountedReader;
 use crate::output::StoppingWriter;
 use crate::status::Status;
@@ -224,19 +225,104 @@ fn other_modules_are_told_or_refused(rt: HostRuntime) -> Result<(), Fail> {
     ] {
         let input = format!(in rt.alloc(); "module-image 1\nlower A0 {bytes}{rest}")?;
         let reports = [
-            Report::Inventory,
-            Report::Apps,
-            Report::Monitors,
-            Report::Flags,
+            CommandName::Inventory,
+            CommandName::Apps,
+            CommandName::Monitors,
+            CommandName::Flags,
         ];
-        for (line, report) in lines.into_iter().zip(reports) {
+        for (line, name) in lines.into_iter().zip(reports) {
             let mut written = Vec::with_capacity(rt.alloc(), 1000)?;
             let mut reader = CountedReader::new(input.as_bytes());
             let mut writer = StoppingWriter::new(&mut written);
-            report_command(rt.alloc(), report, &mut reader, &mut writer);
+            command(rt.alloc(), name, &mut reader, &mut writer);
             assert!(rt; written.starts_with(line.as_bytes()), "{bytes}");
             assert_eq!(rt; written.get(line.len()), Some(&b'\n'));
         }
+    }
+    Ok(())
+}
+
+// The states that plans of one Application on all eight lanes come through.
+const LATER_STATES: &str = "state 1 00 0\n\
+    state 2 00 0\n\
+    state 3 00 0\n\
+    state 4 00 0\n\
+    state 5 00 0\n\
+    state 6 00 0\n\
+    state 7 00 0\n\
+    state 8 00 0\n\
+    state 8 ff 0\n\
+    end\n";
+
+/// A certificate for the module above with one Application, which takes all lanes and weighs 5, and what else it may be.
+#[test]
+fn a_certificate_is_judged(rt: HostRuntime) -> Result<(), Fail> {
+    let (head, rest) = IMAGE
+        .split_once("111c84010d142155ff")
+        .ok_or("no Applications")?;
+    let rest = rest.strip_suffix("end\n").ok_or("the image has no end")?;
+    let (page, starts) = PAGE_01.split_once("010f").ok_or("no media starts")?;
+    let starts = starts.strip_suffix("17\n").ok_or("another sum")?;
+    let image = format!(in rt.alloc();
+        "{head}111c8801ff00000000{rest}{page}0100{starts}08\nend\n"
+    )?;
+    let plan = "weight 5\npath 1 1 1\nstate 0 00";
+    let weights = "[host]\n11h = 5\n";
+    let good = "good\nweight 5\npath app 1 host 1-8 media 1-8\ncontrol 10 10 10 10 10 10 10 10\n";
+    for (image, weights, certificate, ends, text) in [
+        (image.as_str(), weights, (plan, "5"), Status::Done, good),
+        (
+            &image,
+            weights,
+            (plan, "4"),
+            Status::BadCertificate,
+            "bad VR6 1\n",
+        ),
+        (
+            &image,
+            weights,
+            (plan, "6"),
+            Status::BadCertificate,
+            "bad VR7 0\n",
+        ),
+        (
+            &image,
+            "[host]\n",
+            (plan, "5"),
+            Status::BadCertificate,
+            "bad VR3 0\n",
+        ),
+        (
+            &image,
+            weights,
+            ("weight 5\nstate 0 00", "x"),
+            Status::Refused,
+            "fault CT1 3\n",
+        ),
+        (&image, "", (plan, "x"), Status::Refused, "fault WT2\n"),
+        (
+            IMAGE,
+            "",
+            (plan, "5"),
+            Status::Refused,
+            "fault AD4 upper A0 00 01\n",
+        ),
+        ("", "", (plan, "5"), Status::Refused, "fault IM1\n"),
+        ("---\n", "", (plan, "5"), Status::Refused, "fault PT1 4\n"),
+    ] {
+        let (plan, potential) = certificate;
+        let input = format!(in rt.alloc();
+            "{image}---\n{weights}---\ncertificate 1\n{plan} {potential}\n{LATER_STATES}"
+        )?;
+        let mut written = Vec::with_capacity(rt.alloc(), 200)?;
+        let mut reader = CountedReader::new(input.as_bytes());
+        let status = check(
+            rt.alloc(),
+            &mut reader,
+            &mut StoppingWriter::new(&mut written),
+        );
+        assert_eq!(rt; status, ends);
+        assert_eq!(rt; written.as_slice(), text.as_bytes());
     }
     Ok(())
 }

@@ -1,0 +1,37 @@
+-- The control byte of a host lane, and those of a plan. (docs/planning.md, "Control bytes"; OIF-CMIS-05.0, chapter 8
+-- "Module Management Memory Map", "Data Path Configuration", DPConfigLane of Staged Control Set 0)
+use Rattle.std.specs.Prelude.{ℕ, ◌+◌, ◌-◌, ◌*◌, ◌/◌, ◌%◌, List, Option, Some, None, find, map}
+use Rattle.std.specs.List.{range_with_len}
+use Rattle.std.specs.FinSet as set
+use Rattle.applications.specs.Advertised.{Advertised}
+use Rattle.plan_certificate.specs.declared.path.Path.{Path}
+use Rattle.plan_certificate.specs.Paths.{host_lanes}
+use Rattle.control_sets.specs.declared.control_byte.ControlByte.{ControlByte}
+
+-- AppSelCode is bits 7-4 and DataPathID bits 3-1; ExplicitControl, bit 0, is not looked at
+abbrev pub control_of : ℕ → ControlByte
+control_of byte = record { app_sel_code = byte / 16; data_path_id = byte / 2 % 8 }
+
+-- the byte that says this, ExplicitControl 0
+abbrev pub byte_of : ControlByte → ℕ
+byte_of control = 16 * control.app_sel_code + 2 * control.data_path_id
+
+-- what the lanes of a path are told
+abbrev pub control_in : Path → ControlByte
+control_in path = record { app_sel_code = path.app; data_path_id = path.host - 1 }
+
+-- the path that takes a host lane
+abbrev pub path_on : Advertised → List Path → ℕ → Option Path
+path_on advert paths lane = find (λ path. set.contains (host_lanes advert path) lane) paths
+
+-- 0 for a lane in no path
+abbrev pub byte_in : Option Path → ℕ
+byte_in (Some path) = byte_of (control_in path)
+byte_in None = 0
+
+unfoldable pub control_byte : Advertised → List Path → ℕ → ℕ
+control_byte advert paths lane = byte_in (path_on advert paths lane)
+
+-- those of host lanes 1 to 8
+unfoldable pub control_bytes : Advertised → List Path → List ℕ
+control_bytes advert paths = map (control_byte advert paths) (range_with_len 1 8)

@@ -1,0 +1,4 @@
+pub mod ControlBytes
+pub mod HostPaths
+pub mod PlanPaths
+pub mod LanesOfPaths

@@ -1,0 +1,52 @@
+/// What the control byte of a host lane says, but for ExplicitControl.
+#[derive(Clone, Copy, Debug, PartialEq, Eq)]
+pub struct ControlByte {
+    /// The Application's number, and 0 where the lane is in no path.
+    pub app_sel_code: u8,
+    /// The first host lane of the path, less one.
+    pub data_path_id: u8,
+}
+
+impl ControlByte {
+    ghost use Rattle.std.specs.Prelude.{◌≡◌, ◌<◌};
+    ghost use Rattle.control_sets.specs.ControlBytes.{byte_of};
+    ghost use Rattle.control_sets.specs.HostPaths as spec;
+
+    /// The byte that says this, ExplicitControl 0.
+    pub fn byte(self) -> u8
+        requires code { self.app_sel_code < 16 }
+        requires lane { self.data_path_id < 8 }
+        ensures { result ≡ byte_of self }
+    {
+        16 * self.app_sel_code + 2 * self.data_path_id
+    }
+
+    /// Whether the lane is in a path.
+    pub fn is_used(self) -> bool
+        ensures { result ≡ spec.is_used self }
+    {
+        self.app_sel_code != 0
+    }
+
+    /// The first host lane of the path.
+    pub fn first_lane(self) -> u8
+        requires { self.data_path_id < 8 }
+        ensures { result ≡ spec.first_lane self }
+    {
+        self.data_path_id + 1
+    }
+}
+
+impl From<u8> for ControlByte {
+    ghost use Rattle.std.specs.Prelude.{◌≡◌};
+    ghost use Rattle.control_sets.specs.ControlBytes.{control_of};
+
+    ghost from_gives = { λ byte control. control ≡ control_of byte };
+
+    fn from(byte: u8) -> ControlByte {
+        ControlByte {
+            app_sel_code: byte / 16,
+            data_path_id: byte / 2 % 8,
+        }
+    }
+}

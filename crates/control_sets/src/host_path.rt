@@ -1,0 +1,115 @@
+ghost use Rattle.std.specs.Prelude.{◌≡◌, IsOk, IfOk, MatchOption, count_by};
+ghost use Rattle.std.specs.List.{range_with_len};
+ghost use Rattle.control_sets.specs.HostPaths.{IsLane, agree, all_agree, begins, control_at, host_paths, is_reached, is_right, path_from, wrong_lane};
+
+use crate::control_byte::ControlByte;
+use crate::fault::ControlFault;
+use arrayvec::ArrayVec;
+
+/// A data path as host lanes tell it.
+#[derive(Clone, Copy, Debug, PartialEq, Eq, Default)]
+pub struct HostPath {
+    /// The Application's number.
+    pub app: u8,
+    /// The first host lane, 1 to 8.
+    pub host: u8,
+    /// How many host lanes it takes.
+    pub lanes: u8,
+}
+
+/// The host paths that the control bytes of host lanes 1 to 8 tell, by rising host lane.
+pub fn paths_of(bytes: [u8; 8]) -> Result<ArrayVec<HostPath, 8>, ControlFault>
+    ensures refused { MatchOption (wrong_lane bytes) (IsOk result) (λ lane. result ≡ Err (ControlFault.NotPaths lane)) }
+    ensures paths { IfOk result (λ paths. paths.items ≡ host_paths bytes) }
+{
+    match wrong_lane(&bytes) {
+        Some(lane) => Err(ControlFault::NotPaths(lane)),
+        None => Ok(host_paths(&bytes)),
+    }
+}
+
+#[tactic(auto, unfolding(crate::specs::HostPaths::wrong_lane))]
+fn wrong_lane(bytes: &[u8; 8]) -> Option<u8>
+    ensures { result ≡ wrong_lane bytes.now }
+{
+    (1..9).find(|lane| !is_right(bytes, *lane))
+}
+
+#[tactic(auto, unfolding(crate::specs::HostPaths::is_right))]
+fn is_right(bytes: &[u8; 8], lane: u8) -> bool
+    requires { IsLane lane }
+    ensures { result ≡ is_right bytes.now lane }
+{
+    !control_at(bytes, lane).is_used() || is_reached(bytes, lane)
+}
+
+fn is_reached(bytes: &[u8; 8], lane: u8) -> bool
+    requires { IsLane lane }
+    ensures { result ≡ is_reached bytes.now lane }
+{
+    let first = control_at(bytes, lane).first_lane();
+    first <= lane && all_agree(bytes, first, lane)
+}
+
+fn all_agree(bytes: &[u8; 8], first: u8, lane: u8) -> bool
+    requires first { IsLane first }
+    requires lane { IsLane lane }
+    ensures { result ≡ all_agree bytes.now first lane }
+{
+    (first..lane + 1).all(|other| agree(bytes, lane, other))
+}
+
+fn agree(bytes: &[u8; 8], lane: u8, other: u8) -> bool
+    requires lane { IsLane lane }
+    requires other { IsLane other }
+    ensures { result ≡ agree bytes.now lane other }
+{
+    control_at(bytes, lane) == control_at(bytes, other)
+}
+
+fn control_at(bytes: &[u8; 8], lane: u8) -> ControlByte
+    requires { IsLane lane }
+    ensures { result ≡ control_at bytes.now lane }
+{
+    ControlByte::from(bytes[usize::from(lane) - 1])
+}
+
+#[tactic(auto, unfolding(crate::specs::HostPaths::host_paths))]
+fn host_paths(bytes: &[u8; 8]) -> ArrayVec<HostPath, 8>
+    ensures { result.items ≡ host_paths bytes.now }
+{
+    let mut paths = ArrayVec::new();
+    for lane in 1..9 {
+        if begins(bytes, lane) {
+            paths.push(path_from(bytes, lane));
+        }
+    }
+    paths
+}
+
+fn begins(bytes: &[u8; 8], lane: u8) -> bool
+    requires { IsLane lane }
+    ensures { result ≡ begins bytes.now lane }
+{
+    let control = control_at(bytes, lane);
+    control.is_used() && control.first_lane() == lane
+}
+
+#[tactic(auto, unfolding(crate::specs::HostPaths::path_from))]
+fn path_from(bytes: &[u8; 8], lane: u8) -> HostPath
+    requires { IsLane lane }
+    ensures { result ≡ path_from bytes.now lane }
+{
+    HostPath {
+        app: control_at(bytes, lane).app_sel_code,
+        host: lane,
+        lanes: agreeing(bytes, lane),
+    }
+}
+
+fn agreeing(bytes: &[u8; 8], lane: u8) -> u8
+    requires { IsLane lane }
+    ensures { result ≡ count_by (agree bytes.now lane) (range_with_len 1 8) }
+{
+    (1..9).filter(|other| agree(bytes, lane, *other)).count() as u8
+}

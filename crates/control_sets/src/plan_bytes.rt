@@ -1,0 +1,47 @@
+ghost use Rattle.std.specs.Prelude.{◌≡◌, ◌≤◌, ◌<◌, true};
+ghost use Rattle.plan_certificate.specs.Paths.{is_allowed};
+ghost use Rattle.plan_certificate.specs.Plans.{IsAdmissible};
+ghost use Rattle.control_sets.specs.ControlBytes.{control_byte, control_bytes, control_in};
+
+use crate::control_byte::ControlByte;
+use applications::Advert;
+use plan_certificate::{Path, Plan};
+
+/// The control bytes of host lanes 1 to 8 that ask for a plan.
+pub fn bytes_of(advert: &Advert, plan: &Plan) -> [u8; 8]
+    requires { IsAdmissible advert.now plan.now }
+    ensures { result ≡ control_bytes advert.now plan.now }
+{
+    let mut bytes = [0; 8];
+    for (index, byte) in bytes.iter_mut().enumerate() {
+        *byte = control_byte(advert, plan, index as u8 + 1);
+    }
+    bytes
+}
+
+fn control_byte(advert: &Advert, plan: &Plan, lane: u8) -> u8
+    requires { IsAdmissible advert.now plan.now }
+    ensures { result ≡ control_byte advert.now plan.now lane }
+{
+    for path in plan.paths.as_slice() {
+        if path.host_lanes(advert).contains(lane) {
+            return control_in(advert, *path).byte();
+        }
+    }
+    0
+}
+
+// What the lanes of a path are told.
+fn control_in(advert: &Advert, path: Path) -> ControlByte
+    requires { is_allowed advert.now path ≡ true }
+    ensures control { result ≡ control_in path }
+    ensures code { result.app_sel_code < 16 }
+    ensures lane { result.data_path_id < 8 }
+{
+    // At most 15 Applications are advertised, numbered from 1.
+    let _apps = advert.apps();
+    ControlByte {
+        app_sel_code: path.app,
+        data_path_id: path.host - 1,
+    }
+}

@@ -1,0 +1,104 @@
+-- Which line comes next in a certificate's text.
+use Rattle.std.proofs.Common.{◌≡◌, ℕ, List, [], ◌∷◌, ◌++◌, map, refl, sym, subst, ◌∙◌, ◌⊎◌, inl, inr, append_assoc}
+use Rattle.std.specs.List.{AllByRecursion}
+use Rattle.plan_certificate.specs.declared.path.Path.{Path}
+use Rattle.plan_certificate.specs.declared.certificate.Entry.{Entry}
+use Rattle.plan_certificate.specs.declared.line.Line.{Line}
+use Rattle.plan_certificate.specs.declared.line.Line.TheVariants.{Header, Weight, PathLine, StateLine, End}
+use Rattle.plan_certificate.specs.declared.stage.Stage.{Stage}
+use Rattle.plan_certificate.specs.declared.stage.Stage.TheVariants.{Start, Headed, Weighed, Ended}
+use Rattle.plan_certificate.specs.Certificates.{Certified}
+use Rattle.plan_certificate.specs.CertificateText.{line_text, IsLine, lines_in}
+use Rattle.plan_certificate.specs.CertificateDrafts.{lines_before_end, lines_so_far, MayCome}
+use Rattle.plan_certificate.proofs.LineWords.{same_line}
+
+-- the line behind these paths and entries, in a text that has these others
+abbrev pub NextPath : List Path → List Path → List Entry → Line → Type 0
+NextPath paths others entries line = (path : Path) × (more : List Path) × (line ≡ PathLine path) × (entries ≡ []) × (others ≡ paths ++ path ∷ more)
+
+abbrev pub NextState : List Entry → List Entry → Line → Type 0
+NextState entries others line = (entry : Entry) × (more : List Entry) × (line ≡ StateLine entry) × (others ≡ entries ++ entry ∷ more)
+
+abbrev pub NextEnd : Line → List Line → Type 0
+NextEnd line after = (line ≡ End) × (after ≡ [])
+
+after_states : (entries others : List Entry) (line : Line) (after : List Line) → map StateLine others ++ End ∷ [] ≡ map StateLine entries ++ line ∷ after
+    → NextState entries others line ⊎ NextEnd line after
+after_states [] [] line after e = inr (cc, cc)
+after_states [] (entry ∷ others) line after e = inl (entry, others, cc, refl)
+after_states (entry ∷ entries) [] line after e = absurd cc
+after_states (entry ∷ entries) (other ∷ others) line after e =
+    let first : other ≡ entry = cc in
+    let rest : map StateLine others ++ End ∷ [] ≡ map StateLine entries ++ line ∷ after = cc in
+    elim (after_states entries others line after rest) [
+      | inl next ↦ inl (next.0, next.1, next.2, λ i. first i ∷ next.3 i)
+      | inr end ↦ inr end
+    ]
+
+abbrev pub Next : Certified → Certified → Line → List Line → Type 0
+Next certificate other line after =
+    NextPath certificate.paths other.paths certificate.entries line ⊎ (NextState certificate.entries other.entries line ⊎ NextEnd line after)
+
+after_paths : (paths more : List Path) (entries others : List Entry) (line : Line) (after : List Line)
+    → map PathLine more ++ (map StateLine others ++ End ∷ []) ≡ map PathLine paths ++ (map StateLine entries ++ line ∷ after)
+    → NextPath paths more entries line ⊎ (NextState entries others line ⊎ NextEnd line after)
+after_paths [] [] entries others line after e = inr (after_states entries others line after e)
+after_paths [] (path ∷ more) [] others line after e = inl (path, more, cc, refl, refl)
+after_paths [] (path ∷ more) (entry ∷ entries) others line after e = absurd cc
+after_paths (path ∷ paths) [] entries [] line after e = absurd cc
+after_paths (path ∷ paths) [] entries (other ∷ others) line after e = absurd cc
+after_paths (path ∷ paths) (next ∷ more) entries others line after e =
+    let first : next ≡ path = cc in
+    let rest : map PathLine more ++ (map StateLine others ++ End ∷ []) ≡ map PathLine paths ++ (map StateLine entries ++ line ∷ after) = cc in
+    elim (after_paths paths more entries others line after rest) [
+      | inl found ↦ inl (found.0, found.1, found.2, found.3, λ i. first i ∷ found.4 i)
+      | inr later ↦ inr later
+    ]
+
+-- behind the weight, and paths and states, if any
+pub behind_weight : (certificate other : Certified) (line : Line) (after : List Line) → lines_in other ≡ lines_before_end certificate ++ line ∷ after → Next certificate other line after
+behind_weight certificate other line after e =
+    let lists : map PathLine other.paths ++ map StateLine other.entries ++ End ∷ [] ≡ map PathLine certificate.paths ++ map StateLine certificate.entries ++ line ∷ after = cc in
+    after_paths certificate.paths other.paths certificate.entries other.entries line after
+    (sym (append_assoc (map PathLine other.paths) (map StateLine other.entries) (End ∷ [])) ∙ lists
+    ∙ append_assoc (map PathLine certificate.paths) (map StateLine certificate.entries) (line ∷ after))
+
+may_come : (certificate other : Certified) (line : Line) (after : List Line) → Next certificate other line after → MayCome Weighed certificate line
+may_come certificate other line after (inl next) = subst (MayCome Weighed certificate) (sym next.2) (refl, next.3)
+may_come certificate other line after (inr (inl next)) = subst (MayCome Weighed certificate) (sym next.2) (refl, tt)
+may_come certificate other line after (inr (inr end)) = subst (MayCome Weighed certificate) (sym end.0) (refl, tt)
+
+pub nothing_left : (certificate other : Certified) (line : Line) (after : List Line) → Next certificate other End (line ∷ after) → ⊥
+nothing_left certificate other line after (inl next) = cc
+nothing_left certificate other line after (inr (inl next)) = cc
+nothing_left certificate other line after (inr (inr end)) = cc
+
+-- a line that comes next is one that may
+pub comes_in_turn : (stage : Stage) (certificate other : Certified) (line : Line) (after : List Line) → lines_in other ≡ lines_so_far stage certificate ++ line ∷ after → MayCome stage certificate line
+comes_in_turn Start certificate other line after e =
+    let is : Header ≡ line = cc in
+    subst (MayCome Start certificate) is (refl, tt)
+comes_in_turn Headed certificate other line after e =
+    let is : Weight other.weight ≡ line = cc in
+    subst (MayCome Headed certificate) is (refl, tt)
+comes_in_turn Weighed certificate other line after e = may_come certificate other line after (behind_weight certificate other line after e)
+comes_in_turn Ended certificate other line after e =
+    let regrouped = append_assoc (lines_before_end certificate) (End ∷ []) (line ∷ after) in
+    absurd (nothing_left certificate other line after (behind_weight certificate other End (line ∷ after) (e ∙ regrouped)))
+
+-- ---- the lines of a text tell which lines they are
+
+-- the line that comes next in the text of lines that begin so
+abbrev pub NextIn : List Line → List Line → List ℕ → Type 0
+NextIn before all text = (line : Line) × (after : List Line) × (all ≡ before ++ line ∷ after) × IsLine line × (text ≡ line_text line)
+
+pub next_in : (before all : List Line) (text : List ℕ) (rest : List (List ℕ)) → AllByRecursion IsLine before → AllByRecursion IsLine all → map line_text all ≡ map line_text before ++ text ∷ rest → NextIn before all text
+next_in [] [] text rest hb ha e = absurd cc
+next_in [] (line ∷ after) text rest hb ha e = (line, after, refl, ha.0, cc)
+next_in (line ∷ before) [] text rest hb ha e = absurd cc
+next_in (line ∷ before) (other ∷ all) text rest hb ha e =
+    let firsts : line_text other ≡ line_text line = cc in
+    let rests : map line_text all ≡ map line_text before ++ text ∷ rest = cc in
+    let one = same_line other line ha.0 hb.0 firsts in
+    let next = next_in before all text rest hb.1 ha.1 rests in
+    (next.0, next.1, λ i. one i ∷ next.2 i, next.3, next.4)

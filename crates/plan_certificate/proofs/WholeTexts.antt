@@ -1,0 +1,75 @@
+-- Whole texts of certificates, and texts that lack their end.
+use Rattle.std.proofs.Common.{◌≡◌, ◌≢◌, List, [], ◌∷◌, ◌++◌, map, refl, sym, ap, ◌∙◌, append_assoc}
+use Rattle.std.specs.List.{AllByRecursion}
+use Rattle.plan_certificate.specs.declared.path.Path.{Path}
+use Rattle.plan_certificate.specs.declared.certificate.Entry.{Entry}
+use Rattle.plan_certificate.specs.declared.line.Line.{Line}
+use Rattle.plan_certificate.specs.declared.line.Line.TheVariants.{PathLine, StateLine, End}
+use Rattle.plan_certificate.specs.declared.stage.Stage.{Stage}
+use Rattle.plan_certificate.specs.declared.stage.Stage.TheVariants.{Start, Headed, Weighed, Ended}
+use Rattle.plan_certificate.specs.Certificates.{Certified}
+use Rattle.plan_certificate.specs.CertificateText.{line_text, certificate_lines, lines_in, IsLine, InRange}
+use Rattle.plan_certificate.specs.CertificateDrafts.{lines_before_end, lines_so_far}
+use Rattle.plan_certificate.proofs.LineWords.{same_line}
+use Rattle.plan_certificate.proofs.NextLines.{behind_weight, nothing_left}
+use Rattle.plan_certificate.proofs.Drafts.{so_far_in_range}
+
+pub same_lines : (xs ys : List Line) → AllByRecursion IsLine xs → AllByRecursion IsLine ys → map line_text xs ≡ map line_text ys → xs ≡ ys
+same_lines [] [] hx hy e = refl
+same_lines [] (y ∷ ys) hx hy e = absurd cc
+same_lines (x ∷ xs) [] hx hy e = absurd cc
+same_lines (x ∷ xs) (y ∷ ys) hx hy e =
+    let firsts : line_text x ≡ line_text y = cc in
+    let rests : map line_text xs ≡ map line_text ys = cc in
+    let one = same_line x y hx.0 hy.0 firsts in
+    let more = same_lines xs ys hx.1 hy.1 rests in
+    λ i. one i ∷ more i
+
+-- ---- the certificate that lines are those of
+
+abbrev paths_in : List Line → List Path
+paths_in [] = []
+paths_in (PathLine path ∷ lines) = path ∷ paths_in lines
+paths_in (line ∷ lines) = paths_in lines
+
+abbrev entries_in : List Line → List Entry
+entries_in [] = []
+entries_in (StateLine entry ∷ lines) = entry ∷ entries_in lines
+entries_in (line ∷ lines) = entries_in lines
+
+paths_back : (paths : List Path) (entries : List Entry) → paths_in (map PathLine paths ++ (map StateLine entries ++ End ∷ [])) ≡ paths
+paths_back [] [] = refl
+paths_back [] (entry ∷ entries) = paths_back [] entries
+paths_back (path ∷ paths) entries = ap (λ l. path ∷ l) (paths_back paths entries)
+
+entries_back : (paths : List Path) (entries : List Entry) → entries_in (map PathLine paths ++ (map StateLine entries ++ End ∷ [])) ≡ entries
+entries_back [] [] = refl
+entries_back [] (entry ∷ entries) = ap (λ l. entry ∷ l) (entries_back [] entries)
+entries_back (path ∷ paths) entries = entries_back paths entries
+
+same_parts : (a b : Certified) → lines_in a ≡ lines_in b → a ≡ b
+same_parts a b e =
+    let weights : a.weight ≡ b.weight = cc in
+    let nested = λ (c : Certified). append_assoc (map PathLine c.paths) (map StateLine c.entries) (End ∷ []) in
+    let lists : map PathLine a.paths ++ map StateLine a.entries ++ End ∷ [] ≡ map PathLine b.paths ++ map StateLine b.entries ++ End ∷ [] = cc in
+    let whole = sym (nested a) ∙ lists ∙ nested b in
+    let paths = sym (paths_back a.paths a.entries) ∙ ap paths_in whole ∙ paths_back b.paths b.entries in
+    let entries = sym (entries_back a.paths a.entries) ∙ ap entries_in whole ∙ entries_back b.paths b.entries in
+    λ i. record { weight = weights i; paths = paths i; entries = entries i }
+
+pub same_certificate : (a b : Certified) → InRange a → InRange b → certificate_lines a ≡ certificate_lines b → a ≡ b
+same_certificate a b ra rb e = same_parts a b (same_lines (lines_in a) (lines_in b) ra rb e)
+
+-- ---- without `end`
+
+no_end : (stage : Stage) (certificate other : Certified) → stage ≢ Ended → lines_in other ≢ lines_so_far stage certificate
+no_end Start certificate other short e = cc
+no_end Headed certificate other short e = cc
+no_end Weighed certificate other short e =
+    let longer = ap (λ l. l ++ End ∷ []) (sym e) ∙ append_assoc (lines_before_end other) (End ∷ []) (End ∷ []) in
+    nothing_left other certificate End [] (behind_weight other certificate End (End ∷ []) longer)
+no_end Ended certificate other short e = short refl
+
+pub is_no_text : (stage : Stage) (certificate other : Certified) → stage ≢ Ended → InRange certificate → InRange other → map line_text (lines_so_far stage certificate) ≢ certificate_lines other
+is_no_text stage certificate other short ranges others e =
+    no_end stage certificate other short (same_lines (lines_in other) (lines_so_far stage certificate) others (so_far_in_range stage certificate ranges) (sym e))

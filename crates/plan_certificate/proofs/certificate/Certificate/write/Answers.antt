@@ -1,0 +1,20 @@
+use Rattle.std.proofs.Common.{◌<◌, ◌≤◌, ◌^◌, length, arith}
+use Rattle.plan_certificate.proofs.WrittenCertificates.{has_room, whole_text}
+use Rattle.plan_certificate.proofs.certificate.Certificate.write.Goals as goal
+
+pub returns-clause-room : goal.returns-clause-room
+returns-clause-room g c =
+    let weight : c.self.inside.weight < 2 ^ 64 = omega arith in
+    let paths = rw (c.deref.ensures.0, c.plan.view_is) at c.in_ok-write_paths.ensures.each in
+    let entries = rw c.deref-2.ensures.0 at c.in_ok-write_entries.ensures.each in
+    let few_paths : length c.self.inside.plan ≤ 8 = rw (c.deref.ensures.0, c.plan.view_is) at c.deref.ensures.1 in
+    let few_states : length c.self.inside.entries.items ≤ g.row.STATES = rw c.deref-2.ensures.0 at c.deref-2.ensures.1 in
+    rw (← c.self.view_is) (has_room g.row.STATES _ weight paths entries c.self.invariant few_paths few_states)
+
+pub returns-clause-written : goal.returns-clause-written
+returns-clause-written g c =
+    let header = c.in_ok-write_line.ensures in
+    let paths = rw (c.deref.ensures.0, c.plan.view_is) at c.in_ok-write_paths.ensures.written in
+    let entries = rw c.deref-2.ensures.0 at c.in_ok-write_entries.ensures.written in
+    rw (c.into_bytes.ensures.value, ← c.self.view_is)
+    (whole_text _ _ _ _ _ _ (rw c.new-text.ensures.bytes at header) c.in_ok-write_line-2.ensures paths entries c.in_ok-write_line-3.ensures)

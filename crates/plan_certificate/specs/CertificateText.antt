@@ -1,0 +1,77 @@
+-- The text of a certificate: a header, the weight, the paths in their order, the entries by rising states, and `end`.
+-- (docs/formats.md, "Certificate")
+use Rattle.std.specs.Prelude.{◌≡◌, ℕ, ◌<◌, ◌≤◌, ◌^◌, List, [], ◌∷◌, ◌++◌, length, map, codes}
+use Rattle.std.specs.List.{AllByRecursion}
+use Rattle.std.specs.Fmt.{decimal}
+use Rattle.hex.specs.Hex.{encode_lower}
+use Rattle.text_lines.specs.Words.{spaced}
+use Rattle.plan_certificate.specs.declared.path.Path.{Path}
+use Rattle.plan_certificate.specs.declared.certificate.Entry.{Entry}
+use Rattle.plan_certificate.specs.declared.line.Line.{Line}
+use Rattle.plan_certificate.specs.declared.line.Line.TheVariants.{Header, Weight, PathLine, StateLine, End}
+use Rattle.plan_certificate.specs.Certificates.{Certified, HasStates}
+
+-- the Application, its first host lane and its first media lane
+abbrev pub path_values : Path → List (List ℕ)
+path_values path = decimal path.app ∷ decimal path.host ∷ decimal path.media ∷ []
+
+-- how many host lanes are decided, the used media lanes, and the potential
+abbrev pub state_values : Entry → List (List ℕ)
+state_values entry = decimal entry.boundary ∷ encode_lower (entry.used ∷ []) ∷ decimal entry.potential ∷ []
+
+unfoldable pub line_words : Line → List (List ℕ)
+line_words Header = codes "certificate" ∷ codes "1" ∷ []
+line_words (Weight weight) = codes "weight" ∷ decimal weight ∷ []
+line_words (PathLine path) = codes "path" ∷ path_values path
+line_words (StateLine entry) = codes "state" ∷ state_values entry
+line_words End = codes "end" ∷ []
+
+abbrev pub line_text : Line → List ℕ
+line_text line = spaced (line_words line)
+
+-- the numbers of a path line are numbers of one byte
+pub record IsPath (path : Path) : Type 0 where
+  pub app : path.app < 256
+  pub host : path.host < 256
+  pub media : path.media < 256
+
+-- a module has eight host lanes, and eight media lanes
+pub record IsEntry (entry : Entry) : Type 0 where
+  pub boundary : entry.boundary ≤ 8
+  pub used : entry.used < 256
+  pub potential : entry.potential < 2 ^ 64
+
+-- the numbers of a line are in their ranges
+abbrev pub IsLine : Line → Type 0
+IsLine Header = Unit {0}
+IsLine (Weight weight) = weight < 2 ^ 64
+IsLine (PathLine path) = IsPath path
+IsLine (StateLine entry) = IsEntry entry
+IsLine End = Unit {0}
+
+-- the lines of a certificate
+abbrev pub lines_in : Certified → List Line
+lines_in certificate = Header ∷ Weight certificate.weight ∷ map PathLine certificate.paths ++ map StateLine certificate.entries ++ End ∷ []
+
+abbrev pub certificate_lines : Certified → List (List ℕ)
+certificate_lines certificate = map line_text (lines_in certificate)
+
+-- all numbers are in their ranges
+abbrev pub InRange : Certified → Type 0
+InRange certificate = AllByRecursion IsLine (lines_in certificate)
+
+-- and the states rise
+pub record IsOrdered (certificate : Certified) : Type 0 where
+  pub in_range : InRange certificate
+  pub states : HasStates certificate.entries
+
+-- and there are at most 8 paths, and so many states at most
+pub record HasRoom (states : ℕ) (certificate : Certified) : Type 0 where
+  pub ordered : IsOrdered certificate
+  pub few_paths : length certificate.paths ≤ 8
+  pub few_states : length certificate.entries ≤ states
+
+-- these lines are the text of a certificate that has room
+pub record IsTextOf (states : ℕ) (lines : List (List ℕ)) (certificate : Certified) : Type 0 where
+  pub lines_are : lines ≡ certificate_lines certificate
+  pub room : HasRoom states certificate

@@ -1,0 +1,77 @@
+// Writing a certificate's text.
+ghost use Rattle.std.specs.Prelude.{◌≡◌, ◌≤◌, ◌++◌, ◌∷◌, [], IfOk, OnOk, map};
+ghost use Rattle.std.specs.String.{string_bytes};
+ghost use Rattle.std.specs.List.{AllByRecursion};
+ghost use Rattle.text_lines.specs.Lines.{text_of};
+ghost use Rattle.plan_certificate.specs.declared.line.Line.{Line};
+ghost use Rattle.plan_certificate.specs.Certificates.{HasStates};
+ghost use Rattle.plan_certificate.specs.CertificateText.{line_text, certificate_lines, IsPath, IsEntry, HasRoom};
+
+use super::{Certificate, Entry};
+use crate::line::Line;
+use crate::path::Path;
+use std::alloc::{AllocError, Global};
+use std::fmt::Write;
+
+impl<const STATES: usize> Certificate<STATES> {
+    /// The text of the certificate.
+    pub fn write(&self, alloc: Global) -> Result<Vec<u8>, AllocError>
+        ensures written { IfOk result (λ text. text.items ≡ text_of (certificate_lines self.now)) }
+        ensures room { OnOk result (HasRoom STATES self.now) }
+    {
+        let (weight, plan) = (self.weight, &self.plan);
+        let mut text = String::new(alloc);
+        write_line(&mut text, Line::Header)?;
+        write_line(&mut text, Line::Weight(weight))?;
+        write_paths(&mut text, &plan.paths)?;
+        write_entries(&mut text, &self.entries)?;
+        write_line(&mut text, Line::End)?;
+        Ok(text.into_bytes())
+    }
+}
+
+fn write_line(text: &mut String, line: Line) -> Result<(), AllocError>
+    ensures { OnOk result (string_bytes text.new ≡ string_bytes text.old ++ (line_text line ++ 10 ∷ [])) }
+{
+    writeln!(text, "{line}")
+}
+
+fn write_paths(text: &mut String, paths: &[Path]) -> Result<(), AllocError>
+    ensures written { OnOk result (string_bytes text.new ≡ string_bytes text.old ++ text_of (map line_text (map (λ path. Line.PathLine path) paths.now))) }
+    ensures each { OnOk result (AllByRecursion IsPath paths.now) }
+{
+    for path in paths {
+        write_path(text, *path)?;
+    }
+    Ok(())
+}
+
+fn write_path(text: &mut String, path: Path) -> Result<(), AllocError>
+    ensures written { OnOk result (string_bytes text.new ≡ string_bytes text.old ++ (line_text (Line.PathLine path) ++ 10 ∷ [])) }
+    ensures fits { OnOk result (IsPath path) }
+{
+    // Read here, the three are known to be bytes, as `fits` says.
+    let (_app, _host, _media) = (path.app, path.host, path.media);
+    write_line(text, Line::PathLine(path))
+}
+
+fn write_entries(text: &mut String, entries: &[Entry]) -> Result<(), AllocError>
+    requires { HasStates entries.now }
+    ensures written { OnOk result (string_bytes text.new ≡ string_bytes text.old ++ text_of (map line_text (map (λ entry. Line.StateLine entry) entries.now))) }
+    ensures each { OnOk result (AllByRecursion IsEntry entries.now) }
+{
+    for entry in entries {
+        write_entry(text, *entry)?;
+    }
+    Ok(())
+}
+
+fn write_entry(text: &mut String, entry: Entry) -> Result<(), AllocError>
+    requires { entry.boundary ≤ 8 }
+    ensures written { OnOk result (string_bytes text.new ≡ string_bytes text.old ++ (line_text (Line.StateLine entry) ++ 10 ∷ [])) }
+    ensures fits { OnOk result (IsEntry entry) }
+{
+    // Read here, both are known to be in range, as `fits` says.
+    let (_used, _potential) = (entry.used, entry.potential);
+    write_line(text, Line::StateLine(entry))
+}

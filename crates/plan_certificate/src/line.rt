@@ -1,0 +1,174 @@
+// The lines of a certificate's text.
+ghost use Rattle.std.specs.Prelude.{◌≡◌, ◌≢◌, ◌<◌, ◌≤◌, ℕ, List, [], ◌∷◌, Some, map, MatchOption};
+ghost use Rattle.std.specs.Fmt.{decimal};
+ghost use Rattle.plan_certificate.specs.declared.path.Path.{Path};
+ghost use Rattle.plan_certificate.specs.declared.certificate.Entry.{Entry};
+ghost use Rattle.plan_certificate.specs.declared.line.Line.{Line};
+ghost use Rattle.plan_certificate.specs.CertificateText.{path_values, state_values, line_words, line_text, IsPath, IsEntry, IsLine};
+
+use crate::certificate::Entry;
+use crate::path::Path;
+use std::fmt;
+use text_lines::{HexByte, read_decimal, read_hex_byte, split_words};
+
+// How many host lanes a module has.
+const HOST_LANES: u8 = 8;
+
+/// A line of a certificate's text.
+#[derive(Clone, Copy, Debug)]
+pub enum Line {
+    Header,
+    Weight(u64),
+    PathLine(Path),
+    StateLine(Entry),
+    End,
+}
+
+impl fmt::Display for Line {
+    ghost output = { λ line. Some (line_text line) };
+
+    #[tactic(auto, unfolding(crate::specs::CertificateText::line_words))]
+    fn fmt<W: fmt::Write>(&self, f: &mut fmt::Formatter<W>) -> fmt::Result {
+        match self {
+            Line::Header => write!(f, "certificate 1"),
+            Line::Weight(weight) => write!(f, "weight {weight}"),
+            Line::PathLine(path) => {
+                let (app, host, media) = (path.app, path.host, path.media);
+                write!(f, "path {app} {host} {media}")
+            }
+            Line::StateLine(entry) => {
+                let (boundary, potential) = (entry.boundary, entry.potential);
+                let used = HexByte(entry.used);
+                write!(f, "state {boundary} {used} {potential}")
+            }
+            Line::End => write!(f, "end"),
+        }
+    }
+}
+
+/// The line that bytes spell.
+pub fn read_line(bytes: &[u8]) -> Option<Line>
+    ensures { MatchOption result ((line : Line) → IsLine line → bytes.now ≢ line_text line)
+        (λ line. IsLine line × (bytes.now ≡ line_text line)) }
+{
+    let Some(words) = split_words::<4>(bytes) else {
+        return None;
+    };
+    read_words(&words)
+}
+
+#[tactic(auto, unfolding(crate::specs::CertificateText::line_words))]
+fn read_words(words: &[&[u8]]) -> Option<Line>
+    ensures { MatchOption result ((line : Line) → IsLine line → map (λ word. word.now) words.now ≢ line_words line)
+        (λ line. IsLine line × (map (λ word. word.now) words.now ≡ line_words line)) }
+{
+    let Some((name, values)) = words.split_first() else {
+        return None;
+    };
+    match values {
+        [] => read_end(name),
+        [value] => read_head(name, value),
+        [first, second, third] => read_item(name, first, second, third),
+        _ => None,
+    }
+}
+
+#[tactic(auto, unfolding(crate::specs::CertificateText::line_words))]
+fn read_end(name: &[u8]) -> Option<Line>
+    ensures { MatchOption result ((line : Line) → IsLine line → name.now ∷ [] ≢ line_words line)
+        (λ line. IsLine line × (name.now ∷ [] ≡ line_words line)) }
+{
+    if name == b"end".as_slice() {
+        Some(Line::End)
+    } else {
+        None
+    }
+}
+
+// The header or the weight.
+#[tactic(auto, unfolding(crate::specs::CertificateText::line_words))]
+fn read_head(name: &[u8], value: &[u8]) -> Option<Line>
+    ensures { MatchOption result ((line : Line) → IsLine line → name.now ∷ value.now ∷ [] ≢ line_words line)
+        (λ line. IsLine line × (name.now ∷ value.now ∷ [] ≡ line_words line)) }
+{
+    if name == b"certificate".as_slice() {
+        return if value == b"1".as_slice() {
+            Some(Line::Header)
+        } else {
+            None
+        };
+    }
+    if name != b"weight".as_slice() {
+        return None;
+    }
+    match read_decimal(value, u64::MAX) {
+        Some(weight) => Some(Line::Weight(weight)),
+        None => None,
+    }
+}
+
+// A path or a state.
+#[tactic(auto, unfolding(crate::specs::CertificateText::line_words))]
+fn read_item(name: &[u8], first: &[u8], second: &[u8], third: &[u8]) -> Option<Line>
+    ensures { MatchOption result ((line : Line) → IsLine line → name.now ∷ first.now ∷ second.now ∷ third.now ∷ [] ≢ line_words line)
+        (λ line. IsLine line × (name.now ∷ first.now ∷ second.now ∷ third.now ∷ [] ≡ line_words line)) }
+{
+    if name == b"path".as_slice() {
+        match read_path(first, second, third) {
+            Some(path) => Some(Line::PathLine(path)),
+            None => None,
+        }
+    } else if name == b"state".as_slice() {
+        match read_entry(first, second, third) {
+            Some(entry) => Some(Line::StateLine(entry)),
+            None => None,
+        }
+    } else {
+        None
+    }
+}
+
+fn read_path(app: &[u8], host: &[u8], media: &[u8]) -> Option<Path>
+    ensures { MatchOption result ((path : Path) → IsPath path → app.now ∷ host.now ∷ media.now ∷ [] ≢ path_values path)
+        (λ path. IsPath path × (app.now ∷ host.now ∷ media.now ∷ [] ≡ path_values path)) }
+{
+    let Some(app) = read_small(app, u8::MAX) else {
+        return None;
+    };
+    let Some(host) = read_small(host, u8::MAX) else {
+        return None;
+    };
+    let Some(media) = read_small(media, u8::MAX) else {
+        return None;
+    };
+    Some(Path { app, host, media })
+}
+
+fn read_entry(boundary: &[u8], used: &[u8], potential: &[u8]) -> Option<Entry>
+    ensures { MatchOption result ((entry : Entry) → IsEntry entry → boundary.now ∷ used.now ∷ potential.now ∷ [] ≢ state_values entry)
+        (λ entry. IsEntry entry × (boundary.now ∷ used.now ∷ potential.now ∷ [] ≡ state_values entry)) }
+{
+    let Some(boundary) = read_small(boundary, HOST_LANES) else {
+        return None;
+    };
+    let Some(used) = read_hex_byte(used) else {
+        return None;
+    };
+    let Some(potential) = read_decimal(potential, u64::MAX) else {
+        return None;
+    };
+    Some(Entry {
+        boundary,
+        used,
+        potential,
+    })
+}
+
+fn read_small(word: &[u8], limit: u8) -> Option<u8>
+    ensures { MatchOption result ((n : ℕ) → n ≤ limit → word.now ≢ decimal n) (λ n. (n ≤ limit) × (word.now ≡ decimal n)) }
+{
+    match read_decimal(word, u64::from(limit)) {
+        Some(number) => Some(number as u8),
+        None => None,
+    }
+}

@@ -1,0 +1,58 @@
+// How a plan's paths and its control bytes are shown.
+ghost use Rattle.std.specs.Prelude.{Some};
+ghost use Rattle.reports.specs.PlanText.{path_text, spaced_bytes, span_text};
+
+use std::fmt;
+use text_lines::HexByte;
+
+/// A data path by its first and last lanes.
+#[derive(Clone, Copy)]
+pub struct PathLanes {
+    pub app: u8,
+    pub host: LaneSpan,
+    pub media: LaneSpan,
+}
+
+impl fmt::Display for PathLanes {
+    ghost output = { λ shown. Some (path_text shown) };
+
+    #[tactic(auto, unfolding(crate::specs::PlanText::path_text))]
+    fn fmt<W: fmt::Write>(&self, f: &mut fmt::Formatter<W>) -> fmt::Result {
+        let (app, host, media) = (self.app, self.host, self.media);
+        write!(f, "app {app} host {host} media {media}")
+    }
+}
+
+/// Consecutive lanes by their numbers.
+#[derive(Clone, Copy)]
+pub struct LaneSpan {
+    pub first: u8,
+    pub last: u8,
+}
+
+impl fmt::Display for LaneSpan {
+    ghost output = { λ shown. Some (span_text shown) };
+
+    #[tactic(auto, unfolding(crate::specs::PlanText::span_text))]
+    fn fmt<W: fmt::Write>(&self, f: &mut fmt::Formatter<W>) -> fmt::Result {
+        let (first, last) = (self.first, self.last);
+        write!(f, "{first}-{last}")
+    }
+}
+
+/// Bytes in hexadecimal, each with a space before it.
+#[derive(Clone, Copy)]
+pub struct SpacedBytes<'a>(pub &'a [u8]);
+
+impl fmt::Display for SpacedBytes<'_> {
+    ghost output = { λ shown. Some (spaced_bytes shown.0.now) };
+
+    #[tactic(auto, unfolding(crate::specs::PlanText::spaced_bytes))]
+    fn fmt<W: fmt::Write>(&self, f: &mut fmt::Formatter<W>) -> fmt::Result {
+        for byte in self.0 {
+            let shown = HexByte(*byte);
+            write!(f, " {shown}")?;
+        }
+        Ok(())
+    }
+}
