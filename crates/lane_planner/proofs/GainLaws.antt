@@ -12,7 +12,8 @@ use Rattle.plan_certificate.specs.declared.state.State.{State}
 use Rattle.plan_certificate.specs.declared.state.Step.{Step}
 use Rattle.plan_certificate.specs.Paths.{media_lanes, is_allowed, path_weight}
 use Rattle.plan_certificate.specs.States.{free_step, path_step, steps_from}
-use Rattle.plan_certificate.proofs.Heaviest.{IsKept, IsLater, LeavesEnough, allowed, bounded, each_step, map_each}
+use Rattle.plan_certificate.proofs.Heaviest.{IsKept, IsLater, LeavesEnough, allowed, bounded, each_step}
+use Rattle.plan_certificate.proofs.Lists.{map_each}
 use Rattle.lane_planner.specs.Gains.{Follow, IsGain, IsLimit, IsReached, steps_weight}
 use Rattle.lane_planner.proofs.RunPaths.{after_free, paths_of}
 use Rattle.lane_planner.proofs.StepKinds.{step_is}

@@ -10,7 +10,8 @@ use Rattle.plan_certificate.specs.declared.state.Step.{Step}
 use Rattle.plan_certificate.specs.Paths.{app_of, media_lanes, path_weight}
 use Rattle.plan_certificate.specs.Plans.{are_apart, plan_weight}
 use Rattle.plan_certificate.specs.States.{free_step, path_step}
-use Rattle.plan_certificate.proofs.Heaviest.{Allowed, IsLater, allowed, map_each}
+use Rattle.plan_certificate.proofs.Heaviest.{Allowed, IsLater, allowed}
+use Rattle.plan_certificate.proofs.Lists.{map_each}
 use Rattle.plan_certificate.proofs.LaneRuns.{disjoint_back}
 use Rattle.plan_certificate.proofs.Picked.{AreApart, IsApart}
 use Rattle.lane_planner.specs.Gains.{Follow, steps_weight}

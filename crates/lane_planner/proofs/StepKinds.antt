@@ -13,7 +13,7 @@ use Rattle.plan_certificate.specs.declared.state.State.{State}
 use Rattle.plan_certificate.specs.declared.state.Step.{Step}
 use Rattle.plan_certificate.specs.Paths.{media_lanes, is_allowed}
 use Rattle.plan_certificate.specs.States.{fits, free_step, path_step, path_steps, paths_at, paths_of_app, steps_from}
-use Rattle.plan_certificate.proofs.Heaviest.{map_each}
+use Rattle.plan_certificate.proofs.Lists.{map_each}
 
 pub record OfPath (advert : Advertised) (weights : HostWeights) (state : State) (step : Step) : Type 0 where
   pub path : Path

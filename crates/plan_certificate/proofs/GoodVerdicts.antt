@@ -21,7 +21,7 @@ use Rattle.plan_certificate.specs.States.{start, steps_from}
 use Rattle.plan_certificate.specs.Certificates.{Certified, HasStates, IsBound, IsCovered, IsGood, state_of, place_of}
 use Rattle.plan_certificate.specs.Verdicts.{Flaw, Flaws, potential_of, place_of_state, plan_flaws, step_flaws, entry_flaws, entries_flaws, bound_flaws, all_flaws, judged, verdict}
 use Rattle.plan_certificate.proofs.ByteLanes.{IsByte, lanes_of_byte, start_is_byte, each_end_is_byte}
-use Rattle.plan_certificate.proofs.Lists.{found}
+use Rattle.plan_certificate.proofs.Lists.{each_pair, found, map_each}
 use Rattle.plan_certificate.proofs.Lookups.{is_there, found_there}
 use Rattle.plan_certificate.proofs.NoFlaw.{NoFlaw, not_false, neither_flaw, flaw_first, none_of_each, plan_admissible}
 
@@ -92,14 +92,6 @@ covered_step entries (number, entry) step states (later, bound, covers) =
 
 -- ---- all entries
 
-each_pair : {X : Type 0} (P Q R : X → Type 0) (xs : List X) → ((x : X) → P x → Q x → R x) → AllByRecursion P xs → AllByRecursion Q xs → AllByRecursion R xs
-each_pair P Q R [] f p q = tt
-each_pair P Q R (x ∷ xs) f p q = (f x p.0 q.0, each_pair P Q R xs f p.1 q.1)
-
-each_one : {X : Type 0} (P R : X → Type 0) (xs : List X) → ((x : X) → P x → R x) → AllByRecursion P xs → AllByRecursion R xs
-each_one P R [] f p = tt
-each_one P R (x ∷ xs) f p = (f x p.0, each_one P R xs f p.1)
-
 -- what holds of the second members of numbered elements, and of the elements
 unnumbered : {X : Type 0} (P : X → Type 0) (n : ℕ) (xs : List X) → AllByRecursion (λ (p : ℕ × X). P p.1) (enumerate_from n xs) → AllByRecursion P xs
 unnumbered P n [] h = tt
@@ -127,7 +119,7 @@ covered_entry : (advert : Advertised) (weights : HostWeights) (entries : List En
 covered_entry advert weights entries entry states covered =
     let steps = steps_from advert weights (state_of entry.1) in
     (none_of_each (step_flaws entries entry) steps).1
-    (each_one (IsCovered entries entry.1.potential) (λ (step : Step). NoFlaw (step_flaws entries entry step)) steps (λ step covers. covered_step entries entry step states covers) (recursion_from_All (IsCovered entries entry.1.potential) steps covered))
+    (map_each (IsCovered entries entry.1.potential) (λ (step : Step). NoFlaw (step_flaws entries entry step)) steps (λ step covers. covered_step entries entry step states covers) (recursion_from_All (IsCovered entries entry.1.potential) steps covered))
 
 entries_covered : (advert : Advertised) (weights : HostWeights) (entries : List Entry) → HasStates entries → NoFlaw (entries_flaws advert weights entries) ↔ All (CoveredAt advert weights entries) entries
 unfolding entries_flaws
@@ -140,7 +132,7 @@ entries_covered advert weights entries states =
           (λ p fits no. entry_is_covered advert weights entries p states fits no) bytes (each.0 none))),
       λ all.
           each.1
-          (each_one (λ (p : ℕ × Entry). CoveredAt advert weights entries p.1) (λ (p : ℕ × Entry). NoFlaw (entry_flaws advert weights entries p)) (enumerate_from 1 entries) (λ p covered. covered_entry advert weights entries p states covered)
+          (map_each (λ (p : ℕ × Entry). CoveredAt advert weights entries p.1) (λ (p : ℕ × Entry). NoFlaw (entry_flaws advert weights entries p)) (enumerate_from 1 entries) (λ p covered. covered_entry advert weights entries p states covered)
           (numbered (CoveredAt advert weights entries) 1 entries (recursion_from_All (CoveredAt advert weights entries) entries all))),
     )
 

@@ -18,7 +18,7 @@ use Rattle.plan_certificate.specs.Plans.{are_apart, IsBest, plan_weight}
 use Rattle.plan_certificate.specs.States.{start, free_step, path_step, paths_at, paths_of_app, fits, path_steps, steps_from}
 use Rattle.plan_certificate.specs.Certificates.{Certified, IsBound, IsCovered, IsGood, state_of}
 use Rattle.plan_certificate.proofs.LaneRuns.{disjoint_back, disjoint_none, disjoint_union, runs_apart}
-use Rattle.plan_certificate.proofs.Lists.{each_of_map, each_of_filter, each_of_flat_map, each_in_range, found}
+use Rattle.plan_certificate.proofs.Lists.{each_of_map, each_pair, map_each, each_of_filter, each_of_flat_map, each_in_range, found}
 use Rattle.plan_certificate.proofs.Picked.{AreApart, IsApart, from_pairs, pick}
 
 -- what an allowed path's Application and first lanes are
@@ -79,14 +79,6 @@ pub record IsLater (advert : Advertised) (state : State) (path : Path) : Type 0 
   pub past : state.boundary < path.host
   pub unused : is_disjoint (media_lanes advert path) state.used ≡ true
 
-pub map_each : {X : Type 0} (P Q : X → Type 0) (xs : List X) → ((x : X) → P x → Q x) → AllByRecursion P xs → AllByRecursion Q xs
-map_each P Q [] f h = tt
-map_each P Q (x ∷ xs) f h = (f x h.0, map_each P Q xs f h.1)
-
-pub both_each : {X : Type 0} (P Q : X → Type 0) (xs : List X) → AllByRecursion P xs → AllByRecursion Q xs → AllByRecursion (λ x. P x × Q x) xs
-both_each P Q [] h k = tt
-both_each P Q (x ∷ xs) h k = ((h.0, k.0), both_each P Q xs h.1 k.1)
-
 none_later : (advert : Advertised) (weigh : Path → ℕ) (state : State) (paths : List Path) → 8 ≤ state.boundary → AllByRecursion (IsLater advert state) paths → sum_by weigh paths ≡ 0
 none_later advert weigh state [] ended each = refl
 none_later advert weigh state (path ∷ paths) ended each =
@@ -96,9 +88,8 @@ none_later advert weigh state (path ∷ paths) ended each =
 -- the lane after the boundary stays free
 stay_later : (advert : Advertised) (state : State) (paths : List Path) → AllByRecursion (IsLater advert state) paths → AllByRecursion (λ path. path.host ≢ state.boundary + 1) paths → AllByRecursion (IsLater advert (free_step state).end) paths
 stay_later advert state paths each elsewhere =
-    map_each (λ path. IsLater advert state path × (path.host ≢ state.boundary + 1)) (IsLater advert (free_step state).end) paths
-    (λ path h. record { can = h.0.can; past = omega (arith, h.0.past, h.1); unused = h.0.unused })
-    (both_each (IsLater advert state) (λ path. path.host ≢ state.boundary + 1) paths each elsewhere)
+    each_pair (IsLater advert state) (λ path. path.host ≢ state.boundary + 1) (IsLater advert (free_step state).end) paths
+    (λ path later other. record { can = later.can; past = omega (arith, later.past, other); unused = later.unused }) each elsewhere
 
 after_path : (advert : Advertised) (weights : HostWeights) (state : State) (taken path : Path) → IsLater advert state taken → taken.host ≡ state.boundary + 1 → IsLater advert state path → IsApart advert taken path → IsLater advert (path_step advert weights state taken).end path
 unfolding are_apart
@@ -139,9 +130,8 @@ bounded advert weights Bounds kept (suc left) state potential ends bound paths a
                 let parts = picked.each (IsLater advert state) each in
                 let step = steps.1 picked.path picked.begins parts.0.can parts.0.unused in
                 let lanes = allowed advert picked.path parts.0.can in
-                let later = map_each (λ path. IsLater advert state path × IsApart advert picked.path path) (IsLater advert (path_step advert weights state picked.path).end) picked.rest
-                (λ path h. after_path advert weights state picked.path path parts.0 picked.begins h.0 h.1)
-                (both_each (IsLater advert state) (IsApart advert picked.path) picked.rest parts.1 picked.path_apart) in
+                let later = each_pair (IsLater advert state) (IsApart advert picked.path) (IsLater advert (path_step advert weights state picked.path).end) picked.rest
+                (λ path is_later apart. after_path advert weights state picked.path path parts.0 picked.begins is_later apart) parts.1 picked.path_apart in
                 let rest = bounded advert weights Bounds kept left (path_step advert weights state picked.path).end step.0 (omega (arith, ends, lanes.host_some)) step.1 picked.rest picked.rest_apart later in
                 omega (arith, rest, step.2, picked.weighs)
           ]
