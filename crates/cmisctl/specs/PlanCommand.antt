@@ -1,11 +1,12 @@
 -- What the command `plan` answers to an input. (docs/formats.md, "Input" and "plan")
-use Rattle.std.specs.Prelude.{◌≡◌, ◌≢◌, ◌<◌, ◌≤◌, ℕ, List, [], ◌∷◌, length, map, All, Ok, Err}
+use Rattle.std.specs.Prelude.{◌≡◌, ◌≢◌, ◌<◌, ◌≤◌, ℕ, List, [], ◌∷◌, length, map, All, AllPairs, Ok, Err}
 use Rattle.text_lines.specs.Lines.{lines_of, text_of}
 use Rattle.applications.specs.Advertised.{Advertised}
 use Rattle.applications.specs.Weights.{HostWeights}
 use Rattle.applications.specs.WeightFaults.{IsAnswer}
 use Rattle.plan_certificate.specs.Certificates.{Certified, IsGood, place_of, state_of}
 use Rattle.plan_certificate.specs.CertificateText.{IsTextOf, certificate_lines}
+use Rattle.plan_certificate.specs.Paths.{path_weight}
 use Rattle.plan_certificate.specs.Plans.{IsBest}
 use Rattle.plan_certificate.specs.Verdicts.{verdict}
 use Rattle.plan_certificate.specs.declared.verdict.Verdict.TheVariants.{Good}
@@ -31,7 +32,8 @@ pub record IsPlanInput (input : List ℕ) (advert : Advertised) (weights : HostW
   pub is_advert : IsAdvertText image_text advert
   pub are_weights : IsAnswer weights_text (Ok weights)
 
--- a good certificate with what can be gained from each state, so its plan is best; its text, which is read as it again
+-- a good certificate with what can be gained from each state, so its plan is best; its paths by rising host lane, none of
+-- which weighs 0; its text, which is read as it again
 pub record IsPlanned (input text : List ℕ) : Type 0 where
   pub advert : Advertised
   pub weights : HostWeights
@@ -39,6 +41,8 @@ pub record IsPlanned (input text : List ℕ) : Type 0 where
   pub reads : IsPlanInput input advert weights
   pub is_good : IsGood advert weights certificate
   pub is_best : IsBest advert weights certificate.paths
+  pub rising : AllPairs (λ path later. path.host < later.host) certificate.paths
+  pub weighing : All (λ path. 0 < path_weight advert weights path) certificate.paths
   pub gains : All (λ entry. IsGain advert weights (state_of entry) entry.potential) certificate.entries
   pub states : map place_of certificate.entries ≡ every_place
   pub told : text ≡ text_of (certificate_lines certificate)

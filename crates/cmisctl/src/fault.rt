@@ -1,4 +1,4 @@
-//! Why the program refuses its input, and how it says so.
+//! What the program answers in place of a text: why it refuses its input, or that a certificate is bad.
 ghost use Rattle.std.specs.Prelude.{◌≡◌, Some};
 ghost use Rattle.cmisctl.specs.Faults.{advert_fault_text, certificate_fault_text, fault_text, image_fault_text, reason_text, report_fault_text, sff_fault_text, status_of, weights_fault_text, word_of};
 
@@ -11,7 +11,7 @@ use plan_certificate::{CertificateFault, Reason};
 use reports::ReportFault;
 use std::fmt;
 
-/// Why there is no answer to the input.
+/// Why no text is the answer to the input.
 #[derive(Clone, Copy, Debug, PartialEq, Eq)]
 pub enum Fault {
     /// An allocation was refused.

@@ -10,7 +10,7 @@ use Rattle.applications.specs.Usable.{is_usable}
 use Rattle.applications.specs.Weights.{HostWeights, weight_at}
 use Rattle.plan_certificate.specs.declared.path.Path.{Path}
 
--- an Application that isn't advertised: it takes no lanes
+-- what stands for an Application that isn't advertised: it takes no lanes, and no path of it is allowed
 abbrev pub no_app : App
 no_app = record {
   number = 0;

@@ -30,7 +30,7 @@ Flaws = List Flaw
 abbrev pub path_flaw : Advertised → ℕ × Path → Flaw
 path_flaw advert (number, path) = (not (is_allowed advert path), (PathNotAllowed, number))
 
--- a path that shares a lane with an earlier one
+-- a path that takes a lane of a path before it
 abbrev pub lane_flaw : Advertised → List Path → ℕ × Path → Flaw
 lane_flaw advert paths (number, path) = (not (list_all (λ earlier. are_apart advert earlier path) (take (number - 1) paths)), (LaneTwice, number))
 

@@ -16,7 +16,7 @@ pub struct Entry {
     pub boundary: u8,
     /// The used media lanes: bit i-1 is 1 where lane i is used.
     pub used: u8,
-    /// No steps that follow one another from the state weigh more.
+    /// In a good certificate, no steps that follow one another from the state weigh more.
     pub potential: u64,
 }
 
@@ -42,7 +42,7 @@ impl Entry {
     }
 }
 
-/// A plan, its weight, and entries that show that no plan weighs more.
+/// A plan, its weight, and entries that are to show that no plan weighs more: `check` says whether they do.
 #[derive(Debug, Drop)]
 pub struct Certificate<const STATES: usize> {
     pub weight: u64,

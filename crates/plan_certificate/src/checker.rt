@@ -13,7 +13,7 @@ use crate::steps::steps_from;
 use crate::verdict::{Reason, Verdict};
 use applications::{Advert, Weights};
 
-/// Judges a certificate, whoever made it: whether its plan is allowed, and none weighs more.
+/// Judges a certificate, whoever made it. A bad one says nothing of its plan, which may be best all the same.
 pub fn check<const STATES: usize>(
     advert: &Advert,
     weights: &Weights,

@@ -33,7 +33,7 @@ fn path_flaw(advert: &Advert, paths: &[Path]) -> Option<(Reason, usize)>
     None
 }
 
-// The first path that shares a lane with an earlier one.
+// The first path that takes a lane of a path before it.
 fn lane_flaw(advert: &Advert, paths: &[Path]) -> Option<(Reason, usize)>
     requires { All (λ path. is_allowed advert.now path ≡ true) paths.now }
     ensures { result ≡ first_fault (lane_flaws advert.now paths.now) }

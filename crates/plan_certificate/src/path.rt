@@ -8,11 +8,11 @@ use field_tables::LaneSet;
 /// A data path: an Application on consecutive host lanes and consecutive media lanes.
 #[derive(Clone, Copy, Debug, PartialEq, Eq, Default)]
 pub struct Path {
-    /// The Application's number, 1 to 15.
+    /// The Application's number, 1 to 15 in an allowed path.
     pub app: u8,
-    /// The first host lane, 1 to 8.
+    /// The first host lane, 1 to 8 in an allowed path.
     pub host: u8,
-    /// The first media lane, 1 to 8.
+    /// The first media lane, 1 to 8 in an allowed path.
     pub media: u8,
 }
 
@@ -74,7 +74,7 @@ impl Path {
                 .is_disjoint(other.media_lanes(advert))
     }
 
-    /// What the path weighs.
+    /// What the path weighs; where no Application has its number, what HostInterfaceID 00h weighs.
     pub fn weight(self, advert: &Advert, weights: &Weights) -> u32
         ensures { result ≡ spec.path_weight advert.now weights.now self }
     {

@@ -20,7 +20,7 @@ pub enum Reason {
 /// What a certificate is worth.
 #[derive(Clone, Copy, Debug, PartialEq, Eq)]
 pub enum Verdict {
-    /// The plan is allowed, and no plan weighs more.
+    /// The plan is admissible, and no admissible plan weighs more.
     Good,
     /// The first reason against it, and the number from 1 of the path or the entry, or else 0.
     Bad(Reason, usize),

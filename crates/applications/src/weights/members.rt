@@ -44,7 +44,7 @@ fn read_member(key: &[u8], value: &Value, listed: &[bool; 256]) -> Result<(u8, u
     Ok((host_id, weight))
 }
 
-/// The HostInterfaceID that a key writes: two hexadecimal digits of either case, and `h`.
+/// The HostInterfaceID that a key writes, as `0Bh` or `0bh` write 11.
 #[tactic(auto, unfolding(crate::specs::HostTable::id_of_key))]
 fn id_of_key(key: &[u8]) -> Option<u8>
     ensures { result ≡ spec.id_of_key key.now }

@@ -25,6 +25,8 @@ returns-in-Ok-clause-answer c =
       };
       is_good = c.plan-certificate.ensures.good;
       is_best = c.plan-certificate.ensures.best;
+      rising = c.plan-certificate.ensures.rising;
+      weighing = c.plan-certificate.ensures.weighing;
       gains = c.plan-certificate.ensures.gains;
       states = c.plan-certificate.ensures.states;
       told = c.in-Ok.ensures.written;
