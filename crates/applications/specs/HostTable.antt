@@ -21,7 +21,7 @@ abbrev pub members_of : Members → List Member
 members_of toml.no_members = []
 members_of (toml.member key value rest) = (key, value) ∷ members_of rest
 
--- the document that a text is, by the grammar of TOML 1.1
+-- the document that a text is, as the crate `toml` reads TOML 1.1
 unfoldable pub document_of : List ℕ → Option Members
 document_of text = if is_utf8 text then parse_document text else None
 
