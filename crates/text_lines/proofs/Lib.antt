@@ -2,5 +2,6 @@ pub mod LineEnds
 pub mod WordCuts
 pub mod Decimals
 pub mod HexDigits
+mod SpacedWords
 pub mod WrittenLines
 pub mod WrittenWords

@@ -5,6 +5,7 @@
 mod decimal;
 mod hexadecimal;
 mod lines;
+mod spelling;
 #[cfg(test)]
 mod tests;
 mod words;
@@ -12,4 +13,5 @@ mod words;
 pub use decimal::read_decimal;
 pub use hexadecimal::{HexByte, Hexadecimal, read_hex_byte, read_hexadecimal};
 pub use lines::{LF, Lines, split_ended_line, split_line};
+pub use spelling::{Spelled, Spelling};
 pub use words::split_words;
