@@ -1,1 +1,11 @@
 pub mod DeviceName
+pub mod Operations
+pub mod Runs
+pub mod Conduct
+pub mod Scripts
+pub mod ScriptedBus
+pub mod ScriptBuses
+pub mod Keeping
+pub mod ScriptText
+pub mod ScriptFaults
+pub mod FaultWords

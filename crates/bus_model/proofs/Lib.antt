@@ -1,0 +1,6 @@
+pub mod RunLaws
+pub mod ScriptLaws
+pub mod ScriptRuns
+pub mod DirectiveWords
+pub mod OneScript
+pub mod OneReply
