@@ -16,11 +16,8 @@ NearLowPwr n Fault = ⊥
 
 pub nearer_low_pwr : Nearer machine NearLowPwr PowersDown
 unfolding next_of
-nearer_low_pwr n LowPwr inputs near such completes = rw such.0 (omega arith)
-nearer_low_pwr n PwrDn inputs near such completes = rw (completes refl) (omega arith)
-nearer_low_pwr n Ready inputs near such completes = rw (such.0, such.1) (omega arith)
-nearer_low_pwr n PwrUp inputs near such completes = rw (completes refl) (omega arith)
 nearer_low_pwr n Fault inputs near such completes = near
+nearer_low_pwr n _ inputs near such completes = grind (arith, such.0, such.1, completes)
 
 pub at_low_pwr : (state : ModuleState) → NearLowPwr 0 state → state ≡ LowPwr
 at_low_pwr LowPwr near = refl
@@ -37,11 +34,8 @@ NearReady n Fault = ⊥
 
 pub nearer_ready : Nearer machine NearReady PowersUp
 unfolding next_of
-nearer_ready n LowPwr inputs near such completes = rw such (omega arith)
-nearer_ready n PwrUp inputs near such completes = rw (completes refl) (omega arith)
-nearer_ready n Ready inputs near such completes = rw such (omega arith)
-nearer_ready n PwrDn inputs near such completes = rw (completes refl) (omega arith)
 nearer_ready n Fault inputs near such completes = near
+nearer_ready n _ inputs near such completes = grind (arith, such, completes)
 
 pub at_ready : (state : ModuleState) → NearReady 0 state → state ≡ Ready
 at_ready Ready near = refl

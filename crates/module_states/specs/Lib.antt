@@ -1,4 +1,5 @@
 pub mod Codes
+pub mod Names
 pub mod LowPower
 pub mod Transitions
 pub mod Runs

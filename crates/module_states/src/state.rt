@@ -1,7 +1,9 @@
-ghost use Rattle.std.specs.Prelude.{◌≡◌};
+ghost use Rattle.std.specs.Prelude.{◌≡◌, Some};
 ghost use Rattle.std.specs.Option.{ok_or};
 ghost use Rattle.module_states.specs.Codes.{code_of, state_at};
+ghost use Rattle.module_states.specs.Names.{name_of};
 
+use std::fmt;
 use thiserror::Error;
 
 /// The state of a module as a whole.
@@ -31,6 +33,21 @@ impl ModuleState {
     }
 }
 
+/// The state by its name.
+impl fmt::Display for ModuleState {
+    ghost output = { λ state. Some (name_of state) };
+
+    fn fmt<W: fmt::Write>(&self, f: &mut fmt::Formatter<W>) -> fmt::Result {
+        match self {
+            ModuleState::LowPwr => write!(f, "ModuleLowPwr"),
+            ModuleState::PwrUp => write!(f, "ModulePwrUp"),
+            ModuleState::Ready => write!(f, "ModuleReady"),
+            ModuleState::PwrDn => write!(f, "ModulePwrDn"),
+            ModuleState::Fault => write!(f, "ModuleFault"),
+        }
+    }
+}
+
 /// The state that a code stands for.
 pub fn state_of(code: u8) -> Result<ModuleState, CodeFault>
     ensures { result ≡ ok_or (state_at code) (CodeFault.Reserved code) }
@@ -48,6 +65,23 @@ pub fn state_of(code: u8) -> Result<ModuleState, CodeFault>
 #[cfg(test)]
 mod tests {
     use super::*;
+    use std::test::Fail;
+
+    #[test]
+    fn states_print_their_names(rt: HostRuntime) -> Result<(), Fail> {
+        let names = [
+            (ModuleState::LowPwr, "ModuleLowPwr"),
+            (ModuleState::PwrUp, "ModulePwrUp"),
+            (ModuleState::Ready, "ModuleReady"),
+            (ModuleState::PwrDn, "ModulePwrDn"),
+            (ModuleState::Fault, "ModuleFault"),
+        ];
+        for (state, name) in names {
+            let shown = state.to_string(rt.alloc())?;
+            assert_eq!(rt; shown.as_str(), name);
+        }
+        Ok(())
+    }
 
     #[test]
     fn whole_code_table(rt: HostRuntime) {

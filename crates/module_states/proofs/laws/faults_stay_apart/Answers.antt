@@ -1,12 +1,9 @@
 use Rattle.std.proofs.Common.{arith}
-use Rattle.module_states.specs.declared.state.ModuleState.TheVariants.{LowPwr, PwrUp, Ready, PwrDn, Fault}
+use Rattle.module_states.specs.declared.state.ModuleState.TheVariants.{Fault}
 use Rattle.module_states.specs.Transitions.{next_of}
 use Rattle.module_states.proofs.laws.faults_stay_apart.Goals as goal
 
 pub returns : goal.returns
 unfolding next_of
-returns c LowPwr inputs = grind arith
-returns c PwrUp inputs = grind arith
-returns c Ready inputs = grind arith
-returns c PwrDn inputs = grind arith
 returns c Fault inputs = grind arith
+returns c _ inputs = grind arith
