@@ -1,11 +1,14 @@
 -- An image as the map of the entries that it keeps.
-use Rattle.std.proofs.Common.{◌≡◌, ◌↔◌, ℕ, Bool, true, false, length, List, [], Option, Some, None, refl, sym, ap, subst, ◌∙◌}
+use Rattle.std.proofs.Common.{◌≡◌, ◌↔◌, ℕ, Bool, true, false, length, List, [], Option, Some, None, refl, sym, ap, subst, ◌∙◌, ◌∷◌, ◌≤◌, ◌+◌, ◌≢◌, cond, arith}
 use Rattle.std.specs.Prelude.{is_some}
 use lib.Dec.{T}
 use Rattle.std.specs.FinMap as map
-use Rattle.std.specs.FinMap.Entries.{put}
+use Rattle.std.specs.FinMap.Entries.{put, by_order, length-put}
+use Rattle.std.specs.List.{AllByRecursion}
+use Rattle.std.specs.declared.cmp.Ordering.TheVariants.{Less, Equal, Greater}
 use Rattle.paged_memory.specs.declared.key.Key.{Key}
 use Rattle.paged_memory.specs.KeyOrder.{key_cmp}
+use Rattle.paged_memory.specs.ImageText.{IsEntry, IsImage, AreEntries}
 use Rattle.paged_memory.proofs.KeyLaws.{keys_total}
 
 abbrev pub Entries : Type 0
@@ -46,6 +49,38 @@ module _ (es : Entries) (sorted : Sorted es) (key : Key) (page : List ℕ) where
 
   pub put_view : image_of (put key_cmp key page es) ≡ map.insert (image_of es) key page
   put_view = map.same_entries_map _ _ (entries_of (put key_cmp key page es) put_sorted ∙ sym inserted)
+
+-- an image has what its entries are
+pub is_image : (es : Entries) → AreEntries es → IsImage (image_of es)
+is_image es h = record { room = omega (arith, len_of es h.sorted, h.room); each = rw (entries_of es h.sorted) h.each }
+
+pub are_entries : (es : Entries) → Sorted es → IsImage (image_of es) → AreEntries es
+are_entries es sorted h = record { sorted = sorted; room = omega (arith, len_of es sorted, h.room); each = rw (entries_of es sorted) at h.each }
+
+abbrev Fit : Key × List ℕ → Type 0
+Fit e = IsEntry e.0 e.1
+
+-- a page put under a key keeps this
+put_fits : (key : Key) (page : List ℕ) → IsEntry key page → (es : Entries) → AllByRecursion Fit es → AllByRecursion Fit (put key_cmp key page es)
+put_fits key page fit [] each = (fit, tt)
+put_fits key page fit (e ∷ es) each =
+    elim (key_cmp key e.0) as (λ order. AllByRecursion Fit (by_order order ((key, page) ∷ e ∷ es) ((e.0, page) ∷ es) (e ∷ put key_cmp key page es))) [
+      | Less ↦ (fit, each)
+      | Equal ↦ (record { key_fits = each.0.key_fits; page_fits = fit.page_fits }, each.1)
+      | Greater ↦ (each.0, put_fits key page fit es each.1)
+    ]
+
+room_left : (n : ℕ) (o : Option (List ℕ)) → n ≤ 16 → ((n ≡ 16) × (o ≡ None) → ⊥) → cond (is_some o) n (n + 1) ≤ 16
+room_left n None h left = let free : n ≢ 16 = λ e. left (e, refl) in omega arith
+room_left n (Some page) h left = h
+
+pub put_kept : (es : Entries) (key : Key) (page : List ℕ) → AreEntries es → IsEntry key page
+    → ((length es ≡ 16) × (map.find key_cmp key es ≡ None) → ⊥) → AreEntries (put key_cmp key page es)
+put_kept es key page h fit left = record {
+  sorted = put_sorted es h.sorted key page;
+  room = subst (λ n. n ≤ 16) (sym (length-put key_cmp keys_total key page es (test_of _ h.sorted))) (room_left (length es) (map.find key_cmp key es) h.room left);
+  each = put_fits key page fit es h.each;
+}
 
 absent_is : (o : Option (List ℕ)) → (o ≡ None) ↔ (is_some o ≡ false)
 absent_is None = (λ _. refl, λ _. refl)

@@ -6,3 +6,4 @@ pub mod Reading
 pub mod Writing
 pub mod PageLineLaws
 pub mod OneAnswer
+pub mod WindowRuns

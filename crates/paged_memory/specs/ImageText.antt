@@ -1,5 +1,5 @@
 -- The text of an image: a header, a line for each page by rising keys, and `end`. (docs/formats.md, "Image")
-use Rattle.std.specs.Prelude.{◌≡◌, ℕ, ◌<◌, ◌≤◌, List, [], ◌∷◌, ◌++◌, length, map, codes}
+use Rattle.std.specs.Prelude.{◌≡◌, ℕ, ◌<◌, ◌≤◌, List, [], ◌∷◌, ◌++◌, length, map, codes, IsTrue}
 use Rattle.std.specs.List.{AllByRecursion}
 use Rattle.std.specs.FinMap as finmap
 use Rattle.hex.specs.Hex.{IsBytes, encode_lower}
@@ -9,6 +9,7 @@ use Rattle.bus_model.specs.DeviceName.{device_name}
 use Rattle.paged_memory.specs.declared.key.Half.{Half}
 use Rattle.paged_memory.specs.declared.key.Half.TheVariants.{Lower, Upper}
 use Rattle.paged_memory.specs.declared.key.Key.{Key}
+use Rattle.paged_memory.specs.KeyOrder.{key_cmp}
 use Rattle.paged_memory.specs.Images.{Memory}
 
 unfoldable pub header : List ℕ
@@ -54,6 +55,12 @@ pub record IsPage (page : List ℕ) : Type 0 where
 pub record IsEntry (key : Key) (page : List ℕ) : Type 0 where
   pub key_fits : IsKey key
   pub page_fits : IsPage page
+
+-- at most 16 such pages by rising keys
+pub record AreEntries (entries : List (Key × List ℕ)) : Type 0 where
+  pub sorted : IsTrue (finmap.is_sorted key_cmp entries)
+  pub room : length entries ≤ 16
+  pub each : AllByRecursion (λ entry. IsEntry entry.0 entry.1) entries
 
 -- what an image holds: at most 16 such pages
 pub record IsImage (memory : Memory) : Type 0 where

@@ -4,3 +4,7 @@ pub mod KeyCode
 pub mod Images
 pub mod ImageText
 pub mod ImageFaults
+pub mod Selections
+pub mod Windows
+pub mod WindowCode
+pub mod FaultWords

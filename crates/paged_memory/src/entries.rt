@@ -4,6 +4,8 @@ ghost use Rattle.std.specs.Bool.{OnTrue, OnFalse};
 ghost use Rattle.std.specs.List.{insert};
 ghost use Rattle.std.specs.declared.cmp.Ordering.TheVariants.{Less};
 ghost use Rattle.std.specs.FinMap.{find, is_sorted};
+ghost use Rattle.std.specs.FinMap as map;
+ghost use Rattle.std.specs.Option.{option_copied};
 ghost use Rattle.std.specs.FinMap.Entries.{put};
 ghost use Rattle.paged_memory.specs.declared.key.Key.{Key};
 ghost use Rattle.paged_memory.specs.KeyOrder.{key_cmp};
@@ -32,6 +34,17 @@ pub fn place_of(entries: &[(Key, Page)], key: Key) -> Result<usize, usize>
         }
     }
     Err(entries.len())
+}
+
+/// The page under a key.
+pub fn page_at(entries: &[(Key, Page)], key: Key) -> Option<&Page>
+    requires { IsTrue (is_sorted key_cmp entries.now) }
+    ensures { option_copied result ≡ map.get {R = key_cmp} (map.from_sorted entries.now) key }
+{
+    match place_of(entries, key) {
+        Ok(place) => Some(&entries[place].1),
+        Err(_) => None,
+    }
 }
 
 /// Puts an entry in its place, where the key is held or there is room.

@@ -1,24 +1,39 @@
+use text_lines::{Spelled, Spelling};
 use thiserror::Error;
 
 /// Why a text is no image, or a page finds no room. Lines count from 1.
 #[derive(Clone, Copy, Debug, PartialEq, Eq, Drop, Error)]
+#[error("the text is no image")]
 pub enum ImageFault {
     /// The text does not begin with the line `module-image 1`.
-    #[error("the first line is not `module-image 1`")]
     BadHeader,
     /// The line is neither a page line nor `end`.
-    #[error("line {0} has another form")]
     BadLine(usize),
     /// The key of the line isn't above the one before it.
-    #[error("line {0} is out of order")]
     OutOfOrder(usize),
     /// It would be the seventeenth page.
-    #[error("more than 16 pages")]
     TooManyPages,
     /// The text ends without `end`.
-    #[error("no `end`")]
     NoEnd,
     /// A line stands after `end`.
-    #[error("a line after `end`")]
     AfterEnd,
+}
+
+impl Spelled for ImageFault {
+    ghost use Rattle.paged_memory.specs.FaultWords.{image_fault_words};
+
+    ghost words = { image_fault_words };
+
+    ghost most = { 2 };
+
+    fn spelling(&self) -> Spelling {
+        match self {
+            ImageFault::BadHeader => Spelling::of("IM1"),
+            ImageFault::BadLine(line) => Spelling::of("IM2").and(line),
+            ImageFault::OutOfOrder(line) => Spelling::of("IM3").and(line),
+            ImageFault::TooManyPages => Spelling::of("IM4"),
+            ImageFault::NoEnd => Spelling::of("IM5"),
+            ImageFault::AfterEnd => Spelling::of("IM6"),
+        }
+    }
 }

@@ -1,6 +1,6 @@
 mod text;
 
-use crate::entries::{place_of, put_entry};
+use crate::entries::{page_at, put_entry};
 use crate::fault::ImageFault;
 use crate::key::Key;
 use crate::page::{PAGE_LEN, Page};
@@ -23,6 +23,7 @@ impl Model for Image {
     ghost use Rattle.std.specs.FinMap as map;
     ghost use Rattle.paged_memory.specs.KeyOrder.{key_cmp};
     ghost use Rattle.paged_memory.specs.KeyCode.{coded_key};
+    ghost use Rattle.paged_memory.specs.ImageText.{AreEntries};
 
     ghost Value = { map.FinMap key_cmp (List ℕ) };
 
@@ -30,33 +31,52 @@ impl Model for Image {
 
     ghost view = { λ image. map.from_sorted image.entries.items };
 
-    ghost invariant = { λ image. IsTrue (map.is_sorted key_cmp image.entries.items) };
+    ghost invariant = { λ image. AreEntries image.entries.items };
 }
 
 impl Image {
-    ghost use Rattle.std.specs.Prelude.{◌≡◌, ◌↔◌, OnOk, OnErr, IfErr, IsErr, false};
+    ghost use Rattle.std.specs.Prelude.{◌≡◌, ◌↔◌, length, IsTrue, OnOk, OnErr, IfErr, IsErr, false};
     ghost use Rattle.std.specs.Option.{option_copied};
     ghost use Rattle.std.specs.FinMap as map;
+    ghost use Rattle.paged_memory.specs.KeyOrder.{key_cmp};
     ghost use Rattle.paged_memory.specs.Images.{byte_at};
+    ghost use Rattle.paged_memory.specs.ImageText.{IsImage};
 
     /// The image with no page.
     #[tactic(auto, using(crate::proofs::ImageViews::no_pages))]
     pub fn new() -> Self
-        ensures { result ≡ map.empty }
+        ensures empty { result ≡ map.empty }
+        ensures image { IsImage result }
     {
         Image {
             entries: ArrayVec::new(),
         }
     }
 
+    /// The same image.
+    pub fn copy(&self) -> Image
+        ensures { result ≡ self.now }
+    {
+        Image {
+            entries: ArrayVec::try_from(self.entries.as_slice()).unwrap(),
+        }
+    }
+
     /// The page under a key.
     pub fn page(&self, key: Key) -> Option<&Page>
-        ensures { option_copied result ≡ map.get self.now key }
+        ensures page { option_copied result ≡ map.get self.now key }
+        ensures image { IsImage self.now }
     {
-        match place_of(&self.entries, key) {
-            Ok(place) => Some(&self.entries[place].1),
-            Err(_) => None,
-        }
+        page_at(&self.entries, key)
+    }
+
+    /// The pages with their keys, in the order of the keys.
+    pub(crate) fn entries(&self) -> &[(Key, Page)]
+        ensures image { map.from_sorted result.now ≡ self.now }
+        ensures len { length result.now ≡ map.len self.now }
+        ensures sorted { IsTrue (map.is_sorted key_cmp result.now) }
+    {
+        &self.entries
     }
 
     /// Whether there is a page under a key.
@@ -72,7 +92,10 @@ impl Image {
         ensures refused { IsErr result ↔ ((map.len self.old ≡ MAX_PAGES) × (map.contains_key self.old key ≡ false)) }
         ensures fault { IfErr result (λ fault. fault ≡ ImageFault.TooManyPages) }
         ensures err { OnErr result (self.new ≡ self.old) }
+        ensures image { IsImage self.new }
     {
+        // Read here, it is known to be of bytes.
+        let _bytes = page.bytes();
         if !put_entry(&mut self.entries, key, page) {
             return Err(ImageFault::TooManyPages);
         }

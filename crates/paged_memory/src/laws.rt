@@ -1,4 +1,4 @@
-//! What holds of images and their texts, over all of them.
+//! What holds of images, their texts and windows, over all of them.
 ghost use Rattle.std.specs.Prelude.{◌≡◌, ℕ, List, Result};
 ghost use Rattle.paged_memory.specs.declared.key.Key.{Key};
 ghost use Rattle.paged_memory.specs.KeyOrder.{key_cmp};
@@ -7,6 +7,8 @@ ghost use Rattle.paged_memory.specs.declared.fault.ImageFault.{ImageFault};
 ghost use Rattle.paged_memory.specs.Images.{Memory};
 ghost use Rattle.paged_memory.specs.ImageText.{image_lines, IsImage, IsTextOf};
 ghost use Rattle.paged_memory.specs.ImageFaults.{IsAnswer};
+ghost use Rattle.bus_model.specs.declared.device.Dev.{Dev};
+ghost use Rattle.paged_memory.specs.Windows.{Windowed, stored};
 
 use crate::key::Key;
 
@@ -24,4 +26,9 @@ pub fn written_is_read()
 /// Keys are ordered by device, the lower half before the upper, then by bank and page.
 pub fn keys_are_ordered()
     ensures { (a b : Key) → ⟦<Key as Ord>⟧.cmp a b ≡ key_cmp a b }
+{}
+
+/// No store changes the memory that a window shows.
+pub fn memory_stays()
+    ensures { (window : Windowed) (dev : Dev) (address : ℕ) (bytes : List ℕ) → (stored window dev address bytes).1.memory ≡ window.memory }
 {}

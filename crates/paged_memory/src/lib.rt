@@ -8,11 +8,15 @@ mod key;
 pub mod laws;
 mod page;
 mod page_line;
+mod selection;
 #[cfg(test)]
 mod tests;
+mod window;
 
 pub use bus_model::Dev;
 pub use fault::ImageFault;
 pub use image::{Image, MAX_PAGES};
 pub use key::{Half, Key};
 pub use page::{PAGE_LEN, Page};
+pub use selection::{Selecting, Selection};
+pub use window::{Window, WindowFault};

@@ -1,4 +1,5 @@
 ghost use Rattle.std.specs.Prelude.{◌≡◌, length};
+ghost use Rattle.hex.specs.Hex.{IsBytes};
 
 use std::marker::Model;
 
@@ -29,10 +30,17 @@ impl Page {
     pub fn bytes(&self) -> &[u8; PAGE_LEN]
         ensures same { result.now ≡ self.now }
         ensures len { length self.now ≡ PAGE_LEN }
+        ensures bytes { IsBytes self.now }
     {
+        are_bytes(&self.bytes);
         &self.bytes
     }
 }
+
+// Items of a slice of bytes are below 256.
+fn are_bytes(_bytes: &[u8])
+    ensures { IsBytes _bytes.now }
+{}
 
 impl From<[u8; PAGE_LEN]> for Page {
     ghost from_gives = { λ bytes page. page ≡ bytes };

@@ -1,7 +1,7 @@
 use Rattle.std.proofs.Common.{◌≡◌, [], refl, rules}
 use Rattle.text_lines.specs.Lines.{lines_of}
 use Rattle.paged_memory.specs.ImageText.{end_line}
-use Rattle.paged_memory.proofs.ImageViews.{image_of}
+use Rattle.paged_memory.proofs.ImageViews.{image_of, are_entries}
 use Rattle.paged_memory.proofs.Reading.{begins_none, begins_more, is_text, fault_after}
 use Rattle.paged_memory.proofs.image.Image.read.Goals as goal
 
@@ -42,3 +42,6 @@ pub returns-clause-err : goal.returns-clause-err
 returns-clause-err c =
     let nothing : lines_of c.loop-line.rest.now ≡ [] = rw c.in_default-split_line.ensures.lines refl in
     (image_of c.loop-line.entries.items, rw nothing at c.loop-line.invariant.begins)
+
+pub invariant_of-result : goal.invariant_of-result
+invariant_of-result c = are_entries c.loop-line.entries.items c.loop-line.invariant.sorted c.loop-line.invariant.begins.image

@@ -13,10 +13,10 @@ returns-clause-written c =
     let pages : string_bytes c.push_pages.new.text ≡ string_bytes c.in_ok-text.text ++ text_of (map line_of es) = rw c.deref.ensures.0 at c.in_ok-push_pages.ensures.written in
     let whole : string_bytes c.push_str.new.self ≡ (codes "module-image 1\n" ++ text_of (map line_of es)) ++ codes "end\n" =
     c.in_ok-push_str.ensures.bytes ∙ ap (λ l. l ++ codes "end\n") (pages ∙ ap (λ l. l ++ text_of (map line_of es)) c.in_ok-text.ensures.ok) in
-    ap (λ v. v.items) c.into_bytes.ensures.value ∙ whole ∙ whole_text es c.self.invariant ∙ ap (λ m. text_of (image_lines m)) c.self.view_is
+    ap (λ v. v.items) c.into_bytes.ensures.value ∙ whole ∙ whole_text es c.self.invariant.sorted ∙ ap (λ m. text_of (image_lines m)) c.self.view_is
 
 pub returns-clause-image : goal.returns-clause-image
 returns-clause-image c =
     let es = c.self.inside.entries.items in
     let each : AllByRecursion Fits es = rw c.deref.ensures.0 at c.in_ok-push_pages.ensures.each in
-    subst IsImage c.self.view_is (is_image es c.self.invariant (rw c.deref.ensures.0 at c.deref.ensures.1) each)
+    subst IsImage c.self.view_is (is_image es c.self.invariant.sorted (rw c.deref.ensures.0 at c.deref.ensures.1) each)

@@ -1,0 +1,62 @@
+-- Which page the upper half of device A0 shows, and what a stored byte selects.
+-- (OIF-CMIS-05.0, "Bank and Page Selection"; SFF-8636, "Page Select"; docs/bus.md, "Page selection")
+use Rattle.std.specs.Prelude.{ℕ, ◌+◌, ◌==◌, ◌||◌, List, [], ◌∷◌, Option, Some, None, unwrap_or, option_map, if◌then◌else◌, nat_lt}
+use Rattle.std.specs.FinMap as map
+use Rattle.bus_model.specs.declared.device.Dev.{Dev}
+use Rattle.bus_model.specs.declared.device.Dev.TheVariants.{A0, A2}
+use Rattle.paged_memory.specs.declared.key.Key.{Key}
+use Rattle.paged_memory.specs.declared.selection.Selection.{Selection}
+use Rattle.paged_memory.specs.declared.selection.Selecting.{Selecting}
+use Rattle.paged_memory.specs.declared.selection.Selecting.TheVariants.{BankAndPage, PageAlone, Nothing}
+use Rattle.paged_memory.specs.Keys.{lower_key, upper_key}
+use Rattle.paged_memory.specs.Images.{Memory, byte_at}
+
+-- by a module's identifier: QSFP, QSFP+ and QSFP28 select a page, the SFP family nothing, the others a bank and a page
+-- (SFF-8024, "Identifier Values")
+abbrev pub selecting_by : ℕ → Selecting
+selecting_by identifier =
+    if identifier == 0x0C || identifier == 0x0D || identifier == 0x11 then PageAlone
+    else if identifier == 0x03 then Nothing
+    else BankAndPage
+
+-- on a device of a module, whose identifier is byte 0 of its lower half
+abbrev pub selecting_on : Memory → Dev → Selecting
+selecting_on memory A0 = unwrap_or (option_map selecting_by (byte_at memory A0 0 0)) BankAndPage
+selecting_on memory A2 = Nothing
+
+abbrev pub first_page : Selection
+first_page = record { bank = 0; page = 0; waiting = 0 }
+
+-- a page of a bank, or the first page where the memory lacks it
+abbrev pub mapped : Memory → ℕ → ℕ → Selection
+mapped memory bank page = if map.contains_key memory (upper_key A0 bank page) then record { bank = bank; page = page; waiting = bank } else first_page
+
+-- after a byte was stored at an address
+abbrev pub selected : Selecting → Memory → Selection → ℕ → ℕ → Selection
+selected BankAndPage memory selection address byte =
+    if address == 126 then record selection { waiting = byte }
+    else if address == 127 then mapped memory selection.waiting byte
+    else selection
+selected PageAlone memory selection address byte = if address == 127 then mapped memory 0 byte else selection
+selected Nothing memory selection address byte = selection
+
+-- after bytes were stored one by one, from an address upwards
+abbrev pub selected_in_turn : Selecting → Memory → Selection → ℕ → List ℕ → Selection
+selected_in_turn selecting memory selection address [] = selection
+selected_in_turn selecting memory selection address (byte ∷ bytes) =
+    selected_in_turn selecting memory (selected selecting memory selection address byte) (address + 1) bytes
+
+-- what an address reads as that shows the selection, in place of what the memory has there
+abbrev pub shown_at : Selecting → Selection → ℕ → Option ℕ
+shown_at BankAndPage selection address =
+    if address == 126 then Some selection.bank else if address == 127 then Some selection.page else None
+shown_at PageAlone selection address = if address == 127 then Some selection.page else None
+shown_at Nothing selection address = None
+
+abbrev pub upper_half : Dev → Selection → Key
+upper_half A0 selection = upper_key A0 selection.bank selection.page
+upper_half A2 selection = upper_key A2 0 0
+
+-- the key of the half that shows an address of a device
+abbrev pub shown_key : Dev → Selection → ℕ → Key
+shown_key dev selection address = if nat_lt address 128 then lower_key dev else upper_half dev selection

@@ -1,0 +1,159 @@
+mod reading;
+
+use crate::{Image, ImageFault, Key, Page, Window, WindowFault};
+use arrayvec::ArrayVec;
+use bus_model::{Bus, BusFault, Dev, Device, Op, Reply, Script, ScriptBus};
+use reading::{select, select_on_window};
+use std::alloc::Global;
+use std::test::Fail;
+
+// An image with these halves, each with a first byte and else zeros.
+fn image(halves: &[(Key, u8)]) -> Result<Image, ImageFault> {
+    let mut image = Image::new();
+    for (key, first) in halves {
+        let mut bytes = [0; 128];
+        bytes[0] = *first;
+        image.put(*key, Page::from(bytes))?;
+    }
+    Ok(image)
+}
+
+// Halves with the pages of device A0 that a manager of data paths needs.
+fn paths() -> [(Key, u8); 6] {
+    [
+        (Key::lower(Dev::A0), 0x18),
+        (Key::upper(Dev::A0, 0, 0x00), 0xa0),
+        (Key::upper(Dev::A0, 0, 0x01), 0xa1),
+        (Key::upper(Dev::A0, 0, 0x02), 0xa2),
+        (Key::upper(Dev::A0, 0, 0x10), 0xb0),
+        (Key::upper(Dev::A0, 0, 0x11), 0xb1),
+    ]
+}
+
+// Bytes stored on A0 from an address upwards, and the bytes 126, 127 and 128 then; `None` where any of this is refused.
+type Row<'a> = (u8, &'a [u8], Option<[u8; 3]>);
+
+fn shown_after(
+    bus: &mut ScriptBus<Window<16>>,
+    offset: u8,
+    bytes: &[u8],
+) -> Result<Option<[u8; 3]>, Fail> {
+    let bytes = ArrayVec::try_from(bytes).ok().ok_or("too many bytes")?;
+    let op = Op::Store {
+        dev: Dev::A0,
+        offset,
+        bytes,
+    };
+    if bus.transact(op)? != Reply::Done {
+        return Ok(None);
+    }
+    let Some(selected) = bus.fetch(Dev::A0, 126, 2)? else {
+        return Ok(None);
+    };
+    let Some(shown) = bus.fetch(Dev::A0, 128, 1)? else {
+        return Ok(None);
+    };
+    Ok(Some([selected[0], selected[1], shown[0]]))
+}
+
+// The number of the first row that isn't so.
+fn first_wrong(alloc: Global, image: &Image, rows: &[Row]) -> Result<Option<usize>, Fail> {
+    let window = Window::<16>::of(image)?;
+    let mut bus = ScriptBus::new(alloc, window, Script::read(b"")?, 64)?;
+    for (number, (offset, bytes, shown)) in rows.iter().enumerate() {
+        if shown_after(&mut bus, *offset, bytes)? != *shown {
+            return Ok(Some(number));
+        }
+    }
+    Ok(None)
+}
+
+#[test]
+fn selects_a_bank_and_a_page(rt: HostRuntime) -> Result<(), Fail> {
+    let rows: [Row; 8] = [
+        (126, &[0x00, 0x11], Some([0x00, 0x11, 0xb1])),
+        (126, &[0x00, 0x03], Some([0x00, 0x00, 0xa0])),
+        (127, &[0x10], Some([0x00, 0x10, 0xb0])),
+        (126, &[0x01], Some([0x00, 0x10, 0xb0])),
+        (127, &[0x10], Some([0x00, 0x00, 0xa0])),
+        // the waiting bank is 0 again
+        (127, &[0x10], Some([0x00, 0x10, 0xb0])),
+        // stores elsewhere select nothing
+        (124, &[0x00, 0x00, 0x00], Some([0x00, 0x10, 0xb0])),
+        (254, &[0x01, 0x01], Some([0x00, 0x10, 0xb0])),
+    ];
+    assert_eq!(rt; first_wrong(rt.alloc(), &image(&paths())?, &rows)?, None);
+
+    // a page of another bank, which stays the waiting one
+    let mut two_banks = image(&paths())?;
+    two_banks.put(Key::upper(Dev::A0, 1, 0x10), Page::from([0xc0; 128]))?;
+    let rows: [Row; 3] = [
+        (126, &[0x01, 0x10], Some([0x01, 0x10, 0xc0])),
+        (127, &[0x10], Some([0x01, 0x10, 0xc0])),
+        (127, &[0x11], Some([0x00, 0x00, 0xa0])),
+    ];
+    assert_eq!(rt; first_wrong(rt.alloc(), &two_banks, &rows)?, None);
+    Ok(())
+}
+
+#[test]
+fn selects_a_page_alone_or_nothing(rt: HostRuntime) -> Result<(), Fail> {
+    let sff_8636 = image(&[
+        (Key::lower(Dev::A0), 0x11),
+        (Key::upper(Dev::A0, 0, 0x00), 0xa0),
+        (Key::upper(Dev::A0, 0, 0x03), 0xa3),
+        (Key::upper(Dev::A0, 1, 0x03), 0xc3),
+    ])?;
+    let rows: [Row; 3] = [
+        (126, &[0x01, 0x03], Some([0x00, 0x03, 0xa3])),
+        (126, &[0x01], Some([0x00, 0x03, 0xa3])),
+        (127, &[0x02], Some([0x00, 0x00, 0xa0])),
+    ];
+    assert_eq!(rt; first_wrong(rt.alloc(), &sff_8636, &rows)?, None);
+
+    let sff_8472 = image(&[
+        (Key::lower(Dev::A0), 0x03),
+        (Key::upper(Dev::A0, 0, 0x00), 0xa0),
+        (Key::upper(Dev::A0, 0, 0x02), 0xa2),
+    ])?;
+    let rows: [Row; 1] = [(126, &[0x00, 0x02], Some([0x00, 0x00, 0xa0]))];
+    assert_eq!(rt; first_wrong(rt.alloc(), &sff_8472, &rows)?, None);
+
+    let diagnostics = image(&[
+        (Key::lower(Dev::A2), 0x00),
+        (Key::upper(Dev::A2, 0, 0x00), 0xe0),
+        (Key::upper(Dev::A2, 0, 0x02), 0xe2),
+    ])?;
+    let mut window = Window::<3>::of(&diagnostics)?;
+    assert_eq!(rt; window.store(Dev::A2, 127, &[0x02]), true);
+    let shown = window.fetch(Dev::A2, 128, 1);
+    assert_eq!(rt; shown, ArrayVec::try_from([0xe0].as_slice()).ok());
+
+    let no_lower_half = image(&[(Key::upper(Dev::A0, 0, 0x00), 0xa0)])?;
+    let rows: [Row; 1] = [(127, &[0x00], None)];
+    assert_eq!(rt; first_wrong(rt.alloc(), &no_lower_half, &rows)?, None);
+    Ok(())
+}
+
+#[test]
+fn has_room_for_so_many_pages(rt: HostRuntime) -> Result<(), Fail> {
+    let image = image(&paths())?;
+    assert_eq!(rt; Window::<6>::of(&image).err(), None);
+    assert_eq!(rt; Window::<4>::of(&image).err(), Some(WindowFault::MorePages));
+    Ok(())
+}
+
+#[test]
+fn stands_behind_a_bus(rt: HostRuntime) -> Result<(), Fail> {
+    let script = Script::read(b"cut 1\nok 1\nnack 1\n")?;
+    let window = Window::<16>::of(&image(&paths())?)?;
+    let mut bus = ScriptBus::new(rt.alloc(), window, script, 6)?;
+    let cut = select(&mut bus, 0x11)?;
+    assert_eq!(rt; cut, ArrayVec::try_from([0x00, 0x00].as_slice()).ok());
+    let refused = select(&mut bus, 0x11)?;
+    assert_eq!(rt; refused, ArrayVec::try_from([0x00, 0x00].as_slice()).ok());
+    let taken = select_on_window(&mut bus, 0x11)?;
+    assert_eq!(rt; taken, ArrayVec::try_from([0x00, 0x11].as_slice()).ok());
+    assert_eq!(rt; select(&mut bus, 0x11).err(), Some(BusFault::TraceFull));
+    Ok(())
+}
