@@ -1,0 +1,10 @@
+//! Modules for tests: three images as texts, and how to change their bytes. No program uses this crate.
+#![tactic(auto)]
+
+mod changes;
+#[cfg(test)]
+mod tests;
+mod texts;
+
+pub use changes::{only, with, with_run, with_sum};
+pub use texts::{QSFP_DD, QSFP28, SFP};
