@@ -11,10 +11,10 @@ use Rattle.field_tables.specs.FieldRows.{row_of}
 use Rattle.field_tables.specs.Halves.{half_key}
 use Rattle.field_tables.specs.FieldValues.{field_key, of_each, row_value, value_in, values_in}
 
-pub get-field_key : (memory : Memory) (field : Field) (row : Row) (key : Key) (bytes : List ℕ) → row ≡ row_of field → key ≡ half_key row.device row.half row.page →
+pub get-field_key : (memory : Memory) (field : Field) (row : Row) (key : Key) (bytes : List ℕ) → row ≡ row_of field → key ≡ half_key row.dev row.half row.page →
     map.get memory key ≡ Some bytes → map.get memory (field_key field) ≡ Some bytes
 get-field_key memory field row key bytes same at found =
-    ap (map.get memory) (ap (λ (r : Row). half_key r.device r.half r.page) (sym same) ∙ sym at) ∙ found
+    ap (map.get memory) (ap (λ (r : Row). half_key r.dev r.half r.page) (sym same) ∙ sym at) ∙ found
 
 pub value_in-row : (bytes : List ℕ) (field : Field) (row : Row) (i : ℕ) → row ≡ row_of field → row_value bytes row i ≡ value_in bytes field i
 unfolding value_in

@@ -20,8 +20,8 @@ use Rattle.field_tables.specs.declared.units.Unit.TheVariants.{Temperature, Volt
 
 -- a line of the table
 abbrev pub line : Standard → Dev → Half → ℕ → ℕ → Part → Layout → ℕ → Sign → Option units.Unit → Standard × Row
-line standard device half page offset part layout count sign unit =
-    (standard, record { device = device; half = half; page = page; offset = offset; bits = part; layout = layout; count = count; sign = sign; unit = unit })
+line standard dev half page offset part layout count sign unit =
+    (standard, record { dev = dev; half = half; page = page; offset = offset; bits = part; layout = layout; count = count; sign = sign; unit = unit })
 
 -- standard, device, half and page, offset, bits, layout, number of values, sign, unit
 abbrev pub line_of : Field → Standard × Row

@@ -29,7 +29,7 @@ values_in bytes field = of_each field (value_in bytes field)
 
 -- the half that a field stands in
 abbrev pub field_key : Field → Key
-field_key field = half_key (row_of field).device (row_of field).half (row_of field).page
+field_key field = half_key (row_of field).dev (row_of field).half (row_of field).page
 
 -- the values of a field, where memory has its half
 abbrev pub values_of : Memory → Field → Option (List ℤ)

@@ -11,8 +11,8 @@ use Rattle.paged_memory.specs.Keys.{lower_key, upper_key}
 use Rattle.field_tables.specs.declared.fault.FieldFault.{FieldFault}
 
 abbrev pub half_key : Dev → Half → ℕ → Key
-half_key device Lower page = lower_key device
-half_key device Upper page = upper_key device 0 page
+half_key dev Lower page = lower_key dev
+half_key dev Upper page = upper_key dev 0 page
 
 -- the addresses of a half
 abbrev pub address_fits : Half → ℕ → Bool

@@ -16,3 +16,4 @@ pub mod Units
 pub mod Readings
 pub mod FirstFault
 pub mod Entries
+pub mod SffFaultWords

@@ -12,7 +12,7 @@ use Rattle.field_tables.specs.declared.readings.Levels.{Levels}
 use Rattle.field_tables.specs.RowPlaces.{width_by}
 use Rattle.field_tables.specs.FieldValues.{of_each, value_of}
 use Rattle.field_tables.specs.Sums.{sum_right_of}
-use Rattle.field_tables.specs.Texts.{text_of}
+use Rattle.field_tables.specs.Texts.{bytes_of_text}
 
 abbrev pub is_unsigned : Sign → Bool
 is_unsigned Unsigned = true
@@ -47,8 +47,8 @@ limits_of memory field = record {
   low_warning = reading_at memory field 4;
 }
 
-abbrev pub AreWords : Levels ℤ → Type 0
-AreWords limits = IsWord limits.high_alarm × IsWord limits.low_alarm × IsWord limits.high_warning × IsWord limits.low_warning
+abbrev pub LevelsAreWords : Levels ℤ → Type 0
+LevelsAreWords limits = IsWord limits.high_alarm × IsWord limits.low_alarm × IsWord limits.high_warning × IsWord limits.low_warning
 
 -- value i of a field of numbers
 abbrev pub number_at : Memory → Field → ℕ → ℕ
@@ -85,7 +85,7 @@ level_bits memory field = record {
 
 -- the bytes of a text
 abbrev pub text : Memory → TextField → List ℕ
-text memory field = unwrap_or (text_of memory field) []
+text memory field = unwrap_or (bytes_of_text memory field) []
 
 abbrev pub is_sum_right : Memory → Sum → Bool
 is_sum_right memory sum = unwrap_or (sum_right_of memory sum) false

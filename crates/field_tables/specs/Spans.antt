@@ -8,7 +8,7 @@ use Rattle.field_tables.specs.Halves.{address_fits}
 
 -- device, half and page, first and last byte
 abbrev pub span : Dev → Half → ℕ → ℕ → ℕ → Span
-span device half page first last = record { device = device; half = half; page = page; first = first; last = last }
+span dev half page first last = record { dev = dev; half = half; page = page; first = first; last = last }
 
 -- its bytes, in those of its half
 abbrev pub bytes_in : List ℕ → Span → List ℕ

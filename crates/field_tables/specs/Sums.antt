@@ -28,15 +28,15 @@ abbrev pub sum_row : Sum → Span × ℕ
 sum_row s = (sum_line_of s).1
 
 abbrev pub sum_key : Sum → Key
-sum_key s = half_key (sum_row s).0.device (sum_row s).0.half (sum_row s).0.page
+sum_key s = half_key (sum_row s).0.dev (sum_row s).0.half (sum_row s).0.page
 
 abbrev pub sum_fits : Span × ℕ → Bool
 sum_fits row = span_fits row.0 && address_fits row.0.half row.1
 
 -- whether the sum in a half is right
-abbrev pub is_right : List ℕ → Span × ℕ → Bool
-is_right bytes row = sum (bytes_in bytes row.0) % 256 == byte_in bytes row.1
+abbrev pub sum_matches : List ℕ → Span × ℕ → Bool
+sum_matches bytes row = sum (bytes_in bytes row.0) % 256 == byte_in bytes row.1
 
 -- whether a sum is right, where memory has its half
 abbrev pub sum_right_of : Memory → Sum → Option Bool
-sum_right_of memory s = option_map (λ bytes. is_right bytes (sum_row s)) (map.get memory (sum_key s))
+sum_right_of memory s = option_map (λ bytes. sum_matches bytes (sum_row s)) (map.get memory (sum_key s))

@@ -35,12 +35,12 @@ abbrev pub text_span : TextField → Span
 text_span text = (text_line_of text).1
 
 abbrev pub text_key : TextField → Key
-text_key text = half_key (text_span text).device (text_span text).half (text_span text).page
+text_key text = half_key (text_span text).dev (text_span text).half (text_span text).page
 
 -- at most 16 bytes
 abbrev pub text_fits : Span → Bool
 text_fits s = span_fits s && nat_le (suc s.last - s.first) 16
 
 -- the bytes of a text, where memory has its half
-abbrev pub text_of : Memory → TextField → Option (List ℕ)
-text_of memory text = option_map (λ bytes. bytes_in bytes (text_span text)) (map.get memory (text_key text))
+abbrev pub bytes_of_text : Memory → TextField → Option (List ℕ)
+bytes_of_text memory text = option_map (λ bytes. bytes_in bytes (text_span text)) (map.get memory (text_key text))

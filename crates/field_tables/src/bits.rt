@@ -4,7 +4,7 @@ ghost use Rattle.field_tables.specs.Layouts.{bits_up, word};
 ghost use Rattle.field_tables.specs.Numbers.{number_in};
 ghost use Rattle.field_tables.specs.Halves.{byte_in};
 
-use crate::halves::place_of;
+use crate::halves::index_in_half;
 use byteorder::{BigEndian, ByteOrder};
 use paged_memory::PAGE_LEN;
 
@@ -14,7 +14,7 @@ pub fn bits_at(bytes: &[u8; PAGE_LEN], address: usize, low: usize, count: usize)
     requires within { low + count ≤ 8 }
     ensures { result ≡ number_in (byte_in bytes.now) (bits_up address low count) }
 {
-    let shifted = u16::from(bytes[place_of(address)]) >> low;
+    let shifted = u16::from(bytes[index_in_half(address)]) >> low;
     shifted & ((1 << count) - 1)
 }
 
@@ -23,5 +23,5 @@ pub fn word_at(bytes: &[u8; PAGE_LEN], address: usize) -> u16
     requires inside { place_in_half address + 1 < PAGE_LEN }
     ensures { result ≡ number_in (byte_in bytes.now) (word address) }
 {
-    BigEndian::read_u16(&bytes[place_of(address)..])
+    BigEndian::read_u16(&bytes[index_in_half(address)..])
 }

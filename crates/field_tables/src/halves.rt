@@ -8,12 +8,12 @@ use bus_model::Dev;
 use paged_memory::{Half, Image, Key, PAGE_LEN, Page};
 
 /// The key of a half, of an upper half the one that shows a page of bank 0.
-pub fn key_of(device: Dev, half: Half, page: u8) -> Key
-    ensures { result ≡ half_key device half page }
+pub fn key_of(dev: Dev, half: Half, page: u8) -> Key
+    ensures { result ≡ half_key dev half page }
 {
     match half {
-        Half::Lower => Key::lower(device),
-        Half::Upper => Key::upper(device, 0, page),
+        Half::Lower => Key::lower(dev),
+        Half::Upper => Key::upper(dev, 0, page),
     }
 }
 
@@ -27,7 +27,7 @@ pub fn half_of(image: &Image, key: Key) -> Result<&Page, FieldFault>
 }
 
 /// Where a half has the byte of an address.
-pub fn place_of(address: usize) -> usize
+pub fn index_in_half(address: usize) -> usize
     ensures { result ≡ place_in_half address }
 {
     if address < PAGE_LEN {

@@ -67,7 +67,7 @@ pub enum Sign {
 /// A field's row of the memory map.
 #[derive(Clone, Copy, Debug, PartialEq, Eq)]
 pub struct Row {
-    pub device: Dev,
+    pub dev: Dev,
     pub half: Half,
     /// 0 in a lower half.
     pub page: u8,

@@ -3,10 +3,10 @@ ghost use Rattle.std.specs.Prelude.{◌≡◌, ◌^◌, ◌<◌, ◌≤◌, All,
 ghost use Rattle.field_tables.specs.FieldRows.{row_of};
 ghost use Rattle.field_tables.specs.RowPlaces.{width_by};
 ghost use Rattle.field_tables.specs.Readings as spec;
-ghost use Rattle.field_tables.specs.Readings.{AreWords, IsWord, is_of_bytes};
+ghost use Rattle.field_tables.specs.Readings.{LevelsAreWords, IsWord, is_of_bytes};
 
 use crate::field::{Field, Sum, TextField};
-use crate::values::lane;
+use crate::values::value_of;
 use crate::{sums, texts};
 use arrayvec::ArrayVec;
 use paged_memory::Image;
@@ -20,16 +20,15 @@ pub struct Levels<T> {
     pub low_warning: T,
 }
 
-/// A value of a field of `N` values, counted from 1, and 0 where its page is absent.
+/// A value of a field, counted from 1, and 0 where its page is absent.
 #[tactic(auto, unfolding(crate::specs::Readings::reading_at))]
-pub fn reading_at<const N: usize>(image: &Image, field: Field, index: u8) -> i32
-    requires count { N ≡ (row_of field).count }
+pub fn reading_at(image: &Image, field: Field, index: u8) -> i32
     requires first { 1 ≤ index }
-    requires last { index ≤ N }
+    requires last { index ≤ (row_of field).count }
     ensures value { result ≡ spec.reading_at image.now field index }
     ensures word { IsWord result }
 {
-    lane::<N>(image, field, index).unwrap_or(0) as i32
+    value_of(image, field, index).unwrap_or(0) as i32
 }
 
 /// The value of a field of one value, and 0 where its page is absent.
@@ -38,7 +37,7 @@ pub fn reading(image: &Image, field: Field) -> i32
     ensures value { result ≡ spec.reading image.now field }
     ensures word { IsWord result }
 {
-    reading_at::<1>(image, field, 1)
+    reading_at(image, field, 1)
 }
 
 /// The values of a field, the first first, and zeros where its page is absent. `N` is how many it has.
@@ -49,7 +48,7 @@ pub fn all_readings<const N: usize>(image: &Image, field: Field) -> [i32; N]
 {
     let mut values = [0; N];
     for (index, value) in values.iter_mut().enumerate() {
-        *value = reading_at::<N>(image, field, index as u8 + 1);
+        *value = reading_at(image, field, index as u8 + 1);
     }
     values
 }
@@ -58,27 +57,26 @@ pub fn all_readings<const N: usize>(image: &Image, field: Field) -> [i32; N]
 pub fn limits_of(image: &Image, field: Field) -> Levels<i32>
     requires { 4 ≡ (row_of field).count }
     ensures value { result ≡ spec.limits_of image.now field }
-    ensures words { AreWords result }
+    ensures words { LevelsAreWords result }
 {
     Levels {
-        high_alarm: reading_at::<4>(image, field, 1),
-        low_alarm: reading_at::<4>(image, field, 2),
-        high_warning: reading_at::<4>(image, field, 3),
-        low_warning: reading_at::<4>(image, field, 4),
+        high_alarm: reading_at(image, field, 1),
+        low_alarm: reading_at(image, field, 2),
+        high_warning: reading_at(image, field, 3),
+        low_warning: reading_at(image, field, 4),
     }
 }
 
-/// A number in a field of `N` numbers of at most one byte, counted from 1, and 0 where its page is absent.
+/// A number in a field of numbers of at most one byte, counted from 1, and 0 where its page is absent.
 #[tactic(auto, unfolding(crate::specs::Readings::reading_at))]
-pub fn number_at<const N: usize>(image: &Image, field: Field, index: u8) -> u8
+pub fn number_at(image: &Image, field: Field, index: u8) -> u8
     requires bytes { IsTrue (is_of_bytes (row_of field)) }
-    requires count { N ≡ (row_of field).count }
     requires first { 1 ≤ index }
-    requires last { index ≤ N }
+    requires last { index ≤ (row_of field).count }
     ensures value { result ≡ spec.number_at image.now field index }
     ensures fits { result < 2 ^ width_by (row_of field).layout (row_of field).bits }
 {
-    match lane::<N>(image, field, index) {
+    match value_of(image, field, index) {
         Ok(value) => value.unsigned_abs() as u8,
         Err(_) => 0,
     }
@@ -91,7 +89,7 @@ pub fn number(image: &Image, field: Field) -> u8
     ensures value { result ≡ spec.number image.now field }
     ensures fits { result < 2 ^ width_by (row_of field).layout (row_of field).bits }
 {
-    number_at::<1>(image, field, 1)
+    number_at(image, field, 1)
 }
 
 /// The numbers in a field, the first first, and zeros where its page is absent. `N` is how many it has.
@@ -102,20 +100,19 @@ pub fn all_numbers<const N: usize>(image: &Image, field: Field) -> [u8; N]
 {
     let mut numbers = [0; N];
     for (index, number) in numbers.iter_mut().enumerate() {
-        *number = number_at::<N>(image, field, index as u8 + 1);
+        *number = number_at(image, field, index as u8 + 1);
     }
     numbers
 }
 
-/// Whether a value of a field of `N` values is 1, counted from 1; it isn't where its page is absent.
-pub fn bit_at<const N: usize>(image: &Image, field: Field, index: u8) -> bool
+/// Whether a value of a field is 1, counted from 1; it isn't where its page is absent.
+pub fn bit_at(image: &Image, field: Field, index: u8) -> bool
     requires bytes { IsTrue (is_of_bytes (row_of field)) }
-    requires count { N ≡ (row_of field).count }
     requires first { 1 ≤ index }
-    requires last { index ≤ N }
+    requires last { index ≤ (row_of field).count }
     ensures { result ≡ spec.bit_at image.now field index }
 {
-    number_at::<N>(image, field, index) == 1
+    number_at(image, field, index) == 1
 }
 
 /// Whether the value of a field of one value is 1; it isn't where its page is absent.
@@ -124,7 +121,7 @@ pub fn bit(image: &Image, field: Field) -> bool
     requires one { 1 ≡ (row_of field).count }
     ensures { result ≡ spec.bit image.now field }
 {
-    bit_at::<1>(image, field, 1)
+    bit_at(image, field, 1)
 }
 
 /// Whether each value of a field is 1, the first first; none is where its page is absent. `N` is how many it has.
@@ -135,7 +132,7 @@ pub fn all_bits<const N: usize>(image: &Image, field: Field) -> [bool; N]
 {
     let mut values = [false; N];
     for (index, value) in values.iter_mut().enumerate() {
-        *value = bit_at::<N>(image, field, index as u8 + 1);
+        *value = bit_at(image, field, index as u8 + 1);
     }
     values
 }
@@ -147,10 +144,10 @@ pub fn level_bits(image: &Image, field: Field) -> Levels<bool>
     ensures { result ≡ spec.level_bits image.now field }
 {
     Levels {
-        high_alarm: bit_at::<4>(image, field, 1),
-        low_alarm: bit_at::<4>(image, field, 2),
-        high_warning: bit_at::<4>(image, field, 3),
-        low_warning: bit_at::<4>(image, field, 4),
+        high_alarm: bit_at(image, field, 1),
+        low_alarm: bit_at(image, field, 2),
+        high_warning: bit_at(image, field, 3),
+        low_warning: bit_at(image, field, 4),
     }
 }
 

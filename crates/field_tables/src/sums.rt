@@ -5,17 +5,17 @@ ghost use Rattle.field_tables.specs.Sums as spec;
 
 use crate::fault::FieldFault;
 use crate::field::Sum;
-use crate::halves::{half_of, key_of, place_of};
+use crate::halves::{half_of, index_in_half, key_of};
 use crate::spans::{Span, bytes_of};
 use bus_model::Dev;
 use paged_memory::{Half, Image, PAGE_LEN};
 
 macro_rules! sums {
-    ($sum:ident; $($name:ident: $device:ident $half:ident $page:literal, $first:literal - $last:literal at $address:literal;)*) => {
+    ($sum:ident; $($name:ident: $dev:ident $half:ident $page:literal, $first:literal - $last:literal at $address:literal;)*) => {
         match $sum {
             $(Sum::$name => (
                 Span {
-                    device: Dev::$device,
+                    dev: Dev::$dev,
                     half: Half::$half,
                     page: $page,
                     first: $first,
@@ -32,9 +32,9 @@ pub fn sum_right(image: &Image, sum: Sum) -> Result<bool, FieldFault>
     ensures { result ≡ ok_or (sum_right_of image.now sum) (absent (sum_key sum)) }
 {
     let (span, address) = row_of(sum);
-    let page = half_of(image, key_of(span.device, span.half, span.page))?;
+    let page = half_of(image, key_of(span.dev, span.half, span.page))?;
     let bytes = page.bytes();
-    Ok(low_byte_of_sum(bytes_of(bytes, span)) == bytes[place_of(usize::from(address))])
+    Ok(low_byte_of_sum(bytes_of(bytes, span)) == bytes[index_in_half(usize::from(address))])
 }
 
 fn low_byte_of_sum(bytes: &[u8]) -> u8

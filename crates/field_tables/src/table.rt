@@ -19,10 +19,10 @@ macro_rules! unit {
 }
 
 macro_rules! rows {
-    ($field:ident; $($name:ident: $device:ident $half:ident $page:literal, $offset:literal [$($bits:tt)*], $layout:ident $(($number:literal))?, $count:literal, $sign:ident $($unit:ident)?;)*) => {
+    ($field:ident; $($name:ident: $dev:ident $half:ident $page:literal, $offset:literal [$($bits:tt)*], $layout:ident $(($number:literal))?, $count:literal, $sign:ident $($unit:ident)?;)*) => {
         match $field {
             $(Field::$name => Row {
-                device: Dev::$device,
+                dev: Dev::$dev,
                 half: Half::$half,
                 page: $page,
                 offset: $offset,

@@ -1,7 +1,7 @@
 ghost use Rattle.std.specs.Prelude.{◌≡◌, IsTrue, ok_or};
 ghost use Rattle.std.specs.Result.{result_map_both};
 ghost use Rattle.field_tables.specs.Halves.{absent};
-ghost use Rattle.field_tables.specs.Texts.{text_fits, text_key, text_of, text_span};
+ghost use Rattle.field_tables.specs.Texts.{text_fits, text_key, bytes_of_text, text_span};
 
 use crate::fault::FieldFault;
 use crate::field::TextField;
@@ -12,10 +12,10 @@ use bus_model::Dev;
 use paged_memory::{Half, Image};
 
 macro_rules! texts {
-    ($text:ident; $($name:ident: $device:ident $half:ident $page:literal, $first:literal - $last:literal;)*) => {
+    ($text:ident; $($name:ident: $dev:ident $half:ident $page:literal, $first:literal - $last:literal;)*) => {
         match $text {
             $(TextField::$name => Span {
-                device: Dev::$device,
+                dev: Dev::$dev,
                 half: Half::$half,
                 page: $page,
                 first: $first,
@@ -27,10 +27,10 @@ macro_rules! texts {
 
 /// The bytes of a text as they stand, its padding too.
 pub fn text_field(image: &Image, text: TextField) -> Result<ArrayVec<u8, 16>, FieldFault>
-    ensures { result_map_both (λ bytes. bytes.items) (λ fault. fault) result ≡ ok_or (text_of image.now text) (absent (text_key text)) }
+    ensures { result_map_both (λ bytes. bytes.items) (λ fault. fault) result ≡ ok_or (bytes_of_text image.now text) (absent (text_key text)) }
 {
     let span = span_of(text);
-    let page = half_of(image, key_of(span.device, span.half, span.page))?;
+    let page = half_of(image, key_of(span.dev, span.half, span.page))?;
     let mut bytes = ArrayVec::new();
     bytes
         .try_extend_from_slice(bytes_of(page.bytes(), span))

@@ -1,7 +1,8 @@
 ghost use Rattle.std.specs.Prelude.{◌≡◌, ◌≤◌, All, IfOk, IsTrue, ok_or};
 ghost use Rattle.field_tables.specs.Halves.{absent, byte_in};
 ghost use Rattle.field_tables.specs.FieldRows.{row_of};
-ghost use Rattle.field_tables.specs.FieldValues.{field_key, row_value, value_of, values_of};
+ghost use Rattle.field_tables.specs.FieldValues as spec;
+ghost use Rattle.field_tables.specs.FieldValues.{field_key, row_value, values_of};
 ghost use Rattle.field_tables.specs.Layouts as layouts;
 ghost use Rattle.field_tables.specs.Parts as parts;
 ghost use Rattle.field_tables.specs.Numbers.{number_in};
@@ -23,7 +24,7 @@ pub fn value<const N: usize>(image: &Image, field: Field) -> Result<[i64; N], Fi
     ensures range { IfOk result (λ values. All (IsInRange (row_of field)) values) }
 {
     let row = row(field);
-    let page = half_of(image, key_of(row.device, row.half, row.page))?;
+    let page = half_of(image, key_of(row.dev, row.half, row.page))?;
     let mut values = [0; N];
     for (index, value) in values.iter_mut().enumerate() {
         *value = value_at(page.bytes(), row, index + 1);
@@ -36,12 +37,22 @@ pub fn lane<const N: usize>(image: &Image, field: Field, lane: u8) -> Result<i64
     requires count { N ≡ (row_of field).count }
     requires first { 1 ≤ lane }
     requires last { lane ≤ N }
-    ensures value { result ≡ ok_or (value_of image.now field lane) (absent (field_key field)) }
+    ensures value { result ≡ ok_or (spec.value_of image.now field lane) (absent (field_key field)) }
+    ensures range { IfOk result (IsInRange (row_of field)) }
+{
+    value_of(image, field, lane)
+}
+
+/// The value of a field that is given a number, from 1 to how many the field has.
+pub fn value_of(image: &Image, field: Field, index: u8) -> Result<i64, FieldFault>
+    requires first { 1 ≤ index }
+    requires last { index ≤ (row_of field).count }
+    ensures value { result ≡ ok_or (spec.value_of image.now field index) (absent (field_key field)) }
     ensures range { IfOk result (IsInRange (row_of field)) }
 {
     let row = row(field);
-    let page = half_of(image, key_of(row.device, row.half, row.page))?;
-    Ok(value_at(page.bytes(), row, usize::from(lane)))
+    let page = half_of(image, key_of(row.dev, row.half, row.page))?;
+    Ok(value_at(page.bytes(), row, usize::from(index)))
 }
 
 fn value_at(bytes: &[u8; PAGE_LEN], row: Row, lane: usize) -> i64

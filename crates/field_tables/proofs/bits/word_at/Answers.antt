@@ -14,10 +14,10 @@ shown bytes start address first next = ap (λ (i : ℕ). get_or bytes i 0 * 256 
 
 pub returns : goal.returns
 returns c =
-    let start = c.place_of.result in
+    let start = c.index_in_half.result in
     let address = c.args.address in
     let bytes = c.args.bytes.now in
     let read : c.read_u16.result ≡ get_or bytes start 0 * 256 + get_or bytes (start + 1) 0 = grind (arith, common_steps) in
-    let next : start + 1 ≡ place_in_half (suc address) = ap (λ (n : ℕ). n + 1) c.place_of.ensures ∙ next_place address c.requires.inside in
-    read ∙ shown bytes start address c.place_of.ensures next
+    let next : start + 1 ≡ place_in_half (suc address) = ap (λ (n : ℕ). n + 1) c.index_in_half.ensures ∙ next_place address c.requires.inside in
+    read ∙ shown bytes start address c.index_in_half.ensures next
     ∙ sym (number-word (byte_in bytes) address (c.fits-bytes (place_in_half address)) (c.fits-bytes (place_in_half (suc address))))
