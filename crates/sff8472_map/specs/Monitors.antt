@@ -18,8 +18,8 @@ monitors_of memory = record {
 }
 
 -- values of 16 bits
-abbrev pub AreWords : {N : ℕ} → Monitors N → Type 0
-AreWords monitors =
+abbrev pub MonitorsAreWords : {N : ℕ} → Monitors N → Type 0
+MonitorsAreWords monitors =
     IsWord monitors.temperature
     × IsWord monitors.vcc
     × All IsWord monitors.tx_bias

@@ -32,36 +32,30 @@ impl Flags {
             return Err(fault);
         }
         Ok(Flags {
-            temperature: level_flags::<8>(image, Field::SAlarms, Field::SWarnings, 1),
-            vcc: level_flags::<8>(image, Field::SAlarms, Field::SWarnings, 3),
-            tx_bias: level_flags::<8>(image, Field::SAlarms, Field::SWarnings, 5),
-            tx_power: level_flags::<8>(image, Field::SAlarms, Field::SWarnings, 7),
-            rx_power: level_flags::<2>(image, Field::SRxAlarms, Field::SRxWarnings, 1),
+            temperature: level_flags(image, Field::SAlarms, Field::SWarnings, 1),
+            vcc: level_flags(image, Field::SAlarms, Field::SWarnings, 3),
+            tx_bias: level_flags(image, Field::SAlarms, Field::SWarnings, 5),
+            tx_power: level_flags(image, Field::SAlarms, Field::SWarnings, 7),
+            rx_power: level_flags(image, Field::SRxAlarms, Field::SRxWarnings, 1),
             tx_fault: bit(image, Field::STxFault),
             rx_los: bit(image, Field::SRxLos),
         })
     }
 }
 
-// The alarms and the warnings of a monitored value, from the number of its high ones in fields of `N` flags.
-fn level_flags<const N: usize>(
-    image: &Image,
-    alarms: Field,
-    warnings: Field,
-    high: u8,
-) -> Levels<bool>
-    requires alarm_bits { IsTrue (is_of_bytes (row_of alarms)) }
-    requires alarms { N ≡ (row_of alarms).count }
-    requires warning_bits { IsTrue (is_of_bytes (row_of warnings)) }
-    requires warnings { N ≡ (row_of warnings).count }
+// The alarms and the warnings of a monitored value, from the number of its high ones in their fields on.
+fn level_flags(image: &Image, alarms: Field, warnings: Field, high: u8) -> Levels<bool>
+    requires alarms { IsTrue (is_of_bytes (row_of alarms)) }
+    requires warnings { IsTrue (is_of_bytes (row_of warnings)) }
     requires first { 1 ≤ high }
-    requires last { high + 1 ≤ N }
+    requires last_alarm { high + 1 ≤ (row_of alarms).count }
+    requires last_warning { high + 1 ≤ (row_of warnings).count }
     ensures { result ≡ level_flags image.now alarms warnings high }
 {
     Levels {
-        high_alarm: bit_at::<N>(image, alarms, high),
-        low_alarm: bit_at::<N>(image, alarms, high + 1),
-        high_warning: bit_at::<N>(image, warnings, high),
-        low_warning: bit_at::<N>(image, warnings, high + 1),
+        high_alarm: bit_at(image, alarms, high),
+        low_alarm: bit_at(image, alarms, high + 1),
+        high_warning: bit_at(image, warnings, high),
+        low_warning: bit_at(image, warnings, high + 1),
     }
 }

@@ -17,14 +17,14 @@ pub struct Monitors<const N: usize> {
 
 impl<const N: usize> Monitors<N> {
     ghost use Rattle.std.specs.Prelude.{◌≡◌, IfOk, MatchOption};
-    ghost use Rattle.sff8472_map.specs.Monitors.{AreWords, monitors_of};
+    ghost use Rattle.sff8472_map.specs.Monitors.{MonitorsAreWords, monitors_of};
     ghost use Rattle.sff8472_map.specs.Refusals.{measured_fault};
 
     /// What the module of an image measures. Modules of this standard have one lane.
     pub fn of(image: &Image) -> Result<Monitors<N>, SffFault>
         requires { N ≡ 1 }
         ensures read { MatchOption (measured_fault image.now) (result ≡ Ok (monitors_of image.now)) (λ fault. result ≡ Err fault) }
-        ensures words { IfOk result (λ monitors. AreWords monitors) }
+        ensures words { IfOk result (λ monitors. MonitorsAreWords monitors) }
     {
         if let Some(fault) = measured_refusal(image) {
             return Err(fault);

@@ -1,45 +1,15 @@
 use crate::{Flags, Identity, Levels, Monitors, SffFault, Thresholds};
-use paged_memory::{Dev, Image, Key, PAGE_LEN, Page};
-use std::alloc::Global;
+use paged_memory::{Dev, Image, ImageFault, Key};
+use sample_modules::{SFP, only, with};
 use std::test::Fail;
 
-// An SFP+ module for 10GBASE-LR with some raised flags: device A0, device A2.
-const MODULE: [&str; 2] = [
-    "lower A0 03000700000000000000000000000000000000004558414d504c452020202020\
-    20202020000011225346502d3130472d4c522020202020203120202000000043\
-    00000000534e303030332020202020202020202032343033303120206000006e\
-    0000000000000000000000000000000000000000000000000000000000000000\n",
-    "lower A2 0000000000000000000000000000000000000000000000000000000000000000\
-    0000000000000000000000000000000000000000000000000000000000000000\
-    0000000000000000000000000000000000000000000000000000000000000000\
-    ffff80e800000000000000000000000080400000008000000000000000000000\n",
-];
-
-fn image_of(alloc: Global, pages: [&str; 2]) -> Result<Image, Fail> {
-    let [serial_id, diagnostics] = pages;
-    let text = format!(in alloc; "module-image 1\n{serial_id}{diagnostics}end\n")?;
-    Ok(Image::read(text.as_bytes())?)
-}
-
-// The module with some bytes of a half changed.
-fn changed(alloc: Global, key: Key, changes: &[(usize, u8)]) -> Result<Image, Fail> {
-    let mut image = image_of(alloc, MODULE)?;
-    let mut bytes = match image.page(key) {
-        Some(page) => *page.bytes(),
-        None => [0; PAGE_LEN],
-    };
-    for (place, byte) in changes {
-        if let Some(cell) = bytes.get_mut(*place) {
-            *cell = *byte;
-        }
-    }
-    image.put(key, Page::from(bytes))?;
-    Ok(image)
+fn module() -> Result<Image, ImageFault> {
+    Image::read(SFP.as_bytes())
 }
 
 #[test]
 fn the_identity_is_read(rt: HostRuntime) -> Result<(), Fail> {
-    let identity = Identity::of(&image_of(rt.alloc(), MODULE)?)?;
+    let identity = Identity::of(&module()?)?;
     assert_eq!(rt; identity.identifier, 0x03);
     assert_eq!(rt; identity.vendor.as_slice(), b"EXAMPLE         ".as_slice());
     assert_eq!(rt; identity.oui, [0x00, 0x11, 0x22]);
@@ -56,7 +26,7 @@ fn the_identity_is_read(rt: HostRuntime) -> Result<(), Fail> {
 #[test]
 fn measured_values_are_read(rt: HostRuntime) -> Result<(), Fail> {
     let diagnostics = Key::lower(Dev::A2);
-    let image = changed(rt.alloc(), diagnostics, &[(0, 1), (100, 0x27), (105, 7)])?;
+    let image = with(module()?, diagnostics, &[(0, 1), (100, 0x27), (105, 7)])?;
     let monitors = Monitors::<1>::of(&image)?;
     assert_eq!(rt; monitors.temperature, -1);
     assert_eq!(rt; monitors.vcc, 33_000);
@@ -64,7 +34,7 @@ fn measured_values_are_read(rt: HostRuntime) -> Result<(), Fail> {
     assert_eq!(rt; monitors.tx_power, [0]);
     assert_eq!(rt; monitors.rx_power, [7]);
     assert!(rt; !monitors.sum_dmi);
-    assert!(rt; Monitors::<1>::of(&image_of(rt.alloc(), MODULE)?)?.sum_dmi);
+    assert!(rt; Monitors::<1>::of(&module()?)?.sum_dmi);
     Ok(())
 }
 
@@ -72,7 +42,7 @@ fn measured_values_are_read(rt: HostRuntime) -> Result<(), Fail> {
 fn limits_are_read(rt: HostRuntime) -> Result<(), Fail> {
     let diagnostics = Key::lower(Dev::A2);
     let changes = [(0, 0x4B), (2, 0xFB), (21, 9), (26, 1)];
-    let image = changed(rt.alloc(), diagnostics, &changes)?;
+    let image = with(module()?, diagnostics, &changes)?;
     let thresholds = Thresholds::of(&image)?;
     assert_eq!(rt;
         thresholds.temperature,
@@ -90,7 +60,7 @@ fn limits_are_read(rt: HostRuntime) -> Result<(), Fail> {
 
 #[test]
 fn flags_are_read(rt: HostRuntime) -> Result<(), Fail> {
-    let flags = Flags::of(&image_of(rt.alloc(), MODULE)?)?;
+    let flags = Flags::of(&module()?)?;
     let none = Levels {
         high_alarm: false,
         low_alarm: false,
@@ -113,7 +83,6 @@ fn flags_are_read(rt: HostRuntime) -> Result<(), Fail> {
 
 #[test]
 fn the_first_reason_refuses(rt: HostRuntime) -> Result<(), Fail> {
-    let alloc = rt.alloc();
     let serial_id = Key::lower(Dev::A0);
     let diagnostics = Key::lower(Dev::A2);
 
@@ -123,25 +92,25 @@ fn the_first_reason_refuses(rt: HostRuntime) -> Result<(), Fail> {
         Some(SffFault::Absent(serial_id))
     );
 
-    let qsfp = changed(alloc, serial_id, &[(0, 0x11), (92, 0x00)])?;
+    let qsfp = with(module()?, serial_id, &[(0, 0x11), (92, 0x00)])?;
     let wrong = Some(SffFault::WrongIdentifier(0x11));
     assert_eq!(rt; Identity::of(&qsfp).err(), wrong);
     assert_eq!(rt; Monitors::<1>::of(&qsfp).err(), wrong);
 
-    let without = changed(alloc, serial_id, &[(92, 0x14)])?;
+    let without = with(module()?, serial_id, &[(92, 0x14)])?;
     assert_eq!(rt; Flags::of(&without).err(), Some(SffFault::NoDiagnostics));
     assert!(rt; Identity::of(&without).is_ok());
 
-    let moved = changed(alloc, serial_id, &[(92, 0x74)])?;
+    let moved = with(module()?, serial_id, &[(92, 0x74)])?;
     assert_eq!(rt; Thresholds::of(&moved).err(), Some(SffFault::AddressChange));
 
-    let external = changed(alloc, serial_id, &[(92, 0x50)])?;
+    let external = with(module()?, serial_id, &[(92, 0x50)])?;
     let uncalibrated = Some(SffFault::ExternalCalibration);
     assert_eq!(rt; Monitors::<1>::of(&external).err(), uncalibrated);
     assert_eq!(rt; Thresholds::of(&external).err(), uncalibrated);
     assert!(rt; Flags::of(&external).is_ok());
 
-    let alone = image_of(alloc, [MODULE[0], ""])?;
+    let alone = only(&module()?, &[serial_id])?;
     let absent = Some(SffFault::Absent(diagnostics));
     assert_eq!(rt; Monitors::<1>::of(&alone).err(), absent);
     assert_eq!(rt; Thresholds::of(&alone).err(), absent);

@@ -14,13 +14,13 @@ pub struct Thresholds {
 
 impl Thresholds {
     ghost use Rattle.std.specs.Prelude.{◌≡◌, IfOk, MatchOption};
-    ghost use Rattle.sff8472_map.specs.Thresholds.{AreWords, thresholds_of};
+    ghost use Rattle.sff8472_map.specs.Thresholds.{ThresholdsAreWords, thresholds_of};
     ghost use Rattle.sff8472_map.specs.Refusals.{measured_fault};
 
     /// The limits of the module of an image.
     pub fn of(image: &Image) -> Result<Thresholds, SffFault>
         ensures read { MatchOption (measured_fault image.now) (result ≡ Ok (thresholds_of image.now)) (λ fault. result ≡ Err fault) }
-        ensures words { IfOk result (λ thresholds. AreWords thresholds) }
+        ensures words { IfOk result (λ thresholds. ThresholdsAreWords thresholds) }
     {
         if let Some(fault) = measured_refusal(image) {
             return Err(fault);

@@ -2,8 +2,7 @@
 -- Thresholds" and "Channel Thresholds")
 use Rattle.paged_memory.specs.Images.{Memory}
 use Rattle.field_tables.specs.declared.field.Field.TheVariants.{QTempLimits, QVccLimits, QRxPowerLimits, QTxBiasLimits, QTxPowerLimits}
-use Rattle.field_tables.specs.Readings as readings
-use Rattle.field_tables.specs.Readings.{limits_of}
+use Rattle.field_tables.specs.Readings.{LevelsAreWords, limits_of}
 use Rattle.sff8636_map.specs.declared.thresholds.Thresholds.{Thresholds}
 
 abbrev pub thresholds_of : Memory → Thresholds
@@ -16,10 +15,10 @@ thresholds_of memory = record {
 }
 
 -- limits of 16 bits
-abbrev pub AreWords : Thresholds → Type 0
-AreWords thresholds =
-    readings.AreWords thresholds.temperature
-    × readings.AreWords thresholds.vcc
-    × readings.AreWords thresholds.rx_power
-    × readings.AreWords thresholds.tx_bias
-    × readings.AreWords thresholds.tx_power
+abbrev pub ThresholdsAreWords : Thresholds → Type 0
+ThresholdsAreWords thresholds =
+    LevelsAreWords thresholds.temperature
+    × LevelsAreWords thresholds.vcc
+    × LevelsAreWords thresholds.rx_power
+    × LevelsAreWords thresholds.tx_bias
+    × LevelsAreWords thresholds.tx_power

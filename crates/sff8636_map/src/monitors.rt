@@ -15,14 +15,14 @@ pub struct Monitors<const N: usize> {
 
 impl<const N: usize> Monitors<N> {
     ghost use Rattle.std.specs.Prelude.{◌≡◌, IfOk, MatchOption};
-    ghost use Rattle.sff8636_map.specs.Monitors.{AreWords, monitors_of};
+    ghost use Rattle.sff8636_map.specs.Monitors.{MonitorsAreWords, monitors_of};
     ghost use Rattle.sff8636_map.specs.Refusals.{module_fault};
 
     /// What the module of an image measures. Modules of this standard have four lanes.
     pub fn of(image: &Image) -> Result<Monitors<N>, SffFault>
         requires { N ≡ 4 }
         ensures read { MatchOption (module_fault image.now) (result ≡ Ok (monitors_of image.now)) (λ fault. result ≡ Err fault) }
-        ensures words { IfOk result (λ monitors. AreWords monitors) }
+        ensures words { IfOk result (λ monitors. MonitorsAreWords monitors) }
     {
         if let Some(fault) = module_refusal(image) {
             return Err(fault);

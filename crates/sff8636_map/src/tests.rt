@@ -1,49 +1,15 @@
 use crate::{Flags, Identity, Levels, Monitors, SffFault, Thresholds};
-use paged_memory::{Dev, Image, Key, PAGE_LEN, Page};
-use std::alloc::Global;
+use paged_memory::{Dev, Image, ImageFault, Key};
+use sample_modules::{QSFP28, only, with};
 use std::test::Fail;
 
-// A QSFP28 module for 100GBASE-SR4 with some raised flags: lower memory, page 00h, page 03h.
-const MODULE: [&str; 3] = [
-    "lower A0 11000042000080000041000000000000000000000000ffc0000080e800000000\
-    0000000000000000000000000000000000000000000000000000000000000000\
-    0000000000000000000000000000000000000000000000000000000000000000\
-    0000000000000000000000000000000000000000000000000000000000000000\n",
-    "upper A0 00 00 11000c00000000000000000000000000000000004558414d504c452020202020\
-    20202020000011225153465032382d5352342020202020204131000000000058\
-    00000000534e303030322020202020202020202032343032303120200000000c\
-    0000000000000000000000000000000000000000000000000000000000000000\n",
-    "upper A0 00 03 0000000000000000000000000000000000000000000000000000000000000000\
-    0000000000000000000000000000000000000000000000000000000000000000\
-    0000000000000000000000000000000000000000000000000000000000000000\
-    0000000000000000000000000000000000000000000000000000000000000000\n",
-];
-
-fn image_of(alloc: Global, pages: [&str; 3]) -> Result<Image, Fail> {
-    let [lower, administrative, thresholds] = pages;
-    let text = format!(in alloc; "module-image 1\n{lower}{administrative}{thresholds}end\n")?;
-    Ok(Image::read(text.as_bytes())?)
-}
-
-// The module with some bytes of a half changed.
-fn changed(alloc: Global, key: Key, changes: &[(usize, u8)]) -> Result<Image, Fail> {
-    let mut image = image_of(alloc, MODULE)?;
-    let mut bytes = match image.page(key) {
-        Some(page) => *page.bytes(),
-        None => [0; PAGE_LEN],
-    };
-    for (place, byte) in changes {
-        if let Some(cell) = bytes.get_mut(*place) {
-            *cell = *byte;
-        }
-    }
-    image.put(key, Page::from(bytes))?;
-    Ok(image)
+fn module() -> Result<Image, ImageFault> {
+    Image::read(QSFP28.as_bytes())
 }
 
 #[test]
 fn the_identity_is_read(rt: HostRuntime) -> Result<(), Fail> {
-    let identity = Identity::of(&image_of(rt.alloc(), MODULE)?)?;
+    let identity = Identity::of(&module()?)?;
     assert_eq!(rt; identity.identifier, 0x11);
     assert_eq!(rt; identity.vendor.as_slice(), b"EXAMPLE         ".as_slice());
     assert_eq!(rt; identity.oui, [0x00, 0x11, 0x22]);
@@ -60,7 +26,7 @@ fn the_identity_is_read(rt: HostRuntime) -> Result<(), Fail> {
 #[test]
 fn measured_values_are_read(rt: HostRuntime) -> Result<(), Fail> {
     let lower = Key::lower(Dev::A0);
-    let image = changed(rt.alloc(), lower, &[(36, 0x27), (37, 0x10), (57, 0x07)])?;
+    let image = with(module()?, lower, &[(36, 0x27), (37, 0x10), (57, 0x07)])?;
     let monitors = Monitors::<4>::of(&image)?;
     assert_eq!(rt; monitors.temperature, -64);
     assert_eq!(rt; monitors.vcc, 33_000);
@@ -73,7 +39,7 @@ fn measured_values_are_read(rt: HostRuntime) -> Result<(), Fail> {
 #[test]
 fn limits_are_read(rt: HostRuntime) -> Result<(), Fail> {
     let page = Key::upper(Dev::A0, 0, 0x03);
-    let image = changed(rt.alloc(), page, &[(0, 0x4B), (2, 0xFB), (61, 9), (66, 1)])?;
+    let image = with(module()?, page, &[(0, 0x4B), (2, 0xFB), (61, 9), (66, 1)])?;
     let thresholds = Thresholds::of(&image)?;
     assert_eq!(rt;
         thresholds.temperature,
@@ -91,7 +57,7 @@ fn limits_are_read(rt: HostRuntime) -> Result<(), Fail> {
 
 #[test]
 fn flags_are_read(rt: HostRuntime) -> Result<(), Fail> {
-    let flags = Flags::of(&image_of(rt.alloc(), MODULE)?)?;
+    let flags = Flags::of(&module()?)?;
     assert!(rt; flags.temperature.high_alarm);
     assert!(rt; !flags.temperature.low_alarm);
     assert!(rt; !flags.vcc.high_alarm);
@@ -106,24 +72,23 @@ fn flags_are_read(rt: HostRuntime) -> Result<(), Fail> {
 
 #[test]
 fn the_first_reason_refuses(rt: HostRuntime) -> Result<(), Fail> {
-    let alloc = rt.alloc();
     let lower = Key::lower(Dev::A0);
 
     let empty = Image::new();
     assert_eq!(rt; Identity::of(&empty).err(), Some(SffFault::Absent(lower)));
 
-    let cmis = changed(alloc, lower, &[(0, 0x18), (2, 0x04)])?;
+    let cmis = with(module()?, lower, &[(0, 0x18), (2, 0x04)])?;
     let wrong = Some(SffFault::WrongIdentifier(0x18));
     assert_eq!(rt; Identity::of(&cmis).err(), wrong);
     assert_eq!(rt; Monitors::<4>::of(&cmis).err(), wrong);
     assert_eq!(rt; Thresholds::of(&cmis).err(), wrong);
     assert_eq!(rt; Flags::of(&cmis).err(), wrong);
 
-    let flat = changed(alloc, lower, &[(0, 0x0D), (2, 0x04)])?;
+    let flat = with(module()?, lower, &[(0, 0x0D), (2, 0x04)])?;
     assert_eq!(rt; Thresholds::of(&flat).err(), Some(SffFault::FlatMemory));
     assert!(rt; Identity::of(&flat).is_ok());
 
-    let lower_alone = image_of(alloc, [MODULE[0], "", ""])?;
+    let lower_alone = only(&module()?, &[lower])?;
     let administrative = Key::upper(Dev::A0, 0, 0x00);
     let thresholds = Key::upper(Dev::A0, 0, 0x03);
     assert_eq!(rt;

@@ -4,7 +4,7 @@ use paged_memory::Image;
 
 /// The limits of what a module measures, in steps of each field's unit (SFF-8636, "Free Side Device Thresholds" and
 /// "Channel Thresholds").
-#[derive(Debug, Drop)]
+#[derive(Clone, Copy, Debug)]
 pub struct Thresholds {
     pub temperature: Levels<i32>,
     pub vcc: Levels<i32>,
@@ -15,13 +15,13 @@ pub struct Thresholds {
 
 impl Thresholds {
     ghost use Rattle.std.specs.Prelude.{◌≡◌, IfOk, MatchOption};
-    ghost use Rattle.sff8636_map.specs.Thresholds.{AreWords, thresholds_of};
+    ghost use Rattle.sff8636_map.specs.Thresholds.{ThresholdsAreWords, thresholds_of};
     ghost use Rattle.sff8636_map.specs.Refusals.{threshold_fault};
 
     /// The limits of the module of an image.
     pub fn of(image: &Image) -> Result<Thresholds, SffFault>
         ensures read { MatchOption (threshold_fault image.now) (result ≡ Ok (thresholds_of image.now)) (λ fault. result ≡ Err fault) }
-        ensures words { IfOk result (λ thresholds. AreWords thresholds) }
+        ensures words { IfOk result (λ thresholds. ThresholdsAreWords thresholds) }
     {
         if let Some(fault) = threshold_refusal(image) {
             return Err(fault);
