@@ -23,12 +23,7 @@ NearDeactivated n state = turns_down state ≤ n
 pub nearer_deactivated : Nearer machine NearDeactivated IsDown
 unfolding next_of
 nearer_deactivated n Deactivated inputs near down completes = rw down (omega arith)
-nearer_deactivated n Init inputs near down completes = rw (completes refl) (omega arith)
-nearer_deactivated n Deinit inputs near down completes = rw (completes refl) (omega arith)
-nearer_deactivated n Activated inputs near down completes = rw down (omega arith)
-nearer_deactivated n TxTurnOn inputs near down completes = rw (completes refl) (omega arith)
-nearer_deactivated n TxTurnOff inputs near down completes = rw (completes refl) (omega arith)
-nearer_deactivated n Initialized inputs near down completes = rw down (omega arith)
+nearer_deactivated n _ inputs near down completes = grind (arith, down, completes)
 
 pub at_deactivated : (state : PathState) → NearDeactivated 0 state → state ≡ Deactivated
 at_deactivated Deactivated near = refl
@@ -55,12 +50,7 @@ NearActivated n state = turns_up state ≤ n
 pub nearer_activated : Nearer machine NearActivated IsUp
 unfolding next_of
 nearer_activated n Deactivated inputs near up completes = rw up (omega arith)
-nearer_activated n Init inputs near up completes = rw (completes refl) (omega arith)
-nearer_activated n Deinit inputs near up completes = rw (completes refl) (omega arith)
-nearer_activated n Activated inputs near up completes = rw up (omega arith)
-nearer_activated n TxTurnOn inputs near up completes = rw (completes refl) (omega arith)
-nearer_activated n TxTurnOff inputs near up completes = rw (completes refl) (omega arith)
-nearer_activated n Initialized inputs near up completes = rw up (omega arith)
+nearer_activated n _ inputs near up completes = grind (arith, up, completes)
 
 pub at_activated : (state : PathState) → NearActivated 0 state → state ≡ Activated
 at_activated Activated near = refl

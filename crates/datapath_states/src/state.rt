@@ -1,8 +1,10 @@
-ghost use Rattle.std.specs.Prelude.{◌≡◌};
+ghost use Rattle.std.specs.Prelude.{◌≡◌, Some};
 ghost use Rattle.std.specs.Option.{ok_or};
+ghost use Rattle.datapath_states.specs.Names.{name_of};
 ghost use Rattle.datapath_states.specs.StateCodes.{code_of, state_at};
 
 use crate::CodeFault;
+use std::fmt;
 
 /// The state of a data path, as each of its lanes reports it.
 #[derive(Clone, Copy, Debug, PartialEq, Eq)]
@@ -25,6 +27,23 @@ impl PathState {
     }
 }
 
+/// The state by its name.
+impl fmt::Display for PathState {
+    ghost output = { λ state. Some (name_of state) };
+
+    fn fmt<W: fmt::Write>(&self, f: &mut fmt::Formatter<W>) -> fmt::Result {
+        match self {
+            PathState::Deactivated => write!(f, "DPDeactivated"),
+            PathState::Init => write!(f, "DPInit"),
+            PathState::Deinit => write!(f, "DPDeinit"),
+            PathState::Activated => write!(f, "DPActivated"),
+            PathState::TxTurnOn => write!(f, "DPTxTurnOn"),
+            PathState::TxTurnOff => write!(f, "DPTxTurnOff"),
+            PathState::Initialized => write!(f, "DPInitialized"),
+        }
+    }
+}
+
 /// The state that a code stands for.
 pub fn state_of(code: u8) -> Result<PathState, CodeFault>
     ensures { result ≡ ok_or (state_at code) (CodeFault.Reserved code) }
@@ -44,6 +63,25 @@ pub fn state_of(code: u8) -> Result<PathState, CodeFault>
 #[cfg(test)]
 mod tests {
     use super::*;
+    use std::test::Fail;
+
+    #[test]
+    fn states_print_their_names(rt: HostRuntime) -> Result<(), Fail> {
+        let names = [
+            (PathState::Deactivated, "DPDeactivated"),
+            (PathState::Init, "DPInit"),
+            (PathState::Deinit, "DPDeinit"),
+            (PathState::Activated, "DPActivated"),
+            (PathState::TxTurnOn, "DPTxTurnOn"),
+            (PathState::TxTurnOff, "DPTxTurnOff"),
+            (PathState::Initialized, "DPInitialized"),
+        ];
+        for (state, name) in names {
+            let shown = state.to_string(rt.alloc())?;
+            assert_eq!(rt; shown.as_str(), name);
+        }
+        Ok(())
+    }
 
     #[test]
     fn whole_code_table(rt: HostRuntime) {

@@ -1,8 +1,10 @@
-ghost use Rattle.std.specs.Prelude.{◌≡◌};
+ghost use Rattle.std.specs.Prelude.{◌≡◌, Some};
 ghost use Rattle.std.specs.Option.{ok_or};
+ghost use Rattle.datapath_states.specs.Names.{status_name};
 ghost use Rattle.datapath_states.specs.StatusCodes.{status_at, status_code_of};
 
 use crate::CodeFault;
+use std::fmt;
 
 /// What became of the last configuration command on a lane.
 #[derive(Clone, Copy, Debug, PartialEq, Eq)]
@@ -40,6 +42,26 @@ impl ConfigStatus {
     }
 }
 
+/// The status by its name, a custom one by its code.
+impl fmt::Display for ConfigStatus {
+    ghost output = { λ status. Some (status_name status) };
+
+    fn fmt<W: fmt::Write>(&self, f: &mut fmt::Formatter<W>) -> fmt::Result {
+        match self {
+            ConfigStatus::Undefined => write!(f, "ConfigUndefined"),
+            ConfigStatus::Success => write!(f, "ConfigSuccess"),
+            ConfigStatus::Rejected => write!(f, "ConfigRejected"),
+            ConfigStatus::RejectedInvalidAppSel => write!(f, "ConfigRejectedInvalidAppSel"),
+            ConfigStatus::RejectedInvalidDataPath => write!(f, "ConfigRejectedInvalidDataPath"),
+            ConfigStatus::RejectedInvalidSi => write!(f, "ConfigRejectedInvalidSI"),
+            ConfigStatus::RejectedLanesInUse => write!(f, "ConfigRejectedLanesInUse"),
+            ConfigStatus::RejectedPartialDataPath => write!(f, "ConfigRejectedPartialDataPath"),
+            ConfigStatus::InProgress => write!(f, "ConfigInProgress"),
+            ConfigStatus::Custom(code) => write!(f, "custom-{code}"),
+        }
+    }
+}
+
 /// The status that a code stands for.
 pub fn status_of(code: u8) -> Result<ConfigStatus, CodeFault>
     ensures { result ≡ ok_or (status_at code) (CodeFault.Reserved code) }
@@ -62,6 +84,30 @@ pub fn status_of(code: u8) -> Result<ConfigStatus, CodeFault>
 #[cfg(test)]
 mod tests {
     use super::*;
+    use std::test::Fail;
+
+    #[test]
+    fn statuses_print_their_names(rt: HostRuntime) -> Result<(), Fail> {
+        let names = [
+            (0, "ConfigUndefined"),
+            (1, "ConfigSuccess"),
+            (2, "ConfigRejected"),
+            (3, "ConfigRejectedInvalidAppSel"),
+            (4, "ConfigRejectedInvalidDataPath"),
+            (5, "ConfigRejectedInvalidSI"),
+            (6, "ConfigRejectedLanesInUse"),
+            (7, "ConfigRejectedPartialDataPath"),
+            (12, "ConfigInProgress"),
+            (13, "custom-13"),
+            (14, "custom-14"),
+            (15, "custom-15"),
+        ];
+        for (code, name) in names {
+            let shown = status_of(code)?.to_string(rt.alloc())?;
+            assert_eq!(rt; shown.as_str(), name);
+        }
+        Ok(())
+    }
 
     #[test]
     fn whole_code_table(rt: HostRuntime) {
