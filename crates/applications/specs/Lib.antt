@@ -6,3 +6,4 @@ pub mod Refusals
 pub mod Weights
 pub mod HostTable
 pub mod WeightFaults
+pub mod FaultWords

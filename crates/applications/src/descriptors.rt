@@ -32,26 +32,26 @@ fn app_at(image: &Image, number: u8) -> App
     requires last { number ≤ 15 }
     ensures { result ≡ spec.app_at image.now number }
 {
-    let media_starts = LaneSet::from(number_at::<15>(image, Field::CMediaStarts, number));
+    let media_starts = LaneSet::from(number_at(image, Field::CMediaStarts, number));
     if number <= 8 {
         App {
             number,
-            host_id: number_at::<8>(image, Field::CAppHost, number),
-            media_id: number_at::<8>(image, Field::CAppMedia, number),
-            host_lanes: number_at::<8>(image, Field::CAppHostLanes, number),
-            media_lanes: number_at::<8>(image, Field::CAppMediaLanes, number),
-            host_starts: LaneSet::from(number_at::<8>(image, Field::CAppHostStarts, number)),
+            host_id: number_at(image, Field::CAppHost, number),
+            media_id: number_at(image, Field::CAppMedia, number),
+            host_lanes: number_at(image, Field::CAppHostLanes, number),
+            media_lanes: number_at(image, Field::CAppMediaLanes, number),
+            host_starts: LaneSet::from(number_at(image, Field::CAppHostStarts, number)),
             media_starts,
         }
     } else {
         let place = number - 8;
         App {
             number,
-            host_id: number_at::<7>(image, Field::CAppHostMore, place),
-            media_id: number_at::<7>(image, Field::CAppMediaMore, place),
-            host_lanes: number_at::<7>(image, Field::CAppHostLanesMore, place),
-            media_lanes: number_at::<7>(image, Field::CAppMediaLanesMore, place),
-            host_starts: LaneSet::from(number_at::<7>(image, Field::CAppHostStartsMore, place)),
+            host_id: number_at(image, Field::CAppHostMore, place),
+            media_id: number_at(image, Field::CAppMediaMore, place),
+            host_lanes: number_at(image, Field::CAppHostLanesMore, place),
+            media_lanes: number_at(image, Field::CAppMediaLanesMore, place),
+            host_starts: LaneSet::from(number_at(image, Field::CAppHostStartsMore, place)),
             media_starts,
         }
     }

@@ -1,64 +1,30 @@
 use crate::{Advert, AdvertFault, App, LaneSet};
-use paged_memory::{Dev, Image, Key, PAGE_LEN, Page};
-use std::alloc::Global;
+use paged_memory::{Dev, Image, ImageFault, Key};
+use sample_modules::{QSFP_DD, only, with};
 use std::test::Fail;
 
-// A QSFP-DD module for 400GBASE-DR4: lower memory, page 00h, page 01h.
-const MODULE: [&str; 3] = [
-    "lower A0 1850000600000000000400000000230080e80000000000000000000000000000\
-    0000000000000000000000000000000000000000000000000000000000000000\
-    00000000000000000000000000000000000000000002111c84010d142155ff00\
-    0000000000000000000000000000000000000000000000000000000000000000\n",
-    "upper A0 00 00 184558414d504c452020202020202020200011225144442d343030472d445234\
-    202020203141534e303030312020202020202020202032343031333120200000\
-    0000000000000000e030000c0000000000000000000000000000000000006a00\
-    0000000000000000000000000000000000000000000000000000000000000000\n",
-    "upper A0 00 01 0000000000000000000000000000000000000000000000000000000000000000\
-    07000000000000000000000000000000010f0000000000000000000000000000\
-    0000000000000000000000000000000000000000000000000000000000000000\
-    0000000000000000000000000000000000000000000000000000000000000017\n",
-];
+fn module() -> Result<Image, ImageFault> {
+    Image::read(QSFP_DD.as_bytes())
+}
 
 // The first Application of that module.
 const FIRST: [u8; 7] = [1, 0x11, 0x1C, 8, 4, 0x01, 0x01];
 
 // An OSFP module with an Application in each descriptor.
-const FULL: [&str; 3] = [
-    "lower A0 19500006000000000000000000002d8080e80000000000000000000000000000\
+const FULL: &str = "module-image 1\n\
+    lower A0 19500006000000000000000000002d8080e80000000000000000000000000000\
     0000000000000000000000000000000000000000000000000000000000000000\
     0000000000000000000000000000000000000000000251568801525688015157\
-    88014f1c4411501c44114f5544114b1411ff4c1411ff00000000000000000000\n",
-    "upper A0 00 00 1900000000000000000000000000000000000000000000000000000000000000\
+    88014f1c4411501c44114f5544114b1411ff4c1411ff00000000000000000000\n\
+    upper A0 00 00 1900000000000000000000000000000000000000000000000000000000000000\
     0000000000000000000000000000000000000000000000000000000000000000\
     000000000000000000000000000000000000a00000000000000000000000b900\
-    0000000000000000000000000000000000000000000000000000000000000000\n",
-    "upper A0 00 01 0000000000000000000000000000000000000000000000000000000000000000\
+    0000000000000000000000000000000000000000000000000000000000000000\n\
+    upper A0 00 01 0000000000000000000000000000000000000000000000000000000000000000\
     0f000000000000000000000000000000010101111111ffffffffff110f0f1100\
     000000000000000000000000000000000000000000000000000000000000004b\
-    1511ff4c1511ff4b1611ff111c84010d1421550d1521550f174411000000002e\n",
-];
-
-fn image_of(alloc: Global, pages: [&str; 3]) -> Result<Image, Fail> {
-    let [lower, administrative, advertising] = pages;
-    let text = format!(in alloc; "module-image 1\n{lower}{administrative}{advertising}end\n")?;
-    Ok(Image::read(text.as_bytes())?)
-}
-
-// The module with some bytes of a half changed.
-fn changed(alloc: Global, key: Key, changes: &[(usize, u8)]) -> Result<Image, Fail> {
-    let mut image = image_of(alloc, MODULE)?;
-    let mut bytes = match image.page(key) {
-        Some(page) => *page.bytes(),
-        None => [0; PAGE_LEN],
-    };
-    for (place, byte) in changes {
-        if let Some(cell) = bytes.get_mut(*place) {
-            *cell = *byte;
-        }
-    }
-    image.put(key, Page::from(bytes))?;
-    Ok(image)
-}
+    1511ff4c1511ff4b1611ff111c84010d1421550d1521550f174411000000002e\n\
+    end\n";
 
 // Number, identifiers, numbers of lanes, and the bytes of the lanes where it may begin.
 fn app(parts: [u8; 7]) -> App {
@@ -84,7 +50,7 @@ fn app(parts: [u8; 7]) -> App {
 
 #[test]
 fn a_module_lists_its_applications(rt: HostRuntime) -> Result<(), Fail> {
-    let advert = Advert::of(&image_of(rt.alloc(), MODULE)?)?;
+    let advert = Advert::of(&module()?)?;
     let second = app([2, 0x0D, 0x14, 2, 1, 0x55, 0x0F]);
     assert_eq!(rt; advert.apps(), [app(FIRST), second].as_slice());
     assert_eq!(rt; advert.unsupported(), LaneSet::empty());
@@ -93,7 +59,7 @@ fn a_module_lists_its_applications(rt: HostRuntime) -> Result<(), Fail> {
 
 #[test]
 fn a_full_list_has_no_end(rt: HostRuntime) -> Result<(), Fail> {
-    let advert = Advert::of(&image_of(rt.alloc(), FULL)?)?;
+    let advert = Advert::of(&Image::read(FULL.as_bytes())?)?;
     let apps = advert.apps();
     assert_eq!(rt; apps.len(), 15);
     assert_eq!(rt; apps.get(7), Some(&app([8, 0x4C, 0x14, 1, 1, 0xFF, 0xFF])));
@@ -113,7 +79,7 @@ fn a_full_list_has_no_end(rt: HostRuntime) -> Result<(), Fail> {
 #[test]
 fn the_first_end_ends_the_list(rt: HostRuntime) -> Result<(), Fail> {
     let lower = Key::lower(Dev::A0);
-    let image = changed(rt.alloc(), lower, &[(90, 0xFF), (94, 0x0D), (95, 0x14)])?;
+    let image = with(module()?, lower, &[(90, 0xFF), (94, 0x0D), (95, 0x14)])?;
     assert_eq!(rt; Advert::of(&image)?.apps(), [app(FIRST)].as_slice());
     Ok(())
 }
@@ -134,11 +100,10 @@ fn usable_speaks_of_numbers_of_lanes(rt: HostRuntime) {
 
 #[test]
 fn the_first_reason_refuses(rt: HostRuntime) -> Result<(), Fail> {
-    let alloc = rt.alloc();
     let lower = Key::lower(Dev::A0);
     let administrative = Key::upper(Dev::A0, 0, 0x00);
     let advertising = Key::upper(Dev::A0, 0, 0x01);
-    let refused: [(Key, [(usize, u8); 2], AdvertFault); 8] = [
+    let refused: [(Key, [(u8, u8); 2], AdvertFault); 8] = [
         (lower, [(0, 0x11), (1, 0x30)], AdvertFault::NotCmis(0x11)),
         (lower, [(1, 0x30), (2, 0x80)], AdvertFault::Revision(0x30)),
         (lower, [(0, 0x1E), (1, 0x30)], AdvertFault::Revision(0x30)),
@@ -161,17 +126,17 @@ fn the_first_reason_refuses(rt: HostRuntime) -> Result<(), Fail> {
         (advertising, [(2, 1), (127, 0x17)], AdvertFault::BadSum(1)),
     ];
     for (key, changes, fault) in refused {
-        let image = changed(alloc, key, &changes)?;
+        let image = with(module()?, key, &changes)?;
         assert_eq!(rt; Advert::of(&image).err(), Some(fault), "{fault:?}");
     }
 
     let absent = [
-        (["", MODULE[1], MODULE[2]], lower),
-        ([MODULE[0], "", ""], administrative),
-        ([MODULE[0], MODULE[1], ""], advertising),
+        ([administrative, advertising], lower),
+        ([lower, advertising], administrative),
+        ([lower, administrative], advertising),
     ];
-    for (pages, key) in absent {
-        let image = image_of(alloc, pages)?;
+    for (held, key) in absent {
+        let image = only(&module()?, &held)?;
         assert_eq!(rt;
             Advert::of(&image).err(),
             Some(AdvertFault::Absent(key)),

@@ -1,27 +1,42 @@
+use text_lines::{Spelled, Spelling};
 use thiserror::Error;
 
 /// Why a text lists no weights.
 #[derive(Clone, Copy, Debug, PartialEq, Eq, Drop, Error)]
+#[error("the text lists no weights")]
 pub enum WeightsFault {
     /// The text is not UTF-8, or no TOML document.
-    #[error("the text is not TOML")]
     NotToml,
     /// The document has no table `host`.
-    #[error("there is no table host")]
     NoHostTable,
     /// The document has another key beside `host`.
-    #[error("there is another key than host")]
     OtherKey,
     /// A key of `host` is not two hexadecimal digits and `h`.
-    #[error("a key is not two hexadecimal digits and h")]
     BadKey,
     /// Two keys of `host` write the same HostInterfaceID.
-    #[error("{0:#04x} is listed twice")]
     SameKeyTwice(u8),
     /// The value of this HostInterfaceID is no whole number of 32 bits.
-    #[error("the weight of {0:#04x} is no whole number of 32 bits")]
     BadWeight(u8),
     /// An allocation was refused.
-    #[error("out of memory")]
     Memory,
+}
+
+impl Spelled for WeightsFault {
+    ghost use Rattle.applications.specs.FaultWords.{weights_fault_words};
+
+    ghost words = { weights_fault_words };
+
+    ghost most = { 2 };
+
+    fn spelling(&self) -> Spelling {
+        match self {
+            WeightsFault::NotToml => Spelling::of("WT1"),
+            WeightsFault::NoHostTable => Spelling::of("WT2"),
+            WeightsFault::BadKey => Spelling::of("WT3"),
+            WeightsFault::SameKeyTwice(host_id) => Spelling::of("WT4").and(host_id),
+            WeightsFault::BadWeight(host_id) => Spelling::of("WT5").and(host_id),
+            WeightsFault::OtherKey => Spelling::of("WT6"),
+            WeightsFault::Memory => Spelling::of("memory"),
+        }
+    }
 }
