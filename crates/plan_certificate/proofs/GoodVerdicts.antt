@@ -17,9 +17,9 @@ use Rattle.plan_certificate.specs.declared.verdict.Verdict.TheVariants.{Good}
 use Rattle.plan_certificate.specs.declared.verdict.Reason.{Reason}
 use Rattle.plan_certificate.specs.declared.verdict.Reason.TheVariants.{WeightWrong, NoStart, NotClosed, TooLow, StartNotWeight}
 use Rattle.plan_certificate.specs.Plans.{plan_weight}
-use Rattle.plan_certificate.specs.States.{start, steps_from}
-use Rattle.plan_certificate.specs.Certificates.{Certified, HasStates, IsBound, IsCovered, IsGood, state_of, place_of}
-use Rattle.plan_certificate.specs.Verdicts.{Flaw, Flaws, potential_of, place_of_state, plan_flaws, step_flaws, entry_flaws, entries_flaws, bound_flaws, all_flaws, judged, verdict}
+use Rattle.plan_certificate.specs.States.{start, state_place, steps_from}
+use Rattle.plan_certificate.specs.Certificates.{Claim, HasStates, IsBound, IsCovered, IsGood, state_of, entry_place}
+use Rattle.plan_certificate.specs.Verdicts.{Flaw, Flaws, potential_of, plan_flaws, step_flaws, entry_flaws, entries_flaws, bound_flaws, all_flaws, judged, verdict}
 use Rattle.plan_certificate.proofs.ByteLanes.{IsByte, lanes_of_byte, start_is_byte, each_end_is_byte}
 use Rattle.plan_certificate.proofs.Lists.{each_pair, found, map_each}
 use Rattle.plan_certificate.proofs.Lookups.{is_there, found_there}
@@ -34,11 +34,11 @@ entry_is_byte : (entries : List Entry) (entry : Entry) → HasStates entries →
 entry_is_byte entries entry states contains = All-contains (λ (e : Entry). e.used < 256) entries entry states.bytes contains
 
 -- an entry found at the place of a state bounds it
-bound_of : (entries : List Entry) (state : State) (potential : ℕ) → HasStates entries → IsByte state.used → (o : Option Entry) → find (is_there (place_of_state state)) entries ≡ o → option_map (λ (entry : Entry). entry.potential) o ≡ Some potential → IsBound entries state potential
+bound_of : (entries : List Entry) (state : State) (potential : ℕ) → HasStates entries → IsByte state.used → (o : Option Entry) → find (is_there (state_place state)) entries ≡ o → option_map (λ (entry : Entry). entry.potential) o ≡ Some potential → IsBound entries state potential
 bound_of entries state potential states is_byte None at is = absurd cc
 bound_of entries state potential states is_byte (Some entry) at is =
-    let here = first_found (is_there (place_of_state state)) entries entry at in
-    let place : place_of entry ≡ place_of_state state = eqb-true _ _ here.1 in
+    let here = first_found (is_there (state_place state)) entries entry at in
+    let place : entry_place entry ≡ state_place state = eqb-true _ _ here.1 in
     let byte : byte_of state.used ≡ is_byte.byte = ap byte_of is_byte.is ∙ byte_of-lanes_in is_byte.byte is_byte.below in
     let fits = entry_is_byte entries entry states here.0 in
     let boundary : entry.boundary ≡ state.boundary = omega (arith, place, byte, is_byte.below, fits) in
@@ -48,15 +48,15 @@ bound_of entries state potential states is_byte (Some entry) at is =
 
 bound_from : (entries : List Entry) (state : State) (potential : ℕ) → HasStates entries → IsByte state.used → potential_of entries state ≡ Some potential → IsBound entries state potential
 unfolding potential_of
-bound_from entries state potential states is_byte is = bound_of entries state potential states is_byte (find (is_there (place_of_state state)) entries) refl is
+bound_from entries state potential states is_byte is = bound_of entries state potential states is_byte (find (is_there (state_place state)) entries) refl is
 
 -- and an entry that bounds a state is found there
 bound_to : (entries : List Entry) (state : State) (potential : ℕ) → HasStates entries → IsBound entries state potential → potential_of entries state ≡ Some potential
 unfolding potential_of
 bound_to entries state potential states (entry, contains, same, is) =
-    let place : place_of entry ≡ place_of_state state =
-    (λ i. 256 * entry.boundary + sym (byte_of-lanes_in entry.used (entry_is_byte entries entry states contains)) i) ∙ ap place_of_state same in
-    let at = found_there entries (place_of_state state) contains.0 entry states.rising contains.1 (ap place_of contains.2 ∙ place) in
+    let place : entry_place entry ≡ state_place state =
+    (λ i. 256 * entry.boundary + sym (byte_of-lanes_in entry.used (entry_is_byte entries entry states contains)) i) ∙ ap state_place same in
+    let at = found_there entries (state_place state) contains.0 entry states.rising contains.1 (ap entry_place contains.2 ∙ place) in
     ap (option_map (λ (e : Entry). e.potential)) at ∙ ap (λ (e : Entry). Some e.potential) contains.2 ∙ ap (λ (p : ℕ). Some p) is
 
 -- ---- the steps of an entry
@@ -171,7 +171,7 @@ bounded advert weights entries weight states =
           first.1 (ap is_none found, middle.1 (covered.1 is.closed, last.1 (ap (is_other weight) found ∙ ap not (eq-eqb weight weight refl), refl))),
     )
 
-pub no_flaw_is_good : (advert : Advertised) (weights : HostWeights) (c : Certified) → HasStates c.entries → NoFlaw (all_flaws advert weights c) ↔ IsGood advert weights c
+pub no_flaw_is_good : (advert : Advertised) (weights : HostWeights) (c : Claim) → HasStates c.entries → NoFlaw (all_flaws advert weights c) ↔ IsGood advert weights c
 no_flaw_is_good advert weights c states =
     let right : ℕ = plan_weight advert weights c.paths in
     let bounds = bound_flaws advert weights c.entries c.weight in
@@ -193,7 +193,7 @@ judged_good : (found : Option (Reason × ℕ)) → (judged found ≡ Good) ↔ (
 judged_good None = (λ is. refl, λ is. refl)
 judged_good (Some flaw) = (λ is. absurd cc, λ is. absurd cc)
 
-pub good_verdict : (advert : Advertised) (weights : HostWeights) (c : Certified) → HasStates c.entries → (verdict advert weights c ≡ Good) ↔ IsGood advert weights c
+pub good_verdict : (advert : Advertised) (weights : HostWeights) (c : Claim) → HasStates c.entries → (verdict advert weights c ≡ Good) ↔ IsGood advert weights c
 unfolding verdict
 good_verdict advert weights c states =
     let by_flaw = judged_good (first_fault (all_flaws advert weights c)) in

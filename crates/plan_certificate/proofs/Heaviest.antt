@@ -16,10 +16,10 @@ use Rattle.plan_certificate.specs.declared.certificate.Entry.{Entry}
 use Rattle.plan_certificate.specs.Paths.{app_of, has_number, no_app, media_lanes, is_allowed, path_weight}
 use Rattle.plan_certificate.specs.Plans.{are_apart, IsBest, plan_weight}
 use Rattle.plan_certificate.specs.States.{start, free_step, path_step, paths_at, paths_of_app, fits, path_steps, steps_from}
-use Rattle.plan_certificate.specs.Certificates.{Certified, IsBound, IsCovered, IsGood, state_of}
+use Rattle.plan_certificate.specs.Certificates.{Claim, IsBound, IsCovered, IsGood, state_of}
 use Rattle.plan_certificate.proofs.LaneRuns.{disjoint_back, disjoint_none, disjoint_union, runs_apart}
 use Rattle.plan_certificate.proofs.Lists.{each_of_map, each_pair, map_each, each_of_filter, each_of_flat_map, each_in_range, found}
-use Rattle.plan_certificate.proofs.Picked.{AreApart, IsApart, from_pairs, pick}
+use Rattle.plan_certificate.proofs.PathTakenOut.{AreApart, IsApart, from_pairs, pick}
 
 -- what an allowed path's Application and first lanes are
 pub record Allowed (advert : Advertised) (path : Path) : Type 0 where
@@ -138,7 +138,7 @@ bounded advert weights Bounds kept (suc left) state potential ends bound paths a
     ]
 
 -- the potentials of a good certificate's entries do
-entries_kept : (advert : Advertised) (weights : HostWeights) (c : Certified) → IsGood advert weights c → IsKept advert weights (IsBound c.entries)
+entries_kept : (advert : Advertised) (weights : HostWeights) (c : Claim) → IsGood advert weights c → IsKept advert weights (IsBound c.entries)
 entries_kept advert weights c good state potential bound =
     let Covered : Step → Type 0 = IsCovered c.entries potential in
     let at_entry = All-contains (λ (entry : Entry). All (IsCovered c.entries entry.potential) (steps_from advert weights (state_of entry))) c.entries bound.0 good.closed bound.1 in
@@ -146,7 +146,7 @@ entries_kept advert weights c good state potential bound =
     subst (λ (s : State). All Covered (steps_from advert weights s)) bound.2 (subst (λ (p : ℕ). All (IsCovered c.entries p) (steps_from advert weights (state_of bound.0))) bound.3 at_entry) in
     recursion_from_All Covered (steps_from advert weights state) at_state
 
-pub good_is_best : (advert : Advertised) (weights : HostWeights) (c : Certified) → IsGood advert weights c → IsBest advert weights c.paths
+pub good_is_best : (advert : Advertised) (weights : HostWeights) (c : Claim) → IsGood advert weights c → IsBest advert weights c.paths
 good_is_best advert weights c good = record {
   admissible = good.admissible;
   heaviest = λ others is_plan.

@@ -2,11 +2,10 @@ pub mod LaneRuns
 pub mod Lists
 mod Lookups
 mod NoFlaw
-pub mod Picked
+pub mod PathTakenOut
 pub mod Searches
 pub mod ByteLanes
 pub mod GoodVerdicts
-mod Grown
 pub mod Heaviest
 mod LineWords
 mod NextLines
@@ -15,3 +14,10 @@ mod AddedLines
 mod WholeTexts
 mod OneAnswer
 mod WrittenCertificates
+mod Numbered
+pub mod MoveLists
+pub mod MoveSteps
+pub mod EachMove
+pub mod HeaviestMoves
+mod MoveFlaws
+mod KeptMoves

@@ -18,7 +18,7 @@ use Rattle.text_lines.proofs.WrittenWords.{words_of-spaced, spaced_passes}
 use Rattle.text_lines.proofs.HexDigits.{digits_pass}
 use Rattle.plan_certificate.specs.declared.line.Line.{Line}
 use Rattle.plan_certificate.specs.declared.line.Line.TheVariants.{Header, Weight, PathLine, StateLine, End}
-use Rattle.plan_certificate.specs.CertificateText.{line_words, line_text, IsLine}
+use Rattle.plan_certificate.specs.CertificateText.{line_words, line_text, IsLineInRange}
 
 -- a test that the bytes of such lines pass, but for the spaces
 record Passes (p : ℕ → Bool) : Type 0 where
@@ -44,7 +44,7 @@ module _ (p : ℕ → Bool) (passes : Passes p) where
   name_passes : (name : List ℕ) → list_all p name ≡ true → AllPass p name
   name_passes = AllPass-from_list_all p
 
-  words_pass : (line : Line) → IsLine line → AllByRecursion (AllPass p) (line_words line)
+  words_pass : (line : Line) → IsLineInRange line → AllByRecursion (AllPass p) (line_words line)
   unfolding line_words
   words_pass Header h = (name_passes (codes "certificate") passes.certificate, (name_passes (codes "1") passes.one, tt))
   words_pass (Weight weight) h = (name_passes (codes "weight") passes.weight, (decimal_passes weight h, tt))
@@ -64,7 +64,7 @@ no_spaces = record { certificate = refl; one = refl; weight = refl; path = refl;
 no_line_ends : Passes (λ byte. not (is_lf byte))
 no_line_ends = record { certificate = refl; one = refl; weight = refl; path = refl; state = refl; end = refl; decimals = λ byte low high. grind (arith, nat_tests); hexadecimals = refl }
 
-pub words_of-line_text : (line : Line) → IsLine line → words_of (line_text line) ≡ line_words line
+pub words_of-line_text : (line : Line) → IsLineInRange line → words_of (line_text line) ≡ line_words line
 unfolding line_words
 words_of-line_text Header h = words_of-spaced _ _ (words_pass _ no_spaces Header h)
 words_of-line_text (Weight weight) h = words_of-spaced _ _ (words_pass _ no_spaces (Weight weight) h)
@@ -72,7 +72,7 @@ words_of-line_text (PathLine path) h = words_of-spaced _ _ (words_pass _ no_spac
 words_of-line_text (StateLine entry) h = words_of-spaced _ _ (words_pass _ no_spaces (StateLine entry) h)
 words_of-line_text End h = words_of-spaced _ _ (words_pass _ no_spaces End h)
 
-pub line_has_no_lf : (line : Line) → IsLine line → HasNoLf (line_text line)
+pub line_has_no_lf : (line : Line) → IsLineInRange line → HasNoLf (line_text line)
 line_has_no_lf line h = spaced_passes (λ byte. not (is_lf byte)) refl (line_words line) (words_pass _ no_line_ends line h)
 
 pub word_count : (line : Line) → length (line_words line) ≤ 4
@@ -85,8 +85,8 @@ word_count End = omega arith
 
 -- what reading the words of a line answers is what reading the line does
 pub line_of_words : (bytes : List ℕ) (words : List (List ℕ)) (r : Option Line) → words ≡ words_of bytes
-    → MatchOption r ((line : Line) → IsLine line → words ≢ line_words line) (λ line. IsLine line × (words ≡ line_words line))
-    → MatchOption r ((line : Line) → IsLine line → bytes ≢ line_text line) (λ line. IsLine line × (bytes ≡ line_text line))
+    → MatchOption r ((line : Line) → IsLineInRange line → words ≢ line_words line) (λ line. IsLineInRange line × (words ≡ line_words line))
+    → MatchOption r ((line : Line) → IsLineInRange line → bytes ≢ line_text line) (λ line. IsLineInRange line × (bytes ≡ line_text line))
 line_of_words bytes words None is h = λ line fits spelled. h line fits (is ∙ ap words_of spelled ∙ words_of-line_text line fits)
 line_of_words bytes words (Some line) is h = (h.0, sym (join_with_byte-slice_split 32 bytes) ∙ ap spaced (sym is ∙ h.1))
 
@@ -113,7 +113,7 @@ line_with letter first second third =
 abbrev line_back : List (List ℕ) → Line
 line_back words = line_with (get_or (get_or words 0 []) 0 0) (get_or words 1 []) (get_or words 2 []) (get_or words 3 [])
 
-back : (line : Line) → IsLine line → line_back (line_words line) ≡ line
+back : (line : Line) → IsLineInRange line → line_back (line_words line) ≡ line
 unfolding line_words
 back Header h = refl
 back (Weight weight) h = ap Weight (number_back weight h)
@@ -129,7 +129,7 @@ back (StateLine entry) h =
     λ i. StateLine (record { boundary = boundary i; used = used i; potential = potential i })
 back End h = refl
 
-pub same_line : (a b : Line) → IsLine a → IsLine b → line_text a ≡ line_text b → a ≡ b
+pub same_line : (a b : Line) → IsLineInRange a → IsLineInRange b → line_text a ≡ line_text b → a ≡ b
 same_line a b ha hb e =
     let words = sym (words_of-line_text a ha) ∙ ap words_of e ∙ words_of-line_text b hb in
     sym (back a ha) ∙ ap line_back words ∙ back b hb

@@ -1,11 +1,15 @@
 -- What holds of each element of a list that is made from another one.
 use Rattle.std.proofs.Common.{◌≡◌, ℕ, zero, suc, ◌+◌, ◌<◌, ◌≤◌, Bool, true, false, List, [], ◌∷◌, ◌++◌, Some, sym, subst, ap, ◌∙◌, inl, inr, map, filter, cond, arith}
-use Rattle.std.specs.List.{AllByRecursion, flat_map, find, range_with_len}
+use Rattle.std.specs.List.{AllByRecursion, Contains, flat_map, find, range_with_len}
+use Rattle.std.proofs.lemmas.List.Elements.{All-contains_itself, recursion_from_All}
 use Rattle.std.proofs.lemmas.Bool.{cases_Bool, cases_eq}
 
 pub map_each : {X : Type 0} (P Q : X → Type 0) (xs : List X) → ((x : X) → P x → Q x) → AllByRecursion P xs → AllByRecursion Q xs
 map_each P Q [] f h = tt
 map_each P Q (x ∷ xs) f h = (f x h.0, map_each P Q xs f h.1)
+
+pub each_contained : {X : Type 0} (xs : List X) → AllByRecursion (Contains xs) xs
+each_contained xs = recursion_from_All (Contains xs) xs (All-contains_itself xs)
 
 -- what follows of each element from two facts of it
 pub each_pair : {X : Type 0} (P Q R : X → Type 0) (xs : List X) → ((x : X) → P x → Q x → R x) → AllByRecursion P xs → AllByRecursion Q xs → AllByRecursion R xs
@@ -32,6 +36,18 @@ each_of_append P (x ∷ xs) ys h = let rest = each_of_append P xs ys h.1 in ((h.
 pub each_of_flat_map : {X Y : Type 0} (P : Y → Type 0) (f : X → List Y) (xs : List X) → AllByRecursion P (flat_map f xs) → AllByRecursion (λ x. AllByRecursion P (f x)) xs
 each_of_flat_map P f [] h = tt
 each_of_flat_map P f (x ∷ xs) h = let parts = each_of_append P (f x) (flat_map f xs) h in (parts.0, each_of_flat_map P f xs parts.1)
+
+pub all_of_append : {X : Type 0} (P : X → Type 0) (xs ys : List X) → AllByRecursion P xs → AllByRecursion P ys → AllByRecursion P (xs ++ ys)
+all_of_append P [] ys h k = k
+all_of_append P (x ∷ xs) ys h k = (h.0, all_of_append P xs ys h.1 k)
+
+pub all_of_flat_map : {X Y : Type 0} (P : Y → Type 0) (f : X → List Y) (xs : List X) → ((x : X) → AllByRecursion P (f x)) → AllByRecursion P (flat_map f xs)
+all_of_flat_map P f [] h = tt
+all_of_flat_map P f (x ∷ xs) h = all_of_append P (f x) (flat_map f xs) (h x) (all_of_flat_map P f xs h)
+
+pub all_of_map : {X Y : Type 0} (P : Y → Type 0) (f : X → Y) (xs : List X) → ((x : X) → P (f x)) → AllByRecursion P (map f xs)
+all_of_map P f [] h = tt
+all_of_map P f (x ∷ xs) h = (h x, all_of_map P f xs h)
 
 pub each_in_range : (P : ℕ → Type 0) (first count n : ℕ) → AllByRecursion P (range_with_len first count) → first ≤ n → n < first + count → P n
 each_in_range P first zero n h from to = absurd (omega (arith, from, to))

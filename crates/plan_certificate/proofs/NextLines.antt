@@ -7,8 +7,8 @@ use Rattle.plan_certificate.specs.declared.line.Line.{Line}
 use Rattle.plan_certificate.specs.declared.line.Line.TheVariants.{Header, Weight, PathLine, StateLine, End}
 use Rattle.plan_certificate.specs.declared.stage.Stage.{Stage}
 use Rattle.plan_certificate.specs.declared.stage.Stage.TheVariants.{Start, Headed, Weighed, Ended}
-use Rattle.plan_certificate.specs.Certificates.{Certified}
-use Rattle.plan_certificate.specs.CertificateText.{line_text, IsLine, lines_in}
+use Rattle.plan_certificate.specs.Certificates.{Claim}
+use Rattle.plan_certificate.specs.CertificateText.{line_text, IsLineInRange, lines_in}
 use Rattle.plan_certificate.specs.CertificateDrafts.{lines_before_end, lines_so_far, MayCome}
 use Rattle.plan_certificate.proofs.LineWords.{same_line}
 
@@ -35,7 +35,7 @@ after_states (entry ∷ entries) (other ∷ others) line after e =
       | inr end ↦ inr end
     ]
 
-abbrev pub Next : Certified → Certified → Line → List Line → Type 0
+abbrev pub Next : Claim → Claim → Line → List Line → Type 0
 Next certificate other line after =
     NextPath certificate.paths other.paths certificate.entries line ⊎ (NextState certificate.entries other.entries line ⊎ NextEnd line after)
 
@@ -56,25 +56,25 @@ after_paths (path ∷ paths) (next ∷ more) entries others line after e =
     ]
 
 -- behind the weight, and paths and states, if any
-pub behind_weight : (certificate other : Certified) (line : Line) (after : List Line) → lines_in other ≡ lines_before_end certificate ++ line ∷ after → Next certificate other line after
+pub behind_weight : (certificate other : Claim) (line : Line) (after : List Line) → lines_in other ≡ lines_before_end certificate ++ line ∷ after → Next certificate other line after
 behind_weight certificate other line after e =
     let lists : map PathLine other.paths ++ map StateLine other.entries ++ End ∷ [] ≡ map PathLine certificate.paths ++ map StateLine certificate.entries ++ line ∷ after = cc in
     after_paths certificate.paths other.paths certificate.entries other.entries line after
     (sym (append_assoc (map PathLine other.paths) (map StateLine other.entries) (End ∷ [])) ∙ lists
     ∙ append_assoc (map PathLine certificate.paths) (map StateLine certificate.entries) (line ∷ after))
 
-may_come : (certificate other : Certified) (line : Line) (after : List Line) → Next certificate other line after → MayCome Weighed certificate line
+may_come : (certificate other : Claim) (line : Line) (after : List Line) → Next certificate other line after → MayCome Weighed certificate line
 may_come certificate other line after (inl next) = subst (MayCome Weighed certificate) (sym next.2) (refl, next.3)
 may_come certificate other line after (inr (inl next)) = subst (MayCome Weighed certificate) (sym next.2) (refl, tt)
 may_come certificate other line after (inr (inr end)) = subst (MayCome Weighed certificate) (sym end.0) (refl, tt)
 
-pub nothing_left : (certificate other : Certified) (line : Line) (after : List Line) → Next certificate other End (line ∷ after) → ⊥
+pub nothing_left : (certificate other : Claim) (line : Line) (after : List Line) → Next certificate other End (line ∷ after) → ⊥
 nothing_left certificate other line after (inl next) = cc
 nothing_left certificate other line after (inr (inl next)) = cc
 nothing_left certificate other line after (inr (inr end)) = cc
 
 -- a line that comes next is one that may
-pub comes_in_turn : (stage : Stage) (certificate other : Certified) (line : Line) (after : List Line) → lines_in other ≡ lines_so_far stage certificate ++ line ∷ after → MayCome stage certificate line
+pub comes_in_turn : (stage : Stage) (certificate other : Claim) (line : Line) (after : List Line) → lines_in other ≡ lines_so_far stage certificate ++ line ∷ after → MayCome stage certificate line
 comes_in_turn Start certificate other line after e =
     let is : Header ≡ line = cc in
     subst (MayCome Start certificate) is (refl, tt)
@@ -90,9 +90,9 @@ comes_in_turn Ended certificate other line after e =
 
 -- the line that comes next in the text of lines that begin so
 abbrev pub NextIn : List Line → List Line → List ℕ → Type 0
-NextIn before all text = (line : Line) × (after : List Line) × (all ≡ before ++ line ∷ after) × IsLine line × (text ≡ line_text line)
+NextIn before all text = (line : Line) × (after : List Line) × (all ≡ before ++ line ∷ after) × IsLineInRange line × (text ≡ line_text line)
 
-pub next_in : (before all : List Line) (text : List ℕ) (rest : List (List ℕ)) → AllByRecursion IsLine before → AllByRecursion IsLine all → map line_text all ≡ map line_text before ++ text ∷ rest → NextIn before all text
+pub next_in : (before all : List Line) (text : List ℕ) (rest : List (List ℕ)) → AllByRecursion IsLineInRange before → AllByRecursion IsLineInRange all → map line_text all ≡ map line_text before ++ text ∷ rest → NextIn before all text
 next_in [] [] text rest hb ha e = absurd cc
 next_in [] (line ∷ after) text rest hb ha e = (line, after, refl, ha.0, cc)
 next_in (line ∷ before) [] text rest hb ha e = absurd cc

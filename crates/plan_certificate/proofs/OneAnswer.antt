@@ -3,8 +3,8 @@ use Rattle.std.proofs.Common.{◌≡◌, ℕ, List, [], ◌∷◌, ◌++◌, Res
 use Rattle.std.proofs.lemmas.List.{append-nil}
 use Rattle.plan_certificate.specs.declared.fault.CertificateFault.{CertificateFault}
 use Rattle.plan_certificate.specs.declared.fault.CertificateFault.TheVariants.{BadLine, OutOfOrder, TooMany, NoEnd}
-use Rattle.plan_certificate.specs.Certificates.{Certified}
-use Rattle.plan_certificate.specs.CertificateText.{InRange, IsOrdered, HasRoom, IsTextOf}
+use Rattle.plan_certificate.specs.Certificates.{Claim}
+use Rattle.plan_certificate.specs.CertificateText.{IsInRange, IsInRangeAndOrder, IsReadable, IsTextOf}
 use Rattle.plan_certificate.specs.CertificateFaults.{Begins, IsLineFault, Stops, IsFirstFault, IsAnswer}
 use Rattle.plan_certificate.proofs.WholeTexts.{same_certificate}
 
@@ -12,28 +12,28 @@ abbrev Lines : Type 0
 Lines = List (List ℕ)
 
 abbrev Answer : Type 0
-Answer = Result Certified CertificateFault
+Answer = Result Claim CertificateFault
 
 -- ---- texts that begin with certain lines
 
 -- with fewer lines
-fewer : (Is : Certified → Type 0) (lines more : Lines) → Begins Is (lines ++ more) → Begins Is lines
+fewer : (Is : Claim → Type 0) (lines more : Lines) → Begins Is (lines ++ more) → Begins Is lines
 fewer Is lines more (certificate, is, rest, e) = (certificate, is, more ++ rest, e ∙ append_assoc lines more rest)
 
 -- of more certificates
-weaker : (Is Was : Certified → Type 0) → ((certificate : Certified) → Was certificate → Is certificate) → (lines : Lines) → Begins Was lines → Begins Is lines
+weaker : (Is Was : Claim → Type 0) → ((certificate : Claim) → Was certificate → Is certificate) → (lines : Lines) → Begins Was lines → Begins Is lines
 weaker Is Was less lines (certificate, was, rest, e) = (certificate, less certificate was, rest, e)
 
-in_range : (lines : Lines) → Begins IsOrdered lines → Begins InRange lines
-in_range = weaker InRange IsOrdered (λ certificate h. h.in_range)
+in_range : (lines : Lines) → Begins IsInRangeAndOrder lines → Begins IsInRange lines
+in_range = weaker IsInRange IsInRangeAndOrder (λ certificate h. h.in_range)
 
-ordered : (states : ℕ) (lines : Lines) → Begins (HasRoom states) lines → Begins IsOrdered lines
-ordered states = weaker IsOrdered (HasRoom states) (λ certificate h. h.ordered)
+ordered : (states : ℕ) (lines : Lines) → Begins (IsReadable states) lines → Begins IsInRangeAndOrder lines
+ordered states = weaker IsInRangeAndOrder (IsReadable states) (λ certificate h. h.ordered)
 
 -- ---- the fault of a line
 
 module _ (states : ℕ) (lines : Lines) where
-  stops : (fault : CertificateFault) → IsLineFault states lines fault → ¬ (Begins (HasRoom states) lines)
+  stops : (fault : CertificateFault) → IsLineFault states lines fault → ¬ (Begins (IsReadable states) lines)
   stops (BadLine number) h begins = h.1 (in_range lines (ordered states lines begins))
   stops (OutOfOrder number) h begins = h.2 (ordered states lines begins)
   stops TooMany h begins = h.1 begins
@@ -79,7 +79,7 @@ module _ (states : ℕ) (lines : Lines) where
   Stopped answer = (fault : CertificateFault) × (before : Lines) × (line : List ℕ) × (rest : Lines) × Stops states lines before line rest fault × (answer ≡ Err fault)
 
   abbrev Whole : Answer → Type 0
-  Whole answer = ((certificate : Certified) × IsTextOf states lines certificate × (answer ≡ Ok certificate)) ⊎ (IsFirstFault states lines NoEnd × (answer ≡ Err NoEnd))
+  Whole answer = ((certificate : Claim) × IsTextOf states lines certificate × (answer ≡ Ok certificate)) ⊎ (IsFirstFault states lines NoEnd × (answer ≡ Err NoEnd))
 
   shown : (answer : Answer) → IsAnswer states lines answer → Stopped answer ⊎ Whole answer
   shown (Ok certificate) h = inr (inl (certificate, h, refl))
@@ -88,17 +88,17 @@ module _ (states : ℕ) (lines : Lines) where
   shown (Err TooMany) h = inl (TooMany, h.0, h.1, h.2, h.3, refl)
   shown (Err NoEnd) h = inr (inr (h, refl))
 
-  -- where the text stops before a line, no text that has room goes on with it
-  not_later : (before : Lines) (line : List ℕ) (rest more : Lines) (fault : CertificateFault) → Stops states lines before line rest fault → ¬ (Begins (HasRoom states) ((before ++ line ∷ []) ++ more))
-  not_later before line rest more fault h begins = stops states (before ++ line ∷ []) fault h.stops (fewer (HasRoom states) (before ++ line ∷ []) more begins)
+  -- where the text stops before a line, no readable text goes on with it
+  not_later : (before : Lines) (line : List ℕ) (rest more : Lines) (fault : CertificateFault) → Stops states lines before line rest fault → ¬ (Begins (IsReadable states) ((before ++ line ∷ []) ++ more))
+  not_later before line rest more fault h begins = stops states (before ++ line ∷ []) fault h.stops (fewer (IsReadable states) (before ++ line ∷ []) more begins)
 
-  whole_begins : (answer : Answer) → Whole answer → Begins (HasRoom states) lines
-  whole_begins answer (inl (certificate, text, is)) = (certificate, text.room, [], sym text.lines_are ∙ sym (append-nil lines))
+  whole_begins : (answer : Answer) → Whole answer → Begins (IsReadable states) lines
+  whole_begins answer (inl (certificate, text, is)) = (certificate, text.readable, [], sym text.lines_are ∙ sym (append-nil lines))
   whole_begins answer (inr (short, is)) = short.0
 
   not_both : (a b : Answer) → Stopped a → ¬ (Whole b)
   not_both a b (fault, before, line, rest, h, is) whole =
-      not_later before line rest rest fault h (subst (Begins (HasRoom states)) (h.lines_are ∙ sym (append_assoc before (line ∷ []) rest)) (whole_begins b whole))
+      not_later before line rest rest fault h (subst (Begins (IsReadable states)) (h.lines_are ∙ sym (append_assoc before (line ∷ []) rest)) (whole_begins b whole))
 
   one_stop : (a b : Answer) → Stopped a → Stopped b → a ≡ b
   one_stop a b (f, before, line, rest, p, is_a) (g, others, other, more, q, is_b) =
@@ -106,13 +106,13 @@ module _ (states : ℕ) (lines : Lines) where
         | inl one ↦
             let upto : before ++ line ∷ [] ≡ others ++ other ∷ [] = λ i. one.0 i ++ one.1 i ∷ [] in
             is_a ∙ ap Err (same_fault states (others ++ other ∷ []) f g (subst (λ l. IsLineFault states l f) upto p.stops) q.stops) ∙ sym is_b
-        | inr (inl later) ↦ absurd (not_later before line rest later.0 f p (subst (Begins (HasRoom states)) later.1 q.begins))
-        | inr (inr later) ↦ absurd (not_later others other more later.0 g q (subst (Begins (HasRoom states)) later.1 p.begins))
+        | inr (inl later) ↦ absurd (not_later before line rest later.0 f p (subst (Begins (IsReadable states)) later.1 q.begins))
+        | inr (inr later) ↦ absurd (not_later others other more later.0 g q (subst (Begins (IsReadable states)) later.1 p.begins))
       ]
 
   one_whole : (a b : Answer) → Whole a → Whole b → a ≡ b
   one_whole a b (inl (c, p, is_a)) (inl (d, q, is_b)) =
-      is_a ∙ ap Ok (same_certificate c d p.room.ordered.in_range q.room.ordered.in_range (sym p.lines_are ∙ q.lines_are)) ∙ sym is_b
+      is_a ∙ ap Ok (same_certificate c d p.readable.ordered.in_range q.readable.ordered.in_range (sym p.lines_are ∙ q.lines_are)) ∙ sym is_b
   one_whole a b (inl (c, p, is_a)) (inr (short, is_b)) = absurd (short.1 c p)
   one_whole a b (inr (short, is_a)) (inl (d, q, is_b)) = absurd (short.1 d q)
   one_whole a b (inr (p, is_a)) (inr (q, is_b)) = is_a ∙ sym is_b

@@ -13,16 +13,6 @@ rest_from k xs = drop (k + 1) xs
 next : {X : Type 0} (xs : List X) (k : ℕ) (d : X) → k < length xs → drop k xs ≡ get_or xs k d ∷ rest_from k xs
 next xs k d below = drop-cons xs k d below ∙ (let one : suc k ≡ k + 1 = omega arith in ap (λ n. get_or xs k d ∷ drop n xs) one)
 
--- ---- the first element that passes a test
-
-pub find_here : {X : Type 0} (test : X → Bool) (xs : List X) (k : ℕ) (d : X) → k < length xs → test (get_or xs k d) ≡ true → find test (drop k xs) ≡ Some (get_or xs k d)
-find_here test xs k d below passes =
-    ap (find test) (next xs k d below) ∙ ap (λ b. cond b (Some (get_or xs k d)) (find test (rest_from k xs))) passes
-
-pub find_later : {X : Type 0} (test : X → Bool) (xs : List X) (k : ℕ) (d : X) → k < length xs → test (get_or xs k d) ≡ false → find test (drop k xs) ≡ find test (drop (k + 1) xs)
-find_later test xs k d below fails =
-    ap (find test) (next xs k d below) ∙ ap (λ b. cond b (Some (get_or xs k d)) (find test (rest_from k xs))) fails
-
 pub none_left : {X : Type 0} (xs : List X) (k : ℕ) → length xs ≤ k → drop k xs ≡ []
 none_left xs k past = drop_of_length-le xs past
 

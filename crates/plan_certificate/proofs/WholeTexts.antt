@@ -7,14 +7,14 @@ use Rattle.plan_certificate.specs.declared.line.Line.{Line}
 use Rattle.plan_certificate.specs.declared.line.Line.TheVariants.{PathLine, StateLine, End}
 use Rattle.plan_certificate.specs.declared.stage.Stage.{Stage}
 use Rattle.plan_certificate.specs.declared.stage.Stage.TheVariants.{Start, Headed, Weighed, Ended}
-use Rattle.plan_certificate.specs.Certificates.{Certified}
-use Rattle.plan_certificate.specs.CertificateText.{line_text, certificate_lines, lines_in, IsLine, InRange}
+use Rattle.plan_certificate.specs.Certificates.{Claim}
+use Rattle.plan_certificate.specs.CertificateText.{line_text, certificate_lines, lines_in, IsLineInRange, IsInRange}
 use Rattle.plan_certificate.specs.CertificateDrafts.{lines_before_end, lines_so_far}
 use Rattle.plan_certificate.proofs.LineWords.{same_line}
 use Rattle.plan_certificate.proofs.NextLines.{behind_weight, nothing_left}
 use Rattle.plan_certificate.proofs.Drafts.{so_far_in_range}
 
-pub same_lines : (xs ys : List Line) → AllByRecursion IsLine xs → AllByRecursion IsLine ys → map line_text xs ≡ map line_text ys → xs ≡ ys
+pub same_lines : (xs ys : List Line) → AllByRecursion IsLineInRange xs → AllByRecursion IsLineInRange ys → map line_text xs ≡ map line_text ys → xs ≡ ys
 same_lines [] [] hx hy e = refl
 same_lines [] (y ∷ ys) hx hy e = absurd cc
 same_lines (x ∷ xs) [] hx hy e = absurd cc
@@ -47,22 +47,22 @@ entries_back [] [] = refl
 entries_back [] (entry ∷ entries) = ap (λ l. entry ∷ l) (entries_back [] entries)
 entries_back (path ∷ paths) entries = entries_back paths entries
 
-same_parts : (a b : Certified) → lines_in a ≡ lines_in b → a ≡ b
+same_parts : (a b : Claim) → lines_in a ≡ lines_in b → a ≡ b
 same_parts a b e =
     let weights : a.weight ≡ b.weight = cc in
-    let nested = λ (c : Certified). append_assoc (map PathLine c.paths) (map StateLine c.entries) (End ∷ []) in
+    let nested = λ (c : Claim). append_assoc (map PathLine c.paths) (map StateLine c.entries) (End ∷ []) in
     let lists : map PathLine a.paths ++ map StateLine a.entries ++ End ∷ [] ≡ map PathLine b.paths ++ map StateLine b.entries ++ End ∷ [] = cc in
     let whole = sym (nested a) ∙ lists ∙ nested b in
     let paths = sym (paths_back a.paths a.entries) ∙ ap paths_in whole ∙ paths_back b.paths b.entries in
     let entries = sym (entries_back a.paths a.entries) ∙ ap entries_in whole ∙ entries_back b.paths b.entries in
     λ i. record { weight = weights i; paths = paths i; entries = entries i }
 
-pub same_certificate : (a b : Certified) → InRange a → InRange b → certificate_lines a ≡ certificate_lines b → a ≡ b
+pub same_certificate : (a b : Claim) → IsInRange a → IsInRange b → certificate_lines a ≡ certificate_lines b → a ≡ b
 same_certificate a b ra rb e = same_parts a b (same_lines (lines_in a) (lines_in b) ra rb e)
 
 -- ---- without `end`
 
-no_end : (stage : Stage) (certificate other : Certified) → stage ≢ Ended → lines_in other ≢ lines_so_far stage certificate
+no_end : (stage : Stage) (certificate other : Claim) → stage ≢ Ended → lines_in other ≢ lines_so_far stage certificate
 no_end Start certificate other short e = cc
 no_end Headed certificate other short e = cc
 no_end Weighed certificate other short e =
@@ -70,6 +70,6 @@ no_end Weighed certificate other short e =
     nothing_left other certificate End [] (behind_weight other certificate End (End ∷ []) longer)
 no_end Ended certificate other short e = short refl
 
-pub is_no_text : (stage : Stage) (certificate other : Certified) → stage ≢ Ended → InRange certificate → InRange other → map line_text (lines_so_far stage certificate) ≢ certificate_lines other
+pub is_no_text : (stage : Stage) (certificate other : Claim) → stage ≢ Ended → IsInRange certificate → IsInRange other → map line_text (lines_so_far stage certificate) ≢ certificate_lines other
 is_no_text stage certificate other short ranges others e =
     no_end stage certificate other short (same_lines (lines_in other) (lines_so_far stage certificate) others (so_far_in_range stage certificate ranges) (sym e))

@@ -9,7 +9,7 @@ use Rattle.plan_certificate.specs.declared.path.Path.{Path}
 use Rattle.plan_certificate.specs.declared.certificate.Entry.{Entry}
 use Rattle.plan_certificate.specs.declared.line.Line.{Line}
 use Rattle.plan_certificate.specs.declared.line.Line.TheVariants.{Header, Weight, PathLine, StateLine, End}
-use Rattle.plan_certificate.specs.Certificates.{Certified, HasStates}
+use Rattle.plan_certificate.specs.Certificates.{Claim, HasStates}
 
 -- the Application, its first host lane and its first media lane
 abbrev pub path_values : Path → List (List ℕ)
@@ -30,48 +30,48 @@ abbrev pub line_text : Line → List ℕ
 line_text line = spaced (line_words line)
 
 -- the numbers of a path line are numbers of one byte
-pub record IsPath (path : Path) : Type 0 where
+pub record IsPathInRange (path : Path) : Type 0 where
   pub app : path.app < 256
   pub host : path.host < 256
   pub media : path.media < 256
 
 -- a module has eight host lanes, and eight media lanes
-pub record IsEntry (entry : Entry) : Type 0 where
+pub record IsEntryInRange (entry : Entry) : Type 0 where
   pub boundary : entry.boundary ≤ 8
   pub used : entry.used < 256
   pub potential : entry.potential < 2 ^ 64
 
 -- the numbers of a line are in their ranges
-abbrev pub IsLine : Line → Type 0
-IsLine Header = Unit {0}
-IsLine (Weight weight) = weight < 2 ^ 64
-IsLine (PathLine path) = IsPath path
-IsLine (StateLine entry) = IsEntry entry
-IsLine End = Unit {0}
+abbrev pub IsLineInRange : Line → Type 0
+IsLineInRange Header = Unit {0}
+IsLineInRange (Weight weight) = weight < 2 ^ 64
+IsLineInRange (PathLine path) = IsPathInRange path
+IsLineInRange (StateLine entry) = IsEntryInRange entry
+IsLineInRange End = Unit {0}
 
 -- the lines of a certificate
-abbrev pub lines_in : Certified → List Line
+abbrev pub lines_in : Claim → List Line
 lines_in certificate = Header ∷ Weight certificate.weight ∷ map PathLine certificate.paths ++ map StateLine certificate.entries ++ End ∷ []
 
-abbrev pub certificate_lines : Certified → List (List ℕ)
+abbrev pub certificate_lines : Claim → List (List ℕ)
 certificate_lines certificate = map line_text (lines_in certificate)
 
 -- all numbers are in their ranges
-abbrev pub InRange : Certified → Type 0
-InRange certificate = AllByRecursion IsLine (lines_in certificate)
+abbrev pub IsInRange : Claim → Type 0
+IsInRange certificate = AllByRecursion IsLineInRange (lines_in certificate)
 
 -- and the states rise
-pub record IsOrdered (certificate : Certified) : Type 0 where
-  pub in_range : InRange certificate
+pub record IsInRangeAndOrder (certificate : Claim) : Type 0 where
+  pub in_range : IsInRange certificate
   pub states : HasStates certificate.entries
 
 -- and there are at most 8 paths, and so many states at most
-pub record HasRoom (states : ℕ) (certificate : Certified) : Type 0 where
-  pub ordered : IsOrdered certificate
+pub record IsReadable (states : ℕ) (certificate : Claim) : Type 0 where
+  pub ordered : IsInRangeAndOrder certificate
   pub few_paths : length certificate.paths ≤ 8
   pub few_states : length certificate.entries ≤ states
 
--- these lines are the text of a certificate that has room
-pub record IsTextOf (states : ℕ) (lines : List (List ℕ)) (certificate : Certified) : Type 0 where
+-- these lines are the text of a readable certificate
+pub record IsTextOf (states : ℕ) (lines : List (List ℕ)) (certificate : Claim) : Type 0 where
   pub lines_are : lines ≡ certificate_lines certificate
-  pub room : HasRoom states certificate
+  pub readable : IsReadable states certificate

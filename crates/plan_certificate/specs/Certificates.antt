@@ -11,7 +11,8 @@ use Rattle.plan_certificate.specs.declared.state.Step.{Step}
 use Rattle.plan_certificate.specs.Plans.{IsAdmissible, plan_weight}
 use Rattle.plan_certificate.specs.States.{start, steps_from}
 
-pub record Certified : Type 0 where
+-- what a certificate says, be it right or not
+pub record Claim : Type 0 where
   pub weight : ℕ
   pub paths : List Path
   pub entries : List Entry
@@ -20,12 +21,12 @@ abbrev pub state_of : Entry → State
 state_of entry = record { boundary = entry.boundary; used = lanes_in entry.used }
 
 -- by boundary, then by the byte of used media lanes
-abbrev pub place_of : Entry → ℕ
-place_of entry = 256 * entry.boundary + entry.used
+abbrev pub entry_place : Entry → ℕ
+entry_place entry = 256 * entry.boundary + entry.used
 
 -- the states of entries: each once, rising, none past host lane 8, with a byte of used media lanes
 pub record HasStates (entries : List Entry) : Type 0 where
-  pub rising : AllPairs (λ entry later. place_of entry < place_of later) entries
+  pub rising : AllPairs (λ entry later. entry_place entry < entry_place later) entries
   pub within : All (λ entry. entry.boundary ≤ 8) entries
   pub bytes : All (λ entry. entry.used < 256) entries
 
@@ -38,7 +39,7 @@ abbrev pub IsCovered : List Entry → ℕ → Step → Type 0
 IsCovered entries potential step = (later : ℕ) × IsBound entries step.end later × (step.weight + later ≤ potential)
 
 -- the certificate is right for these Applications and weights
-pub record IsGood (advert : Advertised) (weights : HostWeights) (certificate : Certified) : Type 0 where
+pub record IsGood (advert : Advertised) (weights : HostWeights) (certificate : Claim) : Type 0 where
   pub admissible : IsAdmissible advert certificate.paths
   pub weighs : certificate.weight ≡ plan_weight advert weights certificate.paths
   pub closed : All (λ entry. All (IsCovered certificate.entries entry.potential) (steps_from advert weights (state_of entry))) certificate.entries

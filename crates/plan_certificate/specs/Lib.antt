@@ -1,8 +1,11 @@
 pub mod Paths
 pub mod Plans
 pub mod States
+pub mod ReachedStates
+pub mod Moves
 pub mod Certificates
 pub mod Verdicts
 pub mod CertificateText
 pub mod CertificateFaults
 pub mod CertificateDrafts
+pub mod FaultWords

@@ -1,15 +1,22 @@
 -- How a plan grows, one host lane after another: states, and the steps from a state. (docs/planning.md, "States and
 -- steps")
-use Rattle.std.specs.Prelude.{ℕ, ◌+◌, ◌&&◌, Bool, nat_lt, if◌then◌else◌, List, [], ◌∷◌, map, filter, flat_map}
+use Rattle.std.specs.Prelude.{ℕ, ◌+◌, ◌*◌, ◌/◌, ◌%◌, ◌&&◌, Bool, nat_lt, if◌then◌else◌, List, [], ◌∷◌, map, filter, flat_map}
 use Rattle.std.specs.List.{range_with_len}
 use Rattle.std.specs.FinSet as set
-use Rattle.field_tables.specs.LaneSets.{is_disjoint}
+use Rattle.field_tables.specs.LaneSets.{is_disjoint, lanes_in, byte_of}
 use Rattle.applications.specs.Advertised.{Advertised}
 use Rattle.applications.specs.Weights.{HostWeights}
 use Rattle.plan_certificate.specs.declared.path.Path.{Path}
 use Rattle.plan_certificate.specs.declared.state.State.{State}
 use Rattle.plan_certificate.specs.declared.state.Step.{Step}
 use Rattle.plan_certificate.specs.Paths.{app_of, media_lanes, is_allowed, path_weight}
+
+-- the place of a state among all 2,304: by boundary, then by the byte of used media lanes
+abbrev pub state_place : State → ℕ
+state_place state = 256 * state.boundary + byte_of state.used
+
+abbrev pub state_at : ℕ → State
+state_at place = record { boundary = place / 256; used = lanes_in (place % 256) }
 
 -- no host lane is decided, no media lane used
 abbrev pub start : State

@@ -1,9 +1,8 @@
 -- How a certificate is judged: its flaws in order, of which the first counts. (docs/planning.md, "The checker")
-use Rattle.std.specs.Prelude.{ℕ, ◌+◌, ◌-◌, ◌*◌, ◌==◌, Bool, not, nat_lt, List, [], ◌∷◌, ◌++◌, Option, Some, None, map, take, find, flat_map}
+use Rattle.std.specs.Prelude.{ℕ, ◌+◌, ◌-◌, ◌==◌, Bool, not, nat_lt, List, [], ◌∷◌, ◌++◌, Option, Some, None, map, take, find, flat_map}
 use Rattle.std.specs.List.{enumerate_from, list_all}
 use Rattle.std.specs.Option.{option_map, unwrap_or, is_none}
 use Rattle.field_tables.specs.FirstFault.{first_fault}
-use Rattle.field_tables.specs.LaneSets.{byte_of}
 use Rattle.applications.specs.Advertised.{Advertised}
 use Rattle.applications.specs.Weights.{HostWeights}
 use Rattle.plan_certificate.specs.declared.path.Path.{Path}
@@ -16,8 +15,8 @@ use Rattle.plan_certificate.specs.declared.verdict.Reason.{Reason}
 use Rattle.plan_certificate.specs.declared.verdict.Reason.TheVariants.{PathNotAllowed, LaneTwice, WeightWrong, NoStart, NotClosed, TooLow, StartNotWeight}
 use Rattle.plan_certificate.specs.Paths.{is_allowed}
 use Rattle.plan_certificate.specs.Plans.{are_apart, plan_weight}
-use Rattle.plan_certificate.specs.States.{start, steps_from}
-use Rattle.plan_certificate.specs.Certificates.{Certified, state_of, place_of}
+use Rattle.plan_certificate.specs.States.{start, state_place, steps_from}
+use Rattle.plan_certificate.specs.Certificates.{Claim, state_of, entry_place}
 
 -- whether it applies, the reason, and the number
 abbrev pub Flaw : Type 0
@@ -43,12 +42,9 @@ lane_flaws advert paths = map (lane_flaw advert paths) (enumerate_from 1 paths)
 abbrev pub plan_flaws : Advertised → List Path → Flaws
 plan_flaws advert paths = path_flaws advert paths ++ lane_flaws advert paths
 
-abbrev pub place_of_state : State → ℕ
-place_of_state state = 256 * state.boundary + byte_of state.used
-
 -- the potential of a state, where it has an entry
 unfoldable pub potential_of : List Entry → State → Option ℕ
-potential_of entries state = option_map (λ entry. entry.potential) (find (λ entry. place_of entry == place_of_state state) entries)
+potential_of entries state = option_map (λ entry. entry.potential) (find (λ entry. entry_place entry == state_place state) entries)
 
 -- a step to a state without an entry, or to one from which too much can still be gained; entries count from 1
 abbrev pub step_flaws : List Entry → ℕ × Entry → Step → Flaws
@@ -57,8 +53,12 @@ step_flaws entries (number, entry) step =
     ∷ (nat_lt entry.potential (step.weight + unwrap_or (potential_of entries step.end) 0), (TooLow, number))
     ∷ []
 
+-- the flaws of steps from an entry's state
+abbrev pub steps_flaws : List Entry → ℕ × Entry → List Step → Flaws
+steps_flaws entries entry steps = flat_map (step_flaws entries entry) steps
+
 abbrev pub entry_flaws : Advertised → HostWeights → List Entry → ℕ × Entry → Flaws
-entry_flaws advert weights entries entry = flat_map (step_flaws entries entry) (steps_from advert weights (state_of entry.1))
+entry_flaws advert weights entries entry = steps_flaws entries entry (steps_from advert weights (state_of entry.1))
 
 unfoldable pub entries_flaws : Advertised → HostWeights → List Entry → Flaws
 entries_flaws advert weights entries = flat_map (entry_flaws advert weights entries) (enumerate_from 1 entries)
@@ -71,7 +71,7 @@ bound_flaws advert weights entries weight =
     ++ (not (unwrap_or (potential_of entries start) 0 == weight), (StartNotWeight, 0))
     ∷ []
 
-abbrev pub all_flaws : Advertised → HostWeights → Certified → Flaws
+abbrev pub all_flaws : Advertised → HostWeights → Claim → Flaws
 all_flaws advert weights certificate =
     plan_flaws advert certificate.paths
     ++ (not (certificate.weight == plan_weight advert weights certificate.paths), (WeightWrong, 0))
@@ -81,5 +81,5 @@ abbrev pub judged : Option (Reason × ℕ) → Verdict
 judged None = Good
 judged (Some flaw) = Bad flaw.0 flaw.1
 
-unfoldable pub verdict : Advertised → HostWeights → Certified → Verdict
+unfoldable pub verdict : Advertised → HostWeights → Claim → Verdict
 verdict advert weights certificate = judged (first_fault (all_flaws advert weights certificate))

@@ -22,7 +22,7 @@ pub struct Entry {
 
 impl Entry {
     ghost use Rattle.std.specs.Prelude.{◌≡◌};
-    ghost use Rattle.plan_certificate.specs.Certificates.{place_of, state_of};
+    ghost use Rattle.plan_certificate.specs.Certificates.{entry_place, state_of};
 
     /// The state that the entry bounds.
     pub(crate) fn state(&self) -> State
@@ -35,10 +35,10 @@ impl Entry {
     }
 
     /// The place of its state among all states, by boundary and then by the byte of used media lanes.
-    pub(crate) fn place(&self) -> u16
-        ensures { result ≡ place_of self.now }
+    pub(crate) fn place(&self) -> usize
+        ensures { result ≡ entry_place self.now }
     {
-        256 * u16::from(self.boundary) + u16::from(self.used)
+        256 * usize::from(self.boundary) + usize::from(self.used)
     }
 }
 
@@ -52,9 +52,9 @@ pub struct Certificate<const STATES: usize> {
 }
 
 impl<const STATES: usize> Model for Certificate<STATES> {
-    ghost use Rattle.plan_certificate.specs.Certificates.{Certified, HasStates};
+    ghost use Rattle.plan_certificate.specs.Certificates.{Claim, HasStates};
 
-    ghost Value = { Certified };
+    ghost Value = { Claim };
 
     ghost view = { λ certificate. record { weight = certificate.weight; paths = certificate.plan; entries = certificate.entries.items } };
 

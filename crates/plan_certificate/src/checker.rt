@@ -1,15 +1,15 @@
-ghost use Rattle.std.specs.Prelude.{◌≡◌, ◌↔◌, All, true};
+ghost use Rattle.std.specs.Prelude.{◌≡◌, ◌↔◌, ◌<◌, ◌≤◌, ◌+◌, All};
 ghost use Rattle.field_tables.specs.FirstFault.{first_fault};
-ghost use Rattle.plan_certificate.specs.Paths.{is_allowed};
 ghost use Rattle.plan_certificate.specs.Plans.{IsBest};
-ghost use Rattle.plan_certificate.specs.Certificates.{HasStates, IsGood};
+ghost use Rattle.plan_certificate.specs.Moves.{AreMoves, LeadsOn, steps_by};
+ghost use Rattle.plan_certificate.specs.Certificates.{HasStates, IsGood, state_of};
 ghost use Rattle.plan_certificate.specs.Verdicts as spec;
 
 use crate::certificate::{Certificate, Entry};
 use crate::flaws::plan_flaw;
+use crate::moves::{Move, Moves};
 use crate::plan::{Plan, weight_of};
-use crate::state::{State, Step};
-use crate::steps::steps_from;
+use crate::state::{HOST_LANES, State, Step};
 use crate::verdict::{Reason, Verdict};
 use applications::{Advert, Weights};
 
@@ -80,28 +80,64 @@ fn entries_flaw(advert: &Advert, weights: &Weights, entries: &[Entry]) -> Option
     requires { HasStates entries.now }
     ensures { result ≡ first_fault (spec.entries_flaws advert.now weights.now entries.now) }
 {
+    let mut moves = Moves::at(advert, weights, 0);
     for (place, entry) in entries.iter().enumerate() {
-        if let Some(flaw) = entry_flaw(advert, weights, entries, place + 1, entry) {
+        if let Some(flaw) = entry_flaw(advert, weights, &mut moves, entries, place + 1, entry) {
             return Some(flaw);
         }
     }
     None
 }
 
+// Where the steps of the heaviest moves have no flaw, none has.
 fn entry_flaw(
     advert: &Advert,
     weights: &Weights,
+    moves: &mut Moves,
     entries: &[Entry],
     number: usize,
     entry: &Entry,
 ) -> Option<(Reason, usize)>
-    requires { HasStates entries.now }
-    ensures { result ≡ first_fault (spec.entry_flaws advert.now weights.now entries.now (number, entry.now)) }
+    requires entries { HasStates entries.now }
+    requires open { moves.old.boundary < 8 }
+    requires moves { AreMoves advert.now weights.now moves.old.boundary moves.old.all.items moves.old.heaviest.items }
+    ensures flaw { result ≡ first_fault (spec.entry_flaws advert.now weights.now entries.now (number, entry.now)) }
+    ensures open { moves.new.boundary < 8 }
+    ensures moves { AreMoves advert.now weights.now moves.new.boundary moves.new.all.items moves.new.heaviest.items }
 {
-    let steps = steps_from(advert, weights, entry.state());
-    for step in steps.as_slice() {
-        if let Some(flaw) = step_flaw(entries, number, entry, step) {
-            return Some(flaw);
+    if entry.boundary >= HOST_LANES {
+        return None;
+    }
+    moves.turn_to(advert, weights, entry.boundary);
+    if steps_flaw(moves.heaviest.as_slice(), entries, number, entry).is_none() {
+        return None;
+    }
+    steps_flaw(moves.all.as_slice(), entries, number, entry)
+}
+
+// The first flaw of the free lane's step and those of moves.
+fn steps_flaw(
+    moves: &[Move],
+    entries: &[Entry],
+    number: usize,
+    entry: &Entry,
+) -> Option<(Reason, usize)>
+    requires entries { HasStates entries.now }
+    requires open { entry.now.boundary < 8 }
+    requires lead_on { All (LeadsOn entry.now.boundary) moves.now }
+    ensures { result ≡ first_fault (spec.steps_flaws entries.now (number, entry.now) (steps_by (state_of entry.now) moves.now)) }
+{
+    let state = entry.state();
+    let free = state.free_step();
+    if let Some(flaw) = step_flaw(entries, number, entry, &free) {
+        return Some(flaw);
+    }
+    for one in moves {
+        if one.is_open(&state) {
+            let step = one.step(&state);
+            if let Some(flaw) = step_flaw(entries, number, entry, &step) {
+                return Some(flaw);
+            }
         }
     }
     None

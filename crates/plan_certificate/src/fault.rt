@@ -1,18 +1,33 @@
+use text_lines::{Spelled, Spelling};
 use thiserror::Error;
 
 /// Why a text is no certificate, or one with more states than there is room for. Lines count from 1.
 #[derive(Clone, Copy, Debug, PartialEq, Eq, Drop, Error)]
+#[error("the text is no certificate")]
 pub enum CertificateFault {
     /// The line is none that may stand there.
-    #[error("line {0} has another form")]
     BadLine(usize),
     /// The state of the line isn't above the one before it.
-    #[error("line {0} is out of order")]
     OutOfOrder(usize),
     /// It would be the ninth path, or a state for which there is no room.
-    #[error("too many paths or states")]
     TooMany,
     /// The text ends without `end`.
-    #[error("no `end`")]
     NoEnd,
+}
+
+impl Spelled for CertificateFault {
+    ghost use Rattle.plan_certificate.specs.FaultWords.{certificate_fault_words};
+
+    ghost words = { certificate_fault_words };
+
+    ghost most = { 2 };
+
+    fn spelling(&self) -> Spelling {
+        match self {
+            CertificateFault::BadLine(line) => Spelling::of("CT1").and(line),
+            CertificateFault::OutOfOrder(line) => Spelling::of("CT2").and(line),
+            CertificateFault::TooMany => Spelling::of("CT3"),
+            CertificateFault::NoEnd => Spelling::of("CT4"),
+        }
+    }
 }

@@ -4,15 +4,13 @@ ghost use Rattle.std.specs.Fmt.{decimal};
 ghost use Rattle.plan_certificate.specs.declared.path.Path.{Path};
 ghost use Rattle.plan_certificate.specs.declared.certificate.Entry.{Entry};
 ghost use Rattle.plan_certificate.specs.declared.line.Line.{Line};
-ghost use Rattle.plan_certificate.specs.CertificateText.{path_values, state_values, line_words, line_text, IsPath, IsEntry, IsLine};
+ghost use Rattle.plan_certificate.specs.CertificateText.{path_values, state_values, line_words, line_text, IsPathInRange, IsEntryInRange, IsLineInRange};
 
 use crate::certificate::Entry;
 use crate::path::Path;
+use crate::state::HOST_LANES;
 use std::fmt;
 use text_lines::{HexByte, read_decimal, read_hex_byte, split_words};
-
-// How many host lanes a module has.
-const HOST_LANES: u8 = 8;
 
 /// A line of a certificate's text.
 #[derive(Clone, Copy, Debug)]
@@ -48,8 +46,8 @@ impl fmt::Display for Line {
 
 /// The line that bytes spell.
 pub fn read_line(bytes: &[u8]) -> Option<Line>
-    ensures { MatchOption result ((line : Line) → IsLine line → bytes.now ≢ line_text line)
-        (λ line. IsLine line × (bytes.now ≡ line_text line)) }
+    ensures { MatchOption result ((line : Line) → IsLineInRange line → bytes.now ≢ line_text line)
+        (λ line. IsLineInRange line × (bytes.now ≡ line_text line)) }
 {
     let Some(words) = split_words::<4>(bytes) else {
         return None;
@@ -59,8 +57,8 @@ pub fn read_line(bytes: &[u8]) -> Option<Line>
 
 #[tactic(auto, unfolding(crate::specs::CertificateText::line_words))]
 fn read_words(words: &[&[u8]]) -> Option<Line>
-    ensures { MatchOption result ((line : Line) → IsLine line → map (λ word. word.now) words.now ≢ line_words line)
-        (λ line. IsLine line × (map (λ word. word.now) words.now ≡ line_words line)) }
+    ensures { MatchOption result ((line : Line) → IsLineInRange line → map (λ word. word.now) words.now ≢ line_words line)
+        (λ line. IsLineInRange line × (map (λ word. word.now) words.now ≡ line_words line)) }
 {
     let Some((name, values)) = words.split_first() else {
         return None;
@@ -75,8 +73,8 @@ fn read_words(words: &[&[u8]]) -> Option<Line>
 
 #[tactic(auto, unfolding(crate::specs::CertificateText::line_words))]
 fn read_end(name: &[u8]) -> Option<Line>
-    ensures { MatchOption result ((line : Line) → IsLine line → name.now ∷ [] ≢ line_words line)
-        (λ line. IsLine line × (name.now ∷ [] ≡ line_words line)) }
+    ensures { MatchOption result ((line : Line) → IsLineInRange line → name.now ∷ [] ≢ line_words line)
+        (λ line. IsLineInRange line × (name.now ∷ [] ≡ line_words line)) }
 {
     if name == b"end".as_slice() {
         Some(Line::End)
@@ -88,8 +86,8 @@ fn read_end(name: &[u8]) -> Option<Line>
 // The header or the weight.
 #[tactic(auto, unfolding(crate::specs::CertificateText::line_words))]
 fn read_head(name: &[u8], value: &[u8]) -> Option<Line>
-    ensures { MatchOption result ((line : Line) → IsLine line → name.now ∷ value.now ∷ [] ≢ line_words line)
-        (λ line. IsLine line × (name.now ∷ value.now ∷ [] ≡ line_words line)) }
+    ensures { MatchOption result ((line : Line) → IsLineInRange line → name.now ∷ value.now ∷ [] ≢ line_words line)
+        (λ line. IsLineInRange line × (name.now ∷ value.now ∷ [] ≡ line_words line)) }
 {
     if name == b"certificate".as_slice() {
         return if value == b"1".as_slice() {
@@ -110,8 +108,8 @@ fn read_head(name: &[u8], value: &[u8]) -> Option<Line>
 // A path or a state.
 #[tactic(auto, unfolding(crate::specs::CertificateText::line_words))]
 fn read_item(name: &[u8], first: &[u8], second: &[u8], third: &[u8]) -> Option<Line>
-    ensures { MatchOption result ((line : Line) → IsLine line → name.now ∷ first.now ∷ second.now ∷ third.now ∷ [] ≢ line_words line)
-        (λ line. IsLine line × (name.now ∷ first.now ∷ second.now ∷ third.now ∷ [] ≡ line_words line)) }
+    ensures { MatchOption result ((line : Line) → IsLineInRange line → name.now ∷ first.now ∷ second.now ∷ third.now ∷ [] ≢ line_words line)
+        (λ line. IsLineInRange line × (name.now ∷ first.now ∷ second.now ∷ third.now ∷ [] ≡ line_words line)) }
 {
     if name == b"path".as_slice() {
         match read_path(first, second, third) {
@@ -129,8 +127,8 @@ fn read_item(name: &[u8], first: &[u8], second: &[u8], third: &[u8]) -> Option<L
 }
 
 fn read_path(app: &[u8], host: &[u8], media: &[u8]) -> Option<Path>
-    ensures { MatchOption result ((path : Path) → IsPath path → app.now ∷ host.now ∷ media.now ∷ [] ≢ path_values path)
-        (λ path. IsPath path × (app.now ∷ host.now ∷ media.now ∷ [] ≡ path_values path)) }
+    ensures { MatchOption result ((path : Path) → IsPathInRange path → app.now ∷ host.now ∷ media.now ∷ [] ≢ path_values path)
+        (λ path. IsPathInRange path × (app.now ∷ host.now ∷ media.now ∷ [] ≡ path_values path)) }
 {
     let Some(app) = read_small(app, u8::MAX) else {
         return None;
@@ -145,8 +143,8 @@ fn read_path(app: &[u8], host: &[u8], media: &[u8]) -> Option<Path>
 }
 
 fn read_entry(boundary: &[u8], used: &[u8], potential: &[u8]) -> Option<Entry>
-    ensures { MatchOption result ((entry : Entry) → IsEntry entry → boundary.now ∷ used.now ∷ potential.now ∷ [] ≢ state_values entry)
-        (λ entry. IsEntry entry × (boundary.now ∷ used.now ∷ potential.now ∷ [] ≡ state_values entry)) }
+    ensures { MatchOption result ((entry : Entry) → IsEntryInRange entry → boundary.now ∷ used.now ∷ potential.now ∷ [] ≢ state_values entry)
+        (λ entry. IsEntryInRange entry × (boundary.now ∷ used.now ∷ potential.now ∷ [] ≡ state_values entry)) }
 {
     let Some(boundary) = read_small(boundary, HOST_LANES) else {
         return None;

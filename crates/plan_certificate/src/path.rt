@@ -22,10 +22,10 @@ impl Path {
     pub fn application(self, advert: &Advert) -> App
         ensures { result ≡ spec.app_of advert.now self }
     {
-        for app in advert.apps() {
-            if app.number == self.app {
-                return *app;
-            }
+        let apps = advert.apps();
+        let number = usize::from(self.app);
+        if 1 <= number && number <= apps.len() {
+            return apps[number - 1];
         }
         App::default()
     }

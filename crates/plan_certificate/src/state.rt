@@ -1,10 +1,13 @@
-ghost use Rattle.std.specs.Prelude.{◌≡◌, ◌≤◌, ◌+◌, ◌<◌, true};
+ghost use Rattle.std.specs.Prelude.{◌≡◌, ◌<◌};
 ghost use Rattle.plan_certificate.specs.States as spec;
-ghost use Rattle.plan_certificate.specs.Verdicts.{place_of_state};
 
-use crate::path::Path;
-use applications::{Advert, Weights};
 use field_tables::LaneSet;
+
+/// How many host lanes a module has.
+pub const HOST_LANES: u8 = 8;
+
+/// How many states there are: at each of 9 boundaries, 256 sets of used media lanes.
+pub const STATES: usize = 2304;
 
 /// How far a plan has come, from host lane 1 upwards.
 #[derive(Clone, Copy, Debug, PartialEq, Eq, Default)]
@@ -35,11 +38,22 @@ impl State {
         }
     }
 
-    /// The place among all states, by boundary and then by the byte of used media lanes.
-    pub fn place(self) -> u16
-        ensures { result ≡ place_of_state self }
+    /// The state at a place.
+    pub fn at(place: usize) -> State
+        requires { place < STATES }
+        ensures { result ≡ spec.state_at place }
     {
-        256 * u16::from(self.boundary) + u16::from(self.used.byte())
+        State {
+            boundary: (place / 256) as u8,
+            used: LaneSet::from((place % 256) as u8),
+        }
+    }
+
+    /// The place among all states, by boundary and then by the byte of used media lanes.
+    pub fn place(self) -> usize
+        ensures { result ≡ spec.state_place self }
+    {
+        256 * usize::from(self.boundary) + usize::from(self.used.byte())
     }
 
     /// The step that leaves the next host lane free.
@@ -52,29 +66,6 @@ impl State {
             end: State {
                 boundary: self.boundary + 1,
                 used: self.used,
-            },
-        }
-    }
-
-    /// Whether the module can carry the path, and it uses no media lane twice.
-    pub fn fits(self, path: Path, advert: &Advert) -> bool
-        ensures { result ≡ spec.fits advert.now self path }
-    {
-        path.is_allowed(advert) && path.media_lanes(advert).is_disjoint(self.used)
-    }
-
-    /// The step of a path that begins at the next host lane.
-    #[tactic(auto, unfolding(crate::specs::Paths::is_allowed))]
-    pub fn path_step(self, path: Path, advert: &Advert, weights: &Weights) -> Step
-        requires fits { spec.fits advert.now self path ≡ true }
-        requires next { path.host ≡ self.boundary + 1 }
-        ensures { result ≡ spec.path_step advert.now weights.now self path }
-    {
-        Step {
-            weight: path.weight(advert, weights),
-            end: State {
-                boundary: self.boundary + path.application(advert).host_lanes,
-                used: self.used.union(path.media_lanes(advert)),
             },
         }
     }

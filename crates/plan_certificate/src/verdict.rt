@@ -1,3 +1,5 @@
+use text_lines::{Spelled, Spelling};
+
 /// Why a certificate is bad.
 #[derive(Clone, Copy, Debug, PartialEq, Eq)]
 pub enum Reason {
@@ -15,6 +17,26 @@ pub enum Reason {
     TooLow,
     /// The potential of the state without decided lanes isn't the weight.
     StartNotWeight,
+}
+
+impl Spelled for Reason {
+    ghost use Rattle.plan_certificate.specs.FaultWords.{reason_words};
+
+    ghost words = { reason_words };
+
+    ghost most = { 1 };
+
+    fn spelling(&self) -> Spelling {
+        Spelling::of(match self {
+            Reason::PathNotAllowed => "VR1",
+            Reason::LaneTwice => "VR2",
+            Reason::WeightWrong => "VR3",
+            Reason::NoStart => "VR4",
+            Reason::NotClosed => "VR5",
+            Reason::TooLow => "VR6",
+            Reason::StartNotWeight => "VR7",
+        })
+    }
 }
 
 /// What a certificate is worth.

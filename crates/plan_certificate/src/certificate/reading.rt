@@ -5,8 +5,8 @@ ghost use Rattle.std.specs.List.{All};
 ghost use Rattle.text_lines.specs.Lines.{lines_of};
 ghost use Rattle.plan_certificate.specs.declared.line.Line.{Line};
 ghost use Rattle.plan_certificate.specs.declared.plan.TheConstants.{MAX_PATHS};
-ghost use Rattle.plan_certificate.specs.Certificates.{place_of, HasStates};
-ghost use Rattle.plan_certificate.specs.CertificateText.{line_text, IsLine, IsEntry, IsTextOf};
+ghost use Rattle.plan_certificate.specs.Certificates.{entry_place, HasStates};
+ghost use Rattle.plan_certificate.specs.CertificateText.{line_text, IsLineInRange, IsEntryInRange, IsTextOf};
 ghost use Rattle.plan_certificate.specs.CertificateFaults.{IsLineFault, IsFirstFault};
 ghost use Rattle.plan_certificate.specs.CertificateDrafts.{lines_so_far, text_so_far, due, IsInTurn, IsDraft};
 
@@ -92,7 +92,7 @@ impl<const STATES: usize> Certificate<STATES> {
     fn add(&mut self, line: Line, number: usize) -> Result<Stage, CertificateFault>
         requires drafted { IsDraft STATES (due line) self.old }
         requires in_turn { IsInTurn self.old line }
-        requires fits { IsLine line }
+        requires fits { IsLineInRange line }
         requires counted { number ≡ length (lines_so_far (due line) self.old) + 1 }
         ensures drafted { IfOk result (λ next. IsDraft STATES next self.new) }
         ensures added { IfOk result (λ next. lines_so_far next self.new ≡ lines_so_far (due line) self.old ++ line ∷ []) }
@@ -145,7 +145,7 @@ fn add_path(plan: &mut Plan, path: Path) -> bool
 
 fn is_above_all(entries: &[Entry], entry: Entry) -> bool
     requires { HasStates entries.now }
-    ensures { IsTrue result ↔ All (λ before. place_of before < place_of entry) entries.now }
+    ensures { IsTrue result ↔ All (λ before. entry_place before < entry_place entry) entries.now }
 {
     match entries.last() {
         Some(last) => last.place() < entry.place(),

@@ -5,7 +5,7 @@ ghost use Rattle.std.specs.List.{AllByRecursion};
 ghost use Rattle.text_lines.specs.Lines.{lines_of, text_of};
 ghost use Rattle.plan_certificate.specs.declared.line.Line.{Line};
 ghost use Rattle.plan_certificate.specs.Certificates.{HasStates};
-ghost use Rattle.plan_certificate.specs.CertificateText.{line_text, certificate_lines, IsPath, IsEntry, HasRoom, IsTextOf};
+ghost use Rattle.plan_certificate.specs.CertificateText.{line_text, certificate_lines, IsPathInRange, IsEntryInRange, IsReadable, IsTextOf};
 
 use super::{Certificate, Entry};
 use crate::line::Line;
@@ -17,7 +17,7 @@ impl<const STATES: usize> Certificate<STATES> {
     /// The text of the certificate.
     pub fn write(&self, alloc: Global) -> Result<Vec<u8>, AllocError>
         ensures written { IfOk result (λ text. text.items ≡ text_of (certificate_lines self.now)) }
-        ensures room { OnOk result (HasRoom STATES self.now) }
+        ensures readable { OnOk result (IsReadable STATES self.now) }
         ensures read_back { IfOk result (λ text. IsTextOf STATES (lines_of text.items) self.now) }
     {
         let (weight, plan) = (self.weight, &self.plan);
@@ -39,7 +39,7 @@ fn write_line(text: &mut String, line: Line) -> Result<(), AllocError>
 
 fn write_paths(text: &mut String, paths: &[Path]) -> Result<(), AllocError>
     ensures written { OnOk result (string_bytes text.new ≡ string_bytes text.old ++ text_of (map line_text (map (λ path. Line.PathLine path) paths.now))) }
-    ensures each { OnOk result (AllByRecursion IsPath paths.now) }
+    ensures each { OnOk result (AllByRecursion IsPathInRange paths.now) }
 {
     for path in paths {
         write_path(text, *path)?;
@@ -49,7 +49,7 @@ fn write_paths(text: &mut String, paths: &[Path]) -> Result<(), AllocError>
 
 fn write_path(text: &mut String, path: Path) -> Result<(), AllocError>
     ensures written { OnOk result (string_bytes text.new ≡ string_bytes text.old ++ (line_text (Line.PathLine path) ++ 10 ∷ [])) }
-    ensures fits { OnOk result (IsPath path) }
+    ensures fits { OnOk result (IsPathInRange path) }
 {
     // Read here, the three are known to be bytes, as `fits` says.
     let (_app, _host, _media) = (path.app, path.host, path.media);
@@ -59,7 +59,7 @@ fn write_path(text: &mut String, path: Path) -> Result<(), AllocError>
 fn write_entries(text: &mut String, entries: &[Entry]) -> Result<(), AllocError>
     requires { HasStates entries.now }
     ensures written { OnOk result (string_bytes text.new ≡ string_bytes text.old ++ text_of (map line_text (map (λ entry. Line.StateLine entry) entries.now))) }
-    ensures each { OnOk result (AllByRecursion IsEntry entries.now) }
+    ensures each { OnOk result (AllByRecursion IsEntryInRange entries.now) }
 {
     for entry in entries {
         write_entry(text, *entry)?;
@@ -70,7 +70,7 @@ fn write_entries(text: &mut String, entries: &[Entry]) -> Result<(), AllocError>
 fn write_entry(text: &mut String, entry: Entry) -> Result<(), AllocError>
     requires { entry.boundary ≤ 8 }
     ensures written { OnOk result (string_bytes text.new ≡ string_bytes text.old ++ (line_text (Line.StateLine entry) ++ 10 ∷ [])) }
-    ensures fits { OnOk result (IsEntry entry) }
+    ensures fits { OnOk result (IsEntryInRange entry) }
 {
     // Read here, both are known to be in range, as `fits` says.
     let (_used, _potential) = (entry.used, entry.potential);

@@ -2,7 +2,7 @@ use Rattle.std.proofs.Common.{◌≡◌, ◌≢◌, [], map, refl, sym, ◌∙�
 use Rattle.std.proofs.lemmas.List.{append-nil}
 use Rattle.text_lines.specs.Lines.{lines_of}
 use Rattle.plan_certificate.specs.declared.stage.Stage.TheVariants.{Ended}
-use Rattle.plan_certificate.specs.CertificateText.{line_text, HasRoom}
+use Rattle.plan_certificate.specs.CertificateText.{line_text, IsReadable}
 use Rattle.plan_certificate.specs.CertificateDrafts.{lines_so_far}
 use Rattle.plan_certificate.proofs.Drafts.{begins_so_far, fault_after}
 use Rattle.plan_certificate.proofs.WholeTexts.{is_no_text}
@@ -13,7 +13,7 @@ returns-in-Err-clause-err g c =
     let l = c.loop-line in
     let before = map line_text (lines_so_far l.stage l.certificate) in
     fault_after g.row.STATES (lines_of c.args.text.now) before c.in-Some.line.now (lines_of c.in-Some.after.now) c.in-Err.fault (rw c.in-Some.ensures.lines at l.invariant.lines_are)
-    (begins_so_far (HasRoom g.row.STATES) l.stage l.certificate l.invariant.drafted.room) c.in-Err.ensures.fault
+    (begins_so_far (IsReadable g.row.STATES) l.stage l.certificate l.invariant.drafted.readable) c.in-Err.ensures.fault
 
 pub returns-then-ne-clause-err : goal.returns-then-ne-clause-err
 returns-then-ne-clause-err g c =
@@ -22,7 +22,7 @@ returns-then-ne-clause-err g c =
     let nothing : lines_of l.rest.now ≡ [] = rw c.in_default.ensures.lines refl in
     let lines : lines_of c.args.text.now ≡ so_far = (rw nothing at l.invariant.lines_are) ∙ append-nil so_far in
     let short : l.stage ≢ Ended = search rules in
-    let room = l.invariant.drafted.room in (
-      rw lines (begins_so_far (HasRoom g.row.STATES) l.stage l.certificate room),
-      λ other text. is_no_text l.stage l.certificate other short room.ordered.in_range text.room.ordered.in_range (sym lines ∙ text.lines_are),
+    let readable = l.invariant.drafted.readable in (
+      rw lines (begins_so_far (IsReadable g.row.STATES) l.stage l.certificate readable),
+      λ other text. is_no_text l.stage l.certificate other short readable.ordered.in_range text.readable.ordered.in_range (sym lines ∙ text.lines_are),
     )

@@ -1,17 +1,17 @@
 use Rattle.std.proofs.Common.{◌<◌, ◌≤◌, ◌^◌, ℕ, List, length, sym, subst, arith}
 use Rattle.text_lines.specs.Lines.{lines_of}
 use Rattle.plan_certificate.specs.CertificateText.{IsTextOf}
-use Rattle.plan_certificate.proofs.WrittenCertificates.{has_room, whole_text, written_lines}
+use Rattle.plan_certificate.proofs.WrittenCertificates.{is_readable, whole_text, written_lines}
 use Rattle.plan_certificate.proofs.certificate.Certificate.write.Goals as goal
 
-pub returns-clause-room : goal.returns-clause-room
-returns-clause-room g c =
+pub returns-clause-readable : goal.returns-clause-readable
+returns-clause-readable g c =
     let weight : c.self.inside.weight < 2 ^ 64 = omega arith in
     let paths = rw (c.deref.ensures.0, c.plan.view_is) at c.in_ok-write_paths.ensures.each in
     let entries = rw c.deref-2.ensures.0 at c.in_ok-write_entries.ensures.each in
     let few_paths : length c.self.inside.plan ≤ 8 = rw (c.deref.ensures.0, c.plan.view_is) at c.deref.ensures.1 in
     let few_states : length c.self.inside.entries.items ≤ g.row.STATES = rw c.deref-2.ensures.0 at c.deref-2.ensures.1 in
-    rw (← c.self.view_is) (has_room g.row.STATES _ weight paths entries c.self.invariant few_paths few_states)
+    rw (← c.self.view_is) (is_readable g.row.STATES _ weight paths entries c.self.invariant few_paths few_states)
 
 pub returns-clause-written : goal.returns-clause-written
 returns-clause-written g c =
@@ -23,5 +23,5 @@ returns-clause-written g c =
 
 pub returns-clause-read_back : goal.returns-clause-read_back
 returns-clause-read_back g c =
-    let room = returns-clause-room g c in
-    subst (λ (text : List ℕ). IsTextOf g.row.STATES (lines_of text) c.args.self.now) (sym (returns-clause-written g c)) (written_lines g.row.STATES c.args.self.now room)
+    let readable = returns-clause-readable g c in
+    subst (λ (text : List ℕ). IsTextOf g.row.STATES (lines_of text) c.args.self.now) (sym (returns-clause-written g c)) (written_lines g.row.STATES c.args.self.now readable)

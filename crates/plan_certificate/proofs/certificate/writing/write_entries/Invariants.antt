@@ -3,12 +3,12 @@ use Rattle.std.specs.List.{AllByRecursion}
 use Rattle.std.specs.String.{string_bytes}
 use Rattle.text_lines.specs.Lines.{text_of}
 use Rattle.plan_certificate.specs.declared.line.Line.TheVariants.{StateLine}
-use Rattle.plan_certificate.specs.CertificateText.{line_text, IsEntry}
+use Rattle.plan_certificate.specs.CertificateText.{line_text, IsEntryInRange}
 use Rattle.plan_certificate.proofs.certificate.writing.write_entries.Given as goal
 
 -- the state lines of the entries so far
 abbrev pub invariant-loop-entry : goal.invariant-loop-entry
 invariant-loop-entry l = record {
   written : string_bytes l.text ≡ string_bytes l.fn.text ++ text_of (map line_text (map (λ entry. StateLine entry) (take l.entry-index l.entries)));
-  each : AllByRecursion IsEntry (take l.entry-index l.entries);
+  each : AllByRecursion IsEntryInRange (take l.entry-index l.entries);
 }

@@ -3,12 +3,12 @@ use Rattle.std.specs.List.{AllByRecursion}
 use Rattle.std.specs.String.{string_bytes}
 use Rattle.text_lines.specs.Lines.{text_of}
 use Rattle.plan_certificate.specs.declared.line.Line.TheVariants.{PathLine}
-use Rattle.plan_certificate.specs.CertificateText.{line_text, IsPath}
+use Rattle.plan_certificate.specs.CertificateText.{line_text, IsPathInRange}
 use Rattle.plan_certificate.proofs.certificate.writing.write_paths.Given as goal
 
 -- the path lines of the paths so far
 abbrev pub invariant-loop-path : goal.invariant-loop-path
 invariant-loop-path l = record {
   written : string_bytes l.text ≡ string_bytes l.fn.text ++ text_of (map line_text (map (λ path. PathLine path) (take l.path-index l.paths)));
-  each : AllByRecursion IsPath (take l.path-index l.paths);
+  each : AllByRecursion IsPathInRange (take l.path-index l.paths);
 }

@@ -1,0 +1,48 @@
+use Rattle.std.proofs.Common.{◌≡◌, ℕ, ◌+◌, ◌-◌, ◌++◌, List, length, take, subst, sym, ap, ◌∙◌, arith}
+use Rattle.std.specs.List.{All, flat_map}
+use Rattle.std.proofs.Math.Seq.{take-length}
+use Rattle.std.proofs.lemmas.List.Elements.{All-from_recursion}
+use Rattle.applications.specs.declared.app.App.{App}
+use Rattle.plan_certificate.specs.declared.path.Path.{Path}
+use Rattle.plan_certificate.specs.States.{paths_of_app}
+use Rattle.plan_certificate.proofs.MoveLists.{apps_more}
+use Rattle.plan_certificate.specs.declared.moves.Move.{Move}
+use Rattle.plan_certificate.specs.Moves.{LeadsOn, moves_at, moves_of}
+use Rattle.plan_certificate.proofs.MoveLists.{moves_of_both, moves_lead_on}
+use Rattle.plan_certificate.proofs.moves.moves_at.Goals as goal
+
+pub loop-app-init : goal.loop-app-init
+unfolding moves_of
+loop-app-init c = record {
+  moves = c.new-moves.ensures;
+  few = omega (arith, ap (λ (items : List Move). length items) c.new-moves.ensures);
+}
+
+pub loop-app-preserved : goal.loop-app-preserved
+loop-app-preserved c =
+    let of_app : App → List Path = λ app. paths_of_app c.args.host app.number in
+    let apps = c.apps-app-items.result.now in
+    let app = c.app-item.result in
+    let index = c.loop-app.app-index in
+    let made = moves_of c.args.advert.now c.args.weights.now in
+    let so_far = flat_map of_app (take index apps) in
+    let more : flat_map of_app (take (index + 1) apps) ≡ so_far ++ of_app app = apps_more of_app apps index app c.loop-app-test.true ∙ ap (λ (a : App). so_far ++ of_app a) (sym c.app-item.is) in
+    record {
+      moves =
+          c.push_moves.ensures.moves
+          ∙ ap (λ (items : List Move). items ++ made (of_app app)) c.loop-app.invariant.moves
+          ∙ sym (ap made more ∙ moves_of_both c.args.advert.now c.args.weights.now so_far (of_app app));
+      few = omega (arith, c.push_moves.ensures.few, c.loop-app.invariant.few);
+    }
+
+pub returns-clause-lead_on : goal.returns-clause-lead_on
+returns-clause-lead_on c =
+    let advert = c.args.advert.now in
+    let weights = c.args.weights.now in
+    let apps = c.apps-app-items.result.now in
+    let host : ℕ = c.args.host in
+    let Paths : List App → List Move = λ apps. moves_of advert weights (flat_map (λ (app : App). paths_of_app host app.number) apps) in
+    let end : c.loop-app.app-index ≡ length apps = omega (arith, c.loop-app-test.false, c.loop-app.auto.app-index-end) in
+    let whole : take c.loop-app.app-index apps ≡ advert.apps = ap (λ (n : ℕ). take n apps) end ∙ take-length apps ∙ c.apps-app-items.ensures.apps in
+    let is : c.loop-app.moves.items ≡ moves_at advert weights host = c.loop-app.invariant.moves ∙ ap Paths whole in
+    subst (All (LeadsOn (host - 1))) (sym is) (All-from_recursion (LeadsOn (host - 1)) (moves_at advert weights host) (moves_lead_on advert weights host))

@@ -1,0 +1,75 @@
+-- The allowed paths that begin at a host lane, listed once for all states, and the steps that they give from a state.
+-- (docs/planning.md, "States and steps")
+use Rattle.std.specs.Prelude.{◌≡◌, ℕ, ◌+◌, ◌≤◌, Bool, List, ◌∷◌, All, Contains, length, map, filter}
+use Rattle.std.specs.FinSet as set
+use Rattle.field_tables.specs.LaneSets.{is_disjoint}
+use Rattle.applications.specs.Advertised.{Advertised}
+use Rattle.applications.specs.Weights.{HostWeights}
+use Rattle.plan_certificate.specs.declared.path.Path.{Path}
+use Rattle.plan_certificate.specs.declared.moves.Move.{Move}
+use Rattle.plan_certificate.specs.declared.state.State.{State}
+use Rattle.plan_certificate.specs.declared.state.Step.{Step}
+use Rattle.plan_certificate.specs.Paths.{app_of, media_lanes, is_allowed, path_weight}
+use Rattle.plan_certificate.specs.States.{free_step, paths_at}
+
+abbrev pub move_of : Advertised → HostWeights → Path → Move
+move_of advert weights path = record {
+  path = path;
+  host_lanes = (app_of advert path).host_lanes;
+  media_lanes = media_lanes advert path;
+  weight = path_weight advert weights path;
+}
+
+-- those of the paths that are allowed
+unfoldable pub moves_of : Advertised → HostWeights → List Path → List Move
+moves_of advert weights paths = map (move_of advert weights) (filter (is_allowed advert) paths)
+
+-- by rising Application and media lane
+abbrev pub moves_at : Advertised → HostWeights → ℕ → List Move
+moves_at advert weights host = moves_of advert weights (paths_at advert host)
+
+-- a move is open at a state that uses none of its media lanes
+abbrev pub is_open : State → Move → Bool
+is_open state move = is_disjoint move.media_lanes state.used
+
+abbrev pub move_step : State → Move → Step
+move_step state move = record {
+  weight = move.weight;
+  end = record { boundary = state.boundary + move.host_lanes; used = set.union state.used move.media_lanes };
+}
+
+abbrev pub move_steps : State → List Move → List Step
+move_steps state moves = map (move_step state) (filter (is_open state) moves)
+
+-- the free lane's step, and those of the moves that are open
+abbrev pub steps_by : State → List Move → List Step
+steps_by state moves = free_step state ∷ move_steps state moves
+
+-- from a state with this boundary a move leads further, and not past the last host lane
+pub record LeadsOn (boundary : ℕ) (move : Move) : Type 0 where
+  pub further : 1 ≤ move.host_lanes
+  pub within : boundary + move.host_lanes ≤ 8
+
+-- on as many host lanes, and the same media lanes
+pub record HasLanesOf (move other : Move) : Type 0 where
+  pub host_lanes : other.host_lanes ≡ move.host_lanes
+  pub media_lanes : other.media_lanes ≡ move.media_lanes
+
+-- one of these moves has the same lanes and weighs at least as much
+pub record IsOutweighed (moves : List Move) (move : Move) : Type 0 where
+  pub other : Move
+  pub listed : Contains moves other
+  pub lanes : HasLanesOf move other
+  pub weighs : move.weight ≤ other.weight
+
+-- some of the moves, by which each of the moves is outweighed
+pub record AreHeaviest (moves heaviest : List Move) : Type 0 where
+  pub among : All (Contains moves) heaviest
+  pub outweighed : All (IsOutweighed heaviest) moves
+  pub few : length heaviest ≤ length moves
+
+-- what begins at the host lane after a boundary
+pub record AreMoves (advert : Advertised) (weights : HostWeights) (boundary : ℕ) (all heaviest : List Move) : Type 0 where
+  pub listed : all ≡ moves_at advert weights (boundary + 1)
+  pub heavy : AreHeaviest all heaviest
+  pub lead_on : All (LeadsOn boundary) all

@@ -1,0 +1,188 @@
+ghost use Rattle.std.specs.Prelude.{◌≡◌, ◌≤◌, ◌<◌, ◌+◌, ◌-◌, ◌++◌, ◌⊎◌, length, true, All, Contains, IfSome};
+ghost use Rattle.std.specs.List.{HoldsAt};
+ghost use Rattle.plan_certificate.specs.Paths.{is_allowed};
+ghost use Rattle.plan_certificate.specs.States.{paths_of_app};
+ghost use Rattle.plan_certificate.specs.Moves.{AreHeaviest, AreMoves, HasLanesOf, IsOutweighed, LeadsOn};
+ghost use Rattle.plan_certificate.specs.Moves as spec;
+
+use crate::path::Path;
+use crate::state::{State, Step};
+use applications::{Advert, Weights};
+use arrayvec::ArrayVec;
+use field_tables::LaneSet;
+
+/// How many allowed paths begin at a host lane at most: one for each Application and media lane.
+pub const MAX_MOVES: usize = 120;
+
+/// An allowed path, and what its step needs: how far it leads, the media lanes that it takes, what it weighs.
+#[derive(Clone, Copy, Debug, PartialEq, Eq, Default)]
+pub struct Move {
+    pub path: Path,
+    /// How many host lanes it takes.
+    pub host_lanes: u8,
+    /// The media lanes that it takes.
+    pub media_lanes: LaneSet,
+    pub weight: u32,
+}
+
+impl Move {
+    /// Whether the state uses none of its media lanes.
+    pub fn is_open(self, state: &State) -> bool
+        ensures { result ≡ spec.is_open state.now self }
+    {
+        self.media_lanes.is_disjoint(state.used)
+    }
+
+    /// The step of its path.
+    pub fn step(self, state: &State) -> Step
+        requires { state.now.boundary + self.host_lanes ≤ 8 }
+        ensures { result ≡ spec.move_step state.now self }
+    {
+        Step {
+            weight: self.weight,
+            end: State {
+                boundary: state.boundary + self.host_lanes,
+                used: state.used.union(self.media_lanes),
+            },
+        }
+    }
+}
+
+/// The moves at the host lane after a boundary.
+#[derive(Debug, Drop)]
+pub struct Moves {
+    pub boundary: u8,
+    /// By rising Application and media lane.
+    pub all: ArrayVec<Move, MAX_MOVES>,
+    /// Of those on the same lanes one that weighs most.
+    pub heaviest: ArrayVec<Move, MAX_MOVES>,
+}
+
+impl Moves {
+    pub fn at(advert: &Advert, weights: &Weights, boundary: u8) -> Self
+        requires { boundary < 8 }
+        ensures boundary { result.boundary ≡ boundary }
+        ensures moves { AreMoves advert.now weights.now boundary result.all.items result.heaviest.items }
+    {
+        let all = moves_at(advert, weights, boundary + 1);
+        let heaviest = heaviest(all.as_slice());
+        Moves {
+            boundary,
+            all,
+            heaviest,
+        }
+    }
+
+    /// Turns to the host lane after another boundary.
+    pub fn turn_to(&mut self, advert: &Advert, weights: &Weights, boundary: u8)
+        requires boundary { boundary < 8 }
+        requires moves { AreMoves advert.now weights.now self.old.boundary self.old.all.items self.old.heaviest.items }
+        ensures boundary { self.new.boundary ≡ boundary }
+        ensures moves { AreMoves advert.now weights.now boundary self.new.all.items self.new.heaviest.items }
+    {
+        if self.boundary != boundary {
+            *self = Moves::at(advert, weights, boundary);
+        }
+    }
+}
+
+/// The moves of the allowed paths from a host lane on, by rising Application and media lane.
+pub fn moves_at(advert: &Advert, weights: &Weights, host: u8) -> ArrayVec<Move, MAX_MOVES>
+    ensures moves { result.items ≡ spec.moves_at advert.now weights.now host }
+    ensures lead_on { All (LeadsOn (host - 1)) result.items }
+{
+    let mut moves = ArrayVec::new();
+    for app in advert.apps() {
+        push_moves(&mut moves, advert, weights, host, app.number);
+    }
+    moves
+}
+
+// Those of one Application.
+fn push_moves(
+    moves: &mut ArrayVec<Move, MAX_MOVES>,
+    advert: &Advert,
+    weights: &Weights,
+    host: u8,
+    app: u8,
+)
+    requires room { length moves.old.items + 8 ≤ MAX_MOVES }
+    ensures moves { moves.new.items ≡ moves.old.items ++ spec.moves_of advert.now weights.now (paths_of_app host app) }
+    ensures few { length moves.new.items ≤ length moves.old.items + 8 }
+{
+    for before in 0..8 {
+        let path = Path {
+            app,
+            host,
+            media: before + 1,
+        };
+        if path.is_allowed(advert) {
+            let one = move_of(advert, weights, path);
+            moves.push(one);
+        }
+    }
+}
+
+fn move_of(advert: &Advert, weights: &Weights, path: Path) -> Move
+    requires { is_allowed advert.now path ≡ true }
+    ensures { result ≡ spec.move_of advert.now weights.now path }
+{
+    Move {
+        path,
+        host_lanes: path.application(advert).host_lanes,
+        media_lanes: path.media_lanes(advert),
+        weight: path.weight(advert, weights),
+    }
+}
+
+// Of moves on the same lanes one that weighs most.
+fn heaviest(moves: &[Move]) -> ArrayVec<Move, MAX_MOVES>
+    requires { length moves.now ≤ MAX_MOVES }
+    ensures { AreHeaviest moves.now result.items }
+{
+    let mut kept = ArrayVec::new();
+    for one in moves {
+        keep(&mut kept, one);
+    }
+    kept
+}
+
+// Adds a move, or puts it in the place of a lighter one on its lanes.
+fn keep(kept: &mut ArrayVec<Move, MAX_MOVES>, new: &Move)
+    requires { length kept.old.items < MAX_MOVES }
+    ensures among { All (λ one. Contains kept.old.items one ⊎ (one ≡ new.now)) kept.new.items }
+    ensures outweighed { All (IsOutweighed kept.new.items) kept.old.items }
+    ensures added { IsOutweighed kept.new.items new.now }
+    ensures few { length kept.new.items ≤ length kept.old.items + 1 }
+{
+    match place_on_lanes_of(kept.as_slice(), new) {
+        Some(place) => replace_lighter(kept.as_mut_slice(), place, new),
+        None => kept.push(*new),
+    }
+}
+
+fn replace_lighter(kept: &mut [Move], place: usize, new: &Move)
+    requires place { place < length kept.old }
+    requires lanes { HoldsAt (HasLanesOf new.now) kept.old place }
+    ensures among { All (λ one. Contains kept.old one ⊎ (one ≡ new.now)) kept.new }
+    ensures outweighed { All (IsOutweighed kept.new) kept.old }
+    ensures added { IsOutweighed kept.new new.now }
+{
+    let old = kept[place];
+    if old.weight < new.weight {
+        kept[place] = *new;
+    }
+}
+
+// Where a move on the same lanes stands.
+fn place_on_lanes_of(moves: &[Move], new: &Move) -> Option<usize>
+    ensures { IfSome result (λ place. place < length moves.now × HoldsAt (HasLanesOf new.now) moves.now place) }
+{
+    for (place, one) in moves.iter().enumerate() {
+        let (lanes, others) = (one.media_lanes.byte(), new.media_lanes.byte());
+        if one.host_lanes == new.host_lanes && lanes == others {
+            return Some(place);
+        }
+    }
+    None
+}
