@@ -14,7 +14,7 @@ use Rattle.plan_certificate.specs.Paths.{media_lanes, is_allowed, path_weight}
 use Rattle.plan_certificate.specs.States.{free_step, path_step, steps_from}
 use Rattle.plan_certificate.proofs.Heaviest.{IsKept, IsLater, LeavesEnough, allowed, bounded, each_step}
 use Rattle.plan_certificate.proofs.Lists.{map_each}
-use Rattle.lane_planner.specs.Gains.{Follow, IsGain, IsLimit, IsReached, steps_weight}
+use Rattle.lane_planner.specs.Gains.{Follow, IsGain, IsLimit, CanBeGained, steps_weight}
 use Rattle.lane_planner.proofs.RunPaths.{after_free, paths_of}
 use Rattle.lane_planner.proofs.StepKinds.{step_is}
 
@@ -37,7 +37,7 @@ limit_kept advert weights state potential limit =
 -- a step and what can be gained after it is no more than the gain
 pub covers_step : (advert : Advertised) (weights : HostWeights) (state : State) (gain later : ℕ) (step : Step) → IsGain advert weights state gain → IsGain advert weights step.end later → Contains (steps_from advert weights state) step → step.weight + later ≤ gain
 covers_step advert weights state gain later step is is_later contains =
-    let run = is_later.reached in
+    let run = is_later.gained in
     omega (arith, run.2, is.greatest (step ∷ run.0) (contains, run.1), sum_by-cons weight step run.0)
 
 limit_of : (advert : Advertised) (weights : HostWeights) (state : State) (gain : ℕ) (after : State → ℕ)
@@ -51,11 +51,11 @@ limit_of advert weights state gain after gains covered (step ∷ steps) follow =
     omega (arith, covers, rest.greatest steps follow.1, sum_by-cons weight step steps)
 
 -- a sum that some steps reach, and that covers each step and what can be gained after it, is the gain
-pub gain_from_steps : (advert : Advertised) (weights : HostWeights) (state : State) (gain : ℕ) (after : State → ℕ) → IsReached advert weights state gain
+pub gain_from_steps : (advert : Advertised) (weights : HostWeights) (state : State) (gain : ℕ) (after : State → ℕ) → CanBeGained advert weights state gain
     → All (λ step. IsGain advert weights step.end (after step.end)) (steps_from advert weights state)
     → All (λ step. step.weight + after step.end ≤ gain) (steps_from advert weights state) → IsGain advert weights state gain
-gain_from_steps advert weights state gain after reached gains covered = record {
-  reached = reached;
+gain_from_steps advert weights state gain after gained gains covered = record {
+  gained = gained;
   greatest = λ steps. limit_of advert weights state gain after gains covered steps;
 }
 
@@ -112,5 +112,5 @@ free_keeps advert weights after state below gain gains none =
     let all = steps_from advert weights state in
     let each = each_step advert weights (Contains all) state below (recursion_from_All (Contains all) all (All-contains_itself all)) in
     let covers = covers_step advert weights state (after state) (after (free_step state).end) (free_step state) gain (gains (free_step state) each.0) each.0 in
-    let upto = had_after_free advert weights after state gain gains none each.0 gain.reached.0 gain.reached.1 gain.reached.2 in
+    let upto = had_after_free advert weights after state gain gains none each.0 gain.gained.0 gain.gained.1 gain.gained.2 in
     omega (arith, covers, upto)

@@ -13,9 +13,9 @@ use Rattle.plan_certificate.specs.States.{free_step, path_step}
 use Rattle.plan_certificate.proofs.Heaviest.{Allowed, IsLater, allowed}
 use Rattle.plan_certificate.proofs.Lists.{map_each}
 use Rattle.plan_certificate.proofs.LaneRuns.{disjoint_back}
-use Rattle.plan_certificate.proofs.Picked.{AreApart, IsApart}
+use Rattle.plan_certificate.proofs.PathTakenOut.{AreApart, IsApart}
 use Rattle.lane_planner.specs.Gains.{Follow, steps_weight}
-use Rattle.lane_planner.proofs.Lanes.{runs_disjoint, disjoint_first, disjoint_second}
+use Rattle.lane_planner.proofs.DisjointLanes.{runs_disjoint, disjoint_first, disjoint_second}
 use Rattle.lane_planner.proofs.StepKinds.{step_is}
 
 pub record HasPaths (advert : Advertised) (weights : HostWeights) (state : State) (weight : ℕ) : Type 0 where

@@ -1,19 +1,19 @@
 -- What the steps from a state are: the free lane's, and those of paths that fit.
-use Rattle.std.proofs.Common.{◌≡◌, ℕ, ◌+◌, ◌<◌, ◌⊎◌, Bool, true, List, [], ◌∷◌, ◌++◌, map, filter, cond, nat_lt, refl, sym, subst, inl, inr, arith}
-use Rattle.std.specs.List.{AllByRecursion, Contains, flat_map, range_with_len}
+use Rattle.std.proofs.Common.{◌≡◌, ◌+◌, ◌<◌, ◌⊎◌, Bool, true, List, [], ◌∷◌, map, filter, cond, nat_lt, refl, sym, subst, inl, inr, arith}
+use Rattle.std.specs.List.{AllByRecursion, Contains}
 use Rattle.std.proofs.lemmas.Bool.{cases_Bool, and_parts}
 use Rattle.std.proofs.lemmas.Bool.Decides.{nat_tests}
 use Rattle.std.proofs.lemmas.List.Elements.{All-contains, All-from_recursion}
 use Rattle.field_tables.specs.LaneSets.{is_disjoint}
-use Rattle.applications.specs.declared.app.App.{App}
 use Rattle.applications.specs.Advertised.{Advertised}
 use Rattle.applications.specs.Weights.{HostWeights}
 use Rattle.plan_certificate.specs.declared.path.Path.{Path}
 use Rattle.plan_certificate.specs.declared.state.State.{State}
 use Rattle.plan_certificate.specs.declared.state.Step.{Step}
 use Rattle.plan_certificate.specs.Paths.{media_lanes, is_allowed}
-use Rattle.plan_certificate.specs.States.{fits, free_step, path_step, path_steps, paths_at, paths_of_app, steps_from}
+use Rattle.plan_certificate.specs.States.{fits, free_step, path_step, path_steps, paths_at, steps_from}
 use Rattle.plan_certificate.proofs.Lists.{map_each}
+use Rattle.plan_certificate.proofs.MoveLists.{BeginsAt, each_begins}
 
 pub record OfPath (advert : Advertised) (weights : HostWeights) (state : State) (step : Step) : Type 0 where
   pub path : Path
@@ -25,28 +25,6 @@ pub record OfPath (advert : Advertised) (weights : HostWeights) (state : State) 
 pub record IsStep (advert : Advertised) (weights : HostWeights) (state : State) (step : Step) : Type 0 where
   pub below : state.boundary < 8
   pub kind : (step ≡ free_step state) ⊎ OfPath advert weights state step
-
--- ---- the paths from a host lane on
-
-all_of_append : {X : Type 0} (P : X → Type 0) (xs ys : List X) → AllByRecursion P xs → AllByRecursion P ys → AllByRecursion P (xs ++ ys)
-all_of_append P [] ys h k = k
-all_of_append P (x ∷ xs) ys h k = (h.0, all_of_append P xs ys h.1 k)
-
-all_of_flat_map : {X Y : Type 0} (P : Y → Type 0) (f : X → List Y) (xs : List X) → ((x : X) → AllByRecursion P (f x)) → AllByRecursion P (flat_map f xs)
-all_of_flat_map P f [] h = tt
-all_of_flat_map P f (x ∷ xs) h = all_of_append P (f x) (flat_map f xs) (h x) (all_of_flat_map P f xs h)
-
-all_of_map : {X Y : Type 0} (P : Y → Type 0) (f : X → Y) (xs : List X) → ((x : X) → P (f x)) → AllByRecursion P (map f xs)
-all_of_map P f [] h = tt
-all_of_map P f (x ∷ xs) h = (h x, all_of_map P f xs h)
-
-abbrev BeginsAt : ℕ → Path → Type 0
-BeginsAt host path = path.host ≡ host
-
-pub each_begins : (advert : Advertised) (host : ℕ) → AllByRecursion (BeginsAt host) (paths_at advert host)
-each_begins advert host =
-    all_of_flat_map (BeginsAt host) (λ (app : App). paths_of_app host app.number) advert.apps
-    (λ app. all_of_map (BeginsAt host) (λ (media : ℕ). record { app = app.number; host = host; media = media }) (range_with_len 1 8) (λ media. refl))
 
 -- ---- the steps
 

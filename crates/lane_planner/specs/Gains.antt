@@ -15,8 +15,8 @@ abbrev pub steps_weight : List Step → ℕ
 steps_weight steps = sum_by (λ step. step.weight) steps
 
 -- steps that follow one another from the state weigh so much
-abbrev pub IsReached : Advertised → HostWeights → State → ℕ → Type 0
-IsReached advert weights state gain = (steps : List Step) × Follow advert weights state steps × (steps_weight steps ≡ gain)
+abbrev pub CanBeGained : Advertised → HostWeights → State → ℕ → Type 0
+CanBeGained advert weights state gain = (steps : List Step) × Follow advert weights state steps × (steps_weight steps ≡ gain)
 
 -- none weigh more
 abbrev pub IsLimit : Advertised → HostWeights → State → ℕ → Type 0
@@ -24,5 +24,5 @@ IsLimit advert weights state gain = (steps : List Step) → Follow advert weight
 
 -- the greatest weight of steps that follow one another from the state
 pub record IsGain (advert : Advertised) (weights : HostWeights) (state : State) (gain : ℕ) : Type 0 where
-  pub reached : IsReached advert weights state gain
+  pub gained : CanBeGained advert weights state gain
   pub greatest : IsLimit advert weights state gain

@@ -1,2 +1,3 @@
 pub mod Gains
+pub mod Marks
 pub mod Tables

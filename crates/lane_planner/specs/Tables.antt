@@ -1,34 +1,39 @@
 -- The planner's table of gains, by the places of states, and the plan that it reads off. (docs/planning.md, "The
 -- planner")
-use Rattle.std.specs.Prelude.{◌≡◌, ℕ, ◌+◌, ◌-◌, ◌*◌, ◌/◌, ◌%◌, ◌<◌, ◌≤◌, ◌==◌, ◌&&◌, Bool, nat_lt, List, Option, All, AllPairs, find, length, slice_index}
-use Rattle.std.specs.List.{range_with_len}
-use Rattle.field_tables.specs.LaneSets.{lanes_in}
+use Rattle.std.specs.Prelude.{◌≡◌, ℕ, Bool, ◌+◌, ◌-◌, ◌*◌, ◌/◌, ◌%◌, ◌<◌, ◌≤◌, ◌==◌, ◌&&◌, nat_lt, List, Option, All, AllPairs, Contains, find, length, slice_index}
 use Rattle.applications.specs.Advertised.{Advertised}
 use Rattle.applications.specs.Weights.{HostWeights}
 use Rattle.plan_certificate.specs.declared.path.Path.{Path}
+use Rattle.plan_certificate.specs.declared.moves.Move.{Move}
 use Rattle.plan_certificate.specs.declared.state.State.{State}
+use Rattle.plan_certificate.specs.declared.state.Step.{Step}
 use Rattle.plan_certificate.specs.declared.certificate.Entry.{Entry}
 use Rattle.plan_certificate.specs.Paths.{path_weight}
 use Rattle.plan_certificate.specs.Plans.{IsAdmissible, plan_weight}
-use Rattle.plan_certificate.specs.States.{start, fits, path_step, paths_at}
-use Rattle.plan_certificate.specs.Verdicts.{place_of_state}
+use Rattle.plan_certificate.specs.States.{start, state_at, state_place, fits, path_step, paths_at}
+use Rattle.plan_certificate.specs.ReachedStates.{IsReached}
+use Rattle.plan_certificate.specs.Moves.{is_open, move_step}
+use Rattle.plan_certificate.specs.Certificates.{HasStates, entry_place}
 use Rattle.lane_planner.specs.Gains.{IsGain}
+use Rattle.lane_planner.specs.Marks.{IsMarked}
 
--- 9 boundaries, and at each 256 sets of used media lanes
-unfoldable pub every_place : List ℕ
-every_place = range_with_len 0 2304
-
-abbrev pub state_at : ℕ → State
-state_at place = record { boundary = place / 256; used = lanes_in (place % 256) }
-
--- the gains of the states from a place on; each lane that is still to be decided adds at most a weight of 32 bits
-pub record HasGains (advert : Advertised) (weights : HostWeights) (from : ℕ) (table : List ℕ) : Type 0 where
+-- a number for each state; each lane that is still to be decided adds at most a weight of 32 bits
+pub record IsTable (table : List ℕ) : Type 0 where
   pub all : length table ≡ 2304
-  pub gains : (place : ℕ) → from ≤ place → place < 2304 → IsGain advert weights (state_at place) (slice_index table place)
-  pub small : (place : ℕ) → from ≤ place → place < 2304 → slice_index table place ≤ 4294967295 * (8 - place / 256)
+  pub small : (place : ℕ) → place < 2304 → slice_index table place ≤ 4294967295 * (8 - place / 256)
+
+-- the gains of the reached states from a place on
+pub record HasGains (advert : Advertised) (weights : HostWeights) (from : ℕ) (table : List ℕ) : Type 0 where
+  pub numbers : IsTable table
+  pub gains : (place : ℕ) → from ≤ place → place < 2304 → IsReached advert weights (state_at place) → IsGain advert weights (state_at place) (slice_index table place)
 
 abbrev pub gain_at : List ℕ → State → ℕ
-gain_at table state = slice_index table (place_of_state state)
+gain_at table state = slice_index table (state_place state)
+
+-- the most that one of the steps weighs together with what the table has where it leads
+pub record IsMost (table : List ℕ) (steps : List Step) (most : ℕ) : Type 0 where
+  pub attained : (step : Step) × Contains steps step × (step.weight + gain_at table step.end ≡ most)
+  pub greatest : All (λ step. step.weight + gain_at table step.end ≤ most) steps
 
 abbrev pub entry_at : List ℕ → ℕ → Entry
 entry_at table place = record { boundary = place / 256; used = place % 256; potential = slice_index table place }
@@ -40,6 +45,13 @@ keeps_gain advert weights table state path =
     && nat_lt 0 (path_weight advert weights path)
     && path_weight advert weights path + gain_at table (path_step advert weights state path).end == gain_at table state
 
+-- the same of a path's move
+abbrev pub move_keeps_gain : List ℕ → State → Move → Bool
+move_keeps_gain table state move =
+    is_open state move
+    && nat_lt 0 move.weight
+    && move.weight + gain_at table (move_step state move).end == gain_at table state
+
 -- the first such path, by rising Application and media lane
 unfoldable pub chosen : Advertised → HostWeights → List ℕ → State → Option Path
 chosen advert weights table state = find (keeps_gain advert weights table state) (paths_at advert (state.boundary + 1))
@@ -50,3 +62,11 @@ pub record IsReadOff (advert : Advertised) (weights : HostWeights) (table : List
   pub weighs : plan_weight advert weights paths ≡ gain_at table start
   pub rising : AllPairs (λ path later. path.host < later.host) paths
   pub weighing : All (λ path. 0 < path_weight advert weights path) paths
+
+-- the entries of the marked states before a place, and no others
+pub record AreEntries (marks : List Bool) (table : List ℕ) (upto : ℕ) (entries : List Entry) : Type 0 where
+  pub states : HasStates entries
+  pub below : All (λ entry. entry_place entry < upto) entries
+  pub marked : All (λ entry. IsMarked marks (entry_place entry) × (entry ≡ entry_at table (entry_place entry))) entries
+  pub each : (place : ℕ) → place < upto → IsMarked marks place → Contains entries (entry_at table place)
+  pub few : length entries ≤ upto

@@ -1,62 +1,34 @@
 // The path that the plan takes at a state.
-ghost use Rattle.std.specs.Prelude.{◌≡◌, ◌+◌, ◌<◌, find};
-ghost use Rattle.plan_certificate.specs.States.{paths_of_app};
-ghost use Rattle.lane_planner.specs.Tables.{HasGains};
-ghost use Rattle.lane_planner.specs.Tables as spec;
+ghost use Rattle.std.specs.Prelude.{◌≡◌, ◌+◌, ◌≤◌, ◌<◌, All, find};
+ghost use Rattle.plan_certificate.specs.Moves.{LeadsOn};
+ghost use Rattle.lane_planner.specs.Tables.{IsTable, move_keeps_gain};
 
-use applications::{Advert, Weights};
-use plan_certificate::{Path, State};
+use plan_certificate::{Move, State};
 
-/// The first path after which the state's whole gain can still be had, by rising Application and media lane.
-pub fn chosen(advert: &Advert, weights: &Weights, table: &[u64], state: &State) -> Option<Path>
-    requires gains { HasGains advert.now weights.now 0 table.now }
+/// The first move that is open, weighs something, and after which the state's whole gain can still be had.
+pub fn chosen(moves: &[Move], table: &[u64], state: &State) -> Option<Move>
+    requires table { IsTable table.now }
     requires open { state.now.boundary < 8 }
-    ensures { result ≡ spec.chosen advert.now weights.now table.now state.now }
+    requires lead_on { All (LeadsOn state.now.boundary) moves.now }
+    ensures { result ≡ find (move_keeps_gain table.now state.now) moves.now }
 {
-    for app in advert.apps() {
-        if let Some(path) = chosen_of(advert, weights, table, state, app.number) {
-            return Some(path);
+    for one in moves {
+        if keeps_gain(one, table, state) {
+            return Some(*one);
         }
     }
     None
 }
 
-// The first such path of an Application.
-fn chosen_of(
-    advert: &Advert,
-    weights: &Weights,
-    table: &[u64],
-    state: &State,
-    app: u8,
-) -> Option<Path>
-    requires gains { HasGains advert.now weights.now 0 table.now }
+fn keeps_gain(one: &Move, table: &[u64], state: &State) -> bool
+    requires table { IsTable table.now }
     requires open { state.now.boundary < 8 }
-    ensures { result ≡ find (spec.keeps_gain advert.now weights.now table.now state.now) (paths_of_app (state.now.boundary + 1) app) }
+    requires leads_on { LeadsOn state.now.boundary one.now }
+    ensures { result ≡ move_keeps_gain table.now state.now one.now }
 {
-    for before in 0..8 {
-        let path = Path {
-            app,
-            host: state.boundary + 1,
-            media: before + 1,
-        };
-        if keeps_gain(advert, weights, table, state, path) {
-            return Some(path);
-        }
-    }
-    None
-}
-
-// Whether the path fits, weighs something, and leaves the rest of the state's gain.
-fn keeps_gain(advert: &Advert, weights: &Weights, table: &[u64], state: &State, path: Path) -> bool
-    requires gains { HasGains advert.now weights.now 0 table.now }
-    requires open { state.now.boundary < 8 }
-    requires next { path.host ≡ state.now.boundary + 1 }
-    ensures { result ≡ spec.keeps_gain advert.now weights.now table.now state.now path }
-{
-    if !state.fits(path, advert) {
+    if !one.is_open(state) || one.weight == 0 {
         return false;
     }
-    let step = state.path_step(path, advert, weights);
-    let rest = table[usize::from(step.end.place())];
-    step.weight > 0 && u64::from(step.weight) + rest == table[usize::from(state.place())]
+    let rest = table[one.step(state).end.place()];
+    u64::from(one.weight) + rest == table[state.place()]
 }

@@ -1,51 +1,48 @@
-ghost use Rattle.std.specs.Prelude.{◌≡◌, ◌+◌, ◌≤◌, ◌<◌, ◌-◌, ◌*◌, ◌/◌};
-ghost use Rattle.lane_planner.specs.Gains.{IsGain};
-ghost use Rattle.lane_planner.specs.Tables.{HasGains};
-ghost use Rattle.lane_planner.specs.Tables as spec;
+// What can still be gained from the states that are reached.
+ghost use Rattle.std.specs.Prelude.{◌≡◌, ◌+◌, ◌≤◌, ◌<◌, ◌-◌, ◌*◌, All};
+ghost use Rattle.plan_certificate.specs.Moves.{LeadsOn, steps_by};
+ghost use Rattle.lane_planner.specs.Marks.{MarksReached};
+ghost use Rattle.lane_planner.specs.Tables.{HasGains, IsMost, IsTable};
 
 use applications::{Advert, Weights};
-use field_tables::LaneSet;
-use plan_certificate::{State, steps_from};
+use plan_certificate::{HOST_LANES, Move, Moves, STATES, State};
 
-/// How many states there are: at each of 9 boundaries, 256 sets of used media lanes.
-pub const STATES: usize = 2304;
-
-/// What can still be gained from each state, by its place.
-pub fn gains_of(advert: &Advert, weights: &Weights) -> [u64; STATES]
+/// The gains of the marked states, by their places.
+pub fn gains_of(advert: &Advert, weights: &Weights, marks: &[bool]) -> [u64; STATES]
+    requires { MarksReached advert.now weights.now marks.now }
     ensures { HasGains advert.now weights.now 0 result }
 {
     let mut table = [0; STATES];
-    for place in (0..STATES).rev() {
-        table[place] = gain_from(advert, weights, &table, place);
+    for boundary in (0..HOST_LANES).rev() {
+        let moves = Moves::at(advert, weights, boundary);
+        for used in (0..256usize).rev() {
+            let place = 256 * usize::from(boundary) + used;
+            if marks[place] {
+                let state = State::at(place);
+                table[place] = most(moves.heaviest.as_slice(), &table, &state);
+            }
+        }
     }
     table
 }
 
-// What can be gained from the state at a place, by the gains of the later ones.
-fn gain_from(advert: &Advert, weights: &Weights, table: &[u64], place: usize) -> u64
-    requires place { place < STATES }
-    requires later { HasGains advert.now weights.now (place + 1) table.now }
-    ensures gain { IsGain advert.now weights.now (spec.state_at place) result }
-    ensures small { result ≤ 4294967295 * (8 - place / 256) }
+// The most that a step from the state weighs together with what can be gained where it leads.
+fn most(moves: &[Move], table: &[u64], state: &State) -> u64
+    requires table { IsTable table.now }
+    requires open { state.now.boundary < 8 }
+    requires lead_on { All (LeadsOn state.now.boundary) moves.now }
+    ensures most { IsMost table.now (steps_by state.now moves.now) result }
+    ensures small { result ≤ 4294967295 * (8 - state.now.boundary) }
 {
-    let state = state_at(place);
-    let steps = steps_from(advert, weights, state);
-    let mut gain = 0;
-    for step in steps.as_slice() {
-        let through = u64::from(step.weight) + table[usize::from(step.end.place())];
-        if gain < through {
-            gain = through;
+    let free = state.free_step().end;
+    let mut most = table[free.place()];
+    for one in moves {
+        if one.is_open(state) {
+            let through = u64::from(one.weight) + table[one.step(state).end.place()];
+            if most < through {
+                most = through;
+            }
         }
     }
-    gain
-}
-
-fn state_at(place: usize) -> State
-    requires { place < STATES }
-    ensures { result ≡ spec.state_at place }
-{
-    State {
-        boundary: (place / 256) as u8,
-        used: LaneSet::from((place % 256) as u8),
-    }
+    most
 }

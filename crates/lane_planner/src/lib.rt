@@ -4,8 +4,8 @@
 mod choices;
 mod gains;
 mod planner;
+mod reached;
 
-pub use gains::STATES;
 pub use planner::plan;
 
 #[cfg(test)]

@@ -1,4 +1,4 @@
-use crate::{STATES, plan};
+use crate::plan;
 use applications::{Advert, Weights};
 use paged_memory::Image;
 use plan_certificate::{Path, Verdict, check};
@@ -54,6 +54,28 @@ const SWAPPED: [&str; 3] = ["0101110102021101ff00", "0201", "0a"];
 // One lane each, anywhere.
 const SINGLE: [&str; 3] = ["010111ffff0000000000", "ff00", "06"];
 
+// One of 8 host and 8 media lanes.
+const WHOLE: [&str; 3] = ["111c8801ff0000000000", "0100", "08"];
+
+#[test]
+fn reached_states_alone_have_entries(rt: HostRuntime) -> Result<(), Fail> {
+    let alloc = rt.alloc();
+    let rows: [([&str; 3], &str, usize); 4] = [
+        (DR4, "11h = 400\n0Dh = 101", 80),
+        (DR4, "", 80),
+        (SINGLE, "01h = 4294967295", 1280),
+        (WHOLE, "11h = 5", 10),
+    ];
+    for (bytes, listed, states) in rows {
+        let advert = advert(alloc, bytes)?;
+        let text = format!(in alloc; "[host]\n{listed}\n")?;
+        let weights = Weights::read(alloc, text.as_bytes())?;
+        let certificate = plan(&advert, &weights);
+        assert_eq!(rt; certificate.entries.len(), states, "{listed}");
+    }
+    Ok(())
+}
+
 #[test]
 fn a_plan_weighs_most_and_is_first(rt: HostRuntime) -> Result<(), Fail> {
     let alloc = rt.alloc();
@@ -92,7 +114,6 @@ fn a_plan_weighs_most_and_is_first(rt: HostRuntime) -> Result<(), Fail> {
             "{listed}"
         );
         assert_eq!(rt; certificate.weight, weight, "{listed}");
-        assert_eq!(rt; certificate.entries.len(), STATES, "{listed}");
         assert_eq!(rt; certificate.plan.paths.len(), paths.len(), "{listed}");
         for (path, [app, host, media]) in certificate.plan.paths.as_slice().iter().zip(paths) {
             let expected = Path {

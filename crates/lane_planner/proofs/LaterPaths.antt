@@ -1,11 +1,5 @@
 -- Plans that grow by a path at a later host lane: what is kept.
-use Rattle.std.proofs.Common.{◌≡◌, ℕ, ◌+◌, ◌<◌, ◌≤◌, ◌&&◌, true, List, [], ◌∷◌, ◌++◌, length, get_or, sym, subst, ap, ◌∙◌, inl, inr, arith}
-use Rattle.std.specs.List.{All, AllPairs}
-use Rattle.std.proofs.Math.ListN.{get_or-append}
-use Rattle.std.proofs.Math.Seq.{get_or-append_seam}
-use Rattle.std.proofs.lemmas.Bool.{cases_lt}
-use Rattle.std.proofs.lemmas.List.{length-append}
-use Rattle.std.proofs.lemmas.List.Elements.{All-append, All-from_recursion}
+use Rattle.std.proofs.Common.{◌≡◌, ℕ, ◌+◌, ◌<◌, ◌≤◌, ◌&&◌, true, List, [], ◌∷◌, ◌++◌, arith}
 use Rattle.std.proofs.lemmas.List.Sums.{sum_by-append, sum_by-cons}
 use Rattle.field_tables.specs.LaneSets.{Lanes, is_disjoint}
 use Rattle.applications.specs.Advertised.{Advertised}
@@ -17,26 +11,7 @@ use Rattle.plan_certificate.specs.Plans.{are_apart, plan_weight}
 use Rattle.plan_certificate.specs.States.{free_step, path_step}
 use Rattle.plan_certificate.proofs.Heaviest.{allowed}
 use Rattle.plan_certificate.proofs.LaneRuns.{disjoint_back}
-use Rattle.lane_planner.proofs.Lanes.{runs_disjoint, disjoint_first, disjoint_second}
-
--- ---- pairs of a list that grows at its end
-
-pub pairs_more : {X : Type 0} (R : X → X → Type 0) (xs : List X) (x : X) → AllPairs R xs → All (λ y. R y x) xs → AllPairs R (xs ++ x ∷ [])
-pairs_more {X} R xs x pairs last i j d before below =
-    let total : length (xs ++ x ∷ []) ≡ length xs + 1 = length-append xs (x ∷ []) in
-    let first : get_or (xs ++ x ∷ []) i d ≡ get_or xs i d = get_or-append xs (x ∷ []) d i (omega (arith, before, below, total)) in
-    elim (cases_lt j (length xs)) [
-      | inl within ↦
-          let second : get_or (xs ++ x ∷ []) j d ≡ get_or xs j d = get_or-append xs (x ∷ []) d j within in
-          subst (λ (y : X). R y (get_or (xs ++ x ∷ []) j d)) (sym first) (subst (R (get_or xs i d)) (sym second) (pairs i j d before within))
-      | inr past ↦
-          let end : j ≡ length xs = omega (arith, past, below, total) in
-          let second : get_or (xs ++ x ∷ []) j d ≡ x = ap (λ (n : ℕ). get_or (xs ++ x ∷ []) n d) end ∙ get_or-append_seam xs x [] d in
-          subst (λ (y : X). R y (get_or (xs ++ x ∷ []) j d)) (sym first) (subst (R (get_or xs i d)) (sym second) (last i d (omega (arith, before, end))))
-    ]
-
-pub all_more : {X : Type 0} (P : X → Type 0) (xs : List X) (x : X) → All P xs → P x → All P (xs ++ x ∷ [])
-all_more P xs x all last = All-append P xs (x ∷ []) all (All-from_recursion P (x ∷ []) (last, tt))
+use Rattle.lane_planner.proofs.DisjointLanes.{runs_disjoint, disjoint_first, disjoint_second}
 
 -- ---- the paths before a state
 

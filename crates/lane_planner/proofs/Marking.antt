@@ -1,0 +1,102 @@
+-- Marking states from the start on: what is marked is what steps from the start reach.
+use Rattle.std.proofs.Common.{◌≡◌, ℕ, ◌+◌, ◌<◌, ◌≤◌, Bool, true, false, List, [], ◌∷◌, ◌++◌, length, get_or, refl, sym, subst, ap, ◌∙◌, inl, inr, arith}
+use Rattle.std.specs.List.{Contains}
+use Rattle.std.proofs.Common.{get_or-set_same, get_or-set_other}
+use Rattle.std.proofs.Math.ListN.{set, length-set}
+use Rattle.std.proofs.lemmas.Bool.{cases_eq}
+use Rattle.std.proofs.lemmas.List.Elements.{Contains-append_left, Contains-push, Contains-push_cases}
+use Rattle.applications.specs.Advertised.{Advertised}
+use Rattle.applications.specs.Weights.{HostWeights}
+use Rattle.plan_certificate.specs.declared.state.State.{State}
+use Rattle.plan_certificate.specs.declared.state.Step.{Step}
+use Rattle.plan_certificate.specs.States.{start, state_at, state_place, steps_from}
+use Rattle.plan_certificate.specs.ReachedStates.{IsReached, Leads}
+use Rattle.plan_certificate.proofs.ByteLanes.{IsByte, start_is_byte}
+use Rattle.lane_planner.specs.Marks.{AreMarks, IsMarked, MarksEnds}
+use Rattle.lane_planner.proofs.StepEnds.{at_is_byte, ends_later, place_past}
+use Rattle.lane_planner.proofs.Places.{place_below, start_place, state_of_place}
+use Rattle.lane_planner.proofs.ReachedStates.{reached_on}
+
+-- ---- the ends of one state's steps
+
+pub one_marked : (steps : List Step) (step : Step) (place : ℕ) (marks more : List Bool) → MarksEnds steps marks more → place ≡ state_place step.end → place < length more → MarksEnds (steps ++ step ∷ []) marks (set more place true)
+one_marked steps step place marks more are is within =
+    let here : get_or (set more place true) place false ≡ true = get_or-set_same more place true false within in
+    let keeps : (other : ℕ) → IsMarked more other → IsMarked (set more place true) other = (λ other marked.
+    elim (cases_eq other place) [
+      | inl same ↦ subst (IsMarked (set more place true)) (sym same) here
+      | inr differs ↦ get_or-set_other more place other true false differs ∙ marked
+    ]) in
+    record {
+      all = length-set more place true ∙ are.all;
+      ends = λ one contains. elim (Contains-push_cases steps step one contains) [
+        | inl before ↦ keeps (state_place one.end) (are.ends one before)
+        | inr same ↦ subst (IsMarked (set more place true)) (is ∙ ap (λ (s : Step). state_place s.end) same) here
+      ];
+      kept = λ other marked. keeps other (are.kept other marked);
+      only = λ other marked. elim (cases_eq other place) [
+        | inl same ↦ inr (step, Contains-push steps step, sym is ∙ sym same)
+        | inr differs ↦ elim (are.only other (sym (get_or-set_other more place other true false differs) ∙ marked)) [
+          | inl before ↦ inl before
+          | inr ends ↦ inr (ends.0, Contains-append_left steps (step ∷ []) ends.0 ends.1, ends.2)
+        ]
+      ];
+    }
+
+pub none_marked : (marks : List Bool) → MarksEnds [] marks marks
+none_marked marks = record {
+  all = refl;
+  ends = λ one contains. absurd (omega (arith, contains.1));
+  kept = λ other marked. marked;
+  only = λ other marked. inl marked;
+}
+
+-- one place further, where its state isn't marked
+pub marks_past : (advert : Advertised) (weights : HostWeights) (place : ℕ) (marks : List Bool) → AreMarks advert weights place marks → (IsMarked marks place → ⊥) → AreMarks advert weights (place + 1) marks
+marks_past advert weights place marks are not = record {
+  all = are.all;
+  begun = are.begun;
+  sound = are.sound;
+  closed = λ other low marked.
+      elim (cases_eq other place) [
+        | inl same ↦ absurd (not (subst (IsMarked marks) same marked))
+        | inr differs ↦ are.closed other (omega (arith, low, differs)) marked
+      ];
+}
+
+-- and where it is, and the ends of its steps have been marked
+pub marks_more : (advert : Advertised) (weights : HostWeights) (place : ℕ) (marks more : List Bool) → AreMarks advert weights place marks → place < 2304 → IsMarked marks place → MarksEnds (steps_from advert weights (state_at place)) marks more → AreMarks advert weights (place + 1) more
+marks_more advert weights place marks more are below marked new =
+    let late : (step : Step) → Contains (steps_from advert weights (state_at place)) step → place + 1 ≤ state_place step.end = (λ step contains.
+    place_past place step.end (ends_later advert weights (state_at place) step (at_is_byte place) contains).past) in
+    record {
+      all = new.all ∙ are.all;
+      begun = new.kept 0 are.begun;
+      sound = λ other within is. elim (new.only other is) [
+        | inl before ↦ are.sound other within before
+        | inr ends ↦
+            let byte = (ends_later advert weights (state_at place) ends.0 (at_is_byte place) ends.1).is_byte in
+            let state : state_at other ≡ ends.0.end = ap state_at (sym ends.2) ∙ state_of_place ends.0.end byte in
+            subst (IsReached advert weights) (sym state) (reached_on advert weights (state_at place) ends.0 (are.sound place below marked) ends.1)
+      ];
+      closed = λ other low is step contains. elim (new.only other is) [
+        | inr ends ↦ absurd (omega (arith, late ends.0 ends.1, ends.2, low))
+        | inl before ↦ elim (cases_eq other place) [
+          | inl same ↦ new.ends step (subst (λ (n : ℕ). Contains (steps_from advert weights (state_at n)) step) same contains)
+          | inr differs ↦ new.kept (state_place step.end) (are.closed other (omega (arith, low, differs)) before step contains)
+        ]
+      ];
+    }
+
+-- at the end each reached state is marked
+reached_from : (advert : Advertised) (weights : HostWeights) (marks : List Bool) → AreMarks advert weights 2304 marks → (steps : List Step) (from state : State) → IsByte from.used → from.boundary ≤ 8 → IsMarked marks (state_place from) → Leads advert weights from steps state → IsMarked marks (state_place state)
+reached_from advert weights marks are [] from state is_byte within marked leads = subst (λ (s : State). IsMarked marks (state_place s)) leads marked
+reached_from advert weights marks are (step ∷ steps) from state is_byte within marked leads =
+    let ends = ends_later advert weights from step is_byte leads.0 in
+    let at : state_at (state_place from) ≡ from = state_of_place from is_byte in
+    let contains = subst (λ (s : State). Contains (steps_from advert weights s) step) (sym at) leads.0 in
+    reached_from advert weights marks are steps step.end state ends.is_byte ends.within (are.closed (state_place from) (place_below from within) marked step contains) leads.1
+
+pub all_marked : (advert : Advertised) (weights : HostWeights) (marks : List Bool) (state : State) → AreMarks advert weights 2304 marks → IsReached advert weights state → IsMarked marks (state_place state)
+all_marked advert weights marks state are is =
+    reached_from advert weights marks are is.0 start state start_is_byte (omega arith) (subst (IsMarked marks) (sym start_place) are.begun) is.1

@@ -1,0 +1,31 @@
+-- The steps of a list of moves, as the list grows.
+use Rattle.std.proofs.Common.{◌≡◌, ℕ, suc, ◌+◌, ◌<◌, Bool, true, false, List, [], ◌∷◌, ◌++◌, length, map, filter, take, get_or, cond, ap, ◌∙◌, append-nil, arith}
+use Rattle.std.proofs.Math.Seq.{take-suc}
+use Rattle.std.proofs.lemmas.List.{map-append}
+use Rattle.std.proofs.lemmas.List.Elements.{filter-append}
+use Rattle.plan_certificate.specs.declared.state.State.{State}
+use Rattle.plan_certificate.specs.declared.moves.Move.{Move}
+use Rattle.plan_certificate.specs.Moves.{is_open, move_step, move_steps}
+
+of_both : (state : State) (moves more : List Move) → move_steps state (moves ++ more) ≡ move_steps state moves ++ move_steps state more
+of_both state moves more =
+    ap (map (move_step state)) (filter-append (is_open state) moves more) ∙ map-append (move_step state) (filter (is_open state) moves) (filter (is_open state) more)
+
+one_more : (moves : List Move) (k : ℕ) (move : Move) → k < length moves → move ≡ get_or moves k move → take (k + 1) moves ≡ take k moves ++ move ∷ []
+one_more moves k move below is =
+    let one : k + 1 ≡ suc k = omega arith in
+    let split = take-suc moves k move below in
+    cc
+
+pub open_more : (state : State) (moves : List Move) (k : ℕ) (move : Move) → k < length moves → move ≡ get_or moves k move → is_open state move ≡ true → move_steps state (take (k + 1) moves) ≡ move_steps state (take k moves) ++ move_step state move ∷ []
+open_more state moves k move below is open_there =
+    ap (move_steps state) (one_more moves k move below is)
+    ∙ of_both state (take k moves) (move ∷ [])
+    ∙ ap (λ (b : Bool). move_steps state (take k moves) ++ map (move_step state) (cond b (move ∷ []) [])) open_there
+
+pub shut_more : (state : State) (moves : List Move) (k : ℕ) (move : Move) → k < length moves → move ≡ get_or moves k move → is_open state move ≡ false → move_steps state (take (k + 1) moves) ≡ move_steps state (take k moves)
+shut_more state moves k move below is shut =
+    ap (move_steps state) (one_more moves k move below is)
+    ∙ of_both state (take k moves) (move ∷ [])
+    ∙ ap (λ (b : Bool). move_steps state (take k moves) ++ map (move_step state) (cond b (move ∷ []) [])) shut
+    ∙ append-nil (move_steps state (take k moves))

@@ -1,0 +1,40 @@
+-- Where the steps from a state lead.
+use Rattle.std.proofs.Common.{ℕ, ◌+◌, ◌/◌, ◌%◌, ◌<◌, ◌≤◌, refl, ap, inl, inr, arith}
+use Rattle.std.specs.List.{Contains}
+use Rattle.std.proofs.lemmas.List.Elements.{All-contains, All-from_recursion}
+use Rattle.applications.specs.Advertised.{Advertised}
+use Rattle.applications.specs.Weights.{HostWeights}
+use Rattle.plan_certificate.specs.declared.state.State.{State}
+use Rattle.plan_certificate.specs.declared.state.Step.{Step}
+use Rattle.plan_certificate.specs.States.{state_at, state_place, steps_from}
+use Rattle.plan_certificate.proofs.ByteLanes.{IsByte, each_end_is_byte}
+use Rattle.plan_certificate.proofs.Heaviest.{allowed}
+use Rattle.lane_planner.proofs.StepKinds.{step_is}
+
+pub at_is_byte : (place : ℕ) → IsByte (state_at place).used
+at_is_byte place = record { byte = place % 256; below = omega arith; is = refl }
+
+-- a step leads past the boundary, and to a state that a byte tells
+pub record EndsLater (state : State) (step : Step) : Type 0 where
+  pub past : state.boundary < step.end.boundary
+  pub within : step.end.boundary ≤ 8
+  pub is_byte : IsByte step.end.used
+
+pub ends_later : (advert : Advertised) (weights : HostWeights) (state : State) (step : Step) → IsByte state.used → Contains (steps_from advert weights state) step → EndsLater state step
+ends_later advert weights state step is_byte contains =
+    let steps = steps_from advert weights state in
+    let byte = All-contains (λ (s : Step). IsByte s.end.used) steps step (All-from_recursion (λ (s : Step). IsByte s.end.used) steps (each_end_is_byte advert weights state is_byte)) contains in
+    let is = step_is advert weights state step contains in
+    elim (is.kind) [
+      | inl free ↦
+          let end = ap (λ (s : Step). s.end.boundary) free in
+          record { past = omega (arith, end); within = omega (arith, end, is.below); is_byte = byte }
+      | inr taken ↦
+          let end = ap (λ (s : Step). s.end.boundary) taken.is in
+          let lanes = allowed advert taken.path taken.can in
+          record { past = omega (arith, end, lanes.host_some); within = omega (arith, end, taken.begins, lanes.host_to); is_byte = byte }
+    ]
+
+-- the place of a state with a higher boundary is higher
+pub place_past : (place : ℕ) (state : State) → place / 256 < state.boundary → place + 1 ≤ state_place state
+place_past place state past = omega (arith, past)

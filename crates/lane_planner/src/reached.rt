@@ -1,0 +1,45 @@
+// Which states steps from the start reach.
+ghost use Rattle.std.specs.Prelude.{◌≡◌, ◌≤◌, ◌<◌, ◌+◌, All, length};
+ghost use Rattle.plan_certificate.specs.Moves.{LeadsOn, steps_by};
+ghost use Rattle.lane_planner.specs.Marks.{MarksEnds, MarksReached};
+
+use applications::{Advert, Weights};
+use plan_certificate::{HOST_LANES, Move, Moves, STATES, State};
+
+/// Marks, by their places, the states that steps from the start reach.
+pub fn reached(advert: &Advert, weights: &Weights) -> [bool; STATES]
+    ensures { MarksReached advert.now weights.now result }
+{
+    let mut marks = [false; STATES];
+    marks[0] = true;
+    for boundary in 0..HOST_LANES {
+        let moves = Moves::at(advert, weights, boundary);
+        for used in 0..256usize {
+            let place = 256 * usize::from(boundary) + used;
+            if marks[place] {
+                let state = State::at(place);
+                mark_ends(&mut marks, moves.heaviest.as_slice(), &state);
+            }
+        }
+    }
+    marks
+}
+
+// Marks where the steps from a state lead.
+fn mark_ends(marks: &mut [bool], moves: &[Move], state: &State)
+    requires all { length marks.old ≡ STATES }
+    requires open { state.now.boundary < 8 }
+    requires lead_on { All (LeadsOn state.now.boundary) moves.now }
+    ensures { MarksEnds (steps_by state.now moves.now) marks.old marks.new }
+{
+    let free = state.free_step().end;
+    let place = free.place();
+    marks[place] = true;
+    for one in moves {
+        if one.is_open(state) {
+            let end = one.step(state).end;
+            let place = end.place();
+            marks[place] = true;
+        }
+    }
+}
