@@ -1,3 +1,5 @@
+use bus_model::BusFault;
+use text_lines::{Spelled, Spelling};
 use thiserror::Error;
 
 /// Why control bytes are refused.
@@ -6,4 +8,44 @@ pub enum ControlFault {
     /// They are no host paths: this is the lowest lane that can't be in a path as it says.
     #[error("host lane {0} is not in a path as it says")]
     NotPaths(u8),
+}
+
+/// Why a procedure ended without success. Lanes are counted from 1; of several that apply, the lowest is named.
+#[derive(Clone, Copy, Debug, PartialEq, Eq, Error)]
+#[error("the procedure did not succeed")]
+pub enum ProvisionFault {
+    /// The configuration of the lane was rejected, with this status code.
+    Rejected(u8, u8),
+    /// The control byte of the lane reads back as another one than was staged.
+    StagedDiffers(u8),
+    /// The active control byte of the lane is another one.
+    ActiveDiffers(u8),
+    /// As many steps were made as may be, without another answer.
+    GaveUp,
+    /// The bus made no transaction more.
+    Bus(BusFault),
+    /// The module is in the state with this code, and not in ModuleReady.
+    ModuleState(u8),
+    /// No state, or no status, has this code.
+    Reserved(u8),
+}
+
+impl Spelled for ProvisionFault {
+    ghost use Rattle.control_sets.specs.FaultWords.{provision_fault_words};
+
+    ghost words = { provision_fault_words };
+
+    ghost most = { 3 };
+
+    fn spelling(&self) -> Spelling {
+        match self {
+            ProvisionFault::Rejected(lane, status) => Spelling::of("PV1").and(lane).and(status),
+            ProvisionFault::StagedDiffers(lane) => Spelling::of("PV2").and(lane),
+            ProvisionFault::ActiveDiffers(lane) => Spelling::of("PV3").and(lane),
+            ProvisionFault::GaveUp => Spelling::of("PV4"),
+            ProvisionFault::Bus(fault) => Spelling::of("PV5").and(fault),
+            ProvisionFault::ModuleState(code) => Spelling::of("PV6").and(code),
+            ProvisionFault::Reserved(code) => Spelling::of("PV7").and(code),
+        }
+    }
 }

@@ -59,7 +59,8 @@ fn all_agree(bytes: &[u8; 8], first: u8, lane: u8) -> bool
     (first..lane + 1).all(|other| agree(bytes, lane, other))
 }
 
-fn agree(bytes: &[u8; 8], lane: u8, other: u8) -> bool
+/// Whether two lanes are told the same, but for ExplicitControl.
+pub fn agree(bytes: &[u8; 8], lane: u8, other: u8) -> bool
     requires lane { IsLane lane }
     requires other { IsLane other }
     ensures { result ≡ agree bytes.now lane other }
@@ -67,7 +68,8 @@ fn agree(bytes: &[u8; 8], lane: u8, other: u8) -> bool
     control_at(bytes, lane) == control_at(bytes, other)
 }
 
-fn control_at(bytes: &[u8; 8], lane: u8) -> ControlByte
+/// What a lane is told.
+pub fn control_at(bytes: &[u8; 8], lane: u8) -> ControlByte
     requires { IsLane lane }
     ensures { result ≡ control_at bytes.now lane }
 {

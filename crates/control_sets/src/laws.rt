@@ -1,5 +1,5 @@
 //! What holds of control bytes, over all plans. Each function is a theorem: its contract says it, and its body is empty.
-ghost use Rattle.std.specs.Prelude.{◌≡◌, ℕ, ◌≤◌, List, None, All, Any, IsTrue, length};
+ghost use Rattle.std.specs.Prelude.{◌≡◌, ℕ, ◌≤◌, List, None, All, Any, IsTrue, length, ◌+◌, [], ◌∷◌, Ok, Err, false};
 ghost use Rattle.applications.specs.Advertised.{Advertised, InOrder};
 ghost use Rattle.plan_certificate.specs.declared.path.Path.{Path};
 ghost use Rattle.plan_certificate.specs.Plans.{IsAdmissible};
@@ -7,6 +7,21 @@ ghost use Rattle.control_sets.specs.ControlBytes.{control_bytes};
 ghost use Rattle.control_sets.specs.HostPaths.{IsLane, control_at, host_paths, is_used, wrong_lane};
 ghost use Rattle.control_sets.specs.LanesOfPaths.{IsOnLane, TakesWhatAgrees};
 ghost use Rattle.control_sets.specs.PlanPaths.{AreHostPathsOf};
+ghost use Rattle.bus_model.specs.declared.bus.BusFault.TheVariants.{TraceFull};
+ghost use Rattle.bus_model.specs.declared.operation.Step.{Step};
+ghost use Rattle.field_tables.specs.LaneSets.{byte_of, every_lane, Lanes};
+ghost use Rattle.control_sets.specs.declared.fault.ProvisionFault.TheVariants.{ActiveDiffers, Bus, GaveUp, ModuleState, Reserved, StagedDiffers};
+ghost use Rattle.control_sets.specs.SameOperation.{same_op};
+ghost use Rattle.control_sets.specs.Pages.{selection, History};
+ghost use Rattle.control_sets.specs.OutcomeSteps.{IsAccepted, Stands};
+ghost use Rattle.control_sets.specs.OutcomeOperations.{apply, control_page, read_active, read_module_state, read_staged, read_statuses, stage};
+ghost use Rattle.control_sets.specs.OutcomeExamples.{almost_pairs, gave, low_power, on_controls, on_status_at_once, other_bank, pairs, ready, refused, refused_selection, repeated_selection, took};
+ghost use Rattle.control_sets.specs.Tasks.{activation, provisioning};
+ghost use Rattle.control_sets.specs.Procedures.{HasEnded};
+ghost use Rattle.control_sets.specs.OutcomeAnswers.{Answer};
+ghost use Rattle.control_sets.specs.OutcomeOfProvisioning.{IsProvisioning};
+ghost use Rattle.control_sets.specs.OutcomeOfActivation.{IsActivation};
+ghost use Rattle.control_sets.specs.OutcomeSuccess.{ReadsActive};
 
 use applications::MAX_APPS;
 
@@ -27,4 +42,75 @@ pub fn plans_are_read_back()
     ensures paths { (advert : Advertised) (paths : List Path) →
         InOrder advert.apps → length advert.apps ≤ MAX_APPS → IsAdmissible advert paths →
         AreHostPathsOf advert paths (host_paths (control_bytes advert paths)) }
+{}
+
+/// Where provisioning succeeds, its last step has read the control bytes as active, on a confirmed page 11h.
+pub fn a_success_was_read()
+    ensures { (control : List ℕ) (lanes : Lanes) (made room : ℕ) (history : History) (steps : ℕ) →
+        IsProvisioning control lanes (made ≡ room) history (Ok steps) → ReadsActive control history }
+{}
+
+/// Procedures that were told their replies, without a bus, have the outcomes of provisioning and activation.
+pub fn procedures_have_their_outcomes()
+    ensures provisioning { (control : List ℕ) (lanes : Lanes) (made room : ℕ) (history : History) (answer : Answer) →
+        length control ≡ 8 → HasEnded (provisioning control lanes) history answer →
+        IsProvisioning control lanes (made ≡ room) history answer }
+    ensures activation { (control : List ℕ) (lanes : Lanes) (made room : ℕ) (history : History) (answer : Answer) →
+        length control ≡ 8 → HasEnded (activation control lanes) history answer →
+        IsActivation control lanes (made ≡ room) history answer }
+{}
+
+/// Steps and answers that look right, and are no provisioning whatever the control bytes, the lanes and the bus.
+pub fn what_provisioning_refuses()
+    ensures success_of_nothing { (control : List ℕ) (lanes : Lanes) (made room : ℕ) →
+        ¬ (IsProvisioning control lanes (made ≡ room) [] (Ok 0)) }
+    ensures success_by_another_read { (control : List ℕ) (lanes : Lanes) (made room : ℕ) (step : Step)
+        (before : History) (steps : ℕ) → same_op step.op read_active ≡ false →
+        ¬ (IsProvisioning control lanes (made ≡ room) (step ∷ before) (Ok steps)) }
+    ensures other_count { (control : List ℕ) (lanes : Lanes) (made room : ℕ) (history : History) →
+        ¬ (IsProvisioning control lanes (made ≡ room) history (Ok (length history + 1))) }
+    ensures early_giving_up { (control : List ℕ) (lanes : Lanes) (made room : ℕ) (step : Step) →
+        ¬ (IsProvisioning control lanes (made ≡ room) (step ∷ []) (Err GaveUp)) }
+    ensures store_on_unread_page { (control : List ℕ) (lanes : Lanes) (made room : ℕ) (answer : Answer) →
+        let history = took (stage control) ∷ took (selection control_page) ∷ ready ∷ [] in
+        ¬ (IsProvisioning control lanes (made ≡ room) history answer) }
+    ensures unread_selection { (control : List ℕ) (lanes : Lanes) (made room : ℕ) (answer : Answer) →
+        let history = took (selection control_page) ∷ took (selection control_page) ∷ ready ∷ [] in
+        ¬ (IsProvisioning control lanes (made ≡ room) history answer) }
+    ensures selection_of_confirmed_page { (control : List ℕ) (lanes : Lanes) (made room : ℕ) (answer : Answer) →
+        ¬ (IsProvisioning control lanes (made ≡ room) (took (selection control_page) ∷ on_controls) answer) }
+    ensures store_before_ready { (control : List ℕ) (lanes : Lanes) (made room : ℕ) (answer : Answer) →
+        let history = took (selection control_page) ∷ refused read_module_state ∷ [] in
+        ¬ (IsProvisioning control lanes (made ≡ room) history answer) }
+    ensures repeated_answered_read { (control : List ℕ) (lanes : Lanes) (made room : ℕ) (answer : Answer) →
+        ¬ (IsProvisioning control lanes (made ≡ room) (ready ∷ ready ∷ []) answer) }
+    ensures refused_apply_believed { (control : List ℕ) (lanes : Lanes) (made room : ℕ) (step : Step)
+        (before : History) (answer : Answer) → step.op ≡ read_statuses → ¬ (Stands (IsAccepted (apply (byte_of lanes))) before) →
+        ¬ (IsProvisioning control lanes (made ≡ room) (step ∷ before) answer) }
+    ensures highest_lane { (lanes : Lanes) (made room : ℕ) (before : History) →
+        ¬ (IsProvisioning pairs lanes (made ≡ room) (gave read_staged almost_pairs ∷ before) (Err (StagedDiffers 5))) }
+{}
+
+/// Steps and answers that are provisioning and activation, where the bus has room for so many steps as there are.
+pub fn what_procedures_may_do()
+    ensures no_room { (room : ℕ) → IsProvisioning pairs every_lane (room ≡ room) [] (Err (Bus TraceFull)) }
+    ensures low_power { (made room : ℕ) →
+        IsProvisioning pairs every_lane (made ≡ room) (low_power ∷ []) (Err (ModuleState 1)) }
+    ensures refused_reads { (made room : ℕ) →
+        let history = low_power ∷ refused read_module_state ∷ refused read_module_state ∷ [] in
+        IsProvisioning pairs every_lane (made ≡ room) history (Err (ModuleState 1)) }
+    ensures reserved_state { (made room : ℕ) →
+        IsProvisioning pairs every_lane (made ≡ room) (gave read_module_state (0x0E ∷ []) ∷ []) (Err (Reserved 7)) }
+    ensures selected { (room : ℕ) →
+        IsProvisioning pairs every_lane (room ≡ room) on_controls (Err (Bus TraceFull)) }
+    ensures refused_selection { (room : ℕ) →
+        IsProvisioning pairs every_lane (room ≡ room) refused_selection (Err (Bus TraceFull)) }
+    ensures repeated_selection { (room : ℕ) →
+        IsProvisioning pairs every_lane (room ≡ room) repeated_selection (Err (Bus TraceFull)) }
+    ensures other_bank { (room : ℕ) →
+        IsProvisioning pairs every_lane (room ≡ room) other_bank (Err (Bus TraceFull)) }
+    ensures activation_without_room { (room : ℕ) →
+        IsActivation pairs every_lane (room ≡ room) on_status_at_once (Err (Bus TraceFull)) }
+    ensures active_differs { (made room : ℕ) →
+        IsActivation pairs every_lane (made ≡ room) (gave read_active almost_pairs ∷ on_status_at_once) (Err (ActiveDiffers 2)) }
 {}

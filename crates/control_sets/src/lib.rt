@@ -1,4 +1,5 @@
-//! The control bytes of a control set: those of a plan, and the host paths that they tell.
+//! The control bytes of a control set: those of a plan, the host paths that they tell, and the procedures that make them
+//! active on a bus.
 #![tactic(auto)]
 
 mod control_byte;
@@ -6,11 +7,13 @@ mod fault;
 mod host_path;
 pub mod laws;
 mod plan_bytes;
+mod procedures;
 
 pub use control_byte::ControlByte;
-pub use fault::ControlFault;
-pub use host_path::{HostPath, paths_of};
+pub use fault::{ControlFault, ProvisionFault};
+pub use host_path::{HostPath, agree, control_at, paths_of};
 pub use plan_bytes::bytes_of;
+pub use procedures::{Activated, MAX_STEPS, Next, Procedure, Provisioned, activate, provision};
 
 #[cfg(test)]
 mod tests;

@@ -2,9 +2,11 @@ ghost use Rattle.std.specs.Prelude.{◌≡◌, ◌≤◌, ◌<◌, true};
 ghost use Rattle.plan_certificate.specs.Paths.{is_allowed};
 ghost use Rattle.plan_certificate.specs.Plans.{IsAdmissible};
 ghost use Rattle.control_sets.specs.ControlBytes.{control_byte, control_bytes, control_in};
+ghost use Rattle.control_sets.specs.PlanLanes.{plan_lanes};
 
 use crate::control_byte::ControlByte;
 use applications::Advert;
+use field_tables::LaneSet;
 use plan_certificate::{Path, Plan};
 
 /// The control bytes of host lanes 1 to 8 that ask for a plan.
@@ -17,6 +19,18 @@ pub fn bytes_of(advert: &Advert, plan: &Plan) -> [u8; 8]
         *byte = control_byte(advert, plan, index as u8 + 1);
     }
     bytes
+}
+
+/// The host lanes that the paths of a plan take.
+pub fn lanes_of(advert: &Advert, plan: &Plan) -> LaneSet
+    requires { IsAdmissible advert.now plan.now }
+    ensures { result ≡ plan_lanes advert.now plan.now }
+{
+    let mut lanes = LaneSet::empty();
+    for path in plan.paths.as_slice() {
+        lanes = lanes.union(path.host_lanes(advert));
+    }
+    lanes
 }
 
 fn control_byte(advert: &Advert, plan: &Plan, lane: u8) -> u8

@@ -1,0 +1,128 @@
+-- Steps and answers that look right and are no provisioning.
+use Rattle.std.proofs.Common.{◌≡◌, ◌+◌, ℕ, true, false, not, List, [], ◌∷◌, Ok, Err, length, refl, ap, ◌∙◌, inl, inr, arith}
+use Rattle.std.proofs.lemmas.Bool.{and_parts}
+use Rattle.std.specs.List.{list_all}
+use Rattle.field_tables.specs.LaneSets.{Lanes, byte_of}
+use Rattle.bus_model.specs.declared.operation.Op.{Op}
+use Rattle.bus_model.specs.declared.operation.Reply.{Reply}
+use Rattle.bus_model.specs.declared.operation.Reply.TheVariants.{Bytes, Done, Refused}
+use Rattle.bus_model.specs.declared.operation.Step.{Step}
+use Rattle.control_sets.specs.declared.fault.ProvisionFault.{ProvisionFault}
+use Rattle.control_sets.specs.declared.fault.ProvisionFault.TheVariants.{Bus, GaveUp, StagedDiffers}
+use Rattle.bus_model.specs.declared.bus.BusFault.TheVariants.{TraceFull}
+use Rattle.control_sets.specs.SameOperation.{same_op}
+use Rattle.control_sets.specs.Pages.{History, read_selection, selection}
+use Rattle.control_sets.specs.OutcomeSteps.{IsAccepted, IsAmong, Stands}
+use Rattle.control_sets.specs.OutcomeOperations.{apply, control_page, read_active, read_module_state, read_path_states, read_staged, read_statuses, stage, status_page}
+use Rattle.control_sets.specs.OutcomeCodes.{byte_at}
+use Rattle.control_sets.specs.OutcomeAnswers.{Answer, EndsIn}
+use Rattle.control_sets.specs.OutcomeOfProvisioning.{EndsProvisioning, IsProvisioning}
+use Rattle.control_sets.specs.OutcomeExamples.{almost_pairs, gave, on_controls, pairs, ready, refused, took}
+use Rattle.control_sets.proofs.OutcomeWords.{confirms_page, contradicts, ops_same, page_confirmed}
+
+apart : (op other : Op) → same_op op other ≡ false → op ≡ other → ⊥
+apart op other differs e = contradicts (ops_same op other e) differs
+
+not_among : (ops : List Op) (op : Op) → list_all (λ other. not (same_op op other)) ops ≡ true → IsAmong ops op → ⊥
+not_among [] op differ among = among
+not_among (other ∷ ops) op differ (inl is) = contradicts (and_parts _ _ differ).0 (ap not (ops_same op other is))
+not_among (other ∷ ops) op differ (inr later) = not_among ops op (and_parts _ _ differ).1 later
+
+not_ok : (steps : ℕ) (fault : ProvisionFault) → Ok steps ≡ Err fault → ⊥
+not_ok steps fault e = cc
+
+module _ (control : List ℕ) (lanes : Lanes) (full : Type 0) where
+  -- of a success, the last step
+  success_ends : (history : History) (steps : ℕ) → IsProvisioning control lanes full history (Ok steps) → EndsIn (EndsProvisioning control lanes) history (Ok steps)
+  success_ends history steps outcome = elim outcome.answered.answered as (λ _. EndsIn (EndsProvisioning control lanes) history (Ok steps)) [
+    | inl ends ↦ ends
+    | inr (inl gives_up) ↦ absurd (not_ok steps _ gives_up.fault)
+    | inr (inr fills) ↦ absurd (not_ok steps _ fills.fault)
+  ]
+
+  newest : Step → History → Step
+  newest d [] = d
+  newest d (step ∷ before) = step
+
+  last_is : (step last : Step) (before earlier : History) → step ∷ before ≡ last ∷ earlier → step ≡ last
+  unfolding newest
+  last_is step last before earlier e = ap (newest step) e
+
+  -- a success without steps
+  pub of_nothing : IsProvisioning control lanes full [] (Ok 0) → ⊥
+  of_nothing outcome = let ends = success_ends [] 0 outcome in nothing ends.last ends.before ends.split where
+    nothing : (last : Step) (before : History) → [] ≡ last ∷ before → ⊥
+    nothing last before e = cc
+
+  -- the last step of a success is no other read than that of the active bytes
+  pub by_another : (step : Step) (before : History) (steps : ℕ) → same_op step.op read_active ≡ false → IsProvisioning control lanes full (step ∷ before) (Ok steps) → ⊥
+  by_another step before steps other outcome =
+      let ends = success_ends (step ∷ before) steps outcome in
+      apart step.op read_active other (ap (λ (step : Step). step.op) (last_is step ends.last before ends.before ends.split) ∙ ends.ends.0)
+
+  -- another number of steps
+  pub miscounted : (history : History) → IsProvisioning control lanes full history (Ok (length history + 1)) → ⊥
+  miscounted history outcome = omega (arith, outcome.answered.counted)
+
+  -- giving up after one step
+  pub gives_up_early : (step : Step) → IsProvisioning control lanes full (step ∷ []) (Err GaveUp) → ⊥
+  gives_up_early step outcome = elim outcome.answered.answered as (λ _. ⊥) [
+    | inl ends ↦ ends.ends
+    | inr (inl gives_up) ↦ let h : 1 ≡ 4096 = gives_up.all in omega (arith, h)
+    | inr (inr fills) ↦ cc
+  ]
+
+  -- a store under a page that wasn't read back
+  pub trusts_selection : (answer : Answer) → IsProvisioning control lanes full (took (stage control) ∷ took (selection control_page) ∷ ready ∷ []) answer → ⊥
+  trusts_selection answer outcome = elim outcome.shape.0 as (λ _. ⊥) [
+    | inl among ↦ not_among (read_module_state ∷ read_selection ∷ selection control_page ∷ selection status_page ∷ []) (stage control) refl among
+    | inr (inl (among, there)) ↦ not_among (read_path_states ∷ read_statuses ∷ read_active ∷ []) (stage control) refl among
+    | inr (inr (among, there)) ↦ contradicts (page_confirmed control_page (took (selection control_page) ∷ ready ∷ []) there) refl
+  ]
+
+  -- a selection that isn't read back before the next
+  pub selects_twice : (answer : Answer) → IsProvisioning control lanes full (took (selection control_page) ∷ took (selection control_page) ∷ ready ∷ []) answer → ⊥
+  selects_twice answer outcome = apart (selection control_page) read_selection refl (outcome.brief.selections.at_once.0 (inl refl))
+
+  -- a selection of the page that is confirmed
+  pub selects_again : (answer : Answer) → IsProvisioning control lanes full (took (selection control_page) ∷ on_controls) answer → ⊥
+  selects_again answer outcome = (outcome.brief.controls.0 refl).0 (confirms_page control_page on_controls refl)
+
+  -- a store before the module was found ready
+  pub stores_unready : (answer : Answer) → IsProvisioning control lanes full (took (selection control_page) ∷ refused read_module_state ∷ []) answer → ⊥
+  stores_unready answer outcome = elim (outcome.order.ready.0 tt) as (λ _. ⊥) [
+    | inl (bytes, gives, is_ready) ↦ unread bytes gives.1
+    | inr none ↦ none
+  ] where
+    unread : (bytes : List ℕ) → Refused ≡ Bytes (record { items = bytes }) → ⊥
+    unread bytes e = cc
+
+  -- an answered read of the module state, made again
+  pub reads_twice : (answer : Answer) → IsProvisioning control lanes full (ready ∷ ready ∷ []) answer → ⊥
+  reads_twice answer outcome = outcome.brief.module_state.0 (0x06 ∷ [], (refl, refl), tt) (inl (0x06 ∷ [], (refl, refl), tt))
+
+  -- statuses that are read though no Apply was accepted
+  pub believes_refused : (step : Step) (before : History) (answer : Answer) → step.op ≡ read_statuses → (Stands (IsAccepted (apply (byte_of lanes))) before → ⊥) → IsProvisioning control lanes full (step ∷ before) answer → ⊥
+  believes_refused step before answer is none outcome = none (outcome.order.statuses.0 is)
+
+fault_of : Answer → ProvisionFault
+fault_of (Ok steps) = GaveUp
+fault_of (Err fault) = fault
+
+read_of : Reply → List ℕ
+read_of (Bytes bytes) = bytes.items
+read_of Done = []
+read_of Refused = []
+
+-- the highest lane that differs in place of the lowest
+pub names_highest : (lanes : Lanes) (full : Type 0) (before : History) → IsProvisioning pairs lanes full (gave read_staged almost_pairs ∷ before) (Err (StagedDiffers 5)) → ⊥
+unfolding fault_of read_of
+names_highest lanes full before outcome = elim outcome.answered.answered as (λ _. ⊥) [
+  | inl ends ↦
+      let (bytes, gives, differs) = ends.ends in
+      let reply = ap (λ (step : Step). step.reply) (last_is pairs lanes full (gave read_staged almost_pairs) ends.last before ends.before ends.split) ∙ gives.1 in
+      let same : almost_pairs ≡ bytes = ap read_of reply in
+      differs.lowest 2 (omega arith, omega arith) (omega arith) (λ h. let n : 0 ≡ 32 = ap (λ (bytes : List ℕ). byte_at bytes 2) same ∙ h in omega (arith, n))
+  | inr (inl gives_up) ↦ let h : StagedDiffers 5 ≡ GaveUp = ap fault_of gives_up.fault in cc
+  | inr (inr fills) ↦ let h : StagedDiffers 5 ≡ Bus TraceFull = ap fault_of fills.fault in cc
+]

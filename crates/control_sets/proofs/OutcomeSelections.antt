@@ -1,0 +1,143 @@
+-- Selections of pages by a procedure, in the words of the outcomes; and what is known at each of its steps.
+use Rattle.std.proofs.Common.{◌≡◌, ◌⊎◌, ℕ, ◌&&◌, ◌||◌, true, false, not, List, [], ◌∷◌, Option, Some, None, refl, sym, ap, subst, ◌∙◌, inl, inr, slice_index}
+use Rattle.std.proofs.lemmas.Bool.{and_parts, or_cases}
+use Rattle.bus_model.specs.declared.operation.Op.{Op}
+use Rattle.bus_model.specs.declared.operation.Op.TheVariants.{Fetch, Store}
+use Rattle.bus_model.specs.declared.operation.Reply.{Reply}
+use Rattle.bus_model.specs.declared.operation.Reply.TheVariants.{Bytes, Done, Refused}
+use Rattle.bus_model.specs.declared.operation.Step.{Step}
+use Rattle.bus_model.specs.Operations.{Answers}
+use Rattle.control_sets.specs.declared.procedures.task.Task.{Task}
+use Rattle.control_sets.specs.declared.procedures.task.Task.TheVariants.{FindReady, Deinitialize, AwaitDeactivated, Stage, CheckStaged, Apply, AwaitApplied, CheckActive, AwaitActivated}
+use Rattle.control_sets.specs.SameOperation.{same_op}
+use Rattle.control_sets.specs.Pages.{EachStep, History, confirms, is_open, is_read, leaves_open, may_select, read_selection, selection}
+use Rattle.control_sets.specs.Tasks.{operation, page_of}
+use Rattle.control_sets.specs.Procedures.{EachAnswers, EachGoesOn}
+use Rattle.control_sets.specs.OutcomeSteps.{IsRefused, Newest}
+use Rattle.control_sets.specs.OutcomeOperations.{IsSelection, ReadsSelectionsBack, control_page, status_page}
+use Rattle.control_sets.proofs.OutcomeWords.{contradicts, each_from, ops_are, ops_same}
+use Rattle.control_sets.proofs.OutcomeTurns.{Turn, no_read_back, no_selection}
+
+-- what is known at a step
+pub record Here (tasks : List Task) (step : Step) (before : History) : Type 0 where
+  pub turn : Turn tasks step before
+  pub turns : EachStep (Turn tasks) before
+  pub fit : Answers step.op step.reply
+  pub fits : EachAnswers before
+  pub goes_on : EachGoesOn tasks before
+
+pub each_here : (tasks : List Task) (step : Step) (history : History) → EachStep (Turn tasks) (step ∷ history) → EachAnswers (step ∷ history) → EachGoesOn tasks history → EachStep (Here tasks) (step ∷ history)
+each_here tasks step [] turns fits on = (record { turn = turns.0; turns = turns.1; fit = fits.0; fits = fits.1; goes_on = on }, tt)
+each_here tasks step (last ∷ before) turns fits on =
+    (record { turn = turns.0; turns = turns.1; fit = fits.0; fits = fits.1; goes_on = on }, each_here tasks last before turns.1 fits.1 on.1)
+
+-- ---- the pages of tasks
+
+some_is : (x y : ℕ) → Some x ≡ Some y → x ≡ y
+some_is x y e = ap held e where
+  held : Option ℕ → ℕ
+  held None = 0
+  held (Some x) = x
+
+pub page_is : (task : Task) (page : ℕ) → page_of task ≡ Some page → (page ≡ control_page) ⊎ (page ≡ status_page)
+page_is FindReady page e = cc
+page_is (Deinitialize bits) page e = inl (sym (some_is control_page page e))
+page_is (AwaitDeactivated lanes) page e = inr (sym (some_is status_page page e))
+page_is (Stage control) page e = inl (sym (some_is control_page page e))
+page_is (CheckStaged control) page e = inl (sym (some_is control_page page e))
+page_is (Apply bits) page e = inl (sym (some_is control_page page e))
+page_is (AwaitApplied lanes) page e = inr (sym (some_is status_page page e))
+page_is (CheckActive control) page e = inr (sym (some_is status_page page e))
+page_is (AwaitActivated lanes) page e = inr (sym (some_is status_page page e))
+
+not_selecting : (task : Task) → may_select (operation task) ≡ false
+not_selecting FindReady = refl
+not_selecting (Deinitialize bits) = refl
+not_selecting (AwaitDeactivated lanes) = refl
+not_selecting (Stage control) = refl
+not_selecting (CheckStaged control) = refl
+not_selecting (Apply bits) = refl
+not_selecting (AwaitApplied lanes) = refl
+not_selecting (CheckActive control) = refl
+not_selecting (AwaitActivated lanes) = refl
+
+-- ---- selections are read back
+
+pub selection_of : (op : Op) (page : ℕ) → op ≡ selection page → (page ≡ control_page) ⊎ (page ≡ status_page) → (op ≡ selection control_page) ⊎ (op ≡ selection status_page)
+selection_of op page is (inl e) = inl (is ∙ ap selection e)
+selection_of op page is (inr e) = inr (is ∙ ap selection e)
+
+selecting : (tasks : List Task) (step : Step) (before : History) → Turn tasks step before → may_select step.op ≡ true → IsSelection step
+selecting tasks step before turn e = elim turn.does as (λ _. IsSelection step) [
+  | inl reads ↦ absurd (contradicts e (ap may_select reads.is))
+  | inr (inl selects) ↦ selection_of step.op selects.page selects.is (page_is turn.task selects.page selects.needs)
+  | inr (inr works) ↦ absurd (contradicts e (ap may_select works.is ∙ not_selecting turn.task))
+]
+
+leaves : (step : Step) → IsSelection step → leaves_open step ≡ true
+leaves step (inl e) = ap (λ (op : Op). may_select op || (same_op read_selection op && not (is_read step.reply))) e
+leaves step (inr e) = ap (λ (op : Op). may_select op || (same_op read_selection op && not (is_read step.reply))) e
+
+pub open_reads : (tasks : List Task) (step : Step) (before : History) → Turn tasks step before → is_open before ≡ true → step.op ≡ read_selection
+open_reads tasks step before turn e = elim turn.does as (λ _. step.op ≡ read_selection) [
+  | inl reads ↦ reads.is
+  | inr (inl selects) ↦ absurd (contradicts e selects.closed)
+  | inr (inr works) ↦ absurd (contradicts e works.closed)
+]
+
+reads_next : (tasks : List Task) (step : Step) (before : History) → Turn tasks step before → Newest IsSelection before → step.op ≡ read_selection
+reads_next tasks step [] turn newest = absurd newest
+reads_next tasks step (last ∷ before) turn newest = open_reads tasks step (last ∷ before) turn (leaves last newest)
+
+not_store : (page : ℕ) → selection page ≡ read_selection → ⊥
+not_store page e = contradicts (ops_same (selection page) read_selection e) refl
+
+refused : (reply : Reply) → Answers read_selection reply → not (is_read reply) ≡ true → reply ≡ Refused
+refused (Bytes bytes) answers e = cc
+refused Done answers e = absurd answers
+refused Refused answers e = refl
+
+reads_only : (tasks : List Task) (step : Step) (before : History) → Here tasks step before → step.op ≡ read_selection → Newest (λ last. IsSelection last ⊎ IsRefused read_selection last) before
+reads_only tasks step before here is = elim here.turn.does as (λ _. Newest (λ last. IsSelection last ⊎ IsRefused read_selection last) before) [
+  | inl reads ↦ by before here.turns here.fits reads.awaited
+  | inr (inl selects) ↦ absurd (not_store selects.page (sym selects.is ∙ is))
+  | inr (inr works) ↦ absurd (no_read_back here.turn.task (sym works.is ∙ is))
+] where
+  by : (before : History) → EachStep (Turn tasks) before → EachAnswers before → is_open before ≡ true → Newest (λ last. IsSelection last ⊎ IsRefused read_selection last) before
+  by [] turns fits e = cc
+  by (last ∷ before) turns fits e = elim (or_cases (may_select last.op) (same_op read_selection last.op && not (is_read last.reply)) e) as (λ _. IsSelection last ⊎ IsRefused read_selection last) [
+    | inl selects ↦ inl (selecting tasks last before turns.0 selects)
+    | inr unread ↦
+        let parts = and_parts _ _ unread in
+        let op : last.op ≡ read_selection = sym (ops_are read_selection last.op parts.0) in
+        inr (op, refused last.reply (subst (λ (op : Op). Answers op last.reply) op fits.0) parts.1)
+  ]
+
+pub reads_back : (tasks : List Task) (history : History) → EachStep (Here tasks) history → ReadsSelectionsBack history
+reads_back tasks history each = record {
+  at_once = each_from (Here tasks) (λ step before. Newest IsSelection before → step.op ≡ read_selection) history (λ step before here newest. reads_next tasks step before here.turn newest) each;
+  only = each_from (Here tasks) (λ step before. step.op ≡ read_selection → Newest (λ last. IsSelection last ⊎ IsRefused read_selection last) before) history (λ step before here is. reads_only tasks step before here is) each;
+}
+
+-- ---- the page that is selected is the one of the task in hand
+
+page_in : Op → ℕ
+page_in (Store dev offset bytes) = slice_index bytes.items 1
+page_in (Fetch dev offset count) = 0
+
+page_selected : (page other : ℕ) → selection page ≡ selection other → page ≡ other
+unfolding page_in
+page_selected page other e = ap page_in e
+
+pub record Missing (tasks : List Task) (page : ℕ) (turn_task : Task) (before : History) : Type 0 where
+  pub needs : page_of turn_task ≡ Some page
+  pub missing : confirms page before ≡ false
+
+pub missing_page : (tasks : List Task) (page : ℕ) (step : Step) (before : History) (turn : Turn tasks step before) → step.op ≡ selection page → Missing tasks page turn.task before
+missing_page tasks page step before turn is = elim turn.does as (λ _. Missing tasks page turn.task before) [
+  | inl reads ↦ absurd (not_store page (sym is ∙ reads.is))
+  | inr (inl selects) ↦
+      let same = page_selected selects.page page (sym selects.is ∙ is) in
+      record { needs = selects.needs ∙ ap (λ (page : ℕ). Some page) same; missing = ap (λ (page : ℕ). confirms page before) (sym same) ∙ selects.missing }
+  | inr (inr works) ↦ absurd (no_selection turn.task page (sym works.is ∙ is))
+]

@@ -1,0 +1,85 @@
+-- No task's operation is on the page selection, and what is asked for is judged as what was kept says.
+use Rattle.std.proofs.Common.{◌≡◌, ℕ, ◌==◌, ◌&&◌, Bool, true, false, List, [], ◌∷◌, Some, None, refl, ap, ◌∙◌, if◌then◌else◌, eq-eqb, arith}
+use Rattle.std.proofs.lemmas.Bool.{and_from}
+use Rattle.control_sets.specs.declared.procedures.task.Task.{Task}
+use Rattle.control_sets.specs.declared.procedures.task.Task.TheVariants.{FindReady, Deinitialize, AwaitDeactivated, Stage, CheckStaged, Apply, AwaitApplied, CheckActive, AwaitActivated}
+use Rattle.control_sets.specs.SameOperation.{same_bytes, same_op}
+use Rattle.control_sets.specs.Pages.{History, may_select, read_selection, selection}
+use Rattle.bus_model.specs.declared.operation.Step.{Step}
+use Rattle.control_sets.specs.declared.procedures.judgement.Judgement.TheVariants.{NotYet}
+use Rattle.control_sets.specs.Procedures.{is_on, judgement_at}
+use Rattle.control_sets.specs.Judgements.{judgement}
+use Rattle.control_sets.specs.Tasks.{operation, page_of}
+
+pub not_selecting : (task : Task) → may_select (operation task) ≡ false
+not_selecting FindReady = refl
+not_selecting (Deinitialize bits) = refl
+not_selecting (AwaitDeactivated lanes) = refl
+not_selecting (Stage control) = refl
+not_selecting (CheckStaged control) = refl
+not_selecting (Apply bits) = refl
+not_selecting (AwaitApplied lanes) = refl
+not_selecting (CheckActive control) = refl
+not_selecting (AwaitActivated lanes) = refl
+
+pub not_reading_back : (task : Task) → same_op read_selection (operation task) ≡ false
+not_reading_back FindReady = refl
+not_reading_back (Deinitialize bits) = refl
+not_reading_back (AwaitDeactivated lanes) = refl
+not_reading_back (Stage control) = refl
+not_reading_back (CheckStaged control) = refl
+not_reading_back (Apply bits) = refl
+not_reading_back (AwaitApplied lanes) = refl
+not_reading_back (CheckActive control) = refl
+not_reading_back (AwaitActivated lanes) = refl
+
+pub no_read_back : (task : Task) → same_op (operation task) read_selection ≡ false
+no_read_back FindReady = refl
+no_read_back (Deinitialize bits) = refl
+no_read_back (AwaitDeactivated lanes) = refl
+no_read_back (Stage control) = refl
+no_read_back (CheckStaged control) = refl
+no_read_back (Apply bits) = refl
+no_read_back (AwaitApplied lanes) = refl
+no_read_back (CheckActive control) = refl
+no_read_back (AwaitActivated lanes) = refl
+
+pub no_selection : (task : Task) (page : ℕ) → same_op (operation task) (selection page) ≡ false
+no_selection FindReady page = refl
+no_selection (Deinitialize bits) page = refl
+no_selection (AwaitDeactivated lanes) page = refl
+no_selection (Stage control) page = refl
+no_selection (CheckStaged control) page = refl
+no_selection (Apply bits) page = refl
+no_selection (AwaitApplied lanes) page = refl
+no_selection (CheckActive control) page = refl
+no_selection (AwaitActivated lanes) page = refl
+
+same_bytes_refl : (bytes : List ℕ) → same_bytes bytes bytes ≡ true
+same_bytes_refl [] = refl
+same_bytes_refl (byte ∷ bytes) = and_from _ _ (eq-eqb byte byte refl) (same_bytes_refl bytes)
+
+pub its_own : (task : Task) → same_op (operation task) (operation task) ≡ true
+its_own FindReady = refl
+its_own (Deinitialize bits) = same_bytes_refl (bits ∷ [])
+its_own (AwaitDeactivated lanes) = refl
+its_own (Stage control) = same_bytes_refl control
+its_own (CheckStaged control) = refl
+its_own (Apply bits) = same_bytes_refl (bits ∷ [])
+its_own (AwaitApplied lanes) = refl
+its_own (CheckActive control) = refl
+its_own (AwaitActivated lanes) = refl
+
+-- a step with another operation says nothing of the task
+pub not_said : (task : Task) (step : Step) (before : History) → same_op (operation task) step.op ≡ false → judgement_at task step before ≡ NotYet
+not_said task step before other = ap (λ (b : Bool). if b && is_on (page_of task) before then judgement task step.reply else NotYet) other
+
+-- its own operation on its page is judged by the reply
+pub judged_own : (task : Task) (step : Step) (before : History) → step.op ≡ operation task → is_on (page_of task) before ≡ true → judgement_at task step before ≡ judgement task step.reply
+judged_own task step before e on = (λ i. if (ap (same_op (operation task)) e ∙ its_own task) i && on i then judgement task step.reply else NotYet)
+
+pub judged_selection : (task : Task) (step : Step) (before : History) (page : ℕ) → step.op ≡ selection page → judgement_at task step before ≡ NotYet
+judged_selection task step before page e = not_said task step before (ap (same_op (operation task)) e ∙ no_selection task page)
+
+pub judged_read_back : (task : Task) (step : Step) (before : History) → step.op ≡ read_selection → judgement_at task step before ≡ NotYet
+judged_read_back task step before e = not_said task step before (ap (same_op (operation task)) e ∙ no_read_back task)

@@ -1,0 +1,36 @@
+use Rattle.std.proofs.Common.{◌≡◌}
+use Rattle.control_sets.proofs.OutcomeRefusals.{believes_refused, by_another, gives_up_early, miscounted, names_highest, of_nothing, reads_twice, selects_again, selects_twice, stores_unready, trusts_selection}
+use Rattle.control_sets.proofs.laws.what_provisioning_refuses.Goals as goal
+
+pub returns-clause-success_of_nothing : goal.returns-clause-success_of_nothing
+returns-clause-success_of_nothing c control lanes made room outcome = of_nothing control lanes (made ≡ room) outcome
+
+pub returns-clause-success_by_another_read : goal.returns-clause-success_by_another_read
+returns-clause-success_by_another_read c control lanes made room step before steps other outcome = by_another control lanes (made ≡ room) step before steps other outcome
+
+pub returns-clause-other_count : goal.returns-clause-other_count
+returns-clause-other_count c control lanes made room history outcome = miscounted control lanes (made ≡ room) history outcome
+
+pub returns-clause-early_giving_up : goal.returns-clause-early_giving_up
+returns-clause-early_giving_up c control lanes made room step outcome = gives_up_early control lanes (made ≡ room) step outcome
+
+pub returns-clause-store_on_unread_page : goal.returns-clause-store_on_unread_page
+returns-clause-store_on_unread_page c control lanes made room answer outcome = trusts_selection control lanes (made ≡ room) answer outcome
+
+pub returns-clause-unread_selection : goal.returns-clause-unread_selection
+returns-clause-unread_selection c control lanes made room answer outcome = selects_twice control lanes (made ≡ room) answer outcome
+
+pub returns-clause-selection_of_confirmed_page : goal.returns-clause-selection_of_confirmed_page
+returns-clause-selection_of_confirmed_page c control lanes made room answer outcome = selects_again control lanes (made ≡ room) answer outcome
+
+pub returns-clause-store_before_ready : goal.returns-clause-store_before_ready
+returns-clause-store_before_ready c control lanes made room answer outcome = stores_unready control lanes (made ≡ room) answer outcome
+
+pub returns-clause-repeated_answered_read : goal.returns-clause-repeated_answered_read
+returns-clause-repeated_answered_read c control lanes made room answer outcome = reads_twice control lanes (made ≡ room) answer outcome
+
+pub returns-clause-refused_apply_believed : goal.returns-clause-refused_apply_believed
+returns-clause-refused_apply_believed c control lanes made room step before answer is none outcome = believes_refused control lanes (made ≡ room) step before answer is none outcome
+
+pub returns-clause-highest_lane : goal.returns-clause-highest_lane
+returns-clause-highest_lane c lanes made room before outcome = names_highest lanes (made ≡ room) before outcome

@@ -1,0 +1,40 @@
+-- What a procedure asks for next, by what it keeps. (docs/bus.md, "Procedures")
+use Rattle.std.specs.Prelude.{ℕ, Option, Some, None, Result, Ok, Err, if◌then◌else◌, nat_lt}
+use Rattle.bus_model.specs.declared.operation.Op.{Op}
+use Rattle.bus_model.specs.declared.operation.Reply.{Reply}
+use Rattle.bus_model.specs.declared.operation.Step.{Step}
+use Rattle.bus_model.specs.Operations.{Answers}
+use Rattle.control_sets.specs.declared.fault.ProvisionFault.{ProvisionFault}
+use Rattle.control_sets.specs.declared.fault.ProvisionFault.TheVariants.{GaveUp}
+use Rattle.control_sets.specs.declared.procedures.registers.TheConstants.{MAX_STEPS}
+use Rattle.control_sets.specs.declared.procedures.next.Next.{Next}
+use Rattle.control_sets.specs.declared.procedures.next.Next.TheVariants.{Do, Done}
+use Rattle.control_sets.specs.declared.procedures.session.Session.{Session}
+use Rattle.control_sets.specs.declared.procedures.task.Task.{Task}
+use Rattle.control_sets.specs.Selections.{operation_by}
+
+-- the step with this operation and this reply
+abbrev pub step_with : Op → Reply → Step
+step_with op reply = record { op = op; reply = reply }
+
+abbrev pub next_for : Session → Task → Next
+next_for session task = if nat_lt session.steps MAX_STEPS then Do (operation_by session.selection task) else Done (Err GaveUp)
+
+-- for the task in hand, where there is one
+abbrev pub next_with : Session → Option Task → Next
+next_with session None = Done (Ok session.steps)
+next_with session (Some task) = next_for session task
+
+-- after a fault there is nothing more
+abbrev pub next_after : Option ProvisionFault → Session → Option Task → Next
+next_after None session task = next_with session task
+next_after (Some fault) session task = Done (Err fault)
+
+-- the reply is one that the operation can have
+abbrev pub IsReplyTo : Next → Reply → Type 0
+IsReplyTo (Do op) reply = Answers op reply
+IsReplyTo (Done answer) reply = ⊥
+
+abbrev pub IfDo : Next → (Op → Type 0) → Type 0
+IfDo (Do op) P = P op
+IfDo (Done answer) P = Unit {0}

@@ -1,0 +1,76 @@
+-- The operations of provisioning and activation, and when the steps before a step confirm a page. (docs/bus.md, "Outcomes";
+-- OIF-CMIS-05.0: Bank and Page Select of the lower memory, Staged Control Set 0 on page 10h, the lane statuses on page 11h)
+use Rattle.std.specs.Prelude.{◌≡◌, ◌⊎◌, ◌++◌, ◌+◌, ◌<◌, ℕ, List, [], ◌∷◌, length}
+use Rattle.std.specs.List.{AllByRecursion}
+use Rattle.bus_model.specs.declared.device.Dev.TheVariants.{A0, A2}
+use Rattle.bus_model.specs.declared.operation.Op.{Op}
+use Rattle.bus_model.specs.declared.operation.Op.TheVariants.{Fetch, Store}
+use Rattle.bus_model.specs.declared.operation.Reply.TheVariants.{Bytes}
+use Rattle.bus_model.specs.declared.operation.Step.{Step}
+use Rattle.control_sets.specs.Pages.{EachStep, History, read_selection, selection}
+use Rattle.control_sets.specs.OutcomeSteps.{IsRefused, Newest, fetch, store}
+
+-- global status, byte 3: the module state
+abbrev pub read_module_state : Op
+read_module_state = fetch 3 1
+
+-- page 10h, DPDeinit: a bit for each lane, lane 1 the lowest
+abbrev pub set_deinit : ℕ → Op
+set_deinit lanes = store 128 (lanes ∷ [])
+
+-- page 10h, ApplyDPInit of Staged Control Set 0
+abbrev pub apply : ℕ → Op
+apply lanes = store 143 (lanes ∷ [])
+
+-- page 10h, DPConfigLane1 to 8 of Staged Control Set 0
+abbrev pub stage : List ℕ → Op
+stage control = store 145 control
+
+abbrev pub read_staged : Op
+read_staged = fetch 145 8
+
+-- page 11h, DPStateHostLane1 to 8, four bits each
+abbrev pub read_path_states : Op
+read_path_states = fetch 128 4
+
+-- page 11h, ConfigStatusLane1 to 8, four bits each
+abbrev pub read_statuses : Op
+read_statuses = fetch 202 4
+
+-- page 11h, DPConfigLane1 to 8 of the Active Control Set
+abbrev pub read_active : Op
+read_active = fetch 206 8
+
+abbrev pub control_page : ℕ
+control_page = 0x10
+
+abbrev pub status_page : ℕ
+status_page = 0x11
+
+-- a store on byte 126 or 127, whatever became of it
+abbrev pub CoversSelection : Op → Type 0
+CoversSelection (Store A0 offset bytes) = (offset < 128) × (126 < offset + length bytes.items)
+CoversSelection (Store A2 offset bytes) = ⊥
+CoversSelection (Fetch dev offset count) = ⊥
+
+-- bank 0 and the page were read back
+abbrev pub read_back_of : ℕ → Step
+read_back_of page = record { op = read_selection; reply = Bytes (record { items = 0 ∷ page ∷ [] }) }
+
+-- the steps confirm the page: it was read back, and no store since covers the selection
+pub record Confirms (page : ℕ) (history : History) : Type 0 where
+  pub since : History
+  pub before : History
+  pub split : history ≡ since ++ read_back_of page ∷ before
+  pub kept : AllByRecursion (λ step. ¬ (CoversSelection step.op)) since
+
+-- a selection of one of the two pages, accepted or refused
+abbrev pub IsSelection : Step → Type 0
+IsSelection step = (step.op ≡ selection control_page) ⊎ (step.op ≡ selection status_page)
+
+-- selections are read back
+pub record ReadsSelectionsBack (history : History) : Type 0 where
+  -- the step next after a selection reads the selection
+  pub at_once : EachStep (λ step before. Newest IsSelection before → step.op ≡ read_selection) history
+  -- else the selection is only read next after such a read that was refused
+  pub only : EachStep (λ step before. step.op ≡ read_selection → Newest (λ last. IsSelection last ⊎ IsRefused read_selection last) before) history

@@ -1,0 +1,14 @@
+-- What a success of provisioning has read. (docs/bus.md, "Outcomes")
+use Rattle.std.specs.Prelude.{◌≡◌, ℕ, List, ◌∷◌}
+use Rattle.bus_model.specs.declared.operation.Step.{Step}
+use Rattle.control_sets.specs.Pages.{History}
+use Rattle.control_sets.specs.OutcomeSteps.{Gives}
+use Rattle.control_sets.specs.OutcomeOperations.{Confirms, read_active, status_page}
+
+-- the last step read these control bytes as active, and those before it confirm page 11h
+pub record ReadsActive (control : List ℕ) (history : History) : Type 0 where
+  pub last : Step
+  pub before : History
+  pub split : history ≡ last ∷ before
+  pub gives : Gives read_active control last
+  pub confirmed : Confirms status_page before

@@ -1,0 +1,149 @@
+-- Procedures: tasks in order, each of which is worked at until it is met. What may come next, and how a procedure ends.
+-- Steps stand with the newest first. (docs/bus.md, "Procedures")
+use Rattle.std.specs.Prelude.{◌≡◌, ◌≢◌, ℕ, ◌+◌, ◌<◌, ◌≤◌, ◌⊎◌, ◌==◌, ◌&&◌, ◌||◌, not, Bool, true, false, List, [], ◌∷◌, length, Option, Some, None, if◌then◌else◌, find, Result, Ok, Err, reverse}
+use Rattle.std.specs.List.{AllByRecursion, list_all}
+use Rattle.std.specs.Option.{option_map}
+use Rattle.bus_model.specs.declared.bus.BusFault.TheVariants.{TraceFull}
+use Rattle.bus_model.specs.declared.operation.Op.{Op}
+use Rattle.bus_model.specs.declared.operation.Step.{Step}
+use Rattle.bus_model.specs.Operations.{Answers}
+use Rattle.bus_model.specs.Runs.{IsFull, Ran, Rules, Seen}
+use Rattle.control_sets.specs.declared.fault.ProvisionFault.{ProvisionFault}
+use Rattle.control_sets.specs.declared.fault.ProvisionFault.TheVariants.{GaveUp, Bus}
+use Rattle.control_sets.specs.declared.procedures.registers.TheConstants.{MAX_STEPS}
+use Rattle.control_sets.specs.declared.procedures.task.Task.{Task}
+use Rattle.control_sets.specs.declared.procedures.judgement.Judgement.{Judgement}
+use Rattle.control_sets.specs.declared.procedures.judgement.Judgement.TheVariants.{Met, NotYet, Fails}
+use Rattle.control_sets.specs.SameOperation.{same_op}
+use Rattle.control_sets.specs.Pages.{History, selection, read_selection, confirms, is_open}
+use Rattle.control_sets.specs.Tasks.{operation, page_of}
+use Rattle.control_sets.specs.Judgements.{judgement}
+
+-- the page, where one is needed, is confirmed
+abbrev pub is_on : Option ℕ → History → Bool
+is_on None before = true
+is_on (Some page) before = confirms page before
+
+-- what a step says of a task: nothing, unless it is the task's operation on the page that it needs
+abbrev pub judgement_at : Task → Step → History → Judgement
+judgement_at task step before = if same_op (operation task) step.op && is_on (page_of task) before then judgement task step.reply else NotYet
+
+abbrev pub is_met : Judgement → Bool
+is_met Met = true
+is_met NotYet = false
+is_met (Fails fault) = false
+
+abbrev pub meets : Task → Step → History → Bool
+meets task step before = is_met (judgement_at task step before)
+
+-- some step met the task
+abbrev pub was_met : Task → History → Bool
+was_met task [] = false
+was_met task (step ∷ before) = meets task step before || was_met task before
+
+-- the first task that no step has met
+abbrev pub in_hand : List Task → History → Option Task
+in_hand tasks history = find (λ task. not (was_met task history)) tasks
+
+-- its own operation where the page that it needs is confirmed, and else a selection of that page
+abbrev pub operation_on : History → Task → Option ℕ → Op
+operation_on history task None = operation task
+operation_on history task (Some page) = if confirms page history then operation task else selection page
+
+-- a selection is read back until that is answered; else it is the turn of the task in hand
+abbrev pub next_operation : History → Task → Op
+next_operation history task = if is_open history then read_selection else operation_on history task (page_of task)
+
+-- each step is what comes next after those before it
+abbrev pub EachIsNext : List Task → History → Type 0
+EachIsNext tasks [] = Unit {0}
+EachIsNext tasks (step ∷ before) =
+    (option_map (next_operation before) (in_hand tasks before) ≡ Some step.op) × EachIsNext tasks before
+
+-- each reply is one that its operation can have
+abbrev pub EachAnswers : History → Type 0
+EachAnswers history = AllByRecursion (λ step. Answers step.op step.reply) history
+
+-- the fault that a judgement is
+abbrev pub fault_in : Judgement → Option ProvisionFault
+fault_in Met = None
+fault_in NotYet = None
+fault_in (Fails fault) = Some fault
+
+abbrev pub or_else : Option ProvisionFault → Option ProvisionFault → Option ProvisionFault
+or_else None later = later
+or_else (Some fault) later = Some fault
+
+-- the fault that a step shows of a task
+abbrev pub fault_by : List Task → Step → History → Option ProvisionFault
+fault_by [] step before = None
+fault_by (task ∷ tasks) step before = or_else (fault_in (judgement_at task step before)) (fault_by tasks step before)
+
+-- by the newest step
+abbrev pub fault_after : List Task → History → Option ProvisionFault
+fault_after tasks [] = None
+fault_after tasks (step ∷ before) = fault_by tasks step before
+
+-- the steps end in the answer: each task was met, or the last step shows the fault
+abbrev pub EndsIn : List Task → History → Result ℕ ProvisionFault → Type 0
+EndsIn tasks history (Ok steps) = (in_hand tasks history ≡ None) × (steps ≡ length history)
+EndsIn tasks history (Err fault) = fault_after tasks history ≡ Some fault
+
+-- the steps end in no answer
+pub record GoesOn (tasks : List Task) (history : History) : Type 0 where
+  pub unmet : in_hand tasks history ≢ None
+  pub no_fault : fault_after tasks history ≡ None
+
+-- nor do the first of them, however many
+abbrev pub EachGoesOn : List Task → History → Type 0
+EachGoesOn tasks [] = GoesOn tasks []
+EachGoesOn tasks (step ∷ before) = GoesOn tasks (step ∷ before) × EachGoesOn tasks before
+
+-- they end in the answer, and no fewer of them end in any
+abbrev pub EndsFirst : List Task → History → Result ℕ ProvisionFault → Type 0
+EndsFirst tasks [] answer = EndsIn tasks [] answer
+EndsFirst tasks (step ∷ before) answer = EndsIn tasks (step ∷ before) answer × EachGoesOn tasks before
+
+-- two pages are needed, and they differ
+abbrev pub are_other_pages : Option ℕ → Option ℕ → Bool
+are_other_pages (Some page) (Some other) = not (page == other)
+are_other_pages (Some page) None = false
+are_other_pages None other = false
+
+-- no step can be the operation of both on its page
+abbrev pub are_apart : Task → Task → Bool
+are_apart task other = not (same_op (operation task) (operation other)) || are_other_pages (page_of task) (page_of other)
+
+abbrev pub all_apart : List Task → Bool
+all_apart [] = true
+all_apart (task ∷ later) = list_all (λ other. are_apart task other && are_apart other task) later && all_apart later
+
+-- as many steps were made as may be
+pub record GivesUp (tasks : List Task) (history : History) (answer : Result ℕ ProvisionFault) : Type 0 where
+  pub fault : answer ≡ Err GaveUp
+  pub all : length history ≡ MAX_STEPS
+  pub goes_on : EachGoesOn tasks history
+
+-- these steps end in the answer
+pub record HasEnded (tasks : List Task) (history : History) (answer : Result ℕ ProvisionFault) : Type 0 where
+  pub each : EachIsNext tasks history
+  pub answers : EachAnswers history
+  pub few : length history ≤ MAX_STEPS
+  pub answered : EndsFirst tasks history answer ⊎ GivesUp tasks history answer
+
+-- the bus's list is full, and the steps end in no answer
+pub record RunsOut {S : Type 0} (tasks : List Task) (after : Seen S) (history : History) (answer : Result ℕ ProvisionFault) : Type 0 where
+  pub each : EachIsNext tasks history
+  pub answers : EachAnswers history
+  pub fault : answer ≡ Err (Bus TraceFull)
+  pub full : IsFull after
+  pub fewer : length history < MAX_STEPS
+  pub goes_on : EachGoesOn tasks history
+
+-- how a procedure ends on a bus that is seen so afterwards
+abbrev pub IsOutcome : {S : Type 0} → List Task → Seen S → History → Result ℕ ProvisionFault → Type 0
+IsOutcome tasks after history answer = HasEnded tasks history answer ⊎ RunsOut tasks after history answer
+
+-- old becomes new by steps of which this holds, told with the newest first
+abbrev pub MakesHistory : {S : Type 0} → Rules S → Seen S → Seen S → (History → Type 0) → Type 0
+MakesHistory rules old new P = (history : History) × Ran rules old new (reverse history) × P history

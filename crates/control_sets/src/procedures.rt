@@ -1,0 +1,18 @@
+//! Procedures on a bus: provisioning and activation.
+
+mod judgement;
+mod next;
+mod procedure;
+mod registers;
+mod runner;
+mod selection;
+mod session;
+mod task;
+
+pub use next::Next;
+pub use procedure::Procedure;
+pub use registers::MAX_STEPS;
+pub use runner::{Activated, Provisioned, activate, provision};
+
+#[cfg(test)]
+mod tests;

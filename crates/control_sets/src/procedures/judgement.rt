@@ -1,0 +1,177 @@
+ghost use Rattle.std.specs.Prelude.{◌≡◌, ◌<◌, ◌≤◌, length, IfSome};
+ghost use Rattle.bus_model.specs.Operations.{Answers};
+ghost use Rattle.control_sets.specs.HostPaths.{IsLane};
+ghost use Rattle.control_sets.specs.Judgements.{HasCount, all_have, at_lane, differing_lane, is_rejection, is_reserved_state, is_reserved_status, judged, judged_module, judged_states, judged_statuses, judgement, lowest_lane, met_if, unless_rejected};
+ghost use Rattle.control_sets.specs.Tasks.{operation};
+
+use crate::fault::ProvisionFault;
+use crate::procedures::task::Task;
+use bus_model::Reply;
+use datapath_states::{PathState, lanes, status_of};
+use field_tables::LaneSet;
+use module_states::ModuleState;
+
+/// What a reply says of a task.
+#[derive(Clone, Copy, Debug, PartialEq, Eq)]
+pub enum Judgement {
+    /// It is met.
+    Met,
+    /// It may still be.
+    NotYet,
+    /// It can't be.
+    Fails(ProvisionFault),
+}
+
+impl Task {
+    /// What a reply to its operation says.
+    pub fn judge(&self, reply: &Reply) -> Judgement
+        requires { Answers (operation self.now) reply.now }
+        ensures { result ≡ judgement self.now reply.now }
+    {
+        match reply {
+            Reply::Done => Judgement::Met,
+            Reply::Refused => Judgement::NotYet,
+            Reply::Bytes(bytes) => self.judge_bytes(bytes),
+        }
+    }
+
+    #[tactic(auto, unfolding(crate::specs::Judgements::judged))]
+    fn judge_bytes(&self, bytes: &[u8]) -> Judgement
+        requires { HasCount (operation self.now) (length bytes.now) }
+        ensures { result ≡ judged self.now bytes.now }
+    {
+        match self {
+            Task::FindReady => judge_module(bytes[0] / 2 % 8),
+            Task::AwaitDeactivated(waiting) => {
+                judge_states(lanes(bytes), *waiting, *waiting, PathState::Deactivated)
+            }
+            Task::AwaitActivated(waiting) => {
+                judge_states(
+                    lanes(bytes),
+                    LaneSet::run(1, 8),
+                    *waiting,
+                    PathState::Activated,
+                )
+            }
+            Task::AwaitApplied(waiting) => judge_statuses(lanes(bytes), *waiting),
+            Task::CheckStaged(control) => match differing_lane(bytes, control) {
+                Some(lane) => Judgement::Fails(ProvisionFault::StagedDiffers(lane)),
+                None => Judgement::Met,
+            },
+            Task::CheckActive(control) => match differing_lane(bytes, control) {
+                Some(lane) => Judgement::Fails(ProvisionFault::ActiveDiffers(lane)),
+                None => Judgement::Met,
+            },
+            Task::Deinitialize(_) | Task::Stage(_) | Task::Apply(_) => Judgement::NotYet,
+        }
+    }
+}
+
+fn judge_module(code: u8) -> Judgement
+    ensures { result ≡ judged_module code }
+{
+    match module_states::state_of(code) {
+        Ok(ModuleState::Ready) => Judgement::Met,
+        Ok(_) => Judgement::Fails(ProvisionFault::ModuleState(code)),
+        Err(_) => Judgement::Fails(ProvisionFault::Reserved(code)),
+    }
+}
+
+// Reserved codes are looked for in one set of lanes, the state in another.
+fn judge_states(codes: [u8; 8], looked: LaneSet, waiting: LaneSet, state: PathState) -> Judgement
+    ensures { result ≡ judged_states looked waiting state codes }
+{
+    match lowest_reserved_state(&codes, looked) {
+        Some(lane) => Judgement::Fails(ProvisionFault::Reserved(at_lane(&codes, lane))),
+        None => met_if(all_have(&codes, waiting, state.code())),
+    }
+}
+
+fn judge_statuses(codes: [u8; 8], lanes: LaneSet) -> Judgement
+    ensures { result ≡ judged_statuses lanes codes }
+{
+    match lowest_reserved_status(&codes, lanes) {
+        Some(lane) => Judgement::Fails(ProvisionFault::Reserved(at_lane(&codes, lane))),
+        None => judge_rejections(codes, lanes),
+    }
+}
+
+fn judge_rejections(codes: [u8; 8], lanes: LaneSet) -> Judgement
+    ensures { result ≡ unless_rejected codes (lowest_lane is_rejection lanes codes) (met_if (all_have 1 lanes codes)) }
+{
+    match lowest_rejection(&codes, lanes) {
+        Some(lane) => Judgement::Fails(ProvisionFault::Rejected(lane, at_lane(&codes, lane))),
+        None => met_if(all_have(&codes, lanes, 1)),
+    }
+}
+
+fn met_if(holds: bool) -> Judgement
+    ensures { result ≡ met_if holds }
+{
+    if holds {
+        Judgement::Met
+    } else {
+        Judgement::NotYet
+    }
+}
+
+fn lowest_reserved_state(codes: &[u8; 8], lanes: LaneSet) -> Option<u8>
+    ensures value { result ≡ lowest_lane is_reserved_state lanes codes.now }
+    ensures lane { IfSome result IsLane }
+{
+    (1..9).find(|lane| lanes.contains(*lane) && is_reserved_state(at_lane(codes, *lane)))
+}
+
+fn lowest_reserved_status(codes: &[u8; 8], lanes: LaneSet) -> Option<u8>
+    ensures value { result ≡ lowest_lane is_reserved_status lanes codes.now }
+    ensures lane { IfSome result IsLane }
+{
+    (1..9).find(|lane| lanes.contains(*lane) && is_reserved_status(at_lane(codes, *lane)))
+}
+
+fn lowest_rejection(codes: &[u8; 8], lanes: LaneSet) -> Option<u8>
+    ensures value { result ≡ lowest_lane is_rejection lanes codes.now }
+    ensures lane { IfSome result IsLane }
+{
+    (1..9).find(|lane| lanes.contains(*lane) && is_rejection(at_lane(codes, *lane)))
+}
+
+fn all_have(codes: &[u8; 8], lanes: LaneSet, code: u8) -> bool
+    ensures { result ≡ all_have code lanes codes.now }
+{
+    (1..9).all(|lane| !lanes.contains(lane) || at_lane(codes, lane) == code)
+}
+
+fn differing_lane(bytes: &[u8], control: &[u8; 8]) -> Option<u8>
+    requires { length bytes.now ≡ 8 }
+    ensures { result ≡ differing_lane bytes.now control.now }
+{
+    (1..9).find(|lane| at_lane(bytes, *lane) != at_lane(control, *lane))
+}
+
+// Of eight bytes or codes, lane 1 first, that of a lane.
+fn at_lane(values: &[u8], lane: u8) -> u8
+    requires eight { length values.now ≡ 8 }
+    requires lane { IsLane lane }
+    ensures { result ≡ at_lane values.now lane }
+{
+    values[usize::from(lane) - 1]
+}
+
+fn is_reserved_state(code: u8) -> bool
+    ensures { result ≡ is_reserved_state code }
+{
+    datapath_states::state_of(code).is_err()
+}
+
+fn is_reserved_status(code: u8) -> bool
+    ensures { result ≡ is_reserved_status code }
+{
+    status_of(code).is_err()
+}
+
+fn is_rejection(code: u8) -> bool
+    ensures { result ≡ is_rejection code }
+{
+    matches!(code, 2..=7 | 13..=15)
+}

@@ -1,0 +1,88 @@
+ghost use Rattle.std.specs.Prelude.{◌≡◌, [], List};
+ghost use Rattle.plan_certificate.specs.Plans.{IsAdmissible};
+ghost use Rattle.field_tables.specs.LaneSets.{every_lane};
+ghost use Rattle.control_sets.specs.ControlBytes.{control_bytes};
+ghost use Rattle.control_sets.specs.PlanLanes.{plan_lanes};
+ghost use Rattle.control_sets.specs.Procedures.{IsOutcome, MakesHistory};
+ghost use Rattle.control_sets.specs.Progress.{IsAt};
+ghost use Rattle.control_sets.specs.Answers.{activated_steps, provisioned_steps};
+ghost use Rattle.control_sets.specs.OutcomeOfProvisioning.{IsProvisioning};
+ghost use Rattle.control_sets.specs.OutcomeOfActivation.{IsActivation};
+ghost use Rattle.bus_model.specs.Runs.{IsFull};
+ghost use Rattle.control_sets.specs.declared.procedures.task.Task.{Task};
+
+use crate::fault::ProvisionFault;
+use crate::plan_bytes::{bytes_of, lanes_of};
+use crate::procedures::next::Next;
+use crate::procedures::procedure::Procedure;
+use applications::Advert;
+use bus_model::Bus;
+use field_tables::LaneSet;
+use plan_certificate::Plan;
+
+/// A plan was provisioned.
+#[derive(Clone, Copy, Debug, PartialEq, Eq)]
+pub struct Provisioned {
+    /// How many steps were made.
+    pub steps: u16,
+}
+
+/// A plan's data paths were activated.
+#[derive(Clone, Copy, Debug, PartialEq, Eq)]
+pub struct Activated {
+    /// How many steps were made.
+    pub steps: u16,
+}
+
+/// Makes the control bytes of a plan active, whatever the bus refuses on the way.
+pub fn provision<B: Bus>(
+    bus: &mut B,
+    advert: &Advert,
+    plan: &Plan,
+) -> Result<Provisioned, ProvisionFault>
+    requires { IsAdmissible advert.now plan.now }
+    ensures { let control = control_bytes advert.now plan.now in
+        MakesHistory B.rules (B.seen bus.old) (B.seen bus.new) (λ history.
+        IsProvisioning control every_lane (IsFull (B.seen bus.new)) history (provisioned_steps result)) }
+{
+    let procedure = Procedure::provisioning(bytes_of(advert, plan), LaneSet::run(1, 8));
+    match carry_out(bus, procedure) {
+        Ok(steps) => Ok(Provisioned { steps }),
+        Err(fault) => Err(fault),
+    }
+}
+
+/// Brings up the data paths of a plan whose control bytes are active, and takes down those of all other lanes.
+pub fn activate<B: Bus>(
+    bus: &mut B,
+    advert: &Advert,
+    plan: &Plan,
+) -> Result<Activated, ProvisionFault>
+    requires { IsAdmissible advert.now plan.now }
+    ensures { let lanes = plan_lanes advert.now plan.now in
+        MakesHistory B.rules (B.seen bus.old) (B.seen bus.new) (λ history.
+        IsActivation (control_bytes advert.now plan.now) lanes (IsFull (B.seen bus.new)) history (activated_steps result)) }
+{
+    let procedure = Procedure::activation(bytes_of(advert, plan), lanes_of(advert, plan));
+    match carry_out(bus, procedure) {
+        Ok(steps) => Ok(Activated { steps }),
+        Err(fault) => Err(fault),
+    }
+}
+
+// Makes the operations that the procedure asks for; answers the number of steps.
+fn carry_out<B: Bus>(bus: &mut B, mut procedure: Procedure) -> Result<u16, ProvisionFault>
+    ensures { (tasks : List Task) → IsAt tasks [] procedure →
+        MakesHistory B.rules (B.seen bus.old) (B.seen bus.new) (λ history.
+        IsOutcome tasks (B.seen bus.new) history result) }
+{
+    'told: loop {
+        match procedure.next() {
+            Next::Do(op) => match bus.transact(op) {
+                Ok(reply) => procedure.take(&reply),
+                Err(fault) => return Err(ProvisionFault::Bus(fault)),
+            },
+            Next::Done(answer) => return answer,
+        }
+    }
+}

@@ -1,0 +1,74 @@
+ghost use Rattle.std.specs.Prelude.{◌≡◌, ◌+◌, ◌<◌};
+ghost use Rattle.bus_model.specs.Operations.{Answers, IsWellShaped};
+
+use crate::fault::ProvisionFault;
+use crate::procedures::judgement::Judgement;
+use crate::procedures::next::Next;
+use crate::procedures::registers::MAX_STEPS;
+use crate::procedures::selection::{Selection, read_selection, select};
+use crate::procedures::task::Task;
+use bus_model::{Op, Reply};
+
+/// What a procedure keeps of the steps that it was told.
+#[derive(Clone, Copy, Debug, PartialEq, Eq)]
+pub struct Session {
+    /// How many there were.
+    pub steps: u16,
+    /// What they say of the page selection.
+    pub selection: Selection,
+}
+
+impl Session {
+    ghost use Rattle.control_sets.specs.Selections.{judgement_by, operation_by, selection_after};
+    ghost use Rattle.control_sets.specs.Asking.{IfDo, next_with, step_with};
+
+    /// What is wanted for the task, where there is one.
+    pub fn next(&self, task: Option<Task>) -> Next
+        ensures value { result ≡ next_with self.now task }
+        ensures shape { IfDo result IsWellShaped }
+    {
+        match task {
+            None => Next::Done(Ok(self.steps)),
+            Some(task) if self.steps < MAX_STEPS => Next::Do(self.operation(&task)),
+            Some(_) => Next::Done(Err(ProvisionFault::GaveUp)),
+        }
+    }
+
+    fn operation(&self, task: &Task) -> Op
+        ensures operation { result ≡ operation_by self.now.selection task.now }
+        ensures shape { IsWellShaped result }
+    {
+        if self.selection.is_open() {
+            return read_selection();
+        }
+        match self.selection.missing(task.page()) {
+            Some(page) => select(page),
+            None => task.op(),
+        }
+    }
+
+    /// Takes the reply to the operation for the task, and says what it says of the task.
+    pub fn take(&mut self, task: &Task, reply: &Reply) -> Judgement
+        requires answers { Answers (operation_by self.old.selection task.now) reply.now }
+        requires fewer { self.old.steps < MAX_STEPS }
+        ensures judgement { result ≡ judgement_by self.old.selection task.now reply.now }
+        ensures steps { self.new.steps ≡ self.old.steps + 1 }
+        ensures selection { let made = step_with (operation_by self.old.selection task.now) reply.now in
+            self.new.selection ≡ selection_after self.old.selection made }
+    {
+        self.steps += 1;
+        if self.selection.is_open() {
+            if let Reply::Bytes(bytes) = reply {
+                self.selection = Selection::of(bytes);
+            }
+            return Judgement::NotYet;
+        }
+        match self.selection.missing(task.page()) {
+            Some(_) => {
+                self.selection = Selection::Open;
+                Judgement::NotYet
+            }
+            None => task.judge(reply),
+        }
+    }
+}
