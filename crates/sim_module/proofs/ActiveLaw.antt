@@ -1,0 +1,110 @@
+-- After steps that end as a success of provisioning does, what was read of the Active Control Set is active. Steps stand
+-- with the newest first.
+use Rattle.std.proofs.Common.{◌≡◌, ℕ, Some, List, [], ◌∷◌, ◌++◌, reverse, ap, sym, subst, ◌∙◌}
+use Rattle.std.specs.List.{AllByRecursion}
+use Rattle.bus_model.specs.declared.device.Dev.TheVariants.{A0}
+use Rattle.bus_model.specs.declared.operation.Step.{Step}
+use Rattle.bus_model.specs.declared.script.Directive.{Directive}
+use Rattle.bus_model.specs.Keeping.{IsKeptBy}
+use Rattle.bus_model.specs.Operations.{fetch_step}
+use Rattle.bus_model.specs.Runs.{Ran, Seen}
+use Rattle.bus_model.specs.ScriptedBus.{script_rules, settled}
+use Rattle.bus_model.proofs.ScriptRuns.{fetched_at}
+use Rattle.sim_module.specs.declared.module.SimModule.{SimModule}
+use Rattle.sim_module.specs.Lanes.{active_bytes}
+use Rattle.sim_module.specs.Modules.{conduct}
+use Rattle.sim_module.specs.Soundness.{IsSound}
+use Rattle.control_sets.specs.OutcomeOperations.{Confirms, CoversSelection}
+use Rattle.sim_module.proofs.Histories.{MayEach, after, after_append, after_reverse, found_keeps, may_each, may_older, steps_keep}
+use Rattle.sim_module.proofs.SoundModule.{sound_always}
+use Rattle.sim_module.proofs.IdleModule.{MapsNoControls, IsIdle, Shows, idle_by, idle_fetched, idle_kept, shows_by, shows_fetched, shows_kept}
+use Rattle.sim_module.proofs.ReadBytes.{SaySuccess, confirmed, idle_after_success, read_active}
+
+-- a fetch on device A0 that read these bytes
+abbrev pub read : ℕ → ℕ → List ℕ → Step
+read offset count bytes = fetch_step A0 offset count (Some (record { items = bytes }))
+
+-- the last step reads the control bytes from the Active Control Set; before that all statuses were read as ConfigSuccess, both
+-- on a confirmed page 11h, and in between page 10h was not selected
+pub record EndsApplied (control : List ℕ) (steps : List Step) : Type 0 where
+  pub between : List Step
+  pub statuses : List ℕ
+  pub before : List Step
+  pub split : steps ≡ read 206 8 control ∷ (between ++ read 202 4 statuses ∷ before)
+  pub success : SaySuccess statuses
+  pub shown : Confirms 0x11 before
+  pub still_shown : Confirms 0x11 (between ++ read 202 4 statuses ∷ before)
+  pub no_controls : AllByRecursion (λ step. MapsNoControls step.op) between
+
+each_step : (P Q : Step → Type 0) → ((step : Step) → P step → Q step) → (steps : List Step) → AllByRecursion P steps → AllByRecursion Q steps
+each_step P Q so [] all = tt
+each_step P Q so (step ∷ steps) all = (so step all.0, each_step P Q so steps all.1)
+
+any_step : (Q : Step → Type 0) → ((step : Step) → Q step) → (steps : List Step) → AllByRecursion Q steps
+any_step Q so [] = tt
+any_step Q so (step ∷ steps) = (so step, any_step Q so steps)
+
+-- a bus with a script and a module
+abbrev State : Type 0
+State = List Directive × SimModule
+
+abbrev left : State → List Step → State
+left = after (script_rules conduct)
+
+abbrev May : State → List Step → Type 0
+May = MayEach (script_rules conduct)
+
+-- the module as a transaction finds it
+abbrev found : State → SimModule
+found state = (settled conduct state.0 state.1).1
+
+sound_after : (state : State) (steps : List Step) → IsSound state.1 → IsSound (left state steps).1
+sound_after state steps sound =
+    steps_keep conduct IsSound sound_always.time steps (any_step (λ step. IsKeptBy conduct IsSound step.op) (λ step. sound_always.operations step.op) steps) state sound
+
+-- the page that the steps confirm is mapped after them
+shows_after : (number : ℕ) (state : State) (steps : List Step) → Confirms number steps → May state steps → Shows number (left state steps).1
+shows_after number state steps confirms may =
+    let step = read 126 2 (0 ∷ number ∷ []) in
+    let since = confirms.since in
+    let before = confirms.before in
+    let there = left state before in
+    let here : May state (step ∷ before) = may_older (script_rules conduct) state since (step ∷ before) (subst (May state) confirms.split may) in
+    let answer = fetched_at conduct A0 126 2 (record { items = 0 ∷ number ∷ [] }) there here.0 in
+    let shows : Shows number (found there) = confirmed (found there) number answer.answer in
+    let next : Shows number (left state (step ∷ before)).1 = subst (Shows number) (sym answer.left) ((shows_kept number).tick _ (shows_fetched number (found there) A0 126 2 shows)) in
+    let last : Shows number (left (left state (step ∷ before)) since).1 =
+    steps_keep conduct (Shows number) (shows_kept number) since (each_step (λ s. ¬ (CoversSelection s.op)) (λ s. IsKeptBy conduct (Shows number) s.op) (λ s. shows_by number s.op) since confirms.kept) (left state (step ∷ before)) next in
+    subst (λ (ss : List Step). Shows number (left state ss).1) (sym confirms.split)
+    (subst (λ (s : State). Shows number s.1) (sym (after_append (script_rules conduct) state since (step ∷ before))) last)
+
+active_after : (state : State) (steps : List Step) (control : List ℕ) → IsSound state.1 → May state steps → EndsApplied control steps → active_bytes (left state steps).1 ≡ control
+active_after state steps control sound may ends =
+    let last = read 206 8 control in
+    let statuses = read 202 4 ends.statuses in
+    let older = ends.between ++ statuses ∷ ends.before in
+    let whole : May state (last ∷ older) = subst (May state) ends.split may in
+    let first : May state (statuses ∷ ends.before) = may_older (script_rules conduct) state ends.between (statuses ∷ ends.before) whole.1 in
+    let there = left state ends.before in
+    let answer = fetched_at conduct A0 202 4 (record { items = ends.statuses }) there first.0 in
+    let shows : Shows 0x11 (found there) = found_keeps conduct (Shows 0x11) (shows_kept 0x11) there (shows_after 0x11 state ends.before ends.shown first.1) in
+    let still : IsSound (found there) = found_keeps conduct IsSound sound_always.time there (sound_after state ends.before sound) in
+    let active = active_bytes (found there) in
+    let idle : IsIdle active (found there) = idle_after_success (found there) ends.statuses still shows answer.answer ends.success in
+    let idle_next : IsIdle active (left state (statuses ∷ ends.before)).1 = subst (IsIdle active) (sym answer.left) ((idle_kept active).tick _ (idle_fetched active (found there) A0 202 4 idle)) in
+    let idle_on : IsIdle active (left (left state (statuses ∷ ends.before)) ends.between).1 =
+    steps_keep conduct (IsIdle active) (idle_kept active) ends.between
+    (each_step (λ s. MapsNoControls s.op) (λ s. IsKeptBy conduct (IsIdle active) s.op) (λ s. idle_by active s.op) ends.between ends.no_controls) (left state (statuses ∷ ends.before)) idle_next in
+    let idle_last : IsIdle active (left state older).1 = subst (λ (s : State). IsIdle active s.1) (sym (after_append (script_rules conduct) state ends.between (statuses ∷ ends.before))) idle_on in
+    let idle_found : IsIdle active (found (left state older)) = found_keeps conduct (IsIdle active) (idle_kept active) (left state older) idle_last in
+    let shows_last : Shows 0x11 (found (left state older)) = found_keeps conduct (Shows 0x11) (shows_kept 0x11) (left state older) (shows_after 0x11 state older ends.still_shown whole.1) in
+    let answer_last = fetched_at conduct A0 206 8 (record { items = control }) (left state older) whole.0 in
+    let is_control : active_bytes (found (left state older)) ≡ control = read_active (found (left state older)) control shows_last idle_found.eight answer_last.answer in
+    let end : IsIdle active (left state (last ∷ older)).1 = subst (IsIdle active) (sym answer_last.left) ((idle_kept active).tick _ (idle_fetched active (found (left state older)) A0 206 8 idle_found)) in
+    ap (λ (ss : List Step). active_bytes (left state ss).1) ends.split ∙ end.active ∙ sym idle_found.active ∙ is_control
+
+pub active_is_read : (old new : Seen State) (steps : List Step) (control : List ℕ) → IsSound old.state.1 → Ran (script_rules conduct) old new (reverse steps) → EndsApplied control steps →
+    active_bytes new.state.1 ≡ control
+active_is_read old new steps control sound ran ends =
+    ap (λ (s : State). active_bytes s.1) (ran.state ∙ after_reverse (script_rules conduct) old.state steps)
+    ∙ active_after old.state steps control sound (may_each (script_rules conduct) old.state steps ran.allowed) ends

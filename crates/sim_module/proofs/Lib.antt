@@ -1,0 +1,9 @@
+pub mod EachLane
+pub mod LaneTests
+pub mod LanesInTime
+pub mod SoundModule
+pub mod Histories
+pub mod IdleModule
+pub mod ReadBytes
+pub mod ActiveLaw
+pub mod Provisioned

@@ -1,0 +1,25 @@
+use Rattle.std.proofs.Common.{◌≡◌, sym, ap, ◌∙◌, arith}
+use Rattle.std.specs.FinSet as set
+use Rattle.sim_module.specs.Ticks.{arrives}
+use Rattle.sim_module.proofs.LaneTests.{all_those, below, none_yet, not_this, one_more, those}
+use Rattle.sim_module.proofs.module.SimModule.arriving.Goals as goal
+use Rattle.sim_module.proofs.module.SimModule.arriving.Goals.{then-arrives, else-arrives}
+
+pub loop-lane-init : goal.loop-lane-init
+loop-lane-init c = c.empty-lanes.ensures ∙ none_yet (arrives c.args.self.now)
+
+pub loop-lane-preserved : goal.loop-lane-preserved
+loop-lane-preserved c =
+    let test = arrives c.args.self.now in
+    let lane = c.loop-lane.lane in
+    elim c.if-arrives.branch [
+      | then-arrives w ↦
+          w.lanes-is ∙ w.union-lanes.ensures ∙ (λ i. set.union (c.loop-lane.invariant i) (w.run.ensures i))
+          ∙ one_more test lane (omega arith) (omega arith) (sym c.arrives.ensures ∙ w.if-arrives.true)
+      | else-arrives w ↦ w.lanes-is ∙ c.loop-lane.invariant ∙ not_this test lane (sym c.arrives.ensures ∙ w.if-arrives.false)
+    ]
+
+pub returns : goal.returns
+returns c =
+    let end : c.loop-lane.lane ≡ 9 = omega arith in
+    c.loop-lane.invariant ∙ ap (λ n. those (below (arrives c.args.self.now) n)) end ∙ all_those (arrives c.args.self.now)

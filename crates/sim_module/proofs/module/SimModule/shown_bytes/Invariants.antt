@@ -1,0 +1,10 @@
+use Rattle.std.proofs.Common.{◌≡◌, length, map}
+use Rattle.std.specs.List.{range_with_len}
+use Rattle.sim_module.specs.ShownBytes.{shown_byte}
+use Rattle.sim_module.proofs.module.SimModule.shown_bytes.Given as goal
+
+abbrev pub invariant-loop-index : goal.invariant-loop-index
+invariant-loop-index l = record {
+  items : l.bytes.items ≡ map (shown_byte l.self l.page) (range_with_len l.first l.index);
+  len : length l.bytes.items ≡ l.index;
+}

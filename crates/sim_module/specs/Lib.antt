@@ -1,0 +1,12 @@
+pub mod Registers
+pub mod Lanes
+pub mod Down
+pub mod Starts
+pub mod Ticks
+pub mod Applies
+pub mod ShownBytes
+pub mod Stores
+pub mod Modules
+pub mod Soundness
+pub mod ActiveSets
+pub mod FaultWords

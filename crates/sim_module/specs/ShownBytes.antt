@@ -1,0 +1,109 @@
+-- What a fetch answers, and what it makes of a module. (docs/module.md, "Fetches"; OIF-CMIS-05.0, chapter 8 "Module
+-- Management Memory Map")
+use Rattle.std.specs.Prelude.{ℕ, ◌+◌, ◌-◌, ◌*◌, ◌%◌, ◌==◌, ◌&&◌, Bool, Option, Some, None, unwrap_or, if◌then◌else◌, List, [], ◌∷◌, map, nat_lt, slice_index, bit_and}
+use Rattle.std.specs.List.{range_with_len}
+use Rattle.std.specs.FinMap as finmap
+use Rattle.bus_model.specs.declared.device.Dev.{Dev}
+use Rattle.bus_model.specs.declared.device.Dev.TheVariants.{A0, A2}
+use Rattle.paged_memory.specs.Images.{place_in_half}
+use Rattle.field_tables.specs.FirstFault.{first_fault}
+use Rattle.field_tables.specs.LaneSets.{byte_of}
+use Rattle.field_tables.specs.declared.field.Field.TheVariants.{CModuleState, CModuleFlag, CSoftwareReset, CBankSelect, CPageSelect, CDPDeinit, CApplyDPInit, CStagedAppSel, CPathStates, CPathStateChanged, CConfigStatus, CActiveAppSel}
+use Rattle.module_states.specs.Codes as module_codes
+use Rattle.datapath_states.specs.StateCodes.{code_of}
+use Rattle.datapath_states.specs.StatusCodes.{status_code_of}
+use Rattle.sim_module.specs.declared.module.SimModule.{SimModule}
+use Rattle.sim_module.specs.declared.module.TheConstants.{LANE_FLAGS}
+use Rattle.sim_module.specs.Lanes.{lane_at}
+use Rattle.sim_module.specs.Registers.{address_of, is_at, is_from, is_in}
+use Rattle.paged_memory.specs.Selections.{shown_key}
+
+-- a page of bank 0 is mapped
+abbrev pub is_mapped : SimModule → ℕ → Bool
+is_mapped sim page = sim.selection.bank == 0 && sim.selection.page == page
+
+-- two lanes to a byte, the odd one in the lower four bits
+abbrev pub pair_byte : (ℕ → ℕ) → ℕ → ℕ
+pair_byte code index = code (2 * index + 1) + 16 * code (2 * index + 2)
+
+abbrev pub path_code : SimModule → ℕ → ℕ
+path_code sim lane = code_of (lane_at sim lane).path
+
+abbrev pub status_code : SimModule → ℕ → ℕ
+status_code sim lane = status_code_of (lane_at sim lane).status % 16
+
+-- bits 3 to 1 of the byte are the module state's, the others the image's
+abbrev pub state_byte : SimModule → ℕ → ℕ
+state_byte sim byte = bit_and byte 0xF1 + 2 * module_codes.code_of sim.state
+
+-- SoftwareReset, bit 3, reads 0
+abbrev pub control_byte : SimModule → ℕ
+control_byte sim = bit_and sim.control 0xF7
+
+-- of lower memory, the bytes that aren't the image's (given its byte there)
+abbrev pub lower_bytes : SimModule → ℕ → ℕ → List (Bool × ℕ)
+lower_bytes sim byte address =
+    (is_at CModuleState address, state_byte sim byte)
+    ∷ (is_at CModuleFlag address, sim.module_flags)
+    ∷ (is_at CSoftwareReset address, control_byte sim)
+    ∷ (is_at CBankSelect address, sim.selection.bank)
+    ∷ (is_at CPageSelect address, sim.selection.page)
+    ∷ []
+
+-- of page 10h
+abbrev pub configuration_bytes : SimModule → ℕ → List (Bool × ℕ)
+configuration_bytes sim address =
+    (is_at CDPDeinit address, byte_of sim.deinit)
+    ∷ (is_at CApplyDPInit address, 0)
+    ∷ (is_in CStagedAppSel 8 address, (lane_at sim (address - address_of CStagedAppSel + 1)).staged)
+    ∷ []
+
+-- of page 11h
+abbrev pub status_bytes : SimModule → ℕ → List (Bool × ℕ)
+status_bytes sim address =
+    (is_in CPathStates 4 address, pair_byte (path_code sim) (address - address_of CPathStates))
+    ∷ (is_in CPathStateChanged LANE_FLAGS address, slice_index sim.lane_flags (address - address_of CPathStateChanged))
+    ∷ (is_in CConfigStatus 4 address, pair_byte (status_code sim) (address - address_of CConfigStatus))
+    ∷ (is_in CActiveAppSel 8 address, (lane_at sim (address - address_of CActiveAppSel + 1)).active)
+    ∷ []
+
+-- the bytes that aren't the image's, of the half that an address is in
+abbrev pub own_bytes : SimModule → ℕ → ℕ → List (Bool × ℕ)
+own_bytes sim byte address =
+    if nat_lt address 128 then lower_bytes sim byte address
+    else if is_mapped sim 0x10 then configuration_bytes sim address
+    else if is_mapped sim 0x11 then status_bytes sim address
+    else []
+
+-- the byte at an address, where the half that shows it has these bytes in the image
+unfoldable pub shown_byte : SimModule → List ℕ → ℕ → ℕ
+shown_byte sim page address =
+    let byte = slice_index page (place_in_half address) in
+    unwrap_or (first_fault (own_bytes sim byte address)) byte
+
+-- latched: a flag is 0 once it was read
+abbrev pub left_flag : Bool → ℕ → ℕ
+left_flag is_read flag = if is_read then 0 else flag
+
+-- of the flags of page 11h, by their places from the first one
+abbrev pub left_lane_flag : SimModule → (ℕ → Bool) → ℕ → ℕ
+left_lane_flag sim is_read index = left_flag (is_mapped sim 0x11 && is_read (address_of CPathStateChanged + index)) (slice_index sim.lane_flags index)
+
+abbrev pub left_lane_flags : SimModule → (ℕ → Bool) → List ℕ
+left_lane_flags sim is_read = map (left_lane_flag sim is_read) (range_with_len 0 LANE_FLAGS)
+
+-- after the bytes at some addresses were read
+unfoldable pub cleared : SimModule → (ℕ → Bool) → SimModule
+cleared sim is_read = record sim {
+  module_flags = left_flag (is_read (address_of CModuleFlag)) sim.module_flags;
+  lane_flags = left_lane_flags sim is_read;
+}
+
+abbrev pub fetched_from : SimModule → ℕ → ℕ → Option (List ℕ) → Option (List ℕ) × SimModule
+fetched_from sim address count (Some page) = (Some (map (shown_byte sim page) (range_with_len address count)), cleared sim (is_from address count))
+fetched_from sim address count None = (None, sim)
+
+-- so many bytes from an address on; a half that the image lacks, and device A2, refuse
+unfoldable pub fetched : SimModule → Dev → ℕ → ℕ → Option (List ℕ) × SimModule
+fetched sim A0 address count = fetched_from sim address count (finmap.get sim.image (shown_key A0 sim.selection address))
+fetched sim A2 address count = (None, sim)

@@ -1,0 +1,195 @@
+//! What a store to ApplyDPInit makes of a module.
+use crate::SimModule;
+use crate::lane::Lane;
+use applications::{Advert, App, LaneSet};
+use control_sets::{agree, control_at};
+use datapath_states::ConfigStatus;
+
+impl SimModule {
+    ghost use Rattle.std.specs.Prelude.{◌≡◌, map};
+    ghost use Rattle.control_sets.specs.HostPaths.{IsLane};
+    ghost use Rattle.sim_module.specs.Lanes.{all_lanes};
+    ghost use Rattle.sim_module.specs.Applies as spec;
+
+    // Why a lane can't be applied together with the lanes of a mask.
+    #[tactic(auto, unfolding(crate::specs::Applies::refusal))]
+    fn refusal(&self, mask: LaneSet, lane: u8) -> Option<ConfigStatus>
+        requires { IsLane lane }
+        ensures { result ≡ spec.refusal self.now mask lane }
+    {
+        if !self.is_deactivated(lane) {
+            return Some(ConfigStatus::RejectedLanesInUse);
+        }
+        let staged = self.is_staged(lane);
+        if staged && self.staged_app(lane).is_none() {
+            return Some(ConfigStatus::RejectedInvalidAppSel);
+        }
+        if staged && self.is_explicit(lane) {
+            return Some(ConfigStatus::RejectedInvalidSi);
+        }
+        if staged && !self.is_path_right(lane) {
+            return Some(ConfigStatus::RejectedInvalidDataPath);
+        }
+        if !self.are_paths_within(mask, lane) {
+            return Some(ConfigStatus::RejectedPartialDataPath);
+        }
+        None
+    }
+
+    fn is_staged(&self, lane: u8) -> bool
+        requires { IsLane lane }
+        ensures { result ≡ spec.is_staged self.now lane }
+    {
+        control_at(&self.staged(), lane).is_used()
+    }
+
+    // The Application that a staged lane asks for.
+    fn staged_app(&self, lane: u8) -> Option<App>
+        requires { IsLane lane }
+        ensures { result ≡ spec.staged_app self.now lane }
+    {
+        let number = control_at(&self.staged(), lane).app_sel_code;
+        app_numbered(&self.advert, number)
+    }
+
+    fn is_explicit(&self, lane: u8) -> bool
+        requires { IsLane lane }
+        ensures { result ≡ spec.is_explicit self.now lane }
+    {
+        self.lane(lane).staged & 1 == 1
+    }
+
+    fn is_path_right(&self, lane: u8) -> bool
+        requires { IsLane lane }
+        ensures { result ≡ spec.is_path_right self.now lane }
+    {
+        let first = control_at(&self.staged(), lane).first_lane();
+        match self.staged_app(lane) {
+            Some(app) => self.is_path_for(lane, first, app),
+            None => true,
+        }
+    }
+
+    // Whether a path of an Application from a first lane on can be there, with this lane.
+    fn is_path_for(&self, lane: u8, first: u8, app: App) -> bool
+        requires lane { IsLane lane }
+        requires first { IsLane first }
+        ensures { result ≡ spec.is_path_for self.now lane first app }
+    {
+        if app.host_lanes > 9 - first || !app.host_starts.contains(first) {
+            return false;
+        }
+        let lanes = LaneSet::run(first, app.host_lanes);
+        lanes.contains(lane) && self.are_staged_alike(lanes, lane)
+    }
+
+    fn are_staged_alike(&self, lanes: LaneSet, lane: u8) -> bool
+        requires { IsLane lane }
+        ensures { result ≡ spec.are_staged_alike self.now lanes lane }
+    {
+        let staged = self.staged();
+        (1..9).all(|other| !lanes.contains(other) || agree(&staged, lane, other))
+    }
+
+    // Whether the lanes of both paths of a lane are in a mask.
+    fn are_paths_within(&self, mask: LaneSet, lane: u8) -> bool
+        requires { IsLane lane }
+        ensures { result ≡ spec.are_paths_within self.now mask lane }
+    {
+        (1..9).all(|other| {
+            mask.contains(other)
+                || !(self.is_of_staged_path(lane, other) || self.is_of_active_path(lane, other))
+        })
+    }
+
+    fn is_of_staged_path(&self, lane: u8, other: u8) -> bool
+        requires lane { IsLane lane }
+        requires other { IsLane other }
+        ensures { result ≡ spec.is_of_staged_path self.now lane other }
+    {
+        let first = control_at(&self.staged(), lane).first_lane();
+        match self.staged_app(lane) {
+            Some(app) => first <= other && other - first < app.host_lanes,
+            None => false,
+        }
+    }
+
+    fn is_of_active_path(&self, lane: u8, other: u8) -> bool
+        requires lane { IsLane lane }
+        requires other { IsLane other }
+        ensures { result ≡ spec.is_of_active_path self.now lane other }
+    {
+        let active = self.active();
+        control_at(&active, lane).is_used() && agree(&active, lane, other)
+    }
+
+    // Whether each lane of a mask can be applied.
+    #[tactic(auto, unfolding(crate::specs::Applies::is_applicable))]
+    fn is_applicable(&self, mask: LaneSet) -> bool
+        ensures { result ≡ spec.is_applicable self.now mask }
+    {
+        (1..9).all(|lane| !mask.contains(lane) || self.refusal(mask, lane).is_none())
+    }
+
+    #[tactic(auto, unfolding(crate::specs::Applies::applied_to))]
+    fn applied_to(&self, mask: LaneSet, lane: u8) -> Lane
+        requires { IsLane lane }
+        ensures { result ≡ spec.applied_to self.now mask lane }
+    {
+        let before = self.lane(lane);
+        if !mask.contains(lane) {
+            before.dropped()
+        } else if self.is_applicable(mask) {
+            before.begun()
+        } else {
+            before.refused(self.refusal(mask, lane).unwrap_or(ConfigStatus::Rejected))
+        }
+    }
+
+    fn lanes_applied_to(&self, mask: LaneSet) -> [Lane; 8]
+        ensures { result ≡ map (spec.applied_to self.now mask) all_lanes }
+    {
+        let mut lanes = self.lanes;
+        for (index, lane) in lanes.iter_mut().enumerate() {
+            *lane = self.applied_to(mask, index as u8 + 1);
+        }
+        lanes
+    }
+
+    // Applies the staged control bytes of the lanes of a mask.
+    #[tactic(auto, unfolding(crate::specs::Applies::applied))]
+    pub(crate) fn apply(&mut self, mask: LaneSet)
+        ensures { self.new ≡ spec.applied self.old mask }
+    {
+        if mask.is_empty() {
+            return;
+        }
+        let lanes = self.lanes_applied_to(mask);
+        self.apply_left = if self.is_applicable(mask) {
+            self.delays.apply
+        } else {
+            0
+        };
+        self.lanes = lanes;
+    }
+}
+
+ghost use Rattle.std.specs.Prelude.{◌≡◌};
+ghost use Rattle.sim_module.specs.Applies as spec;
+
+// The usable Application of a number.
+fn app_numbered(advert: &Advert, number: u8) -> Option<App>
+    ensures { result ≡ spec.app_numbered advert.now number }
+{
+    advert
+        .apps()
+        .iter()
+        .copied()
+        .find(|app| is_numbered(app, number))
+}
+
+fn is_numbered(app: &App, number: u8) -> bool
+    ensures { result ≡ spec.is_numbered number app.now }
+{
+    app.number == number && app.is_usable()
+}

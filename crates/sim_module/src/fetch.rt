@@ -1,0 +1,175 @@
+//! What a module shows, and what a fetch makes of it.
+use crate::SimModule;
+use crate::module::LANE_FLAGS;
+use crate::registers::{index_in, is_at, is_from};
+use arrayvec::ArrayVec;
+use bus_model::Dev;
+use field_tables::{Field, row};
+use paged_memory::PAGE_LEN;
+
+impl SimModule {
+    ghost use Rattle.std.specs.Prelude.{◌≡◌, ◌≤◌, ◌<◌, ◌+◌, length, map, unwrap_or, option_map, IfSome};
+    ghost use Rattle.std.specs.List.{range_with_len};
+    ghost use Rattle.bus_model.specs.declared.device.Dev.{Dev};
+    ghost use Rattle.field_tables.specs.FirstFault.{first_fault};
+    ghost use Rattle.sim_module.specs.Registers as registers;
+    ghost use Rattle.sim_module.specs.ShownBytes as spec;
+
+    // Whether a page of bank 0 is mapped.
+    pub(crate) fn is_mapped(&self, page: u8) -> bool
+        ensures { result ≡ spec.is_mapped self.now page }
+    {
+        self.selection.bank == 0 && self.selection.page == page
+    }
+
+    fn path_pair(&self, index: u8) -> u8
+        requires { index < 4 }
+        ensures { result ≡ spec.pair_byte (spec.path_code self.now) index }
+    {
+        let odd = self.lane(2 * index + 1).path;
+        let even = self.lane(2 * index + 2).path;
+        odd.code() + 16 * even.code()
+    }
+
+    fn status_pair(&self, index: u8) -> u8
+        requires { index < 4 }
+        ensures { result ≡ spec.pair_byte (spec.status_code self.now) index }
+    {
+        let odd = self.lane(2 * index + 1).status;
+        let even = self.lane(2 * index + 2).status;
+        odd.code() % 16 + 16 * (even.code() % 16)
+    }
+
+    // A byte of lower memory, given the image's.
+    fn lower_byte(&self, byte: u8, address: u8) -> u8
+        ensures { result ≡ unwrap_or (first_fault (spec.lower_bytes self.now byte address)) byte }
+    {
+        if is_at(Field::CModuleState, address) {
+            (byte & 0xF1) + 2 * self.state.code()
+        } else if is_at(Field::CModuleFlag, address) {
+            self.module_flags
+        } else if is_at(Field::CSoftwareReset, address) {
+            self.control & 0xF7
+        } else if is_at(Field::CBankSelect, address) {
+            self.selection.bank
+        } else if is_at(Field::CPageSelect, address) {
+            self.selection.page
+        } else {
+            byte
+        }
+    }
+
+    // A byte of page 10h, given the image's.
+    fn configuration_byte(&self, byte: u8, address: u8) -> u8
+        ensures { result ≡ unwrap_or (first_fault (spec.configuration_bytes self.now address)) byte }
+    {
+        if is_at(Field::CDPDeinit, address) {
+            self.deinit.byte()
+        } else if is_at(Field::CApplyDPInit, address) {
+            0
+        } else if let Some(index) = index_in(Field::CStagedAppSel, 8, address) {
+            self.lane(index + 1).staged
+        } else {
+            byte
+        }
+    }
+
+    // A byte of page 11h, given the image's.
+    fn status_byte(&self, byte: u8, address: u8) -> u8
+        ensures { result ≡ unwrap_or (first_fault (spec.status_bytes self.now address)) byte }
+    {
+        if let Some(index) = index_in(Field::CPathStates, 4, address) {
+            self.path_pair(index)
+        } else if let Some(index) = index_in(Field::CPathStateChanged, LANE_FLAGS as u8, address) {
+            self.lane_flags[usize::from(index)]
+        } else if let Some(index) = index_in(Field::CConfigStatus, 4, address) {
+            self.status_pair(index)
+        } else if let Some(index) = index_in(Field::CActiveAppSel, 8, address) {
+            self.lane(index + 1).active
+        } else {
+            byte
+        }
+    }
+
+    #[tactic(auto, unfolding(crate::specs::ShownBytes::shown_byte))]
+    fn shown_byte(&self, page: &[u8; PAGE_LEN], address: u8) -> u8
+        ensures { result ≡ spec.shown_byte self.now page.now address }
+    {
+        if address < 128 {
+            return self.lower_byte(page[usize::from(address)], address);
+        }
+        let byte = page[usize::from(address) - 128];
+        if self.is_mapped(0x10) {
+            self.configuration_byte(byte, address)
+        } else if self.is_mapped(0x11) {
+            self.status_byte(byte, address)
+        } else {
+            byte
+        }
+    }
+
+    fn shown_bytes(&self, page: &[u8; PAGE_LEN], first: u8, count: u8) -> ArrayVec<u8, 128>
+        requires half { first + count ≤ 256 }
+        requires room { count ≤ 128 }
+        ensures bytes { result.items ≡ map (spec.shown_byte self.now page.now) (range_with_len first count) }
+        ensures count { length result.items ≡ count }
+    {
+        let mut bytes = ArrayVec::new();
+        for index in 0..count {
+            bytes.push(self.shown_byte(page, first + index));
+        }
+        bytes
+    }
+
+    // What a fetch on device A0 answers.
+    #[tactic(auto, unfolding(crate::specs::ShownBytes::fetched))]
+    pub(crate) fn shown(&self, first: u8, count: u8) -> Option<ArrayVec<u8, 128>>
+        requires half { first + count ≤ 256 }
+        requires room { count ≤ 128 }
+        ensures answer { option_map (λ bytes. bytes.items) result ≡ (spec.fetched self.now Dev.A0 first count).0 }
+        ensures count { IfSome result (λ bytes. length bytes.items ≡ count) }
+    {
+        match self.image.page(self.selection.key(Dev::A0, first)) {
+            Some(page) => Some(self.shown_bytes(page.bytes(), first, count)),
+            None => None,
+        }
+    }
+
+    // A latched flag of page 11h, by its place from the first one, after some addresses were read.
+    fn left_lane_flag(&self, first: u8, count: u8, index: u8) -> u8
+        requires half { first + count ≤ 256 }
+        requires index { index < LANE_FLAGS }
+        ensures { result ≡ spec.left_lane_flag self.now (registers.is_from first count) index }
+    {
+        let flag = self.lane_flags[usize::from(index)];
+        let address = row(Field::CPathStateChanged).offset + index;
+        if self.is_mapped(0x11) && is_from(first, count, address) {
+            0
+        } else {
+            flag
+        }
+    }
+
+    fn left_lane_flags(&self, first: u8, count: u8) -> [u8; LANE_FLAGS]
+        requires { first + count ≤ 256 }
+        ensures { result ≡ spec.left_lane_flags self.now (registers.is_from first count) }
+    {
+        let mut flags = [0; LANE_FLAGS];
+        for (index, flag) in flags.iter_mut().enumerate() {
+            *flag = self.left_lane_flag(first, count, index as u8);
+        }
+        flags
+    }
+
+    // What is latched becomes 0 where it was read.
+    #[tactic(auto, unfolding(crate::specs::ShownBytes::cleared))]
+    pub(crate) fn clear(&mut self, first: u8, count: u8)
+        requires { first + count ≤ 256 }
+        ensures { self.new ≡ spec.cleared self.old (registers.is_from first count) }
+    {
+        self.lane_flags = self.left_lane_flags(first, count);
+        if is_from(first, count, row(Field::CModuleFlag).offset) {
+            self.module_flags = 0;
+        }
+    }
+}

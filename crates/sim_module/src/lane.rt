@@ -1,0 +1,106 @@
+use crate::delays::Delays;
+use datapath_states::{ConfigStatus, PathState};
+
+/// What the module knows of one host lane.
+#[derive(Clone, Copy, Debug, PartialEq, Eq)]
+pub struct Lane {
+    /// The state of the lane's data path.
+    pub path: PathState,
+    /// The ticks until the work of a transient state is done, and 0 where none runs.
+    pub left: u16,
+    /// What became of the last apply.
+    pub status: ConfigStatus,
+    /// The lane's control byte of Staged Control Set 0.
+    pub staged: u8,
+    /// The lane's control byte of the Active Control Set.
+    pub active: u8,
+    /// The control byte that an apply in progress keeps for the lane.
+    pub kept: Option<u8>,
+}
+
+impl Lane {
+    ghost use Rattle.std.specs.Prelude.{◌≡◌};
+    ghost use Rattle.sim_module.specs.Lanes as lanes;
+    ghost use Rattle.sim_module.specs.Ticks as ticks;
+    ghost use Rattle.sim_module.specs.Applies as applies;
+
+    // Whether an apply of the lane has begun and is not done.
+    pub(crate) fn is_in_progress(self) -> bool
+        ensures { result ≡ lanes.is_in_progress self }
+    {
+        self.status.code() == ConfigStatus::InProgress.code()
+    }
+
+    // The lane with its next state.
+    pub(crate) fn moved(self, delays: Delays, path: PathState) -> Lane
+        ensures { result ≡ ticks.moved_lane delays self path }
+    {
+        Lane {
+            path,
+            left: next_left(path == self.path, self.left, delays.of_path(path)),
+            ..self
+        }
+    }
+
+    // The lane after its apply is done.
+    pub(crate) fn applied(self) -> Lane
+        ensures { result ≡ ticks.applied_lane self }
+    {
+        match self.kept {
+            Some(byte) => Lane {
+                active: byte,
+                status: ConfigStatus::Success,
+                kept: None,
+                ..self
+            },
+            None => self,
+        }
+    }
+
+    // The lane after an apply in progress has ended without effect.
+    pub(crate) fn dropped(self) -> Lane
+        ensures { result ≡ applies.dropped_lane self }
+    {
+        if self.kept.is_some() {
+            Lane {
+                status: ConfigStatus::Rejected,
+                kept: None,
+                ..self
+            }
+        } else {
+            self
+        }
+    }
+
+    // The lane as an apply of it begins.
+    pub(crate) fn begun(self) -> Lane
+        ensures { result ≡ applies.begun_lane self }
+    {
+        Lane {
+            status: ConfigStatus::InProgress,
+            kept: Some(self.staged),
+            ..self
+        }
+    }
+
+    // The lane after an apply of it was refused.
+    pub(crate) fn refused(self, status: ConfigStatus) -> Lane
+        ensures { result ≡ applies.refused_lane self status }
+    {
+        Lane {
+            status,
+            kept: None,
+            ..self
+        }
+    }
+}
+
+ghost use Rattle.std.specs.Prelude.{◌≡◌};
+ghost use Rattle.sim_module.specs.Ticks as ticks;
+
+/// A counter after a tick: it goes on, or begins where a state was entered.
+pub fn next_left(stays: bool, left: u16, delay: u16) -> u16
+    ensures { result ≡ ticks.next_left stays left delay }
+{
+    if stays { left.saturating_sub(1) } else { delay }
+}

@@ -1,0 +1,32 @@
+//! What holds of a module, over the definitions of its events alone.
+ghost use Rattle.paged_memory.specs.Images.{Memory};
+ghost use Rattle.sim_module.specs.declared.delays.Delays.{Delays};
+ghost use Rattle.sim_module.specs.Soundness.{HoldsItsPath, IsAlwaysKept, IsSound, LanesStayUp};
+ghost use Rattle.sim_module.specs.Starts.{start};
+ghost use Rattle.sim_module.specs.ActiveSets.{ActiveIsPlanned};
+
+/// A new module has eight lanes, and no apply of it is in progress.
+pub fn a_new_module_is_sound()
+    ensures { (memory : Memory) (delays : Delays) → IsSound (start memory delays) }
+{}
+
+/// Whatever happens to a module, the lanes of an apply in progress have the status ConfigInProgress.
+pub fn a_module_stays_sound()
+    ensures { IsAlwaysKept IsSound }
+{}
+
+/// A lane whose DPDeinit bit is set, or of which an apply is in progress, takes down all lanes of its active path.
+pub fn a_lane_holds_its_path_down()
+    ensures { HoldsItsPath }
+{}
+
+/// A tick leaves a lane as it is that is activated and not down, and of which no apply is in progress.
+pub fn a_lane_that_is_not_down_stays_up()
+    ensures { LanesStayUp }
+{}
+
+/// Over a scripted bus, whatever the script refuses or cuts short: after a success of provisioning the control bytes are
+/// active.
+pub fn what_is_provisioned_is_active()
+    ensures { ActiveIsPlanned }
+{}

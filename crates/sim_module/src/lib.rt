@@ -1,0 +1,24 @@
+//! A simulated CMIS module: it runs its state machines by ticks, applies what is staged, and refuses what the standard
+//! refuses.
+#![tactic(auto)]
+
+mod apply;
+mod delays;
+mod device;
+mod down;
+mod fault;
+mod fetch;
+mod lane;
+pub mod laws;
+mod module;
+mod registers;
+mod start;
+mod store;
+#[cfg(test)]
+mod tests;
+mod tick;
+
+pub use delays::{Delays, MAX_DELAY};
+pub use fault::SimFault;
+pub use lane::Lane;
+pub use module::SimModule;

@@ -1,0 +1,147 @@
+//! A module at the start.
+use crate::SimModule;
+use crate::delays::Delays;
+use crate::down::asks_low_power;
+use crate::fault::SimFault;
+use crate::lane::Lane;
+use crate::module::LANE_FLAGS;
+use applications::{Advert, LaneSet};
+use bus_model::Dev;
+use control_sets::{ControlFault, paths_of};
+use datapath_states::{ConfigStatus, PathState};
+use field_tables::{Field, row};
+use module_states::ModuleState;
+use paged_memory::{Image, Key, Selection};
+use std::array;
+
+impl SimModule {
+    ghost use Rattle.std.specs.Prelude.{◌≡◌, MatchOption};
+    ghost use Rattle.sim_module.specs.Starts as spec;
+
+    /// The module of an image, with the delays of its work. Nothing of it has moved yet.
+    #[tactic(auto, unfolding(crate::specs::Starts::start))]
+    pub fn new(image: &Image, delays: Delays) -> Result<SimModule, SimFault>
+        ensures { MatchOption (spec.start_fault image.now delays) (result ≡ Ok (spec.start image.now delays)) (λ fault. result ≡ Err fault) }
+    {
+        if let Some(key) = absent_half(image) {
+            return Err(SimFault::Absent(key));
+        }
+        let advert = match Advert::of(image) {
+            Ok(advert) => advert,
+            Err(fault) => return Err(SimFault::Advert(fault)),
+        };
+        if !delays.are_allowed() {
+            return Err(SimFault::BadDelay);
+        }
+        if let Err(ControlFault::NotPaths(lane)) = paths_of(active_at_start(image)) {
+            return Err(SimFault::ActiveNotPaths(lane));
+        }
+        Ok(start(image, advert, delays))
+    }
+}
+
+ghost use Rattle.std.specs.Prelude.{◌≡◌, ◌≤◌, ◌+◌, map};
+ghost use Rattle.std.specs.List.{range_with_len};
+ghost use Rattle.applications.specs.Advertised.{advertised_by};
+ghost use Rattle.control_sets.specs.HostPaths.{IsLane};
+ghost use Rattle.sim_module.specs.Lanes.{all_lanes};
+ghost use Rattle.sim_module.specs.Registers.{address_of};
+ghost use Rattle.sim_module.specs.Starts as spec;
+
+// The first half that an image lacks of those that a module needs.
+fn absent_half(image: &Image) -> Option<Key>
+    ensures { result ≡ spec.absent_half image.now }
+{
+    let needed = [
+        Key::lower(Dev::A0),
+        Key::upper(Dev::A0, 0, 0x00),
+        Key::upper(Dev::A0, 0, 0x01),
+        Key::upper(Dev::A0, 0, 0x10),
+        Key::upper(Dev::A0, 0, 0x11),
+    ];
+    needed.iter().copied().find(|key| !image.has(*key))
+}
+
+// A byte of a field in an image, by its place from the first one.
+fn byte_of_field(image: &Image, field: Field, index: u8) -> u8
+    requires { address_of field + index ≤ 255 }
+    ensures { result ≡ spec.byte_of_field image.now field index }
+{
+    let row = row(field);
+    image
+        .byte(Dev::A0, row.page, row.offset + index)
+        .unwrap_or(0)
+}
+
+fn active_at_start(image: &Image) -> [u8; 8]
+    ensures { result ≡ spec.active_at_start image.now }
+{
+    array::from_fn(|index| byte_of_field(image, Field::CActiveAppSel, index as u8))
+}
+
+fn lane_flags(image: &Image) -> [u8; LANE_FLAGS]
+    ensures { result ≡ map (spec.byte_of_field image.now Field.CPathStateChanged) (range_with_len 0 LANE_FLAGS) }
+{
+    let mut flags = [0; LANE_FLAGS];
+    for (index, flag) in flags.iter_mut().enumerate() {
+        *flag = byte_of_field(image, Field::CPathStateChanged, index as u8);
+    }
+    flags
+}
+
+fn start_lane(image: &Image, lane: u8) -> Lane
+    requires { IsLane lane }
+    ensures { result ≡ spec.start_lane image.now lane }
+{
+    Lane {
+        path: PathState::Deactivated,
+        left: 0,
+        status: ConfigStatus::Undefined,
+        staged: byte_of_field(image, Field::CStagedAppSel, lane - 1),
+        active: byte_of_field(image, Field::CActiveAppSel, lane - 1),
+        kept: None,
+    }
+}
+
+fn start_lanes(image: &Image) -> [Lane; 8]
+    ensures { result ≡ map (spec.start_lane image.now) all_lanes }
+{
+    let mut lanes = [start_lane(image, 1); 8];
+    for (index, lane) in lanes.iter_mut().enumerate() {
+        *lane = start_lane(image, index as u8 + 1);
+    }
+    lanes
+}
+
+fn start_state(control: u8) -> ModuleState
+    ensures { result ≡ spec.start_state control }
+{
+    if asks_low_power(control, false) {
+        ModuleState::LowPwr
+    } else {
+        ModuleState::Ready
+    }
+}
+
+#[tactic(auto, unfolding(crate::specs::Starts::start))]
+fn start(image: &Image, advert: Advert, delays: Delays) -> SimModule
+    requires { advert ≡ advertised_by image.now }
+    ensures { result ≡ spec.start image.now delays }
+{
+    let control = byte_of_field(image, Field::CSoftwareReset, 0);
+    SimModule {
+        image: image.copy(),
+        advert,
+        delays,
+        selection: Selection::first_page(),
+        pin: false,
+        control,
+        state: start_state(control),
+        left: 0,
+        lanes: start_lanes(image),
+        deinit: LaneSet::from(byte_of_field(image, Field::CDPDeinit, 0)),
+        apply_left: 0,
+        module_flags: byte_of_field(image, Field::CModuleFlag, 0),
+        lane_flags: lane_flags(image),
+    }
+}

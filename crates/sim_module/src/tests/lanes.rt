@@ -1,0 +1,162 @@
+// How lanes move by ticks.
+use super::*;
+
+const ONES: Delays = Delays {
+    apply: 1,
+    init: 1,
+    turn_on: 1,
+    turn_off: 1,
+    deinit: 1,
+    power_up: 1,
+    power_down: 1,
+};
+
+// The state of the first lane's path, tick by tick.
+fn course(module: &mut SimModule) -> [PathState; 6] {
+    let mut states = [PathState::Deactivated; 6];
+    for state in states.iter_mut() {
+        module.tick();
+        let [first, ..] = module.path_states();
+        *state = first;
+    }
+    states
+}
+
+#[test]
+fn a_path_comes_up_and_goes_down(rt: HostRuntime) -> Result<(), Fail> {
+    let mut module = module_of(&PAIRS, ONES)?;
+    assert_eq!(rt;
+        course(&mut module),
+        [
+            PathState::Init,
+            PathState::Initialized,
+            PathState::TxTurnOn,
+            PathState::Activated,
+            PathState::Activated,
+            PathState::Activated,
+        ]
+    );
+    select(&mut module, 0x11);
+    // The flag of lane 1 and the other lanes: entering DPInitialized and DPActivated raised them.
+    assert_eq!(rt; read::<1>(&mut module, 134), [0xFF]);
+    select(&mut module, 0x10);
+    write(&mut module, 128, &[0x02]);
+    assert_eq!(rt;
+        course(&mut module),
+        [
+            PathState::TxTurnOff,
+            PathState::Initialized,
+            PathState::Deinit,
+            PathState::Deactivated,
+            PathState::Deactivated,
+            PathState::Deactivated,
+        ]
+    );
+    // Lane 2 holds its pair down, and no other lane.
+    let [first, second, third, ..] = module.path_states();
+    assert_eq!(rt;
+        (first, second, third),
+        (
+            PathState::Deactivated,
+            PathState::Deactivated,
+            PathState::Activated
+        )
+    );
+    select(&mut module, 0x11);
+    assert_eq!(rt; read::<1>(&mut module, 134), [0x03]);
+    Ok(())
+}
+
+#[test]
+fn a_thousand_ticks_are_waited_for(rt: HostRuntime) -> Result<(), Fail> {
+    let mut delays = ONES;
+    delays.apply = 1000;
+    delays.init = 1000;
+    let mut module = SimModule::new(&image()?, delays)?;
+    select(&mut module, 0x10);
+    write(&mut module, 145, &PAIRS);
+    write(&mut module, 143, &[0xFF]);
+    pass(&mut module, 999);
+    assert_eq!(rt; module.active(), [0; 8]);
+    module.tick();
+    assert_eq!(rt; module.active(), PAIRS);
+    assert_eq!(rt; module.path_states(), [PathState::Deactivated; 8]);
+    pass(&mut module, 1000);
+    assert_eq!(rt; module.path_states(), [PathState::Init; 8]);
+    module.tick();
+    assert_eq!(rt; module.path_states(), [PathState::Initialized; 8]);
+    Ok(())
+}
+
+// DPDeinit is set before the fourth tick, while the paths are in DPInit.
+#[test]
+fn provisioned_lanes_are_taken_down(rt: HostRuntime) -> Result<(), Fail> {
+    let mut module = module_of(&PAIRS, FOURS)?;
+    pass(&mut module, 3);
+    select(&mut module, 0x10);
+    write(&mut module, 128, &[0xFF]);
+    select(&mut module, 0x11);
+    pass(&mut module, 2);
+    assert_eq!(rt; read::<4>(&mut module, 128), [0x77; 4]);
+    for states in [[0x33; 4], [0x33; 4], [0x33; 4], [0x33; 4], [0x11; 4]] {
+        module.tick();
+        assert_eq!(rt; read::<4>(&mut module, 128), states);
+    }
+    select(&mut module, 0x10);
+    write(&mut module, 143, &[0xFF]);
+    pass(&mut module, 4);
+    assert_eq!(rt; module.active(), [0; 8]);
+    Ok(())
+}
+
+#[test]
+fn low_power_waits_for_the_paths(rt: HostRuntime) -> Result<(), Fail> {
+    let mut module = module_of(&PAIRS, ONES)?;
+    pass(&mut module, 4);
+    module.low_power_pin(true);
+    module.tick();
+    // The pin counts where bit 6 of byte 26 allows it.
+    assert_eq!(rt; module.path_states(), [PathState::Activated; 8]);
+    write(&mut module, 26, &[0x40]);
+    let states = [ModuleState::Ready; 4];
+    for state in states {
+        module.tick();
+        assert_eq!(rt; module.state(), state);
+    }
+    assert_eq!(rt; module.path_states(), [PathState::Deactivated; 8]);
+    for state in [ModuleState::PwrDn, ModuleState::LowPwr, ModuleState::LowPwr] {
+        module.tick();
+        assert_eq!(rt; module.state(), state);
+    }
+    assert_eq!(rt; read::<1>(&mut module, 3), [0x02]);
+    module.low_power_pin(false);
+    for state in [ModuleState::PwrUp, ModuleState::Ready] {
+        module.tick();
+        assert_eq!(rt; module.state(), state);
+    }
+    // The paths look at the state before the tick.
+    assert_eq!(rt; module.path_states(), [PathState::Deactivated; 8]);
+    module.tick();
+    assert_eq!(rt; module.path_states(), [PathState::Init; 8]);
+    Ok(())
+}
+
+#[test]
+fn the_pin_counts_where_it_is_allowed(rt: HostRuntime) -> Result<(), Fail> {
+    let mut allowing = image()?;
+    allowing.put(
+        Key::lower(Dev::A0),
+        page(&[
+            (0, &[0x18, 0x50]),
+            (26, &[0x40]),
+            (86, &[0x11, 0x1C, 0x84, 0x01, 0xFF]),
+        ]),
+    )?;
+    let mut module = SimModule::new(&allowing, FOURS)?;
+    module.low_power_pin(true);
+    for code in [4, 4, 4, 4, 1, 1] {
+        module.tick();
+        assert_eq!(rt; read::<1>(&mut module, 3), [2 * code]);
+    }
+    Ok(())
+}
