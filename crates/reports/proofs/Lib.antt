@@ -1,2 +1,4 @@
 pub mod Numbered
 pub mod RaisedFlags
+pub mod TextsOfLines
+pub mod MonitorTexts

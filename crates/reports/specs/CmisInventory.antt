@@ -2,19 +2,17 @@
 -- Information (Page 00h)")
 use Rattle.std.specs.Prelude.{ℕ, ◌+◌, ◌*◌, ◌^◌, ◌++◌, Bool, if◌then◌else◌, ℤ, pos, List, [], ◌∷◌, codes}
 use Rattle.std.specs.Fmt.{decimal}
-use Rattle.hex.specs.Hex.{encode_lower}
 use Rattle.paged_memory.specs.Images.{Memory}
 use Rattle.field_tables.specs.declared.field.Field.TheVariants as fields
 use Rattle.field_tables.specs.declared.field.TextField.TheVariants as texts
 use Rattle.field_tables.specs.declared.field.Sum.TheVariants as sums
 use Rattle.field_tables.specs.declared.units.Unit.TheVariants.{ModulePower}
-use Rattle.field_tables.specs.Readings.{number, is_sum_right, text}
+use Rattle.field_tables.specs.Readings.{all_numbers, number, is_sum_right, text}
 use Rattle.field_tables.specs.Units.{millis_of}
 use Rattle.reports.specs.Families.{is_flat}
-use Rattle.reports.specs.Readings.{oui}
-use Rattle.reports.specs.Shown.{byte_code, thousandths, revision, printable}
+use Rattle.reports.specs.Shown.{byte_code, measure, revision, sum_word}
 use Rattle.reports.specs.Lines.{line}
-use Rattle.reports.specs.Words.{sum_word}
+use Rattle.reports.specs.Maker.{maker_lines}
 
 -- the pages that it needs
 abbrev pub inventory_pages : List ℕ
@@ -40,21 +38,16 @@ kind_lines memory =
     ∷ line (codes "media-type") (byte_code (number memory fields.CMediaType))
     ∷ []
 
-unfoldable pub vendor_lines : Memory → List (List ℕ)
+abbrev pub vendor_lines : Memory → List (List ℕ)
 vendor_lines memory =
-    line (codes "vendor") (printable (text memory texts.CVendor))
-    ∷ line (codes "oui") (encode_lower (oui memory))
-    ∷ line (codes "part") (printable (text memory texts.CPart))
-    ∷ line (codes "part-revision") (printable (text memory texts.CPartRevision))
-    ∷ line (codes "serial") (printable (text memory texts.CSerial))
-    ∷ line (codes "date") (printable (text memory texts.CDate))
-    ∷ []
+    maker_lines (text memory texts.CVendor) (all_numbers memory fields.COui) (text memory texts.CPart)
+    (text memory texts.CPartRevision) (text memory texts.CSerial) (text memory texts.CDate)
 
 unfoldable pub build_lines : Memory → List (List ℕ)
 build_lines memory =
     line (codes "power-class") (decimal (number memory fields.CPowerClass + 1))
-    ∷ line (codes "max-power") (thousandths (max_power_of memory) ++ 32 ∷ codes "W")
-    ∷ line (codes "length") (thousandths (length_of memory) ++ 32 ∷ codes "m")
+    ∷ line (codes "max-power") (measure (max_power_of memory) (codes "W"))
+    ∷ line (codes "length") (measure (length_of memory) (codes "m"))
     ∷ line (codes "connector") (byte_code (number memory fields.CConnector))
     ∷ line (codes "technology") (byte_code (number memory fields.CTechnology))
     ∷ line (codes "sum-00h") (sum_word (is_sum_right memory sums.CSum00))

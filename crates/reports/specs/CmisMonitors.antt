@@ -14,7 +14,7 @@ use Rattle.reports.specs.Lines.{line}
 use Rattle.reports.specs.Monitors.{each_level, lane_monitor, module_monitor}
 use Rattle.reports.specs.Quantities.{name_of}
 use Rattle.reports.specs.Families.{is_flat, unless_flat}
-use Rattle.reports.specs.Words.{sum_word}
+use Rattle.reports.specs.Shown.{sum_word}
 
 -- the pages that it needs
 abbrev pub monitor_pages : Memory → List ℕ

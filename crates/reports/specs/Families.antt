@@ -1,6 +1,6 @@
 -- The families of modules, and why no report speaks of a module. (docs/formats.md, "Modules that are read"; SFF-8024,
 -- "Identifier Values"; OIF-CMIS-05.0, "Management Characteristics")
-use Rattle.std.specs.Prelude.{ℕ, Bool, not, ◌&&◌, ◌||◌, ◌==◌, if◌then◌else◌, List, [], ◌∷◌, map, Option, option_map, codes}
+use Rattle.std.specs.Prelude.{ℕ, Bool, not, ◌&&◌, ◌||◌, ◌==◌, if◌then◌else◌, List, [], ◌∷◌, map, Option, option_map}
 use Rattle.bus_model.specs.declared.device.Dev.TheVariants.{A0}
 use Rattle.paged_memory.specs.Keys.{lower_key, upper_key}
 use Rattle.paged_memory.specs.Images.{Memory}
@@ -16,11 +16,6 @@ use Rattle.reports.specs.declared.family.Family.{Family}
 use Rattle.reports.specs.declared.family.Family.TheVariants.{Cmis, Sff8636, Sff8472}
 use Rattle.reports.specs.declared.fault.ReportFault.{ReportFault}
 use Rattle.reports.specs.declared.fault.ReportFault.TheVariants.{Absent, Unknown, Revision, Sff}
-
-abbrev pub family_name : Family → List ℕ
-family_name Cmis = codes "CMIS"
-family_name Sff8636 = codes "SFF-8636"
-family_name Sff8472 = codes "SFF-8472"
 
 -- all families have the identifier in the same byte
 abbrev pub identifier : Memory → ℕ

@@ -7,40 +7,17 @@ use Rattle.field_tables.specs.declared.readings.Levels.{Levels}
 use Rattle.reports.specs.declared.flag.Flag.{Flag}
 use Rattle.reports.specs.declared.flag.FlagName.{FlagName}
 use Rattle.reports.specs.declared.flag.FlagName.TheVariants as flag
-use Rattle.reports.specs.declared.flag.Level.{Level}
 use Rattle.reports.specs.declared.flag.Level.TheVariants.{HighAlarm, LowAlarm, HighWarning, LowWarning}
-use Rattle.reports.specs.declared.flag.Signal.{Signal}
-use Rattle.reports.specs.declared.flag.Signal.TheVariants.{PathStateChanged, TxFailure, TxFault, TxLos, TxLol, TxEqFail, RxLos, RxLol}
 use Rattle.reports.specs.declared.quantity.Quantity.{Quantity}
 use Rattle.reports.specs.Lines.{line}
-use Rattle.reports.specs.Quantities.{name_of}
+use Rattle.reports.specs.FlagNames.{flag_name}
 
-unfoldable pub level_name : Level → List ℕ
-level_name HighAlarm = codes "high-alarm"
-level_name LowAlarm = codes "low-alarm"
-level_name HighWarning = codes "high-warning"
-level_name LowWarning = codes "low-warning"
-
-unfoldable pub signal_name : Signal → List ℕ
-signal_name PathStateChanged = codes "path-state-changed"
-signal_name TxFailure = codes "tx-failure"
-signal_name TxFault = codes "tx-fault"
-signal_name TxLos = codes "tx-los"
-signal_name TxLol = codes "tx-lol"
-signal_name TxEqFail = codes "tx-eq-fail"
-signal_name RxLos = codes "rx-los"
-signal_name RxLol = codes "rx-lol"
-
-unfoldable pub flag_name : FlagName → List ℕ
-flag_name (flag.Passed quantity level) = name_of quantity ++ 45 ∷ level_name level
-flag_name (flag.Signal signal) = signal_name signal
-
-abbrev pub lane_text : Option ℕ → List ℕ
-lane_text None = []
-lane_text (Some lane) = 32 ∷ decimal lane
+abbrev pub lane_suffix : Option ℕ → List ℕ
+lane_suffix None = []
+lane_suffix (Some lane) = 32 ∷ decimal lane
 
 unfoldable pub flag_text : Flag → List ℕ
-flag_text f = flag_name f.name ++ lane_text f.lane
+flag_text f = flag_name f.name ++ lane_suffix f.lane
 
 abbrev pub flag_line : Flag → List ℕ
 flag_line f = line (codes "flag") (flag_text f)

@@ -11,7 +11,7 @@ use Rattle.reports.specs.declared.family.Family.{Family}
 use Rattle.reports.specs.declared.family.Family.TheVariants.{Cmis, Sff8636, Sff8472}
 use Rattle.reports.specs.declared.fault.ReportFault.{ReportFault}
 use Rattle.reports.specs.Families.{absent_page, family_of, module_fault, of_sff}
-use Rattle.reports.specs.SffInventory.{identity_lines, of_qsfp, of_sfp}
+use Rattle.reports.specs.SffInventory.{qsfp_lines, sfp_lines}
 
 -- why there is none of a module of this family
 abbrev pub fault_in : Family → Memory → Option ReportFault
@@ -21,8 +21,8 @@ fault_in Sff8472 memory = of_sff (sff8472_refusals.module_fault memory)
 
 abbrev pub lines_in : Family → Memory → List (List ℕ)
 lines_in Cmis memory = cmis.inventory_lines memory
-lines_in Sff8636 memory = identity_lines (of_qsfp (sff8636.identity_of memory))
-lines_in Sff8472 memory = identity_lines (of_sfp (sff8472.identity_of memory))
+lines_in Sff8636 memory = qsfp_lines (sff8636.identity_of memory)
+lines_in Sff8472 memory = sfp_lines (sff8472.identity_of memory)
 
 unfoldable pub inventory_fault : Memory → Option ReportFault
 inventory_fault memory = option_or (module_fault memory) (fault_in (family_of memory) memory)

@@ -1,5 +1,7 @@
 -- Report lines: a name, a space and a value. (docs/formats.md, "Reports")
-use Rattle.std.specs.Prelude.{◌≡◌, ℕ, List, ◌∷◌, ◌++◌, Result, Ok, Err}
+use Rattle.std.specs.Prelude.{◌≡◌, ℕ, List, ◌∷◌, ◌++◌, MatchOption, Option, Result, Ok, Err, Vec}
+use Rattle.std.specs.Result.{result_map_both}
+use Rattle.std.specs.declared.alloc.Global.{Global}
 use Rattle.text_lines.specs.Lines.{text_of}
 use Rattle.reports.specs.declared.fault.ReportFault.{ReportFault}
 use Rattle.reports.specs.declared.fault.ReportFault.TheVariants.{Memory}
@@ -11,3 +13,8 @@ line name value = name ++ 32 ∷ value
 abbrev pub IsReport : List (List ℕ) → Result (List ℕ) ReportFault → Type 0
 IsReport lines (Ok text) = text ≡ text_of lines
 IsReport lines (Err fault) = fault ≡ Memory
+
+-- this fault where there is one, and else the text of these lines
+abbrev pub Reports : Option ReportFault → List (List ℕ) → Result (Vec ℕ Global) ReportFault → Type 0
+Reports refused lines result =
+    MatchOption refused (IsReport lines (result_map_both (λ text. text.items) (λ fault. fault) result)) (λ fault. result ≡ Err fault)

@@ -9,11 +9,15 @@ use Rattle.reports.specs.declared.quantity.Quantity.{Quantity}
 use Rattle.reports.specs.declared.shown.Thousandths.{Thousandths}
 use Rattle.reports.specs.Lines.{line}
 use Rattle.reports.specs.Quantities.{limits_name_of, millis_in, name_of, unit_name_of}
-use Rattle.reports.specs.Shown.{thousandths}
+use Rattle.reports.specs.Shown.{measure, thousandths}
 
 -- an amount in thousandths and its unit
-unfoldable pub amount_text : Quantity → ℤ → List ℕ
-amount_text quantity value = thousandths (millis_in quantity value) ++ 32 ∷ unit_name_of quantity
+abbrev pub amount_text : Quantity → ℤ → List ℕ
+amount_text quantity value = measure (millis_in quantity value) (unit_name_of quantity)
+
+-- an amount of a lane
+unfoldable pub lane_measure : ℕ → List ℕ → List ℕ
+lane_measure lane amount = decimal lane ++ 32 ∷ amount
 
 -- four amounts in thousandths
 unfoldable pub levels_text : Levels Thousandths → List ℕ
@@ -30,8 +34,8 @@ each_level f levels = record {
   low_warning = f levels.low_warning;
 }
 
-abbrev pub in_thousandths : Quantity → ℤ → Thousandths
-in_thousandths quantity value = record { 0 = millis_in quantity value }
+abbrev pub thousandths_of : Quantity → ℤ → Thousandths
+thousandths_of quantity value = record { 0 = millis_in quantity value }
 
 -- a value of the whole module
 unfoldable pub value_line : Quantity → ℤ → List ℕ
@@ -39,14 +43,14 @@ value_line quantity value = line (name_of quantity) (amount_text quantity value)
 
 -- a value of a lane
 unfoldable pub lane_line : Quantity → ℕ → ℤ → List ℕ
-lane_line quantity lane value = line (name_of quantity) (decimal lane ++ 32 ∷ amount_text quantity value)
+lane_line quantity lane value = line (name_of quantity) (lane_measure lane (amount_text quantity value))
 
 -- the values of the lanes, lane 1 first
 abbrev pub lane_lines : Quantity → List ℤ → List (List ℕ)
 lane_lines quantity values = map (λ (l : ℕ × ℤ). lane_line quantity l.0 l.1) (enumerate_from 1 values)
 
 unfoldable pub limits_line : Quantity → Levels ℤ → List ℕ
-limits_line quantity limits = line (limits_name_of quantity) (levels_text (each_level (in_thousandths quantity) limits))
+limits_line quantity limits = line (limits_name_of quantity) (levels_text (each_level (thousandths_of quantity) limits))
 
 abbrev pub limits_lines : Quantity → Option (Levels ℤ) → List (List ℕ)
 limits_lines quantity None = []

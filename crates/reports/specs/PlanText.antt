@@ -1,8 +1,6 @@
 -- The text of a plan: what it weighs, its paths in their order, and its control bytes. (docs/formats.md, "Plan")
 use Rattle.std.specs.Prelude.{ℕ, ◌+◌, ◌-◌, List, [], ◌∷◌, ◌++◌, codes, map}
 use Rattle.std.specs.Fmt.{decimal}
-use Rattle.std.specs.List.{flat_map}
-use Rattle.hex.specs.Hex.{encode_lower}
 use Rattle.applications.specs.Advertised.{Advertised}
 use Rattle.applications.specs.Weights.{HostWeights}
 use Rattle.plan_certificate.specs.declared.path.Path.{Path}
@@ -12,6 +10,7 @@ use Rattle.control_sets.specs.ControlBytes.{control_bytes}
 use Rattle.reports.specs.declared.shown_plan.LaneSpan.{LaneSpan}
 use Rattle.reports.specs.declared.shown_plan.PathLanes.{PathLanes}
 use Rattle.reports.specs.Lines.{line}
+use Rattle.reports.specs.Shown.{spaced_bytes}
 
 -- so many lanes from the first on, by the first and the last
 abbrev pub span_of : ℕ → ℕ → LaneSpan
@@ -35,10 +34,6 @@ path_line advert path = line (codes "path") (path_text (lanes_of advert path))
 
 unfoldable pub weight_line : ℕ → List ℕ
 weight_line weight = line (codes "weight") (decimal weight)
-
--- each byte in lower-case hexadecimal, with a space before it
-unfoldable pub spaced_bytes : List ℕ → List ℕ
-spaced_bytes bytes = flat_map (λ byte. 32 ∷ encode_lower (byte ∷ [])) bytes
 
 unfoldable pub control_line : List ℕ → List ℕ
 control_line bytes = codes "control" ++ spaced_bytes bytes

@@ -8,25 +8,25 @@ use Rattle.sff8472_map.specs.declared.flags.Flags as sfp
 use Rattle.reports.specs.declared.flag.Flag.{Flag}
 use Rattle.reports.specs.declared.flag.FlagName.{FlagName}
 use Rattle.reports.specs.declared.flag.FlagName.TheVariants as flag
-use Rattle.reports.specs.declared.flag.Signal.TheVariants.{TxLos, RxLos, TxFault, TxLol, RxLol}
+use Rattle.reports.specs.declared.flag.Condition.TheVariants.{TxLos, RxLos, TxFault, TxLol, RxLol}
 use Rattle.reports.specs.declared.quantity.Quantity.TheVariants.{Temperature, Vcc, TxPower, TxBias, RxPower}
 use Rattle.reports.specs.Flags.{flag_lines, of_lanes, of_levels, of_module, raised}
 use Rattle.reports.specs.Monitors.{each_level}
 
-unfoldable pub qsfp_signals : qsfp.Flags → List (FlagName × List Bool)
-qsfp_signals flags =
-    (flag.Signal TxLos, flags.tx_los)
-    ∷ (flag.Signal RxLos, flags.rx_los)
-    ∷ (flag.Signal TxFault, flags.tx_fault)
-    ∷ (flag.Signal TxLol, flags.tx_lol)
-    ∷ (flag.Signal RxLol, flags.rx_lol)
+unfoldable pub qsfp_conditions : qsfp.Flags → List (FlagName × List Bool)
+qsfp_conditions flags =
+    (flag.Holds TxLos, flags.tx_los)
+    ∷ (flag.Holds RxLos, flags.rx_los)
+    ∷ (flag.Holds TxFault, flags.tx_fault)
+    ∷ (flag.Holds TxLol, flags.tx_lol)
+    ∷ (flag.Holds RxLol, flags.rx_lol)
     ∷ []
 
 unfoldable pub qsfp_flags : qsfp.Flags → List (Flag × Bool)
 qsfp_flags flags =
     map of_module (of_levels Temperature flags.temperature)
     ++ map of_module (of_levels Vcc flags.vcc)
-    ++ flat_map of_lanes (qsfp_signals flags)
+    ++ flat_map of_lanes (qsfp_conditions flags)
     ++ flat_map of_lanes (of_levels RxPower flags.rx_power)
     ++ flat_map of_lanes (of_levels TxBias flags.tx_bias)
     ++ flat_map of_lanes (of_levels TxPower flags.tx_power)
@@ -38,8 +38,8 @@ sff8636_lines flags = flag_lines (raised (qsfp_flags flags))
 abbrev pub of_lane_1 : Levels Bool → Levels (List Bool)
 of_lane_1 levels = each_level (λ (is_raised : Bool). is_raised ∷ []) levels
 
-unfoldable pub sfp_signals : sfp.Flags → List (FlagName × List Bool)
-sfp_signals flags = (flag.Signal TxFault, flags.tx_fault ∷ []) ∷ (flag.Signal RxLos, flags.rx_los ∷ []) ∷ []
+unfoldable pub sfp_conditions : sfp.Flags → List (FlagName × List Bool)
+sfp_conditions flags = (flag.Holds TxFault, flags.tx_fault ∷ []) ∷ (flag.Holds RxLos, flags.rx_los ∷ []) ∷ []
 
 unfoldable pub sfp_flags : sfp.Flags → List (Flag × Bool)
 sfp_flags flags =
@@ -48,7 +48,7 @@ sfp_flags flags =
     ++ flat_map of_lanes (of_levels TxBias (of_lane_1 flags.tx_bias))
     ++ flat_map of_lanes (of_levels TxPower (of_lane_1 flags.tx_power))
     ++ flat_map of_lanes (of_levels RxPower (of_lane_1 flags.rx_power))
-    ++ flat_map of_lanes (sfp_signals flags)
+    ++ flat_map of_lanes (sfp_conditions flags)
 
 abbrev pub sff8472_lines : sfp.Flags → List (List ℕ)
 sff8472_lines flags = flag_lines (raised (sfp_flags flags))

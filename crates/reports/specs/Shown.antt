@@ -1,9 +1,8 @@
 -- How values are shown in reports. (docs/formats.md, "Values in reports")
-use Rattle.std.specs.Prelude.{ℕ, ◌-◌, ◌/◌, ◌%◌, ◌==◌, ◌||◌, ◌&&◌, Bool, nat_le, if◌then◌else◌, length, take, map, ℤ, pos, negsuc, List, [], ◌∷◌, ◌++◌, slice_index}
-use Rattle.std.specs.Prelude.{unsigned_abs}
-use Rattle.std.specs.List.{suffix_len}
+use Rattle.std.specs.Prelude.{ℕ, ◌-◌, ◌/◌, ◌%◌, ◌==◌, ◌||◌, ◌&&◌, Bool, nat_le, if◌then◌else◌, length, take, map, ℤ, pos, negsuc, unsigned_abs, List, [], ◌∷◌, ◌++◌, codes, slice_index}
+use Rattle.std.specs.List.{flat_map, suffix_len}
 use Rattle.std.specs.Fmt.{decimal}
-use Rattle.hex.specs.Hex.{upper_digits}
+use Rattle.hex.specs.Hex.{encode_lower, upper_digits}
 
 -- two upper-case digits and `h`
 unfoldable pub byte_code : ℕ → List ℕ
@@ -20,6 +19,10 @@ minus_of (negsuc n) = 45 ∷ []
 -- a number of thousandths as a decimal fraction
 unfoldable pub thousandths : ℤ → List ℕ
 thousandths z = minus_of z ++ (decimal (unsigned_abs z / 1000) ++ 46 ∷ three_digits (unsigned_abs z % 1000))
+
+-- an amount in thousandths of a unit, and the unit
+unfoldable pub measure : ℤ → List ℕ → List ℕ
+measure amount unit = thousandths amount ++ 32 ∷ unit
 
 -- the major number in the upper nibble, a point and the minor one
 unfoldable pub revision : ℕ → List ℕ
@@ -38,3 +41,11 @@ shown_byte byte = if nat_le 32 byte && nat_le byte 126 then byte else 63
 
 unfoldable pub printable : List ℕ → List ℕ
 printable bytes = map shown_byte (trimmed bytes)
+
+-- each byte in lower-case hexadecimal, with a space before it
+unfoldable pub spaced_bytes : List ℕ → List ℕ
+spaced_bytes bytes = flat_map (λ byte. 32 ∷ encode_lower (byte ∷ [])) bytes
+
+-- whether a sum is right
+abbrev pub sum_word : Bool → List ℕ
+sum_word right = if right then codes "right" else codes "wrong"

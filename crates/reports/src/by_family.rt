@@ -1,7 +1,5 @@
 // The reports of modules of whatever family.
-ghost use Rattle.std.specs.Prelude.{◌≡◌, MatchOption};
-ghost use Rattle.std.specs.Result.{result_map_both};
-ghost use Rattle.reports.specs.Lines.{IsReport};
+ghost use Rattle.reports.specs.Lines.{Reports};
 ghost use Rattle.reports.specs.Inventory.{inventory_fault, inventory_lines};
 ghost use Rattle.reports.specs.Measured.{monitors_fault, monitors_lines};
 ghost use Rattle.reports.specs.Warned.{flags_fault, flags_lines};
@@ -15,9 +13,7 @@ use std::alloc::Global;
 /// What the module is, line by line.
 #[tactic(auto, unfolding(crate::specs::Inventory::inventory_fault, crate::specs::Inventory::inventory_lines))]
 pub fn inventory(alloc: Global, image: &Image) -> Result<Vec<u8>, ReportFault>
-    ensures { MatchOption (inventory_fault image.now)
-        (IsReport (inventory_lines image.now) (result_map_both (λ text. text.items) (λ fault. fault) result))
-        (λ fault. result ≡ Err fault) }
+    ensures { Reports (inventory_fault image.now) (inventory_lines image.now) result }
 {
     match family_of(image)? {
         Family::Cmis => cmis_inventory::inventory(alloc, image),
@@ -29,9 +25,7 @@ pub fn inventory(alloc: Global, image: &Image) -> Result<Vec<u8>, ReportFault>
 /// What the module measures, line by line.
 #[tactic(auto, unfolding(crate::specs::Measured::monitors_fault, crate::specs::Measured::monitors_lines))]
 pub fn monitors(alloc: Global, image: &Image) -> Result<Vec<u8>, ReportFault>
-    ensures { MatchOption (monitors_fault image.now)
-        (IsReport (monitors_lines image.now) (result_map_both (λ text. text.items) (λ fault. fault) result))
-        (λ fault. result ≡ Err fault) }
+    ensures { Reports (monitors_fault image.now) (monitors_lines image.now) result }
 {
     match family_of(image)? {
         Family::Cmis => cmis_monitors::monitors(alloc, image),
@@ -43,9 +37,7 @@ pub fn monitors(alloc: Global, image: &Image) -> Result<Vec<u8>, ReportFault>
 /// The flags that are raised, and of a CMIS module the states before them, line by line.
 #[tactic(auto, unfolding(crate::specs::Warned::flags_fault, crate::specs::Warned::flags_lines))]
 pub fn flags(alloc: Global, image: &Image) -> Result<Vec<u8>, ReportFault>
-    ensures { MatchOption (flags_fault image.now)
-        (IsReport (flags_lines image.now) (result_map_both (λ text. text.items) (λ fault. fault) result))
-        (λ fault. result ≡ Err fault) }
+    ensures { Reports (flags_fault image.now) (flags_lines image.now) result }
 {
     match family_of(image)? {
         Family::Cmis => cmis_flags::flags(alloc, image),

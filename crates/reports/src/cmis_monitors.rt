@@ -1,23 +1,19 @@
-ghost use Rattle.std.specs.Prelude.{◌≡◌, ◌++◌, ◌≤ℤ◌, ◌*ℤ◌, codes, IfOk, MatchOption, OnOk, map, pos};
-ghost use Rattle.std.specs.Result.{result_map_both};
-ghost use Rattle.std.specs.String.{string_bytes};
+ghost use Rattle.std.specs.Prelude.{◌≡◌, ◌++◌, ◌≤ℤ◌, ◌*ℤ◌, OnOk, map, pos};
 ghost use Rattle.text_lines.specs.Lines.{text_of};
 ghost use Rattle.field_tables.specs.FieldRows.{row_of};
 ghost use Rattle.field_tables.specs.Readings as readings;
 ghost use Rattle.field_tables.specs.Readings.{IsWord, all_readings};
-ghost use Rattle.reports.specs.CmisMonitors.{bias_factor, instead_lines, paged_lines, limits_unless_flat, module_lines, monitor_pages, monitors_lines, multiplied, rx_power_lines, sum_lines, tx_bias_lines, tx_power_lines};
+ghost use Rattle.reports.specs.CmisMonitors.{bias_factor, paged_lines, limits_unless_flat, module_lines, monitor_pages, monitors_lines, multiplied, rx_power_lines, tx_bias_lines, tx_power_lines};
 ghost use Rattle.reports.specs.Families.{absent_page};
-ghost use Rattle.reports.specs.Lines.{IsReport};
+ghost use Rattle.reports.specs.Lines.{Reports};
 ghost use Rattle.reports.specs.Monitors.{each_level};
-ghost use Rattle.reports.specs.Values.{line_text};
 
 use crate::family::{absent_page, is_flat};
 use crate::fault::ReportFault;
-use crate::line::{Line, push_lines};
 use crate::monitor::{push_lane_monitor, push_module_monitor};
 use crate::quantity::Quantity;
-use crate::shown::Shown;
-use crate::words::sum_word;
+use crate::report::Report;
+use crate::shown::sum_word;
 use field_tables::{
     Field, Levels, Sum, all_readings, is_sum_right, limits_of, number, reading, reading_at,
 };
@@ -26,14 +22,17 @@ use std::alloc::{AllocError, Global};
 
 /// What the module measures, line by line.
 pub fn monitors(alloc: Global, image: &Image) -> Result<Vec<u8>, ReportFault>
-    ensures { MatchOption (absent_page (monitor_pages image.now) image.now)
-        (IsReport (monitors_lines image.now) (result_map_both (λ text. text.items) (λ fault. fault) result))
-        (λ fault. result ≡ Err fault) }
+    ensures { Reports (absent_page (monitor_pages image.now) image.now) (monitors_lines image.now) result }
 {
     if let Some(fault) = absent_page(image, monitor_pages(image)) {
         return Err(fault);
     }
-    Ok(report_of(alloc, image)?)
+    let mut report = Report::new(alloc);
+    push_module(&mut report, image)?;
+    if !is_flat(image) {
+        push_paged(&mut report, image)?;
+    }
+    Ok(report.into_bytes())
 }
 
 fn monitor_pages(image: &Image) -> &'static [u8]
@@ -46,19 +45,8 @@ fn monitor_pages(image: &Image) -> &'static [u8]
     }
 }
 
-fn report_of(alloc: Global, image: &Image) -> Result<Vec<u8>, AllocError>
-    ensures { IfOk result (λ text. text.items ≡ text_of (monitors_lines image.now)) }
-{
-    let mut report = String::new(alloc);
-    push_module(&mut report, image)?;
-    if !is_flat(image) {
-        push_lanes(&mut report, image)?;
-    }
-    Ok(report.into_bytes())
-}
-
-fn push_module(report: &mut String, image: &Image) -> Result<(), AllocError>
-    ensures { OnOk result (string_bytes report.new ≡ string_bytes report.old ++ text_of (module_lines image.now)) }
+fn push_module(report: &mut Report, image: &Image) -> Result<(), AllocError>
+    ensures { OnOk result (report.new ≡ report.old ++ text_of (module_lines image.now)) }
 {
     let temperature = reading(image, Field::CTemperature);
     let limits = limits_unless_flat(image, Field::CTempLimits);
@@ -68,62 +56,48 @@ fn push_module(report: &mut String, image: &Image) -> Result<(), AllocError>
     push_module_monitor(report, Quantity::Vcc, vcc, limits)
 }
 
-fn push_lanes(report: &mut String, image: &Image) -> Result<(), AllocError>
-    ensures { OnOk result (string_bytes report.new ≡ string_bytes report.old ++ text_of (paged_lines image.now)) }
+fn push_paged(report: &mut Report, image: &Image) -> Result<(), AllocError>
+    ensures { OnOk result (report.new ≡ report.old ++ text_of (paged_lines image.now)) }
 {
     push_tx_power(report, image)?;
     push_tx_bias(report, image)?;
     push_rx_power(report, image)?;
-    push_lines(report, &sum_lines(image))
+    report.line("sum-02h", sum_word(is_sum_right(image, Sum::CSum02)))
 }
 
-fn push_tx_power(report: &mut String, image: &Image) -> Result<(), AllocError>
-    ensures { OnOk result (string_bytes report.new ≡ string_bytes report.old ++ text_of (tx_power_lines image.now)) }
+fn push_tx_power(report: &mut Report, image: &Image) -> Result<(), AllocError>
+    ensures { OnOk result (report.new ≡ report.old ++ text_of (tx_power_lines image.now)) }
 {
     if number(image, Field::CTxPowerMonitor) != 1 {
-        return push_lines(report, &unsupported_lines(Quantity::TxPower));
+        return report.line(Quantity::TxPower.name(), "unsupported");
     }
     let values = all_readings::<8>(image, Field::CTxPower);
     let limits = limits_of(image, Field::CTxPowerLimits);
     push_lane_monitor(report, Quantity::TxPower, &values, Some(limits))
 }
 
-fn push_tx_bias(report: &mut String, image: &Image) -> Result<(), AllocError>
-    ensures { OnOk result (string_bytes report.new ≡ string_bytes report.old ++ text_of (tx_bias_lines image.now)) }
+fn push_tx_bias(report: &mut Report, image: &Image) -> Result<(), AllocError>
+    ensures { OnOk result (report.new ≡ report.old ++ text_of (tx_bias_lines image.now)) }
 {
     if number(image, Field::CTxBiasMonitor) != 1 {
-        return push_lines(report, &unsupported_lines(Quantity::TxBias));
+        return report.line(Quantity::TxBias.name(), "unsupported");
     }
     if number(image, Field::CBiasMultiplier) == 3 {
-        return push_lines(report, &reserved_lines(Quantity::TxBias));
+        return report.line(Quantity::TxBias.name(), "reserved");
     }
     let values = bias_values(image);
     push_lane_monitor(report, Quantity::TxBias, &values, Some(bias_limits(image)))
 }
 
-fn push_rx_power(report: &mut String, image: &Image) -> Result<(), AllocError>
-    ensures { OnOk result (string_bytes report.new ≡ string_bytes report.old ++ text_of (rx_power_lines image.now)) }
+fn push_rx_power(report: &mut Report, image: &Image) -> Result<(), AllocError>
+    ensures { OnOk result (report.new ≡ report.old ++ text_of (rx_power_lines image.now)) }
 {
     if number(image, Field::CRxPowerMonitor) != 1 {
-        return push_lines(report, &unsupported_lines(Quantity::RxPower));
+        return report.line(Quantity::RxPower.name(), "unsupported");
     }
     let values = all_readings::<8>(image, Field::CRxPower);
     let limits = limits_of(image, Field::CRxPowerLimits);
     push_lane_monitor(report, Quantity::RxPower, &values, Some(limits))
-}
-
-#[tactic(auto, unfolding(crate::specs::Values::shown_text))]
-fn unsupported_lines(quantity: Quantity) -> [Line; 1]
-    ensures { map line_text result ≡ instead_lines quantity (codes "unsupported") }
-{
-    [(quantity.name(), Shown::Word("unsupported"))]
-}
-
-#[tactic(auto, unfolding(crate::specs::Values::shown_text))]
-fn reserved_lines(quantity: Quantity) -> [Line; 1]
-    ensures { map line_text result ≡ instead_lines quantity (codes "reserved") }
-{
-    [(quantity.name(), Shown::Word("reserved"))]
 }
 
 fn bias_values(image: &Image) -> [i32; 8]
@@ -132,7 +106,7 @@ fn bias_values(image: &Image) -> [i32; 8]
     let factor = bias_factor(image);
     let mut values = [0; 8];
     for (index, value) in values.iter_mut().enumerate() {
-        let steps = reading_at::<8>(image, Field::CTxBias, index as u8 + 1);
+        let steps = reading_at(image, Field::CTxBias, index as u8 + 1);
         *value = multiplied(steps, factor);
     }
     values
@@ -183,14 +157,4 @@ fn limits_unless_flat(image: &Image, field: Field) -> Option<Levels<i32>>
     } else {
         Some(limits_of(image, field))
     }
-}
-
-#[tactic(auto, unfolding(crate::specs::Values::shown_text))]
-fn sum_lines(image: &Image) -> [Line; 1]
-    ensures { map line_text result ≡ sum_lines image.now }
-{
-    [(
-        "sum-02h",
-        Shown::Word(sum_word(is_sum_right(image, Sum::CSum02))),
-    )]
 }

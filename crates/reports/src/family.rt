@@ -1,7 +1,6 @@
-ghost use Rattle.std.specs.Prelude.{◌≡◌, MatchOption, map};
-ghost use Rattle.field_tables.specs.FirstFault.{first_fault};
+ghost use Rattle.std.specs.Prelude.{◌≡◌, MatchOption};
 ghost use Rattle.reports.specs.Families as spec;
-ghost use Rattle.reports.specs.Families.{absent_page, family_name, is_flat, module_fault};
+ghost use Rattle.reports.specs.Families.{absent_page, is_flat, module_fault};
 
 use crate::fault::ReportFault;
 use applications::{is_cmis, is_read_revision};
@@ -19,18 +18,6 @@ pub enum Family {
     Sff8636,
     /// SFF-8472.
     Sff8472,
-}
-
-impl Family {
-    pub fn name(self) -> &'static str
-        ensures { result.now ≡ family_name self }
-    {
-        match self {
-            Family::Cmis => "CMIS",
-            Family::Sff8636 => "SFF-8636",
-            Family::Sff8472 => "SFF-8472",
-        }
-    }
 }
 
 /// The family of the module of an image, or why no report speaks of it.

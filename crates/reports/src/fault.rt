@@ -5,28 +5,24 @@ use applications::AdvertFault;
 use field_tables::SffFault;
 use paged_memory::Key;
 use std::alloc::AllocError;
+use text_lines::{Spelled, Spelling};
 use thiserror::Error;
 
 /// Why there is no report.
 #[derive(Clone, Copy, Debug, PartialEq, Eq, Drop, Error)]
+#[error("there is no report")]
 pub enum ReportFault {
     /// An allocation was refused.
-    #[error("out of memory")]
     Memory,
     /// The report needs a page that the image lacks.
-    #[error("{0} is absent")]
     Absent(Key),
     /// No report speaks of modules with this identifier (SFF-8024).
-    #[error("identifier {0:#04x} is unknown")]
     Unknown(u8),
     /// The CMIS revision is of a major number other than 4 and 5.
-    #[error("revision {0:#04x} is not read")]
     Revision(u8),
     /// The memory of the SFF module is not read.
-    #[error(transparent)]
     Sff(SffFault),
     /// The module's Applications are not read.
-    #[error(transparent)]
     Advert(AdvertFault),
 }
 
@@ -43,5 +39,24 @@ impl From<SffFault> for ReportFault {
 
     fn from(fault: SffFault) -> ReportFault {
         ReportFault::Sff(fault)
+    }
+}
+
+impl Spelled for ReportFault {
+    ghost use Rattle.reports.specs.FaultWords.{report_fault_words};
+
+    ghost words = { report_fault_words };
+
+    ghost most = { 5 };
+
+    fn spelling(&self) -> Spelling {
+        match self {
+            ReportFault::Memory => Spelling::of("memory"),
+            ReportFault::Unknown(identifier) => Spelling::of("RP1").and(identifier),
+            ReportFault::Revision(revision) => Spelling::of("RP4").and(revision),
+            ReportFault::Absent(key) => Spelling::of("RP6").and(key),
+            ReportFault::Sff(fault) => fault.spelling(),
+            ReportFault::Advert(fault) => fault.spelling(),
+        }
     }
 }

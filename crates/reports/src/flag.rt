@@ -1,6 +1,7 @@
 // Flags that modules raise, of whatever family.
 ghost use Rattle.std.specs.Prelude.{◌≡◌, Some};
-ghost use Rattle.reports.specs.Flags.{flag_name, flag_text, level_name, signal_name};
+ghost use Rattle.reports.specs.FlagNames.{condition_name, flag_name, level_name};
+ghost use Rattle.reports.specs.Flags.{flag_text};
 
 use crate::quantity::Quantity;
 use std::fmt;
@@ -16,7 +17,7 @@ pub enum Level {
 
 /// What a flag can tell of a lane beside what is measured there.
 #[derive(Clone, Copy, Debug, PartialEq, Eq)]
-pub enum Signal {
+pub enum Condition {
     PathStateChanged,
     TxFailure,
     TxFault,
@@ -35,7 +36,7 @@ pub enum Signal {
 pub enum FlagName {
     /// What is measured has passed a limit.
     Passed(Quantity, Level),
-    Signal(Signal),
+    Holds(Condition),
 }
 
 /// A flag of the module, or of one of its lanes.
@@ -46,7 +47,7 @@ pub struct Flag {
 }
 
 impl Level {
-    #[tactic(auto, unfolding(crate::specs::Flags::level_name))]
+    #[tactic(auto, unfolding(crate::specs::FlagNames::level_name))]
     fn name(self) -> &'static str
         ensures { result.now ≡ level_name self }
     {
@@ -59,20 +60,20 @@ impl Level {
     }
 }
 
-impl Signal {
-    #[tactic(auto, unfolding(crate::specs::Flags::signal_name))]
+impl Condition {
+    #[tactic(auto, unfolding(crate::specs::FlagNames::condition_name))]
     fn name(self) -> &'static str
-        ensures { result.now ≡ signal_name self }
+        ensures { result.now ≡ condition_name self }
     {
         match self {
-            Signal::PathStateChanged => "path-state-changed",
-            Signal::TxFailure => "tx-failure",
-            Signal::TxFault => "tx-fault",
-            Signal::TxLos => "tx-los",
-            Signal::TxLol => "tx-lol",
-            Signal::TxEqFail => "tx-eq-fail",
-            Signal::RxLos => "rx-los",
-            Signal::RxLol => "rx-lol",
+            Condition::PathStateChanged => "path-state-changed",
+            Condition::TxFailure => "tx-failure",
+            Condition::TxFault => "tx-fault",
+            Condition::TxLos => "tx-los",
+            Condition::TxLol => "tx-lol",
+            Condition::TxEqFail => "tx-eq-fail",
+            Condition::RxLos => "rx-los",
+            Condition::RxLol => "rx-lol",
         }
     }
 }
@@ -80,16 +81,16 @@ impl Signal {
 impl fmt::Display for FlagName {
     ghost output = { λ name. Some (flag_name name) };
 
-    #[tactic(auto, unfolding(crate::specs::Flags::flag_name))]
+    #[tactic(auto, unfolding(crate::specs::FlagNames::flag_name))]
     fn fmt<W: fmt::Write>(&self, f: &mut fmt::Formatter<W>) -> fmt::Result {
         match self {
             FlagName::Passed(quantity, level) => {
                 let (quantity, level) = (quantity.name(), level.name());
                 write!(f, "{quantity}-{level}")
             }
-            FlagName::Signal(signal) => {
-                let signal = signal.name();
-                write!(f, "{signal}")
+            FlagName::Holds(condition) => {
+                let condition = condition.name();
+                write!(f, "{condition}")
             }
         }
     }

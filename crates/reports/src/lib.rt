@@ -9,12 +9,13 @@ mod cmis_monitors;
 mod family;
 mod fault;
 mod flag;
-mod line;
+pub mod laws;
+mod maker;
 mod monitor;
 mod plan;
 mod quantity;
 mod raised;
-mod readings;
+mod report;
 mod sff_flags;
 mod sff_inventory;
 mod sff_monitors;
@@ -22,12 +23,13 @@ mod shown;
 mod shown_app;
 mod shown_plan;
 mod shown_state;
-mod words;
+mod trace;
 
 pub use by_family::{flags, inventory, monitors};
 pub use cmis_apps::apps;
 pub use fault::ReportFault;
 pub use plan::plan_text;
+pub use trace::trace_text;
 
 #[cfg(test)]
 mod tests;

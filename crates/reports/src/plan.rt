@@ -1,19 +1,18 @@
 ghost use Rattle.std.specs.Prelude.{◌≡◌, ◌+◌, ◌++◌, ◌∷◌, [], ◌≤◌, true, All, IfOk, OnOk, map};
-ghost use Rattle.std.specs.String.{string_bytes};
 ghost use Rattle.text_lines.specs.Lines.{text_of};
 ghost use Rattle.plan_certificate.specs.Paths.{is_allowed};
 ghost use Rattle.plan_certificate.specs.Plans.{IsAdmissible};
 ghost use Rattle.reports.specs.PlanText.{lanes_of, path_line, plan_lines, span_of};
 
-use crate::shown_plan::{LaneSpan, PathLanes, SpacedBytes};
+use crate::report::Report;
+use crate::shown_plan::{LaneSpan, PathLanes};
 use applications::{Advert, Weights};
 use control_sets::bytes_of;
 use plan_certificate::{Path, Plan, weight_of};
 use std::alloc::{AllocError, Global};
-use std::fmt::Write;
 
 /// What a plan weighs, its paths, and the control bytes that ask for it, line by line.
-#[tactic(auto, unfolding(crate::specs::Lines::line, crate::specs::PlanText::weight_line, crate::specs::PlanText::control_line))]
+#[tactic(auto, unfolding(crate::specs::PlanText::weight_line, crate::specs::PlanText::control_line))]
 pub fn plan_text(
     alloc: Global,
     advert: &Advert,
@@ -23,33 +22,29 @@ pub fn plan_text(
     requires { IsAdmissible advert.now plan.now }
     ensures { IfOk result (λ text. text.items ≡ text_of (plan_lines advert.now weights.now plan.now)) }
 {
-    let mut text = String::new(alloc);
-    let weight = weight_of(advert, weights, plan);
-    writeln!(text, "weight {weight}")?;
-    push_paths(&mut text, advert, plan.paths.as_slice())?;
-    let bytes = bytes_of(advert, plan);
-    let control = SpacedBytes(&bytes);
-    writeln!(text, "control{control}")?;
-    Ok(text.into_bytes())
+    let mut report = Report::new(alloc);
+    report.line("weight", weight_of(advert, weights, plan))?;
+    push_paths(&mut report, advert, plan.paths.as_slice())?;
+    report.bytes("control", &bytes_of(advert, plan))?;
+    Ok(report.into_bytes())
 }
 
-fn push_paths(text: &mut String, advert: &Advert, paths: &[Path]) -> Result<(), AllocError>
+fn push_paths(report: &mut Report, advert: &Advert, paths: &[Path]) -> Result<(), AllocError>
     requires { All (λ path. is_allowed advert.now path ≡ true) paths.now }
-    ensures { OnOk result (string_bytes text.new ≡ string_bytes text.old ++ text_of (map (path_line advert.now) paths.now)) }
+    ensures { OnOk result (report.new ≡ report.old ++ text_of (map (path_line advert.now) paths.now)) }
 {
     for path in paths {
-        push_path(text, advert, *path)?;
+        push_path(report, advert, *path)?;
     }
     Ok(())
 }
 
-#[tactic(auto, unfolding(crate::specs::Lines::line, crate::specs::PlanText::path_line))]
-fn push_path(text: &mut String, advert: &Advert, path: Path) -> Result<(), AllocError>
+#[tactic(auto, unfolding(crate::specs::PlanText::path_line))]
+fn push_path(report: &mut Report, advert: &Advert, path: Path) -> Result<(), AllocError>
     requires { is_allowed advert.now path ≡ true }
-    ensures { OnOk result (string_bytes text.new ≡ string_bytes text.old ++ (path_line advert.now path ++ 10 ∷ [])) }
+    ensures { OnOk result (report.new ≡ report.old ++ (path_line advert.now path ++ 10 ∷ [])) }
 {
-    let lanes = lanes_of(advert, path);
-    writeln!(text, "path {lanes}")
+    report.line("path", lanes_of(advert, path))
 }
 
 #[tactic(auto, unfolding(plan_certificate::specs::Paths::is_allowed))]

@@ -1,8 +1,8 @@
 // What a module measures.
 ghost use Rattle.std.specs.Prelude.{◌≡◌};
-ghost use Rattle.reports.specs.Quantities.{limits_name_of, name_of, unit_name_of, unit_of};
+ghost use Rattle.reports.specs.Quantities.{limits_name_of, millis_in, name_of, unit_name_of, unit_of};
 
-use field_tables::Unit;
+use field_tables::{Unit, millis};
 
 /// What a module measures of itself or of its lanes.
 #[derive(Clone, Copy, Debug, PartialEq, Eq)]
@@ -45,8 +45,15 @@ impl Quantity {
         }
     }
 
-    /// What its values count.
-    pub fn unit(self) -> Unit
+    /// Thousandths of the printed unit.
+    pub fn millis(self, value: i32) -> i64
+        ensures { result ≡ millis_in self value }
+    {
+        millis(i64::from(value), self.unit())
+    }
+
+    // What its values count.
+    fn unit(self) -> Unit
         ensures { result ≡ unit_of self }
     {
         match self {

@@ -1,14 +1,12 @@
 // The flags that are raised, in the order of a report.
 ghost use Rattle.std.specs.Prelude.{◌≡◌, ◌++◌, ◌∷◌, ◌≤◌, [], OnOk, length, map};
 ghost use Rattle.std.specs.List.{flat_map};
-ghost use Rattle.std.specs.String.{string_bytes};
 ghost use Rattle.text_lines.specs.Lines.{text_of};
 ghost use Rattle.reports.specs.Flags.{flag_lines, of_lanes, of_levels, of_module, raised};
 
 use crate::flag::{Flag, FlagName, Level};
-use crate::line::push_lines;
 use crate::quantity::Quantity;
-use crate::shown::Shown;
+use crate::report::Report;
 use field_tables::Levels;
 use std::alloc::AllocError;
 
@@ -36,13 +34,18 @@ pub fn push_lane_flags<const N: usize>(
     ensures { OnOk result (flags.new.items ≡ flags.old.items ++ raised (flat_map of_lanes found.now)) }
 {
     for (name, lanes) in found {
-        push_lanes(flags, *name, lanes)?;
+        push_in_lanes(flags, *name, lanes)?;
     }
     Ok(())
 }
 
+/// Adds this flag of each lane where it is raised, lane 1 first.
 #[tactic(auto, using(crate::proofs::RaisedFlags::raised_lanes_more))]
-fn push_lanes(flags: &mut Vec<Flag>, name: FlagName, lanes: &[bool]) -> Result<(), AllocError>
+pub fn push_in_lanes(
+    flags: &mut Vec<Flag>,
+    name: FlagName,
+    lanes: &[bool],
+) -> Result<(), AllocError>
     requires { length lanes.now ≤ 8 }
     ensures { OnOk result (flags.new.items ≡ flags.old.items ++ raised (of_lanes (name, lanes.now))) }
 {
@@ -92,15 +95,15 @@ pub fn of_levels<T>(quantity: Quantity, levels: Levels<T>) -> [(FlagName, T); 4]
 }
 
 /// Adds a line for each flag, or one that says that there is none.
-#[tactic(auto, using(crate::proofs::RaisedFlags::lines_of_none, crate::proofs::RaisedFlags::lines_of_some), unfolding(crate::specs::Values::shown_text))]
-pub fn push_flag_lines(report: &mut String, flags: &[Flag]) -> Result<(), AllocError>
-    ensures { OnOk result (string_bytes report.new ≡ string_bytes report.old ++ text_of (flag_lines flags.now)) }
+#[tactic(auto, using(crate::proofs::RaisedFlags::lines_of_none, crate::proofs::RaisedFlags::lines_of_some))]
+pub fn push_flag_lines(report: &mut Report, flags: &[Flag]) -> Result<(), AllocError>
+    ensures { OnOk result (report.new ≡ report.old ++ text_of (flag_lines flags.now)) }
 {
     if flags.is_empty() {
-        return push_lines(report, &[("flag", Shown::Word("none"))]);
+        return report.line("flag", "none");
     }
     for flag in flags {
-        push_lines(report, &[("flag", Shown::Flag(*flag))])?;
+        report.line("flag", *flag)?;
     }
     Ok(())
 }

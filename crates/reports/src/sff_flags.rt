@@ -1,51 +1,42 @@
 // What a module of SFF-8636 or SFF-8472 warns of.
-ghost use Rattle.std.specs.Prelude.{◌≡◌, IfOk, MatchOption};
-ghost use Rattle.std.specs.Result.{result_map_both};
-ghost use Rattle.text_lines.specs.Lines.{text_of};
+ghost use Rattle.std.specs.Prelude.{◌≡◌, IfOk};
 ghost use Rattle.sff8636_map.specs.Flags as qsfp;
 ghost use Rattle.sff8636_map.specs.Refusals as qsfp_refusals;
 ghost use Rattle.sff8472_map.specs.Flags as sfp;
 ghost use Rattle.sff8472_map.specs.Refusals as sfp_refusals;
 ghost use Rattle.reports.specs.Families.{of_sff};
-ghost use Rattle.reports.specs.Flags.{flag_lines, raised};
-ghost use Rattle.reports.specs.Lines.{IsReport};
-ghost use Rattle.reports.specs.SffFlags.{of_lane_1, qsfp_flags, qsfp_signals, sff8472_lines, sff8636_lines, sfp_flags, sfp_signals};
+ghost use Rattle.reports.specs.Flags.{raised};
+ghost use Rattle.reports.specs.Lines.{Reports};
+ghost use Rattle.reports.specs.SffFlags.{of_lane_1, qsfp_flags, qsfp_conditions, sff8472_lines, sff8636_lines, sfp_flags, sfp_conditions};
 
 use crate::fault::ReportFault;
-use crate::flag::{Flag, FlagName, Signal};
+use crate::flag::{Condition, Flag, FlagName};
 use crate::quantity::Quantity;
 use crate::raised::{of_levels, push_flag_lines, push_lane_flags, push_module_flags};
+use crate::report::Report;
 use field_tables::Levels;
 use paged_memory::Image;
 use std::alloc::{AllocError, Global};
 
 /// What a module of SFF-8636 warns of, line by line.
 pub fn sff8636(alloc: Global, image: &Image) -> Result<Vec<u8>, ReportFault>
-    ensures { MatchOption (of_sff (qsfp_refusals.module_fault image.now))
-        (IsReport (sff8636_lines (qsfp.flags_of image.now)) (result_map_both (λ text. text.items) (λ fault. fault) result))
-        (λ fault. result ≡ Err fault) }
+    ensures { Reports (of_sff (qsfp_refusals.module_fault image.now)) (sff8636_lines (qsfp.flags_of image.now)) result }
 {
     let flags = sff8636_map::Flags::of(image)?;
     let raised = qsfp_raised(alloc, &flags)?;
-    Ok(report_of(alloc, &raised)?)
+    let mut report = Report::new(alloc);
+    push_flag_lines(&mut report, &raised)?;
+    Ok(report.into_bytes())
 }
 
 /// What a module of SFF-8472 warns of, line by line.
 pub fn sff8472(alloc: Global, image: &Image) -> Result<Vec<u8>, ReportFault>
-    ensures { MatchOption (of_sff (sfp_refusals.flags_fault image.now))
-        (IsReport (sff8472_lines (sfp.flags_of image.now)) (result_map_both (λ text. text.items) (λ fault. fault) result))
-        (λ fault. result ≡ Err fault) }
+    ensures { Reports (of_sff (sfp_refusals.flags_fault image.now)) (sff8472_lines (sfp.flags_of image.now)) result }
 {
     let flags = sff8472_map::Flags::of(image)?;
     let raised = sfp_raised(alloc, &flags)?;
-    Ok(report_of(alloc, &raised)?)
-}
-
-fn report_of(alloc: Global, flags: &[Flag]) -> Result<Vec<u8>, AllocError>
-    ensures { IfOk result (λ text. text.items ≡ text_of (flag_lines flags.now)) }
-{
-    let mut report = String::new(alloc);
-    push_flag_lines(&mut report, flags)?;
+    let mut report = Report::new(alloc);
+    push_flag_lines(&mut report, &raised)?;
     Ok(report.into_bytes())
 }
 
@@ -59,23 +50,23 @@ fn qsfp_raised(alloc: Global, flags: &sff8636_map::Flags) -> Result<Vec<Flag>, A
         &of_levels(Quantity::Temperature, flags.temperature),
     )?;
     push_module_flags(&mut found, &of_levels(Quantity::Vcc, flags.vcc))?;
-    push_lane_flags(&mut found, &qsfp_signals(flags))?;
+    push_lane_flags(&mut found, &qsfp_conditions(flags))?;
     push_lane_flags(&mut found, &of_levels(Quantity::RxPower, flags.rx_power))?;
     push_lane_flags(&mut found, &of_levels(Quantity::TxBias, flags.tx_bias))?;
     push_lane_flags(&mut found, &of_levels(Quantity::TxPower, flags.tx_power))?;
     Ok(found)
 }
 
-#[tactic(auto, unfolding(crate::specs::SffFlags::qsfp_signals))]
-fn qsfp_signals(flags: &sff8636_map::Flags) -> [(FlagName, [bool; 4]); 5]
-    ensures { result ≡ qsfp_signals flags.now }
+#[tactic(auto, unfolding(crate::specs::SffFlags::qsfp_conditions))]
+fn qsfp_conditions(flags: &sff8636_map::Flags) -> [(FlagName, [bool; 4]); 5]
+    ensures { result ≡ qsfp_conditions flags.now }
 {
     [
-        (FlagName::Signal(Signal::TxLos), flags.tx_los),
-        (FlagName::Signal(Signal::RxLos), flags.rx_los),
-        (FlagName::Signal(Signal::TxFault), flags.tx_fault),
-        (FlagName::Signal(Signal::TxLol), flags.tx_lol),
-        (FlagName::Signal(Signal::RxLol), flags.rx_lol),
+        (FlagName::Holds(Condition::TxLos), flags.tx_los),
+        (FlagName::Holds(Condition::RxLos), flags.rx_los),
+        (FlagName::Holds(Condition::TxFault), flags.tx_fault),
+        (FlagName::Holds(Condition::TxLol), flags.tx_lol),
+        (FlagName::Holds(Condition::RxLol), flags.rx_lol),
     ]
 }
 
@@ -101,17 +92,17 @@ fn sfp_raised(alloc: Global, flags: &sff8472_map::Flags) -> Result<Vec<Flag>, Al
         &mut found,
         &of_levels(Quantity::RxPower, of_lane_1(flags.rx_power)),
     )?;
-    push_lane_flags(&mut found, &sfp_signals(flags))?;
+    push_lane_flags(&mut found, &sfp_conditions(flags))?;
     Ok(found)
 }
 
-#[tactic(auto, unfolding(crate::specs::SffFlags::sfp_signals))]
-fn sfp_signals(flags: &sff8472_map::Flags) -> [(FlagName, [bool; 1]); 2]
-    ensures { result ≡ sfp_signals flags.now }
+#[tactic(auto, unfolding(crate::specs::SffFlags::sfp_conditions))]
+fn sfp_conditions(flags: &sff8472_map::Flags) -> [(FlagName, [bool; 1]); 2]
+    ensures { result ≡ sfp_conditions flags.now }
 {
     [
-        (FlagName::Signal(Signal::TxFault), [flags.tx_fault]),
-        (FlagName::Signal(Signal::RxLos), [flags.rx_los]),
+        (FlagName::Holds(Condition::TxFault), [flags.tx_fault]),
+        (FlagName::Holds(Condition::RxLos), [flags.rx_los]),
     ]
 }
 

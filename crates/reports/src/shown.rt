@@ -1,108 +1,38 @@
 // How values are shown in reports.
 ghost use Rattle.std.specs.Prelude.{◌≡◌, ◌<◌, Some, slice_index};
+ghost use Rattle.field_tables.specs.LaneSets.{byte_of};
 ghost use Rattle.hex.specs.Hex.{upper_digits};
-ghost use Rattle.reports.specs.Monitors.{levels_text};
-ghost use Rattle.reports.specs.Values.{shown_text};
-ghost use Rattle.reports.specs.Shown.{byte_code, minus_of, thousandths, three_digits, revision, printable, trimmed, is_padding, shown_byte};
+ghost use Rattle.reports.specs.Shown.{byte_code, measure, minus_of, thousandths, three_digits, revision, printable, trimmed, is_padding, shown_byte, spaced_bytes, sum_word};
 
-use crate::flag::Flag;
-use crate::shown_app::ShownApp;
-use crate::shown_state::{ShownModuleState, ShownStates};
-use applications::App;
 use arrayvec::ArrayVec;
-use field_tables::Levels;
+use field_tables::LaneSet;
 use std::fmt;
-use text_lines::Hexadecimal;
-
-/// A value of a report line.
-#[derive(Clone, Debug, Drop)]
-pub enum Shown {
-    /// A word as it stands.
-    Word(&'static str),
-    /// In decimal.
-    Number(u16),
-    /// A byte as two upper-case hexadecimal digits and `h`.
-    Code(u8),
-    /// Three bytes as six lower-case hexadecimal digits.
-    Digits([u8; 3]),
-    /// A revision, whose major number is in the upper nibble and the minor one in the lower.
-    Revision(u8),
-    /// The bytes of a text field.
-    Text(ArrayVec<u8, 16>),
-    /// Thousandths and the unit that they print in.
-    Measure(Thousandths, &'static str),
-    /// A lane, thousandths and the unit that they print in.
-    LaneMeasure(u8, Thousandths, &'static str),
-    /// Thousandths at each level.
-    Levels(Levels<Thousandths>),
-    /// A module state by its code.
-    ModuleState(u8),
-    /// A lane, and by their codes the state of its data path and the status of its configuration.
-    States(u8, u8, u8),
-    /// A flag that is raised.
-    Flag(Flag),
-    /// What is said of an Application.
-    Application(App),
-}
-
-impl fmt::Display for Shown {
-    ghost output = { λ shown. Some (shown_text shown) };
-
-    #[tactic(auto, unfolding(crate::specs::Values::shown_text))]
-    fn fmt<W: fmt::Write>(&self, f: &mut fmt::Formatter<W>) -> fmt::Result {
-        match self {
-            Shown::Word(word) => write!(f, "{word}"),
-            Shown::Number(number) => write!(f, "{number}"),
-            Shown::Code(byte) => {
-                let code = ByteCode(*byte);
-                write!(f, "{code}")
-            }
-            Shown::Digits(bytes) => {
-                let digits = Hexadecimal(bytes);
-                write!(f, "{digits}")
-            }
-            Shown::Revision(byte) => {
-                let revision = RevisionNumber(*byte);
-                write!(f, "{revision}")
-            }
-            Shown::Text(bytes) => {
-                let text = Printable(bytes);
-                write!(f, "{text}")
-            }
-            Shown::Measure(amount, unit) => write!(f, "{amount} {unit}"),
-            Shown::LaneMeasure(lane, amount, unit) => write!(f, "{lane} {amount} {unit}"),
-            Shown::Levels(levels) => {
-                let levels = ShownLevels(*levels);
-                write!(f, "{levels}")
-            }
-            Shown::ModuleState(code) => {
-                let state = ShownModuleState(*code);
-                write!(f, "{state}")
-            }
-            Shown::States(lane, state, status) => {
-                let states = ShownStates(*lane, *state, *status);
-                write!(f, "{states}")
-            }
-            Shown::Flag(flag) => write!(f, "{flag}"),
-            Shown::Application(app) => {
-                let app = ShownApp(*app);
-                write!(f, "{app}")
-            }
-        }
-    }
-}
+use text_lines::HexByte;
 
 /// A byte as two upper-case hexadecimal digits and `h`.
 #[derive(Clone, Copy)]
-pub struct ByteCode(pub u8);
+pub struct Code(pub u8);
 
-impl fmt::Display for ByteCode {
+impl fmt::Display for Code {
     ghost output = { λ shown. Some (byte_code shown.0) };
 
     #[tactic(auto, unfolding(crate::specs::Shown::byte_code))]
     fn fmt<W: fmt::Write>(&self, f: &mut fmt::Formatter<W>) -> fmt::Result {
         let (high, low) = (upper_digit(self.0 / 16), upper_digit(self.0 % 16));
         write!(f, "{high}{low}h")
+    }
+}
+
+/// The lanes of a set, as the byte that has them.
+#[derive(Clone, Copy)]
+pub struct LanesCode(pub LaneSet);
+
+impl fmt::Display for LanesCode {
+    ghost output = { λ shown. Some (byte_code (byte_of shown.0)) };
+
+    fn fmt<W: fmt::Write>(&self, f: &mut fmt::Formatter<W>) -> fmt::Result {
+        let code = Code(self.0.byte());
+        write!(f, "{code}")
     }
 }
 
@@ -115,7 +45,7 @@ fn upper_digit(value: u8) -> char
 }
 
 /// A number of thousandths as a decimal fraction: `-0.250` for -250.
-#[derive(Clone, Copy, Debug)]
+#[derive(Clone, Copy)]
 pub struct Thousandths(pub i64);
 
 impl fmt::Display for Thousandths {
@@ -129,21 +59,6 @@ impl fmt::Display for Thousandths {
         let whole = size / 1000;
         let rest = ThreeDigits((size % 1000) as u16);
         write!(f, "{minus}{whole}.{rest}")
-    }
-}
-
-/// Thousandths at each level, the alarms first and the high one of two first.
-#[derive(Clone, Copy)]
-struct ShownLevels(Levels<Thousandths>);
-
-impl fmt::Display for ShownLevels {
-    ghost output = { λ shown. Some (levels_text shown.0) };
-
-    #[tactic(auto, unfolding(crate::specs::Monitors::levels_text))]
-    fn fmt<W: fmt::Write>(&self, f: &mut fmt::Formatter<W>) -> fmt::Result {
-        let (high_alarm, low_alarm) = (self.0.high_alarm, self.0.low_alarm);
-        let (high_warning, low_warning) = (self.0.high_warning, self.0.low_warning);
-        write!(f, "{high_alarm} {low_alarm} {high_warning} {low_warning}")
     }
 }
 
@@ -165,11 +80,25 @@ impl fmt::Display for ThreeDigits {
     }
 }
 
+/// Thousandths and the unit that they print in.
+#[derive(Clone, Copy)]
+pub struct Measure(pub i64, pub &'static str);
+
+impl fmt::Display for Measure {
+    ghost output = { λ shown. Some (measure shown.0 shown.1.now) };
+
+    #[tactic(auto, unfolding(crate::specs::Shown::measure))]
+    fn fmt<W: fmt::Write>(&self, f: &mut fmt::Formatter<W>) -> fmt::Result {
+        let (amount, unit) = (Thousandths(self.0), self.1);
+        write!(f, "{amount} {unit}")
+    }
+}
+
 /// A revision, whose major number is in the upper nibble and the minor one in the lower.
 #[derive(Clone, Copy)]
-struct RevisionNumber(u8);
+pub struct Revision(pub u8);
 
-impl fmt::Display for RevisionNumber {
+impl fmt::Display for Revision {
     ghost output = { λ shown. Some (revision shown.0) };
 
     #[tactic(auto, unfolding(crate::specs::Shown::revision))]
@@ -180,15 +109,15 @@ impl fmt::Display for RevisionNumber {
 }
 
 /// The bytes of a text field without the spaces and zeros at their end; a byte that is no printable ASCII shows as `?`.
-#[derive(Clone, Copy)]
-struct Printable<'a>(&'a [u8]);
+#[derive(Drop)]
+pub struct Text(pub ArrayVec<u8, 16>);
 
-impl fmt::Display for Printable<'_> {
-    ghost output = { λ shown. Some (printable shown.0.now) };
+impl fmt::Display for Text {
+    ghost output = { λ shown. Some (printable shown.0.items) };
 
     #[tactic(auto, unfolding(crate::specs::Shown::printable))]
     fn fmt<W: fmt::Write>(&self, f: &mut fmt::Formatter<W>) -> fmt::Result {
-        for byte in trimmed(self.0) {
+        for byte in trimmed(self.0.as_slice()) {
             let letter = shown_byte(*byte);
             write!(f, "{letter}")?;
         }
@@ -220,5 +149,29 @@ fn shown_byte(byte: u8) -> char
         char::from(byte)
     } else {
         '?'
+    }
+}
+
+/// Whether a sum is right, in a word.
+pub fn sum_word(right: bool) -> &'static str
+    ensures { result.now ≡ sum_word right }
+{
+    if right { "right" } else { "wrong" }
+}
+
+/// Bytes in hexadecimal, each with a space before it.
+#[derive(Clone, Copy)]
+pub struct SpacedBytes<'a>(pub &'a [u8]);
+
+impl fmt::Display for SpacedBytes<'_> {
+    ghost output = { λ shown. Some (spaced_bytes shown.0.now) };
+
+    #[tactic(auto, unfolding(crate::specs::Shown::spaced_bytes))]
+    fn fmt<W: fmt::Write>(&self, f: &mut fmt::Formatter<W>) -> fmt::Result {
+        for byte in self.0 {
+            let shown = HexByte(*byte);
+            write!(f, " {shown}")?;
+        }
+        Ok(())
     }
 }

@@ -1,10 +1,9 @@
 // How an Application is shown in reports.
 ghost use Rattle.std.specs.Prelude.{◌≡◌, Some};
-ghost use Rattle.field_tables.specs.LaneSets.{byte_of};
 ghost use Rattle.reports.specs.Apps.{app_text, kind_text, lanes_text, starts_text, usable_word};
 
-use crate::shown::ByteCode;
-use applications::{App, LaneSet};
+use crate::shown::{Code, LanesCode};
+use applications::App;
 use std::fmt;
 
 #[derive(Clone, Copy)]
@@ -30,7 +29,7 @@ impl fmt::Display for ShownKind {
     #[tactic(auto, unfolding(crate::specs::Apps::kind_text))]
     fn fmt<W: fmt::Write>(&self, f: &mut fmt::Formatter<W>) -> fmt::Result {
         let number = self.0.number;
-        let (host, media) = (ByteCode(self.0.host_id), ByteCode(self.0.media_id));
+        let (host, media) = (Code(self.0.host_id), Code(self.0.media_id));
         write!(f, "{number} host {host} media {media}")
     }
 }
@@ -56,16 +55,12 @@ impl fmt::Display for ShownStarts {
 
     #[tactic(auto, unfolding(crate::specs::Apps::starts_text))]
     fn fmt<W: fmt::Write>(&self, f: &mut fmt::Formatter<W>) -> fmt::Result {
-        let host = ByteCode(byte_of(self.0.host_starts));
-        let media = ByteCode(byte_of(self.0.media_starts));
+        let (host, media) = (
+            LanesCode(self.0.host_starts),
+            LanesCode(self.0.media_starts),
+        );
         write!(f, "host-starts {host} media-starts {media}")
     }
-}
-
-fn byte_of(lanes: LaneSet) -> u8
-    ensures { result ≡ byte_of lanes }
-{
-    lanes.byte()
 }
 
 fn usable_word(usable: bool) -> &'static str

@@ -1,9 +1,8 @@
-// How a plan's paths and its control bytes are shown.
+// How a plan's paths are shown.
 ghost use Rattle.std.specs.Prelude.{Some};
-ghost use Rattle.reports.specs.PlanText.{path_text, spaced_bytes, span_text};
+ghost use Rattle.reports.specs.PlanText.{path_text, span_text};
 
 use std::fmt;
-use text_lines::HexByte;
 
 /// A data path by its first and last lanes.
 #[derive(Clone, Copy)]
@@ -37,22 +36,5 @@ impl fmt::Display for LaneSpan {
     fn fmt<W: fmt::Write>(&self, f: &mut fmt::Formatter<W>) -> fmt::Result {
         let (first, last) = (self.first, self.last);
         write!(f, "{first}-{last}")
-    }
-}
-
-/// Bytes in hexadecimal, each with a space before it.
-#[derive(Clone, Copy)]
-pub struct SpacedBytes<'a>(pub &'a [u8]);
-
-impl fmt::Display for SpacedBytes<'_> {
-    ghost output = { λ shown. Some (spaced_bytes shown.0.now) };
-
-    #[tactic(auto, unfolding(crate::specs::PlanText::spaced_bytes))]
-    fn fmt<W: fmt::Write>(&self, f: &mut fmt::Formatter<W>) -> fmt::Result {
-        for byte in self.0 {
-            let shown = HexByte(*byte);
-            write!(f, " {shown}")?;
-        }
-        Ok(())
     }
 }

@@ -85,6 +85,8 @@ fn the_applications_are_told(rt: HostRuntime) -> Result<(), Fail> {
     Ok(())
 }
 
+mod borders;
+
 // A half of zeros but for these bytes, each with the place that it has in the half.
 fn half(parts: &[(usize, &[u8])]) -> Page {
     let mut bytes = [0; PAGE_LEN];

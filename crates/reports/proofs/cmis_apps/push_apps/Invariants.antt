@@ -1,9 +1,8 @@
 use Rattle.std.proofs.Common.{◌≡◌, ◌++◌, map, take}
-use Rattle.std.specs.String.{string_bytes}
 use Rattle.text_lines.specs.Lines.{text_of}
 use Rattle.reports.specs.Apps.{app_line}
 use Rattle.reports.proofs.cmis_apps.push_apps.Given as goal
 
 -- the Applications so far
 abbrev pub invariant-loop-app : goal.invariant-loop-app
-invariant-loop-app l = string_bytes l.report ≡ string_bytes l.initial.report ++ text_of (map app_line (take l.app-index l.apps))
+invariant-loop-app l = l.report ≡ l.initial.report ++ text_of (map app_line (take l.app-index l.apps))

@@ -1,9 +1,8 @@
 use Rattle.std.proofs.Common.{◌≡◌, ◌++◌, map, take}
-use Rattle.std.specs.String.{string_bytes}
 use Rattle.text_lines.specs.Lines.{text_of}
 use Rattle.reports.specs.PlanText.{path_line}
 use Rattle.reports.proofs.plan.push_paths.Given as goal
 
 -- the paths so far
 abbrev pub invariant-loop-path : goal.invariant-loop-path
-invariant-loop-path l = string_bytes l.text ≡ string_bytes l.initial.text ++ text_of (map (path_line l.advert) (take l.path-index l.paths))
+invariant-loop-path l = l.report ≡ l.initial.report ++ text_of (map (path_line l.advert) (take l.path-index l.paths))
