@@ -1,5 +1,8 @@
+mod AdvertAnswers
 mod CommandLineLemmas
 mod FoldLemmas
+mod KnownParts
+mod OwnAnswers
 mod PartCuts
-mod PlanningAnswers
+mod ProcedureAnswers
 mod ReportAnswers

@@ -1,14 +1,15 @@
 -- The command line `cmisctl COMMAND [FLAGS]`, as `clap` reads it (docs/formats.md): one level of
 -- subcommands, one of them required, each with its own flags.
-use Rattle.std.specs.Prelude.{true, List, [], ◌∷◌, fold, Option, Some}
+use Rattle.std.specs.Prelude.{Bool, true, false, List, [], ◌∷◌, fold, Option, Some}
 use Rattle.std.specs.Prelude.{codes, find, option_map, option_and_then}
+use Rattle.std.specs.Option.{option_map_or}
 use Rattle.std.specs.Str.{bytes_eq}
-use Rattle.clap.specs.Words.{App, Row, Rule, Text, new_app, new_rule, subcommand_of}
+use Rattle.clap.specs.Words.{App, Row, Rule, Text, first_of, new_app, new_rule, subcommand_of}
 use Rattle.clap.specs.Words.{fault_of, with_rule, with_subcommand, Kinds}
 use Rattle.clap.specs.Simple.{on_top}
 use Rattle.clap.specs.declared.builder.action.ArgAction.TheVariants.{SetTrue}
 use Rattle.cmisctl.specs.declared.choice.commands.CommandName.{CommandName}
-use Rattle.cmisctl.specs.declared.choice.commands.CommandName.TheVariants.{Inventory, Apps, Monitors, Flags, Plan, Check}
+use Rattle.cmisctl.specs.declared.choice.commands.CommandName.TheVariants.{Inventory, Apps, Monitors, Flags, Plan, Check, Provision, Trace}
 use Rattle.cmisctl.specs.declared.choice.commands.Choice.{Choice}
 
 -- a command, by its name among the words, and the names of its flags
@@ -16,6 +17,9 @@ pub record Entry : Type 0 where
   pub name : Text
   pub command : CommandName
   pub flags : List Text
+
+abbrev pub activate : Text
+activate = codes "activate"
 
 unfoldable pub commands : List Entry
 commands =
@@ -25,6 +29,8 @@ commands =
     ∷ record { name = codes "flags"; command = Flags; flags = [] }
     ∷ record { name = codes "plan"; command = Plan; flags = [] }
     ∷ record { name = codes "check"; command = Check; flags = [] }
+    ∷ record { name = codes "provision"; command = Provision; flags = activate ∷ [] }
+    ∷ record { name = codes "trace"; command = Trace; flags = activate ∷ [] }
     ∷ []
 
 -- `--name`, without a value and at most once
@@ -56,10 +62,15 @@ program = program_of commands
 abbrev pub entry_named : Text → Option Entry
 entry_named name = find (λ entry. bytes_eq entry.name name) commands
 
+-- `clap` gives a flag the value `true` where it stands among the words
+abbrev pub is_given : Text → List Row → Bool
+is_given flag rows = option_map_or (λ value. bytes_eq value (codes "true")) (first_of flag rows) false
+
 -- the choice that a subcommand and its matches make, where there is one
 abbrev pub choice_in : Option (Text × List Row) → Option Choice
 choice_in = option_and_then (λ found. option_map (λ entry. record {
   name = entry.command;
+  activate = is_given activate found.1;
 }) (entry_named found.0))
 
 -- the choice that the words make

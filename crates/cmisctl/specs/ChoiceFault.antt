@@ -1,5 +1,5 @@
 -- Why a command line gives no choice, and what the program then says (docs/formats.md).
-use Rattle.std.specs.Prelude.{◌≢◌, ◌++◌, ◌∷◌, ℕ, List, [], codes, ⊤}
+use Rattle.std.specs.Prelude.{◌≢◌, ⊤}
 use Rattle.clap.specs.Words.{IsAmong, Kinds, kind_of}
 use Rattle.clap.specs.declared.error.Error.{Error}
 use Rattle.clap.specs.declared.error.kind.ErrorKind.{ErrorKind}
@@ -35,7 +35,3 @@ status_of_fault (Line error) = status_by_kind (kind_of error)
 abbrev pub IsFaultAmong : Kinds → ChoiceFault → Type 0
 IsFaultAmong kinds Memory = ⊤
 IsFaultAmong kinds (Line error) = IsAmong (kind_of error) kinds × (kind_of error ≢ OutOfMemory)
-
--- what the program writes where an allocation was refused
-abbrev pub memory_line : List ℕ
-memory_line = codes "fault memory" ++ 10 ∷ []

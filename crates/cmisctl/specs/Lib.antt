@@ -5,6 +5,7 @@ pub mod Status
 pub mod Limits
 pub mod Failures
 pub mod CountedReader
+pub mod RememberingReader
 pub mod StoppingWriter
 pub mod Input
 pub mod Parts
@@ -14,6 +15,9 @@ pub mod Runs
 pub mod PartFaults
 pub mod ReportCommands
 pub mod PlanningInputs
+pub mod GivenPlan
 pub mod PlanCommand
 pub mod CheckCommand
+pub mod ProvisionCommand
+pub mod Sessions
 pub mod Program

@@ -11,3 +11,7 @@ is_separator_line line = bytes_eq line (codes "---") || bytes_eq line (codes "--
 -- the lines between separators, put together again
 unfoldable pub parts_of : List ℕ → List (List ℕ)
 parts_of input = map concat (slice_split is_separator_line (ended_lines input))
+
+-- the most parts that a command takes
+abbrev pub most_parts : ℕ
+most_parts = 3

@@ -1,33 +1,47 @@
 -- One run of the whole program, from the words of its command line and its input to what it writes and how it ends.
 -- (docs/formats.md)
-use Rattle.std.specs.Prelude.{◌≡◌, ◌⊎◌, ℕ, Bool, true, false, List, Option, Some}
+use Rattle.std.specs.Prelude.{◌≡◌, ◌⊎◌, ◌++◌, ◌∷◌, ℕ, Bool, true, false, List, [], map, codes, string_bytes, Option, Some, Result, Ok, Err, Vec, String}
+use Rattle.std.specs.Result.{result_map_both}
+use Rattle.std.specs.IoError.{error_kind}
 use Rattle.std.specs.Io.KnownBytes.{Appends}
+use Rattle.std.specs.declared.alloc.Global.{Global}
+use Rattle.std.specs.declared.io.Error.{Error}
 use Rattle.std.specs.declared.io.ErrorKind.{ErrorKind}
 use Rattle.std.specs.declared.io.ErrorKind.TheVariants.{OutOfMemory}
 use Rattle.clap.specs.Words.{Text, takes}
 use Rattle.cmisctl.specs.Choice.{choice_of, faults_of, program}
-use Rattle.cmisctl.specs.ChoiceFault.{IsFaultAmong, memory_line, status_of_fault}
+use Rattle.cmisctl.specs.ChoiceFault.{IsFaultAmong, status_of_fault}
 use Rattle.cmisctl.specs.CheckCommand.{IsCheckAnswer}
+use Rattle.cmisctl.specs.Faults.{fault_line}
 use Rattle.cmisctl.specs.PlanCommand.{IsPlanAnswer}
-use Rattle.cmisctl.specs.ReportCommands.{IsReportAnswer}
-use Rattle.cmisctl.specs.Runs.{Answer, IsRun, ended}
+use Rattle.cmisctl.specs.ProvisionCommand.{IsProvisionAnswer, IsTraceAnswer}
+use Rattle.cmisctl.specs.ReportCommands.{IsInventoryAnswer, IsAppsAnswer, IsMonitorsAnswer, IsFlagsAnswer}
+use Rattle.cmisctl.specs.Runs.{Answer, IsAnswerTo, IsCommandRun, ended}
+use Rattle.cmisctl.specs.StoppingWriter.{contents_of, writing_failed}
 use Rattle.cmisctl.specs.declared.choice.commands.Choice.{Choice}
 use Rattle.cmisctl.specs.declared.choice.commands.CommandName.{CommandName}
-use Rattle.cmisctl.specs.declared.choice.commands.CommandName.TheVariants.{Inventory, Apps, Monitors, Flags, Plan, Check}
+use Rattle.cmisctl.specs.declared.choice.commands.CommandName.TheVariants.{Inventory, Apps, Monitors, Flags, Plan, Check, Provision, Trace}
 use Rattle.cmisctl.specs.declared.choice.fault.ChoiceFault.{ChoiceFault}
 use Rattle.cmisctl.specs.declared.choice.fault.ChoiceFault.TheVariants.{Memory}
-use Rattle.cmisctl.specs.declared.commands.report_command.Report.TheVariants as report
+use Rattle.cmisctl.specs.declared.fault.Fault.TheVariants as fault
+use Rattle.cmisctl.specs.declared.input.counted_reader.CountedReader.{CountedReader}
+use Rattle.cmisctl.specs.declared.output.stopping_writer.StoppingWriter.{StoppingWriter}
 use Rattle.cmisctl.specs.declared.status.Status.{Status}
 use Rattle.cmisctl.specs.declared.status.Status.TheVariants as status
 
--- what each command answers to an input
-abbrev pub IsAnswerOf : CommandName → List ℕ → Answer → Type 0
-IsAnswerOf Inventory = IsReportAnswer report.Inventory
-IsAnswerOf Apps = IsReportAnswer report.Apps
-IsAnswerOf Monitors = IsReportAnswer report.Monitors
-IsAnswerOf Flags = IsReportAnswer report.Flags
-IsAnswerOf Plan = IsPlanAnswer
-IsAnswerOf Check = IsCheckAnswer
+-- what each command answers to an input, where activation is asked for or not
+abbrev pub IsAnswerBy : CommandName → Bool → List ℕ → Answer → Type 0
+IsAnswerBy Inventory activate = IsAnswerTo 1 IsInventoryAnswer
+IsAnswerBy Apps activate = IsAnswerTo 1 IsAppsAnswer
+IsAnswerBy Monitors activate = IsAnswerTo 1 IsMonitorsAnswer
+IsAnswerBy Flags activate = IsAnswerTo 1 IsFlagsAnswer
+IsAnswerBy Plan activate = IsAnswerTo 2 IsPlanAnswer
+IsAnswerBy Check activate = IsAnswerTo 3 IsCheckAnswer
+IsAnswerBy Provision activate = IsAnswerTo 3 (IsProvisionAnswer activate)
+IsAnswerBy Trace activate = IsAnswerTo 3 (IsTraceAnswer activate)
+
+abbrev pub IsAnswerOf : Choice → List ℕ → Answer → Type 0
+IsAnswerOf choice = IsAnswerBy choice.name choice.activate
 
 -- the words give no choice: `clap` refuses them, or an allocation was refused
 abbrev pub IsRefusalOf : List Text → ChoiceFault → Type 0
@@ -35,16 +49,40 @@ IsRefusalOf words fault = IsFaultAmong (faults_of words) fault × (takes program
 
 -- a refusal was said, want of memory in its own line, and the run ended so
 abbrev pub IsRefusalSaid : ChoiceFault → Option (List ℕ) → Option (List ℕ) → Bool → Status → Type 0
-IsRefusalSaid fault before after write_failed status =
-    (status ≡ ended write_failed (status_of_fault fault)) × (fault ≡ Memory → write_failed ≡ false → Appends before after memory_line)
+IsRefusalSaid refusal before after write_failed status =
+    (status ≡ ended write_failed (status_of_fault refusal))
+    × (refusal ≡ Memory → write_failed ≡ false → Appends before after (fault_line fault.Memory))
 
--- the command that the words choose was run on the input, or the words were refused
-abbrev pub IsProgramRun : List Text → List ℕ → Option (List ℕ) → Option (List ℕ) → Bool → Bool → Status → Type 0
-IsProgramRun words input before after read_failed write_failed status =
-    ((choice : Choice) × (choice_of words ≡ Some choice) × IsRun (IsAnswerOf choice.name input) before after read_failed write_failed status)
-    ⊎ ((fault : ChoiceFault) × IsRefusalOf words fault × IsRefusalSaid fault before after write_failed status)
+-- the words of a command line that could be read
+abbrev pub words_of : Result (Vec (String Global) Global) Error → Result (List Text) Error
+words_of words = result_map_both (λ words. map string_bytes words.items) (λ error. error) words
 
--- how the program ends where its words cannot be read
+-- how the program ends where its words cannot be read, and the line that it writes
 abbrev pub words_status : ErrorKind → Status
 words_status OutOfMemory = status.Memory
 words_status _ = status.CommandLine
+
+unfoldable pub words_line : ErrorKind → List ℕ
+words_line OutOfMemory = fault_line fault.Memory
+words_line _ = codes "error: a word of the command line is not UTF-8" ++ 10 ∷ []
+
+abbrev pub IsWordsRefusalSaid : Error → Option (List ℕ) → Option (List ℕ) → Bool → Status → Type 0
+IsWordsRefusalSaid error before after write_failed status =
+    (status ≡ ended write_failed (words_status (error_kind error)))
+    × (write_failed ≡ false → Appends before after (words_line (error_kind error)))
+
+-- a refusal of the command line: the reader is left as it was, and after a failed write nothing more is written
+pub record IsRefusalRun {R W : Type 0} (contents : W → Option (List ℕ)) (IsSaid : Option (List ℕ) → Option (List ℕ) → Bool → Status → Type 0)
+    (reader reader_after : CountedReader R) (writer writer_after : StoppingWriter W) (status : Status) : Type 0 where
+  pub unread : reader_after ≡ reader
+  pub said : IsSaid (contents_of contents writer) (contents_of contents writer_after) (writing_failed writer_after) status
+  pub stopped : writing_failed writer ≡ true → writer_after ≡ writer
+
+-- the command that the words choose was run, or they were refused
+abbrev pub IsProgramRun : {R W : Type 0} → (R → Option (List ℕ)) → (W → Option (List ℕ)) → Result (List Text) Error
+    → CountedReader R → CountedReader R → StoppingWriter W → StoppingWriter W → Status → Type 0
+IsProgramRun remaining contents (Ok words) reader reader_after writer writer_after status =
+    ((choice : Choice) × (choice_of words ≡ Some choice) × IsCommandRun remaining contents (IsAnswerOf choice) reader reader_after writer writer_after status)
+    ⊎ ((fault : ChoiceFault) × IsRefusalOf words fault × IsRefusalRun contents (IsRefusalSaid fault) reader reader_after writer writer_after status)
+IsProgramRun remaining contents (Err error) reader reader_after writer writer_after status =
+    IsRefusalRun contents (IsWordsRefusalSaid error) reader reader_after writer writer_after status

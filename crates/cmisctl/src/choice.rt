@@ -3,9 +3,9 @@ ghost use Rattle.std.specs.Prelude.{◌≡◌, ◌∷◌, map, codes, false, tru
 ghost use Rattle.std.specs.Prelude.{[], string_bytes, option_map, MatchResult};
 ghost use Rattle.std.specs.List.{list_all};
 ghost use Rattle.clap.specs.declared.builder.command.Command.TheViews.{out-Command as fields_of};
-ghost use Rattle.clap.specs.Words.{Text, app_of, rule_of, subcommand_rows_of, takes};
+ghost use Rattle.clap.specs.Words.{Text, app_of, found_of, rows_of, rule_of, subcommand_rows_of, takes};
 ghost use Rattle.cmisctl.specs.Choice.{program, choice_of, choice_in, flag_rule, command_app};
-ghost use Rattle.cmisctl.specs.Choice.{commands, faults_of};
+ghost use Rattle.cmisctl.specs.Choice.{commands, faults_of, is_given};
 ghost use Rattle.cmisctl.specs.Program.{IsRefusalOf};
 ghost use Rattle.cmisctl.specs.Entries.{entry_of};
 
@@ -56,15 +56,26 @@ fn program<'a>(alloc: Global) -> Result<Command<'a>, AllocError>
     Ok(program)
 }
 
+// Whether the flag stands among the words.
+fn is_given(matches: &ArgMatches<'_>, flag: &str) -> bool
+    ensures { result ≡ is_given flag.now (rows_of (found_of matches.now)) }
+{
+    match matches.get_str(flag) {
+        Some(value) => value == "true",
+        None => false,
+    }
+}
+
 /// What the matches of the program ask for.
 fn chosen(matches: &ArgMatches<'_>) -> Choice
     requires { IsSome (choice_in (subcommand_rows_of matches.now)) }
     ensures { choice_in (subcommand_rows_of matches.now) ≡ Some result }
 {
-    let (name, _given) = matches.subcommand().unwrap();
+    let (name, given) = matches.subcommand().unwrap();
     let entry = command_named(name).unwrap();
     Choice {
         name: entry.command,
+        activate: is_given(given, "activate"),
     }
 }
 

@@ -1,17 +1,20 @@
 //! What the program answers in place of a text: why it refuses its input, or that a certificate is bad.
-ghost use Rattle.std.specs.Prelude.{◌≡◌, Some};
-ghost use Rattle.cmisctl.specs.Faults.{advert_fault_text, certificate_fault_text, fault_text, image_fault_text, reason_text, report_fault_text, sff_fault_text, status_of, weights_fault_text, word_of};
+ghost use Rattle.std.specs.Prelude.{◌≡◌};
+ghost use Rattle.cmisctl.specs.Faults.{fault_of_report, fault_of_weights, fault_words, status_of, word_of};
+ghost use Rattle.cmisctl.specs.declared.fault.Fault.TheVariants as fault;
 
-use crate::input::InputFault;
 use crate::status::Status;
 use applications::{AdvertFault, WeightsFault};
-use field_tables::SffFault;
+use bus_model::ScriptFault;
+use control_sets::ProvisionFault;
 use paged_memory::ImageFault;
 use plan_certificate::{CertificateFault, Reason};
 use reports::ReportFault;
-use std::fmt;
+use sim_module::SimFault;
+use std::alloc::AllocError;
+use text_lines::{Spelled, Spelling};
 
-/// Why no text is the answer to the input.
+/// Why no text, or no more of it, is the answer to the input.
 #[derive(Clone, Copy, Debug, PartialEq, Eq)]
 pub enum Fault {
     /// An allocation was refused.
@@ -34,6 +37,12 @@ pub enum Fault {
     Certificate(CertificateFault),
     /// The certificate is bad: the reason, and the number of the path or the entry, or else 0.
     Bad(Reason, usize),
+    /// The script is none.
+    Script(ScriptFault),
+    /// The image is no simulated module.
+    Module(SimFault),
+    /// The plan was not provisioned, or not activated.
+    Provision(ProvisionFault),
 }
 
 impl Fault {
@@ -45,6 +54,7 @@ impl Fault {
             Fault::Memory => Status::Memory,
             Fault::Io => Status::ReadOrWrite,
             Fault::Bad(..) => Status::BadCertificate,
+            Fault::Provision(_) => Status::NotProvisioned,
             _ => Status::Refused,
         }
     }
@@ -60,24 +70,48 @@ impl Fault {
     }
 }
 
-impl From<InputFault> for Fault {
-    ghost use Rattle.cmisctl.specs.Faults.{fault_of_input};
+impl Spelled for Fault {
+    ghost words = { fault_words };
 
-    ghost from_gives = { λ refused fault. fault ≡ fault_of_input refused };
+    ghost most = { 6 };
 
-    fn from(fault: InputFault) -> Fault {
-        match fault {
-            InputFault::Memory => Fault::Memory,
-            InputFault::Io => Fault::Io,
-            InputFault::TooLong => Fault::TooLong,
+    fn spelling(&self) -> Spelling {
+        match self {
+            Fault::Memory => Spelling::of("memory"),
+            Fault::Io => Spelling::of("IO"),
+            Fault::TooLong => Spelling::of("PT2"),
+            Fault::Parts(count) => Spelling::of("PT1").and(count),
+            Fault::Image(fault) => fault.spelling(),
+            Fault::Report(fault) => fault.spelling(),
+            Fault::Advert(fault) => fault.spelling(),
+            Fault::Weights(fault) => fault.spelling(),
+            Fault::Certificate(fault) => fault.spelling(),
+            Fault::Bad(reason, number) => reason.spelling().and(number),
+            Fault::Script(fault) => fault.spelling(),
+            Fault::Module(fault) => fault.spelling(),
+            Fault::Provision(fault) => fault.spelling(),
         }
     }
 }
 
-impl From<ReportFault> for Fault {
-    ghost use Rattle.cmisctl.specs.Faults.{fault_of_report};
+impl From<AllocError> for Fault {
+    ghost from_gives = { λ _ given. given ≡ fault.Memory };
 
-    ghost from_gives = { λ refused fault. fault ≡ fault_of_report refused };
+    fn from(_error: AllocError) -> Fault {
+        Fault::Memory
+    }
+}
+
+impl From<ImageFault> for Fault {
+    ghost from_gives = { λ refused given. given ≡ fault.Image refused };
+
+    fn from(fault: ImageFault) -> Fault {
+        Fault::Image(fault)
+    }
+}
+
+impl From<ReportFault> for Fault {
+    ghost from_gives = { λ refused given. given ≡ fault_of_report refused };
 
     fn from(fault: ReportFault) -> Fault {
         match fault {
@@ -87,180 +121,48 @@ impl From<ReportFault> for Fault {
     }
 }
 
-/// The code, and then the values in decimal, with a space before each.
-impl fmt::Display for Fault {
-    ghost output = { λ fault. Some (fault_text fault) };
+impl From<AdvertFault> for Fault {
+    ghost from_gives = { λ refused given. given ≡ fault.Advert refused };
 
-    #[tactic(auto, unfolding(crate::specs::Faults::fault_text))]
-    fn fmt<W: fmt::Write>(&self, f: &mut fmt::Formatter<W>) -> fmt::Result {
-        match self {
-            Fault::Memory => write!(f, "memory"),
-            Fault::Io => write!(f, "IO"),
-            Fault::TooLong => write!(f, "PT2"),
-            Fault::Parts(count) => write!(f, "PT1 {count}"),
-            Fault::Image(fault) => {
-                let shown = ShownImageFault(*fault);
-                write!(f, "{shown}")
-            }
-            Fault::Report(fault) => {
-                let shown = ShownReportFault(*fault);
-                write!(f, "{shown}")
-            }
-            Fault::Advert(fault) => {
-                let shown = ShownAdvertFault(*fault);
-                write!(f, "{shown}")
-            }
-            Fault::Weights(fault) => {
-                let shown = ShownWeightsFault(*fault);
-                write!(f, "{shown}")
-            }
-            Fault::Certificate(fault) => {
-                let shown = ShownCertificateFault(*fault);
-                write!(f, "{shown}")
-            }
-            Fault::Bad(reason, number) => {
-                let shown = ShownReason(*reason);
-                write!(f, "{shown} {number}")
-            }
+    fn from(fault: AdvertFault) -> Fault {
+        Fault::Advert(fault)
+    }
+}
+
+impl From<WeightsFault> for Fault {
+    ghost from_gives = { λ refused given. given ≡ fault_of_weights refused };
+
+    fn from(fault: WeightsFault) -> Fault {
+        match fault {
+            WeightsFault::Memory => Fault::Memory,
+            _ => Fault::Weights(fault),
         }
     }
 }
 
-#[derive(Clone, Copy)]
-struct ShownImageFault(ImageFault);
+impl From<CertificateFault> for Fault {
+    ghost from_gives = { λ refused given. given ≡ fault.Certificate refused };
 
-impl fmt::Display for ShownImageFault {
-    ghost output = { λ shown. Some (image_fault_text shown.0) };
-
-    #[tactic(auto, unfolding(crate::specs::Faults::image_fault_text))]
-    fn fmt<W: fmt::Write>(&self, f: &mut fmt::Formatter<W>) -> fmt::Result {
-        match self.0 {
-            ImageFault::BadHeader => write!(f, "IM1"),
-            ImageFault::BadLine(number) => write!(f, "IM2 {number}"),
-            ImageFault::OutOfOrder(number) => write!(f, "IM3 {number}"),
-            ImageFault::TooManyPages => write!(f, "IM4"),
-            ImageFault::NoEnd => write!(f, "IM5"),
-            ImageFault::AfterEnd => write!(f, "IM6"),
-        }
+    fn from(fault: CertificateFault) -> Fault {
+        Fault::Certificate(fault)
     }
 }
 
-#[derive(Clone, Copy)]
-struct ShownReportFault(ReportFault);
+impl From<ScriptFault> for Fault {
+    ghost from_gives = { λ refused given. given ≡ fault.Script refused };
 
-impl fmt::Display for ShownReportFault {
-    ghost output = { λ shown. Some (report_fault_text shown.0) };
-
-    #[tactic(auto, unfolding(crate::specs::Faults::report_fault_text))]
-    fn fmt<W: fmt::Write>(&self, f: &mut fmt::Formatter<W>) -> fmt::Result {
-        match self.0 {
-            ReportFault::Memory => write!(f, "memory"),
-            ReportFault::Absent(key) => write!(f, "RP6 {key}"),
-            ReportFault::Unknown(identifier) => write!(f, "RP1 {identifier}"),
-            ReportFault::Revision(revision) => write!(f, "RP4 {revision}"),
-            ReportFault::Sff(fault) => {
-                let shown = ShownSffFault(fault);
-                write!(f, "{shown}")
-            }
-            ReportFault::Advert(fault) => {
-                let shown = ShownAdvertFault(fault);
-                write!(f, "{shown}")
-            }
-        }
+    fn from(fault: ScriptFault) -> Fault {
+        Fault::Script(fault)
     }
 }
 
-#[derive(Clone, Copy)]
-struct ShownSffFault(SffFault);
+impl From<SimFault> for Fault {
+    ghost from_gives = { λ refused given. given ≡ fault.Module refused };
 
-impl fmt::Display for ShownSffFault {
-    ghost output = { λ shown. Some (sff_fault_text shown.0) };
-
-    #[tactic(auto, unfolding(crate::specs::Faults::sff_fault_text))]
-    fn fmt<W: fmt::Write>(&self, f: &mut fmt::Formatter<W>) -> fmt::Result {
-        match self.0 {
-            SffFault::WrongIdentifier(identifier) => write!(f, "SF1 {identifier}"),
-            SffFault::FlatMemory => write!(f, "SF2"),
-            SffFault::Absent(key) => write!(f, "SF3 {key}"),
-            SffFault::NoDiagnostics => write!(f, "SF4"),
-            SffFault::ExternalCalibration => write!(f, "SF5"),
-            SffFault::AddressChange => write!(f, "SF6"),
-        }
+    fn from(fault: SimFault) -> Fault {
+        Fault::Module(fault)
     }
 }
 
-#[derive(Clone, Copy)]
-struct ShownAdvertFault(AdvertFault);
-
-impl fmt::Display for ShownAdvertFault {
-    ghost output = { λ shown. Some (advert_fault_text shown.0) };
-
-    #[tactic(auto, unfolding(crate::specs::Faults::advert_fault_text))]
-    fn fmt<W: fmt::Write>(&self, f: &mut fmt::Formatter<W>) -> fmt::Result {
-        match self.0 {
-            AdvertFault::NotCmis(identifier) => write!(f, "AD1 {identifier}"),
-            AdvertFault::Revision(revision) => write!(f, "AD2 {revision}"),
-            AdvertFault::FlatMemory => write!(f, "AD3"),
-            AdvertFault::Absent(key) => write!(f, "AD4 {key}"),
-            AdvertFault::BadSum(page) => write!(f, "AD5 {page}"),
-            AdvertFault::NotEightLanes(identifier) => write!(f, "AD6 {identifier}"),
-        }
-    }
-}
-
-#[derive(Clone, Copy)]
-struct ShownWeightsFault(WeightsFault);
-
-impl fmt::Display for ShownWeightsFault {
-    ghost output = { λ shown. Some (weights_fault_text shown.0) };
-
-    #[tactic(auto, unfolding(crate::specs::Faults::weights_fault_text))]
-    fn fmt<W: fmt::Write>(&self, f: &mut fmt::Formatter<W>) -> fmt::Result {
-        match self.0 {
-            WeightsFault::NotToml => write!(f, "WT1"),
-            WeightsFault::NoHostTable => write!(f, "WT2"),
-            WeightsFault::BadKey => write!(f, "WT3"),
-            WeightsFault::SameKeyTwice(host_id) => write!(f, "WT4 {host_id}"),
-            WeightsFault::BadWeight(host_id) => write!(f, "WT5 {host_id}"),
-            WeightsFault::OtherKey => write!(f, "WT6"),
-            WeightsFault::Memory => write!(f, "memory"),
-        }
-    }
-}
-
-#[derive(Clone, Copy)]
-struct ShownCertificateFault(CertificateFault);
-
-impl fmt::Display for ShownCertificateFault {
-    ghost output = { λ shown. Some (certificate_fault_text shown.0) };
-
-    #[tactic(auto, unfolding(crate::specs::Faults::certificate_fault_text))]
-    fn fmt<W: fmt::Write>(&self, f: &mut fmt::Formatter<W>) -> fmt::Result {
-        match self.0 {
-            CertificateFault::BadLine(number) => write!(f, "CT1 {number}"),
-            CertificateFault::OutOfOrder(number) => write!(f, "CT2 {number}"),
-            CertificateFault::TooMany => write!(f, "CT3"),
-            CertificateFault::NoEnd => write!(f, "CT4"),
-        }
-    }
-}
-
-#[derive(Clone, Copy)]
-struct ShownReason(Reason);
-
-impl fmt::Display for ShownReason {
-    ghost output = { λ shown. Some (reason_text shown.0) };
-
-    #[tactic(auto, unfolding(crate::specs::Faults::reason_text))]
-    fn fmt<W: fmt::Write>(&self, f: &mut fmt::Formatter<W>) -> fmt::Result {
-        match self.0 {
-            Reason::PathNotAllowed => write!(f, "VR1"),
-            Reason::LaneTwice => write!(f, "VR2"),
-            Reason::WeightWrong => write!(f, "VR3"),
-            Reason::NoStart => write!(f, "VR4"),
-            Reason::NotClosed => write!(f, "VR5"),
-            Reason::TooLow => write!(f, "VR6"),
-            Reason::StartNotWeight => write!(f, "VR7"),
-        }
-    }
-}
+#[cfg(test)]
+mod tests;

@@ -1,8 +1,8 @@
 //! The parts of the program's input, between lines that are exactly `---`.
-ghost use Rattle.std.specs.Prelude.{◌≡◌, ◌+◌, ◌^◌, ◌<◌, ◌≤◌, ◌∷◌, [], map, length, MatchOption, MatchResult};
+ghost use Rattle.std.specs.Prelude.{◌≡◌, ◌≤◌, ◌∷◌, [], map, length, MatchResult};
 ghost use Rattle.std.specs.Option.{option_map_or};
 ghost use Rattle.std.specs.Iterator.{YieldsFirstBy, item_count};
-ghost use Rattle.cmisctl.specs.Parts.{is_separator_line, parts_of};
+ghost use Rattle.cmisctl.specs.Parts.{is_separator_line, most_parts, parts_of};
 ghost use Rattle.cmisctl.specs.Limits.{input_limit};
 ghost use Rattle.cmisctl.specs.PartFaults.{IsPartsFault};
 ghost use Rattle.cmisctl.specs.PartsLeft.{parts_left};
@@ -11,68 +11,27 @@ use crate::fault::Fault;
 use arrayvec::ArrayVec;
 use text_lines::{LF, split_ended_line};
 
-/// How many parts the input has.
-pub fn count_parts(input: &[u8]) -> usize
-    requires { length input.now < 2 ^ 32 }
-    ensures { result ≡ length (parts_of input.now) }
-{
-    Pieces::of(input).count()
-}
+/// The most parts that a command takes.
+pub const MAX_PARTS: usize = 3;
 
-/// The parts of an input, where there are at most `N`.
-pub fn split_parts<const N: usize>(input: &[u8]) -> Option<ArrayVec<&[u8], N>>
-    ensures { MatchOption result (N < length (parts_of input.now)) (λ parts. map (λ part. part.now) parts.items ≡ parts_of input.now) }
+/// The parts of an input, where there are so many.
+pub fn parts(input: &[u8], count: usize) -> Result<ArrayVec<&[u8], MAX_PARTS>, Fault>
+    requires room { count ≤ most_parts }
+    requires limit { length input.now ≤ input_limit }
+    ensures { MatchResult result
+        (λ parts. (map (λ part. part.now) parts.items ≡ parts_of input.now) × (length parts.items ≡ count))
+        (IsPartsFault count input.now) }
 {
     let mut parts = ArrayVec::new();
+    let mut found = 0;
     for part in Pieces::of(input) {
-        parts.try_push(part).ok()?;
+        found += 1;
+        let _further = parts.try_push(part);
     }
-    Some(parts)
-}
-
-/// The input's one part.
-pub fn only_part(input: &[u8]) -> Result<&[u8], Fault>
-    requires { length input.now ≤ input_limit }
-    ensures { MatchResult result (λ part. parts_of input.now ≡ part.now ∷ []) (IsPartsFault 1 input.now) }
-{
-    let count = count_parts(input);
-    if count != 1 {
-        return Err(Fault::Parts(count));
+    if found != count {
+        return Err(Fault::Parts(found));
     }
-    let Some(parts) = split_parts::<1>(input) else {
-        return Err(Fault::Parts(count));
-    };
-    Ok(parts[0])
-}
-
-/// The input's two parts.
-pub fn two_parts(input: &[u8]) -> Result<(&[u8], &[u8]), Fault>
-    requires { length input.now ≤ input_limit }
-    ensures { MatchResult result (λ parts. parts_of input.now ≡ parts.0.now ∷ parts.1.now ∷ []) (IsPartsFault 2 input.now) }
-{
-    let count = count_parts(input);
-    if count != 2 {
-        return Err(Fault::Parts(count));
-    }
-    let Some(parts) = split_parts::<2>(input) else {
-        return Err(Fault::Parts(count));
-    };
-    Ok((parts[0], parts[1]))
-}
-
-/// The input's three parts.
-pub fn three_parts(input: &[u8]) -> Result<(&[u8], &[u8], &[u8]), Fault>
-    requires { length input.now ≤ input_limit }
-    ensures { MatchResult result (λ parts. parts_of input.now ≡ parts.0.now ∷ parts.1.now ∷ parts.2.now ∷ []) (IsPartsFault 3 input.now) }
-{
-    let count = count_parts(input);
-    if count != 3 {
-        return Err(Fault::Parts(count));
-    }
-    let Some(parts) = split_parts::<3>(input) else {
-        return Err(Fault::Parts(count));
-    };
-    Ok((parts[0], parts[1], parts[2]))
+    Ok(parts)
 }
 
 // The parts of an input from the first to the last; none once the last has been given.

@@ -12,12 +12,16 @@ pub enum CommandName {
     Flags,
     Plan,
     Check,
+    Provision,
+    Trace,
 }
 
 /// What the command line asks for.
 #[derive(Clone, Copy, Debug, PartialEq, Eq)]
 pub struct Choice {
     pub name: CommandName,
+    /// Whether the plan is to be activated too.
+    pub activate: bool,
 }
 
 /// A flag, given as `--name`.
@@ -37,6 +41,12 @@ pub struct CommandEntry {
     /// What help says of it.
     pub about: &'static str,
 }
+
+/// Asks for activation.
+const ACTIVATE: Flag = Flag {
+    name: "activate",
+    help: "Bring the data paths up as well",
+};
 
 // The table: a command's name, its variant, its flags and what help says of it.
 macro_rules! table {
@@ -62,6 +72,8 @@ pub fn commands() -> &'static [CommandEntry]
         "flags" Flags [] "Print the states of the module and its lanes, and the flags that are raised";
         "plan" Plan [] "Print the plan that weighs most for an image and weights, with its certificate";
         "check" Check [] "Judge a certificate for an image and weights, and print its plan where it is good";
+        "provision" Provision [ACTIVATE] "Make the plan active on a simulated module, over a bus that does as a script says";
+        "trace" Trace [ACTIVATE] "Do the same, and print each transaction";
     }
 }
 

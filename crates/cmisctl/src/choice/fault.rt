@@ -1,11 +1,13 @@
 //! Why a command line gives no choice, and what the program then says.
 ghost use Rattle.std.specs.Prelude.{◌≡◌, true};
-ghost use Rattle.cmisctl.specs.ChoiceFault.{fault_of_error, status_of_fault};
+ghost use Rattle.cmisctl.specs.ChoiceFault.{fault_of_error, status_by_kind};
+ghost use Rattle.clap.specs.Words.{kind_of};
 ghost use Rattle.cmisctl.specs.Program.{IsRefusalSaid};
 ghost use Rattle.cmisctl.specs.StoppingWriter.{contents_of, writing_failed};
 ghost use Rattle.cmisctl.specs.declared.choice.fault.ChoiceFault.TheVariants.{Memory};
 
-use crate::output::{OutputFault, StoppingWriter};
+use crate::fault::Fault;
+use crate::output::{OutputFault, StoppingWriter, write_answer};
 use crate::status::Status;
 use clap::error::ErrorKind;
 use std::alloc::AllocError;
@@ -42,32 +44,27 @@ impl From<AllocError> for ChoiceFault {
     }
 }
 
-impl ChoiceFault {
-    /// How the program ends: help is an answer, and all else a fault.
-    fn status(&self) -> Status
-        ensures { result ≡ status_of_fault self.now }
-    {
-        match self {
-            ChoiceFault::Memory => Status::Memory,
-            ChoiceFault::Line(error) => match error.kind() {
-                ErrorKind::DisplayHelp | ErrorKind::DisplayVersion => Status::Done,
-                _ => Status::CommandLine,
-            },
-        }
+/// Writes why there is no choice, as `clap` puts it, and answers how the program ends.
+pub fn choice_refused<W: Write>(fault: &ChoiceFault, writer: &mut StoppingWriter<W>) -> Status
+    ensures said { IsRefusalSaid fault.now (contents_of W.contents writer.old)
+        (contents_of W.contents writer.new) (writing_failed writer.new) result }
+    ensures stopped { writing_failed writer.old ≡ true → writer.new ≡ writer.old }
+{
+    let ChoiceFault::Line(error) = fault else {
+        return write_answer(writer, Err(Fault::Memory));
+    };
+    match writer.put_text(error) {
+        Ok(()) => status_of(error),
+        Err(OutputFault) => Status::ReadOrWrite,
     }
 }
 
-/// Writes why there is no choice, as `clap` puts it, and answers how the program ends.
-pub fn choice_refused<W: Write>(fault: &ChoiceFault, writer: &mut StoppingWriter<W>) -> Status
-    ensures said { IsRefusalSaid fault.now (contents_of W.contents writer.old) (contents_of W.contents writer.new) (writing_failed writer.new) result }
-    ensures stopped { writing_failed writer.old ≡ true → writer.new ≡ writer.old }
+/// How the program ends where `clap` answers this: help is an answer, and all else a fault.
+fn status_of(error: &clap::Error) -> Status
+    ensures { result ≡ status_by_kind (kind_of error.now) }
 {
-    let written = match fault {
-        ChoiceFault::Memory => writer.put(b"fault memory\n"),
-        ChoiceFault::Line(error) => writer.put_text(error),
-    };
-    match written {
-        Ok(()) => fault.status(),
-        Err(OutputFault) => Status::ReadOrWrite,
+    match error.kind() {
+        ErrorKind::DisplayHelp | ErrorKind::DisplayVersion => Status::Done,
+        _ => Status::CommandLine,
     }
 }

@@ -35,10 +35,22 @@ fn chooses_the_command(rt: HostRuntime) -> Result<(), Fail> {
         ("flags", CommandName::Flags),
         ("plan", CommandName::Plan),
         ("check", CommandName::Check),
+        ("provision", CommandName::Provision),
+        ("trace", CommandName::Trace),
     ] {
         let words = strings(rt.alloc(), &["cmisctl", word])?;
         let choice = choice(rt.alloc(), words.as_slice())?;
         assert_eq!(rt; choice.name, command);
+        assert!(rt; !choice.activate);
+    }
+    Ok(())
+}
+
+#[test]
+fn activation_is_asked_for_by_a_flag(rt: HostRuntime) -> Result<(), Fail> {
+    for word in ["provision", "trace"] {
+        let words = strings(rt.alloc(), &["cmisctl", word, "--activate"])?;
+        assert!(rt; choice(rt.alloc(), words.as_slice())?.activate);
     }
     Ok(())
 }
@@ -54,6 +66,8 @@ Commands:
   flags      Print the states of the module and its lanes, and the flags that are raised
   plan       Print the plan that weighs most for an image and weights, with its certificate
   check      Judge a certificate for an image and weights, and print its plan where it is good
+  provision  Make the plan active on a simulated module, over a bus that does as a script says
+  trace      Do the same, and print each transaction
 
 Options:
   -h, --help  Print help
@@ -82,7 +96,7 @@ fn shows_the_help_of_a_command(rt: HostRuntime) -> Result<(), Fail> {
 
 #[test]
 fn refuses_other_words(rt: HostRuntime) -> Result<(), Fail> {
-    let cases: [(&[&str], &str); 5] = [
+    let cases: [(&[&str], &str); 6] = [
         (
             &["cmisctl"],
             "error: 'cmisctl' requires a subcommand but one was not provided\n",
@@ -98,6 +112,10 @@ fn refuses_other_words(rt: HostRuntime) -> Result<(), Fail> {
         (
             &["cmisctl", "inventory", "twice"],
             "error: unexpected argument 'twice' found\n",
+        ),
+        (
+            &["cmisctl", "plan", "--activate"],
+            "error: unexpected argument '--activate' found\n",
         ),
         (
             &["cmisctl", "--version"],

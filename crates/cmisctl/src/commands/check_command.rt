@@ -1,40 +1,44 @@
-ghost use Rattle.std.specs.Prelude.{◌≡◌, ◌≢◌, ◌≤◌, ◌∷◌, IfErr, IfOk, length};
-ghost use Rattle.std.specs.Result.{result_map_both};
+ghost use Rattle.std.specs.Prelude.{◌≡◌, ◌∷◌, IfOk};
 ghost use Rattle.text_lines.specs.Lines.{text_of};
 ghost use Rattle.plan_certificate.specs.Plans.{IsAdmissible};
 ghost use Rattle.reports.specs.PlanText.{plan_lines};
 ghost use Rattle.cmisctl.specs.CheckCommand.{IsCheckAnswer, good_line};
-ghost use Rattle.cmisctl.specs.Limits.{input_limit};
+ghost use Rattle.cmisctl.specs.Runs.{IsAnswerTo, IsCommandRun};
 
-use crate::commands::planning_inputs::{read_advert, read_weights};
+use super::command::{Command, run};
+use super::planning_inputs::read_advert;
 use crate::fault::Fault;
-use crate::parts::three_parts;
+use crate::input::CountedReader;
+use crate::output::StoppingWriter;
+use crate::status::Status;
+use crate::told::Told;
 use applications::{Advert, Weights};
-use lane_planner::STATES;
-use plan_certificate::{Certificate, Plan, Verdict, check};
+use plan_certificate::{Certificate, Plan, STATES, Verdict};
 use reports::plan_text;
 use std::alloc::{AllocError, Global};
+use std::io::{Read, Write};
 
-/// Whether the certificate in the input's last part is good for the image and the weights in the parts before, and its
-/// plan where it is.
-pub fn check_on(alloc: Global, input: &[u8]) -> Result<Vec<u8>, Fault>
-    requires { length input.now ≤ input_limit }
-    ensures answer { IsCheckAnswer input.now (result_map_both (λ text. text.items) (λ fault. fault) result) }
-    ensures read { IfErr result (λ fault. fault ≢ Fault.Io) }
-{
-    let (image, weights, certificate) = three_parts(input)?;
-    let advert = read_advert(image)?;
-    let weights = read_weights(alloc, weights)?;
-    let certificate = match Certificate::<STATES>::read(certificate) {
-        Ok(certificate) => certificate,
-        Err(fault) => return Err(Fault::Certificate(fault)),
-    };
-    match check(&advert, &weights, &certificate) {
-        Verdict::Good => match good_text(alloc, &advert, &weights, &certificate.plan) {
-            Ok(text) => Ok(text),
-            Err(AllocError) => Err(Fault::Memory),
-        },
-        Verdict::Bad(reason, number) => Err(Fault::Bad(reason, number)),
+struct CheckCommand;
+
+impl Command for CheckCommand {
+    const PARTS: usize = 3;
+
+    ghost PARTS = { 3 };
+
+    ghost answers = { λ _. IsCheckAnswer };
+
+    fn answer(&self, alloc: Global, parts: &[&[u8]]) -> Result<Told, Fault> {
+        let (image, weights, certificate) = (parts[0], parts[1], parts[2]);
+        let advert = read_advert(image)?;
+        let weights = Weights::read(alloc, weights)?;
+        let certificate = Certificate::<STATES>::read(certificate)?;
+        match plan_certificate::check(&advert, &weights, &certificate) {
+            Verdict::Good => Ok(Told {
+                text: good_text(alloc, &advert, &weights, &certificate.plan)?,
+                fault: None,
+            }),
+            Verdict::Bad(reason, number) => Err(Fault::Bad(reason, number)),
+        }
     }
 }
 
@@ -52,4 +56,17 @@ fn good_text(
     let mut text = b"good\n".to_vec(alloc)?;
     text.extend_from_slice(&plan)?;
     Ok(text)
+}
+
+/// Reads the texts of an image, of weights and of a certificate, and writes whether the certificate is good, and its plan
+/// where it is.
+pub fn check<R: Read, W: Write>(
+    alloc: Global,
+    reader: &mut CountedReader<R>,
+    writer: &mut StoppingWriter<W>,
+) -> Status
+    ensures { IsCommandRun R.remaining W.contents (IsAnswerTo 3 IsCheckAnswer)
+        reader.old reader.new writer.old writer.new result }
+{
+    run(alloc, &CheckCommand, reader, writer)
 }

@@ -1,61 +1,68 @@
-ghost use Rattle.std.specs.Prelude.{◌≡◌, ◌≢◌, ◌≤◌, IfErr, IfSome, length};
-ghost use Rattle.std.specs.Result.{result_map_both};
+// What all commands do: read the input, cut it into parts, answer them, and write the answer.
+ghost use Rattle.std.specs.Prelude.{◌≡◌, ◌≤◌, Err, IfSome};
 ghost use Rattle.cmisctl.specs.CountedReader.{reading_failed, reads_of, remaining_of};
 ghost use Rattle.cmisctl.specs.Input.{TakesWithinLimit};
-ghost use Rattle.cmisctl.specs.Limits.{input_limit, read_limit};
-ghost use Rattle.cmisctl.specs.Program.{IsAnswerOf};
-ghost use Rattle.cmisctl.specs.Runs.{IsCommandRun, SaysReading};
+ghost use Rattle.cmisctl.specs.Limits.{read_limit};
+ghost use Rattle.cmisctl.specs.Parts.{most_parts};
+ghost use Rattle.cmisctl.specs.Runs.{IsAnswerTo, IsCommandRun, SaysReading, answer_of};
 
-use crate::choice::commands::CommandName;
-use crate::commands::check_command::check_on;
-use crate::commands::plan_command::plan_on;
-use crate::commands::report_command::{Report, report_on};
 use crate::fault::Fault;
 use crate::input::{CountedReader, read_input};
 use crate::output::{StoppingWriter, write_answer};
+use crate::parts::parts;
 use crate::status::Status;
+use crate::told::Told;
 use std::alloc::Global;
 use std::io::{Read, Write};
 
+/// A command with its flags: how many parts it takes, and what it answers to them.
+pub trait Command {
+    ghost use Rattle.std.specs.Prelude.{ℕ, List, ◌≡◌, length, map, IfErr, ◌≢◌};
+    ghost use Rattle.cmisctl.specs.Runs.{Answer, IsOwnAnswer, answer_of};
+
+    /// How many parts the input has.
+    const PARTS: usize;
+
+    ghost PARTS: { ℕ };
+
+    /// What is the answer to the parts, where no allocation is refused.
+    ghost answers: { Self → List (List ℕ) → Answer → Type 0 };
+
+    fn answer(&self, alloc: Global, parts: &[&[u8]]) -> Result<Told, Fault>
+        requires { length parts.now ≡ PARTS }
+        ensures answer { IsOwnAnswer (answers self.now) (map (λ part. part.now) parts.now) (answer_of result) }
+        ensures read { IfErr result (λ fault. fault ≢ Fault.Io) };
+}
+
 /// Reads the whole input, and writes what a command answers to it.
-pub fn command<R: Read, W: Write>(
+pub fn run<C: Command, R: Read, W: Write>(
     alloc: Global,
-    name: CommandName,
+    command: &C,
     reader: &mut CountedReader<R>,
     writer: &mut StoppingWriter<W>,
 ) -> Status
-    ensures { IsCommandRun R.remaining W.contents (IsAnswerOf name) reader.old reader.new writer.old writer.new result }
+    requires { C.PARTS ≤ most_parts }
+    ensures { IsCommandRun R.remaining W.contents (IsAnswerTo C.PARTS (C.answers command.now))
+        reader.old reader.new writer.old writer.new result }
 {
-    let answer = answer(alloc, name, reader);
+    let answer = answer(alloc, command, reader);
     write_answer(writer, answer)
 }
 
-fn answer<R: Read>(
+fn answer<C: Command, R: Read>(
     alloc: Global,
-    name: CommandName,
+    command: &C,
     reader: &mut CountedReader<R>,
-) -> Result<Vec<u8>, Fault>
+) -> Result<Told, Fault>
+    requires { C.PARTS ≤ most_parts }
     ensures reads { reads_of reader.new ≤ read_limit }
-    ensures taken { TakesWithinLimit (remaining_of R.remaining reader.old) (remaining_of R.remaining reader.new) }
-    ensures reading { SaysReading (reading_failed reader.new) (result_map_both (λ text. text.items) (λ fault. fault) result) }
-    ensures answer { IfSome (remaining_of R.remaining reader.old) (λ input. IsAnswerOf name input (result_map_both (λ text. text.items) (λ fault. fault) result)) }
+    ensures taken { TakesWithinLimit (remaining_of R.remaining reader.old)
+        (remaining_of R.remaining reader.new) (result ≡ Err Fault.TooLong) }
+    ensures reading { SaysReading (reading_failed reader.new) (answer_of result) }
+    ensures answer { IfSome (remaining_of R.remaining reader.old)
+        (λ input. IsAnswerTo C.PARTS (C.answers command.now) input (answer_of result)) }
 {
     let input = read_input(alloc, reader)?;
-    answer_to(alloc, name, &input)
-}
-
-// What a command answers to an input.
-fn answer_to(alloc: Global, name: CommandName, input: &[u8]) -> Result<Vec<u8>, Fault>
-    requires { length input.now ≤ input_limit }
-    ensures answer { IsAnswerOf name input.now (result_map_both (λ text. text.items) (λ fault. fault) result) }
-    ensures read { IfErr result (λ fault. fault ≢ Fault.Io) }
-{
-    match name {
-        CommandName::Inventory => report_on(alloc, Report::Inventory, input),
-        CommandName::Apps => report_on(alloc, Report::Apps, input),
-        CommandName::Monitors => report_on(alloc, Report::Monitors, input),
-        CommandName::Flags => report_on(alloc, Report::Flags, input),
-        CommandName::Plan => plan_on(alloc, input),
-        CommandName::Check => check_on(alloc, input),
-    }
+    let parts = parts(&input, C::PARTS)?;
+    command.answer(alloc, parts.as_slice())
 }

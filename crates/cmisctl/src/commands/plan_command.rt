@@ -1,26 +1,45 @@
-ghost use Rattle.std.specs.Prelude.{◌≡◌, ◌≢◌, ◌≤◌, IfErr, length};
-ghost use Rattle.std.specs.Result.{result_map_both};
 ghost use Rattle.cmisctl.specs.PlanCommand.{IsPlanAnswer};
-ghost use Rattle.cmisctl.specs.Limits.{input_limit};
+ghost use Rattle.cmisctl.specs.Runs.{IsAnswerTo, IsCommandRun};
 
-use crate::commands::planning_inputs::{read_advert, read_weights};
+use super::command::{Command, run};
+use super::planning_inputs::read_advert;
 use crate::fault::Fault;
-use crate::parts::two_parts;
-use lane_planner::plan;
-use std::alloc::{AllocError, Global};
+use crate::input::CountedReader;
+use crate::output::StoppingWriter;
+use crate::status::Status;
+use crate::told::Told;
+use applications::Weights;
+use std::alloc::Global;
+use std::io::{Read, Write};
 
-/// The certificate of the plan that weighs most for the image and the weights in the input's parts.
-pub fn plan_on(alloc: Global, input: &[u8]) -> Result<Vec<u8>, Fault>
-    requires { length input.now ≤ input_limit }
-    ensures answer { IsPlanAnswer input.now (result_map_both (λ text. text.items) (λ fault. fault) result) }
-    ensures read { IfErr result (λ fault. fault ≢ Fault.Io) }
-{
-    let (image, weights) = two_parts(input)?;
-    let advert = read_advert(image)?;
-    let weights = read_weights(alloc, weights)?;
-    let certificate = plan(&advert, &weights);
-    match certificate.write(alloc) {
-        Ok(text) => Ok(text),
-        Err(AllocError) => Err(Fault::Memory),
+struct PlanCommand;
+
+impl Command for PlanCommand {
+    const PARTS: usize = 2;
+
+    ghost PARTS = { 2 };
+
+    ghost answers = { λ _. IsPlanAnswer };
+
+    fn answer(&self, alloc: Global, parts: &[&[u8]]) -> Result<Told, Fault> {
+        let (image, weights) = (parts[0], parts[1]);
+        let advert = read_advert(image)?;
+        let weights = Weights::read(alloc, weights)?;
+        Ok(Told {
+            text: lane_planner::plan(&advert, &weights).write(alloc)?,
+            fault: None,
+        })
     }
+}
+
+/// Reads the texts of an image and of weights, and writes the certificate of the plan that weighs most.
+pub fn plan<R: Read, W: Write>(
+    alloc: Global,
+    reader: &mut CountedReader<R>,
+    writer: &mut StoppingWriter<W>,
+) -> Status
+    ensures { IsCommandRun R.remaining W.contents (IsAnswerTo 2 IsPlanAnswer)
+        reader.old reader.new writer.old writer.new result }
+{
+    run(alloc, &PlanCommand, reader, writer)
 }

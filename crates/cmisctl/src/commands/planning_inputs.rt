@@ -1,34 +1,23 @@
-// What commands that plan read first: an image and weights.
-ghost use Rattle.std.specs.Prelude.{MatchResult, Ok};
-ghost use Rattle.applications.specs.WeightFaults.{IsAnswer};
-ghost use Rattle.cmisctl.specs.PlanningInputs.{IsAdvertText, IsAdvertRefusal, IsWeightsRefusal};
+ghost use Rattle.std.specs.Prelude.{MatchResult};
+ghost use Rattle.cmisctl.specs.PlanningInputs.{IsAdvertText, IsAdvertRefusal, IsModuleText};
 
 use crate::fault::Fault;
-use applications::{Advert, Weights, WeightsFault};
+use applications::Advert;
 use paged_memory::Image;
-use std::alloc::Global;
+
+/// The image of this text, and what its module advertises.
+pub fn read_module(text: &[u8]) -> Result<(Image, Advert), Fault>
+    ensures { MatchResult result (λ read. IsModuleText text.now read.0 read.1) (IsAdvertRefusal text.now) }
+{
+    let image = Image::read(text)?;
+    let advert = Advert::of(&image)?;
+    Ok((image, advert))
+}
 
 /// What the module advertises whose image has this text.
 pub fn read_advert(text: &[u8]) -> Result<Advert, Fault>
     ensures { MatchResult result (IsAdvertText text.now) (IsAdvertRefusal text.now) }
 {
-    let image = match Image::read(text) {
-        Ok(image) => image,
-        Err(fault) => return Err(Fault::Image(fault)),
-    };
-    match Advert::of(&image) {
-        Ok(advert) => Ok(advert),
-        Err(fault) => Err(Fault::Advert(fault)),
-    }
-}
-
-/// The weights that a text lists.
-pub fn read_weights(alloc: Global, text: &[u8]) -> Result<Weights, Fault>
-    ensures { MatchResult result (λ weights. IsAnswer text.now (Ok weights)) (IsWeightsRefusal text.now) }
-{
-    match Weights::read(alloc, text) {
-        Ok(weights) => Ok(weights),
-        Err(WeightsFault::Memory) => Err(Fault::Memory),
-        Err(fault) => Err(Fault::Weights(fault)),
-    }
+    let (_image, advert) = read_module(text)?;
+    Ok(advert)
 }

@@ -1,22 +1,22 @@
-ghost use Rattle.std.specs.Prelude.{◌≡◌, ◌≤◌, ◌+◌, min, false, true};
+ghost use Rattle.std.specs.Prelude.{◌≡◌, ◌⊎◌, ◌≤◌, ◌+◌, min, false, true};
 ghost use Rattle.std.specs.Io.{ReadsAtMost};
 ghost use Rattle.std.specs.Io.KnownBytes.{ReadConsumes};
 ghost use Rattle.cmisctl.specs.Limits.{read_limit};
 
-use crate::failure::has_failed;
+use super::remembering_reader::RememberingReader;
 use std::io;
 use std::io::{ErrorKind, Read};
 
 /// The most reads that are made of one reader.
 pub const MAX_READS: u64 = 2_097_152;
 
-/// A reader that counts its reads, and remembers whether one failed other than by an interruption.
-/// After that, and after [`MAX_READS`] reads, each further one fails, and the reader within is not read.
+/// A reader that counts its reads. Once one has failed, other than by an interruption, and after [`MAX_READS`] reads, each
+/// further one fails, and the reader within is not read.
 #[derive(Drop)]
 pub struct CountedReader<R> {
-    inner: R,
+    inner: RememberingReader<R>,
     reads: u64,
-    failed: bool,
+    is_used_up: bool,
     ghost limited: { reads ≤ read_limit },
 }
 
@@ -29,9 +29,9 @@ impl<R> CountedReader<R> {
         ensures failed { reading_failed result ≡ false }
     {
         CountedReader {
-            inner,
+            inner: RememberingReader::new(inner),
             reads: 0,
-            failed: false,
+            is_used_up: false,
         }
     }
 
@@ -44,7 +44,7 @@ impl<R> CountedReader<R> {
 }
 
 impl<R: Read> Read for CountedReader<R> {
-    ghost use Rattle.cmisctl.specs.CountedReader.{inner_of, reads_of, reading_failed, remaining_of, IsSpent};
+    ghost use Rattle.cmisctl.specs.CountedReader.{inner_failed, inner_of, reads_of, reading_failed, remaining_of, IsSpent};
     ghost use Rattle.cmisctl.specs.Failures.{RemembersFailure};
 
     ghost remaining = { remaining_of R.remaining };
@@ -53,16 +53,15 @@ impl<R: Read> Read for CountedReader<R> {
         ensures bound { ReadsAtMost result buf.new }
         ensures bytes { ReadConsumes (remaining_of R.remaining self.old) (remaining_of R.remaining self.new) result buf.new }
         ensures failed { RemembersFailure (reading_failed self.old) (reading_failed self.new) result }
+        ensures cause { reading_failed self.new ≡ true → IsSpent self.old ⊎ (inner_failed self.new ≡ true) }
         ensures counted { reading_failed self.old ≡ false → reads_of self.new ≡ min (reads_of self.old + 1) read_limit }
         ensures stopped { IsSpent self.old → (inner_of self.new ≡ inner_of self.old) × (reads_of self.new ≡ reads_of self.old) × (reading_failed self.new ≡ true) }
     {
-        if self.failed || self.reads == MAX_READS {
-            self.failed = true;
+        if self.inner.has_failed() || self.is_used_up || self.reads == MAX_READS {
+            self.is_used_up = true;
             return Err(io::Error::from(ErrorKind::TimedOut));
         }
         self.reads += 1;
-        let result = self.inner.read(buf);
-        self.failed = has_failed(&result);
-        result
+        self.inner.read(buf)
     }
 }

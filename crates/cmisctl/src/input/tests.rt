@@ -1,4 +1,5 @@
-use super::{CountedReader, InputFault, MAX_INPUT, MAX_READS, read_input};
+use super::{CountedReader, MAX_INPUT, MAX_READS, read_input};
+use crate::fault::Fault;
 use std::io;
 use std::io::{ErrorKind, Read};
 use std::process::Abort;
@@ -60,7 +61,7 @@ impl Read for FakeReader {
 }
 
 /// The answer for the reader; its reads are compared with the count of them.
-fn answer(rt: &(impl Abort + AllocGlobal), fake: &mut FakeReader) -> Result<Vec<u8>, InputFault> {
+fn answer(rt: &(impl Abort + AllocGlobal), fake: &mut FakeReader) -> Result<Vec<u8>, Fault> {
     let mut reader = CountedReader::new(&mut *fake);
     let result = read_input(rt.alloc(), &mut reader);
     let reads = reader.reads();
@@ -108,7 +109,7 @@ fn one_byte_over_the_limit_ends_the_reading(rt: HostRuntime) {
         (usize::MAX, 1),
     ] {
         let mut fake = FakeReader::new(left, step);
-        assert_eq!(rt; answer(&rt, &mut fake).err(), Some(InputFault::TooLong));
+        assert_eq!(rt; answer(&rt, &mut fake).err(), Some(Fault::TooLong));
         assert_eq!(rt; fake.given, MAX_INPUT + 1);
     }
 }
@@ -117,7 +118,7 @@ fn one_byte_over_the_limit_ends_the_reading(rt: HostRuntime) {
 fn a_failed_read_ends_the_reading(rt: HostRuntime) {
     for number in 1..22 {
         let mut fake = FakeReader::with_errors(20, 1, (number, number + 1), ErrorKind::Other);
-        assert_eq!(rt; answer(&rt, &mut fake).err(), Some(InputFault::Io));
+        assert_eq!(rt; answer(&rt, &mut fake).err(), Some(Fault::Io));
         assert_eq!(rt; fake.calls, number);
     }
 }
@@ -139,7 +140,7 @@ fn the_reads_are_limited(rt: HostRuntime) -> Result<(), Fail> {
         let mut fake = FakeReader::with_errors(0, 1, (1, errors), ErrorKind::Interrupted);
         match answer(&rt, &mut fake) {
             Ok(bytes) => assert!(rt; ends && bytes.is_empty()),
-            Err(fault) => assert!(rt; !ends && fault == InputFault::Io),
+            Err(fault) => assert!(rt; !ends && fault == Fault::Io),
         }
         assert_eq!(rt; fake.calls, MAX_READS);
     }
@@ -151,6 +152,6 @@ fn the_reads_are_limited(rt: HostRuntime) -> Result<(), Fail> {
 fn a_refused_growth_is_answered(rt: HostRuntime) {
     match answer(&rt, &mut FakeReader::new(MAX_INPUT, 4096)) {
         Ok(bytes) => assert_eq!(rt; bytes.len(), MAX_INPUT),
-        Err(fault) => assert_eq!(rt; fault, InputFault::Memory),
+        Err(fault) => assert_eq!(rt; fault, Fault::Memory),
     }
 }

@@ -1,0 +1,129 @@
+-- The answer of a command that carries out procedures, by what it sets up and does.
+use Rattle.std.proofs.Common.{◌≡◌, ◌∙◌, ℕ, Bool, true, false, List, [], ◌∷◌, Option, Some, None, Result, Ok, Err, IfOk, refl, ap, ap₂, ◌++◌, ◌⊎◌, inl, inr, length, arith}
+use Rattle.std.specs.Prelude.{MatchOption, is_ok, slice_index}
+use Rattle.hex.specs.Hex.{encode_lower}
+use Rattle.text_lines.specs.Lines.{text_of}
+use Rattle.bus_model.specs.declared.operation.Step.{Step}
+use Rattle.bus_model.specs.declared.script.Directive.{Directive}
+use Rattle.applications.specs.Advertised.{Advertised}
+use Rattle.applications.specs.WeightFaults.{IsAnswer}
+use Rattle.applications.specs.declared.weights.fault.WeightsFault.{WeightsFault}
+use Rattle.applications.specs.declared.weights.fault.WeightsFault.TheVariants as weights
+use Rattle.bus_model.specs.ScriptBuses.{seen_at}
+use Rattle.control_sets.specs.Answers.{provisioned_steps}
+use Rattle.control_sets.specs.declared.fault.ProvisionFault.{ProvisionFault}
+use Rattle.control_sets.specs.declared.procedures.runner.Provisioned.{Provisioned}
+use Rattle.control_sets.specs.ControlBytes.{control_bytes}
+use Rattle.plan_certificate.specs.declared.path.Path.{Path}
+use Rattle.sim_module.specs.Lanes.{active_bytes}
+use Rattle.sim_module.specs.Soundness.{IsSound}
+use Rattle.sim_module.specs.declared.fault.SimFault.{SimFault}
+use Rattle.sim_module.specs.declared.module.SimModule.{SimModule}
+use Rattle.sim_module.proofs.Provisioned.{active_is_planned}
+use Rattle.sim_module.proofs.SoundModule.{sound_start}
+use Rattle.cmisctl.specs.Faults.{fault_of_weights}
+use Rattle.cmisctl.specs.PlanningInputs.{Advertises, IsAdvertRefusal}
+use Rattle.cmisctl.specs.ProvisionCommand.{Activates, CarriesOut, Ended, GoesOn, IsCarriedOut, IsProcedureAnswer, IsSetUpRefusal, ModuleBus, Provisions, control_words, delays, outcome_fault, outcome_lines, steps_lines, told_text}
+use Rattle.cmisctl.specs.Runs.{IsOwnAnswer}
+use Rattle.cmisctl.specs.Sessions.{IsSessionOf}
+use Rattle.cmisctl.specs.declared.commands.session.Session.{Session}
+use Rattle.cmisctl.specs.declared.fault.Fault.{Fault}
+use Rattle.cmisctl.specs.declared.fault.Fault.TheVariants as fault
+
+-- a refusal of the texts is the command's own
+pub refused_answer : (traced activate : Bool) (image listed script : List ℕ) (f : Fault) → IsSetUpRefusal image listed script f
+    → IsOwnAnswer (IsProcedureAnswer traced activate) (image ∷ listed ∷ script ∷ []) (Err f)
+refused_answer traced activate image listed script fault.Memory is = tt
+refused_answer traced activate image listed script fault.Io is = absurd is
+refused_answer traced activate image listed script fault.TooLong is = absurd is
+refused_answer traced activate image listed script (fault.Parts n) is = absurd is
+refused_answer traced activate image listed script f is = is
+
+pub weights_refused : (image listed script : List ℕ) (f : WeightsFault) → Advertises image → IsAnswer listed (Err f) → IsSetUpRefusal image listed script (fault_of_weights f)
+weights_refused image listed script weights.Memory told is = tt
+weights_refused image listed script f told is = (told, (λ same. absurd cc, is))
+
+pub advert_refused : (image listed script : List ℕ) (f : Fault) → IsAdvertRefusal image f → IsSetUpRefusal image listed script f
+advert_refused image listed script fault.Memory is = tt
+advert_refused image listed script (fault.Module g) is = absurd is
+advert_refused image listed script (fault.Script g) is = absurd is
+advert_refused image listed script (fault.Weights g) is = absurd is
+advert_refused image listed script f is = is
+
+-- a module or why there is none, by what is answered of an image
+abbrev Answers : Option SimFault → SimModule → Result SimModule SimFault → Type 0
+Answers o told r = MatchOption o (r ≡ Ok told) (λ f. r ≡ Err f)
+
+pub module_starts : (made told : SimModule) (o : Option SimFault) → Answers o told (Ok made) → (o ≡ None) × (made ≡ told)
+module_starts made told None h = (refl, cc)
+module_starts made told (Some f) h = absurd cc
+
+pub module_stops : (told : SimModule) (f : SimFault) (o : Option SimFault) → Answers o told (Err f) → o ≡ Some f
+module_stops told f None h = absurd cc
+module_stops told f (Some g) h = cc
+
+-- a bus with this module before any step
+abbrev pub bus_with : List Directive → SimModule → ModuleBus
+bus_with script module' = record { steps = []; room = 8192; state = (script, module') }
+
+-- activation was made, or it was not
+pub goes_on_made : (activate : Bool) (advert : Advertised) (paths : List Path) (provisioned : Result Provisioned ProvisionFault) (between after : ModuleBus) (ended : Ended)
+    → activate ≡ true → is_ok provisioned ≡ true → Activates advert paths between after ended → GoesOn activate advert paths (provisioned_steps provisioned) between after (Some ended)
+goes_on_made true advert paths (Ok p) between after ended wanted is made = made
+goes_on_made true advert paths (Err f) between after ended wanted is made = absurd cc
+goes_on_made false advert paths provisioned between after ended wanted is made = absurd cc
+
+pub goes_on_not : (activate : Bool) (advert : Advertised) (paths : List Path) (provisioned : Result Provisioned ProvisionFault) (between : ModuleBus)
+    → (activate ≡ false) ⊎ (is_ok provisioned ≡ false) → GoesOn activate advert paths (provisioned_steps provisioned) between between None
+goes_on_not false advert paths provisioned between why = refl
+goes_on_not true advert paths (Err f) between why = refl
+goes_on_not true advert paths (Ok p) between (inl never) = absurd cc
+goes_on_not true advert paths (Ok p) between (inr never) = absurd cc
+
+-- eight words, by their bytes
+pub eight_words : (bytes : List ℕ) → length bytes ≡ 8 → control_words bytes
+    ≡ encode_lower (slice_index bytes 0 ∷ []) ∷ encode_lower (slice_index bytes 1 ∷ []) ∷ encode_lower (slice_index bytes 2 ∷ []) ∷ encode_lower (slice_index bytes 3 ∷ [])
+    ∷ encode_lower (slice_index bytes 4 ∷ []) ∷ encode_lower (slice_index bytes 5 ∷ []) ∷ encode_lower (slice_index bytes 6 ∷ []) ∷ encode_lower (slice_index bytes 7 ∷ []) ∷ []
+eight_words [] is = absurd (omega arith)
+eight_words (a ∷ []) is = absurd (omega arith)
+eight_words (a ∷ b ∷ []) is = absurd (omega arith)
+eight_words (a ∷ b ∷ c ∷ []) is = absurd (omega arith)
+eight_words (a ∷ b ∷ c ∷ d ∷ []) is = absurd (omega arith)
+eight_words (a ∷ b ∷ c ∷ d ∷ e ∷ []) is = absurd (omega arith)
+eight_words (a ∷ b ∷ c ∷ d ∷ e ∷ f ∷ []) is = absurd (omega arith)
+eight_words (a ∷ b ∷ c ∷ d ∷ e ∷ f ∷ g ∷ []) is = absurd (omega arith)
+eight_words (a ∷ b ∷ c ∷ d ∷ e ∷ f ∷ g ∷ h ∷ []) is = refl
+eight_words (a ∷ b ∷ c ∷ d ∷ e ∷ f ∷ g ∷ h ∷ i ∷ rest) is = absurd (omega arith)
+
+-- the text, by its two halves
+pub told_as : (traced : Bool) (bus : ModuleBus) (provisioned : Ended) (activated : Option Ended) (text before active : List ℕ) (steps : List Step)
+    → text ≡ before ++ text_of (outcome_lines provisioned activated active) → before ≡ text_of (steps_lines traced steps) → steps ≡ bus.steps → active ≡ active_bytes bus.state.1
+    → text ≡ told_text traced bus provisioned activated
+told_as traced bus provisioned activated text before active steps told first same shown =
+    told ∙ ap₂ (λ (x y : List ℕ). x ++ y) (first ∙ ap (λ (l : List Step). text_of (steps_lines traced l)) same) (ap (λ (l : List ℕ). text_of (outcome_lines provisioned activated l)) shown)
+
+-- what a session's bus makes of the plan
+pub carried : (traced activate : Bool) (image listed script text : List ℕ) (session : Session) (after : ModuleBus) (provisioned : Ended) (activated : Option Ended) (ended : Option ProvisionFault)
+    → IsSessionOf image listed script session → CarriesOut activate session.advert session.plan (seen_at session.bus) after provisioned activated
+    → text ≡ told_text traced after provisioned activated → ended ≡ outcome_fault provisioned activated → IsCarriedOut traced activate image listed script text ended
+carried traced activate image listed script text session after provisioned activated ended is done told fault = record {
+  set_up = is.set_up;
+  after = after;
+  provisioned = provisioned;
+  activated = activated;
+  done = rw (is.advert, is.plan, is.bus) at done;
+  told = told;
+  fault = fault;
+}
+
+-- its module is sound
+pub session_sound : (image listed script : List ℕ) (session : Session) → IsSessionOf image listed script session → IsSound session.bus.device
+session_sound image listed script session is =
+    let new = ap (λ (bus : ModuleBus). bus.state.1) is.bus in
+    rw new (sound_start is.set_up.given.is_advert.memory delays)
+
+-- after a success the control bytes are active
+pub active_after : (advert : Advertised) (paths : List Path) (before between : ModuleBus) (provisioned : Ended) → IsSound before.state.1 → Provisions advert paths before between provisioned
+    → IfOk provisioned (λ steps. active_bytes between.state.1 ≡ control_bytes advert paths)
+active_after advert paths before between (Ok steps) sound (history, ran, outcome) = active_is_planned before between history (control_bytes advert paths) steps sound ran outcome
+active_after advert paths before between (Err f) sound made = tt

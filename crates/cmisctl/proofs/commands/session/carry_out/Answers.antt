@@ -1,0 +1,42 @@
+use Rattle.std.proofs.Common.{◌≡◌, true, false, rules, inl, inr}
+use Rattle.std.specs.Prelude.{is_ok}
+use Rattle.bus_model.specs.ScriptBuses.{seen_at}
+use Rattle.control_sets.specs.Answers.{activated_steps, provisioned_steps}
+use Rattle.cmisctl.proofs.ProcedureAnswers.{active_after, goes_on_made, goes_on_not}
+use Rattle.cmisctl.proofs.commands.session.carry_out.Goals as goal
+use Rattle.cmisctl.proofs.commands.session.carry_out.Goals.{else-is_activated-via-then-is_activated+else-is_ok, else-is_activated-via-else-is_activated}
+
+pub returns-then-is_ok : goal.returns-then-is_ok
+returns-then-is_ok c =
+    let advert = c.args.advert.now in
+    let plan = c.args.plan.now in
+    let provisioned = c.provision-provisioned.result in
+    let between = seen_at c.provision-provisioned.new.bus in
+    let wanted : c.args.is_activated ≡ true = search rules in
+    let is : is_ok provisioned ≡ true = search rules in
+    record {
+      between = between;
+      provisions = c.provision-provisioned.ensures;
+      active = active_after advert plan (seen_at c.args.bus.now) between (provisioned_steps provisioned) c.requires.sound c.provision-provisioned.ensures;
+      goes_on = goes_on_made c.args.is_activated advert plan provisioned between (seen_at c.activate-activated.new.bus) (activated_steps c.activate-activated.result) wanted is c.activate-activated.ensures;
+    }
+
+pub returns-else-is_activated : goal.returns-else-is_activated
+returns-else-is_activated c =
+    let advert = c.args.advert.now in
+    let plan = c.args.plan.now in
+    let provisioned = c.provision-provisioned.result in
+    let between = seen_at c.provision-provisioned.new.bus in
+    record {
+      between = between;
+      provisions = c.provision-provisioned.ensures;
+      active = active_after advert plan (seen_at c.args.bus.now) between (provisioned_steps provisioned) c.requires.sound c.provision-provisioned.ensures;
+      goes_on = elim c.else-is_activated.branch [
+        | else-is_activated-via-then-is_activated+else-is_ok w ↦
+            let never : is_ok provisioned ≡ false = search (rules, w.is_ok, w.if-is_ok) in
+            goes_on_not c.args.is_activated advert plan provisioned between (inr never)
+        | else-is_activated-via-else-is_activated w ↦
+            let never : c.args.is_activated ≡ false = search (rules, w.if-is_activated) in
+            goes_on_not c.args.is_activated advert plan provisioned between (inl never)
+      ];
+    }

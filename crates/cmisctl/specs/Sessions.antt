@@ -1,0 +1,11 @@
+-- What a session holds, by the texts that it was set up from.
+use Rattle.std.specs.Prelude.{◌≡◌, ℕ, List}
+use Rattle.bus_model.specs.ScriptBuses.{seen_at}
+use Rattle.cmisctl.specs.ProvisionCommand.{IsSetUp, bus_at_start}
+use Rattle.cmisctl.specs.declared.commands.session.Session.{Session}
+
+pub record IsSessionOf (image_text weights_text script_text : List ℕ) (session : Session) : Type 0 where
+  pub set_up : IsSetUp image_text weights_text script_text
+  pub advert : session.advert ≡ set_up.given.advert
+  pub plan : session.plan ≡ set_up.certificate.paths
+  pub bus : seen_at session.bus ≡ bus_at_start set_up.given.is_advert.memory set_up.script
