@@ -30,6 +30,3 @@ pub use cmis_apps::apps;
 pub use fault::ReportFault;
 pub use plan::plan_text;
 pub use trace::trace_text;
-
-#[cfg(test)]
-mod tests;

@@ -70,6 +70,3 @@ fn span_of(first: u8, count: u8) -> LaneSpan
         last: first + count - 1,
     }
 }
-
-#[cfg(test)]
-mod tests;

@@ -75,6 +75,3 @@ impl fmt::Display for ShownReply<'_> {
         }
     }
 }
-
-#[cfg(test)]
-mod tests;
