@@ -14,6 +14,3 @@ pub use fault::AdvertFault;
 pub use field_tables::LaneSet;
 pub use refusal::{is_cmis, is_read_revision};
 pub use weights::{Weights, WeightsFault};
-
-#[cfg(test)]
-mod tests;

@@ -53,6 +53,3 @@ impl Weights {
         self.by_host_id[usize::from(host_id)]
     }
 }
-
-#[cfg(test)]
-mod tests;

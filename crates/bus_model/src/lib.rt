@@ -9,8 +9,6 @@ pub mod laws;
 mod operation;
 mod script;
 mod script_bus;
-#[cfg(test)]
-mod tests;
 
 pub use bus::{Bus, BusFault};
 pub use device::{Dev, Device};

@@ -148,6 +148,3 @@ impl Flags for LaneSet {
         LaneSet::from(bits)
     }
 }
-
-#[cfg(test)]
-mod tests;

@@ -31,6 +31,3 @@ pub fn millis(value: i64, unit: Unit) -> i64
         Unit::ModulePower => value * 250,
     }
 }
-
-#[cfg(test)]
-mod tests;

@@ -111,6 +111,3 @@ fn part_at(bytes: &[u8; PAGE_LEN], part: Part, address: usize) -> u16
         }
     }
 }
-
-#[cfg(test)]
-mod tests;

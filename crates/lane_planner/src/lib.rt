@@ -7,6 +7,3 @@ mod planner;
 mod reached;
 
 pub use planner::plan;
-
-#[cfg(test)]
-mod tests;

@@ -9,8 +9,6 @@ pub mod laws;
 mod page;
 mod page_line;
 mod selection;
-#[cfg(test)]
-mod tests;
 mod window;
 
 pub use bus_model::Dev;

@@ -5,9 +5,6 @@ ghost use Rattle.paged_memory.specs.KeyOrder.{key_cmp};
 ghost use Rattle.paged_memory.specs.Selections.{selected_in_turn};
 ghost use Rattle.paged_memory.specs.Windows.{read_at, bytes_from};
 
-#[cfg(test)]
-mod tests;
-
 use crate::entries::page_at;
 use crate::image::Image;
 use crate::key::Key;

@@ -1,6 +1,4 @@
 mod reading;
-#[cfg(test)]
-mod tests;
 mod writing;
 
 use crate::plan::Plan;

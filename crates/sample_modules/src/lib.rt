@@ -2,8 +2,6 @@
 #![tactic(auto)]
 
 mod changes;
-#[cfg(test)]
-mod tests;
 mod texts;
 
 pub use changes::{only, with, with_run, with_sum};

@@ -13,6 +13,3 @@ pub use identity::Identity;
 pub use monitors::Monitors;
 pub use refusal::is_sfp;
 pub use thresholds::Thresholds;
-
-#[cfg(test)]
-mod tests;

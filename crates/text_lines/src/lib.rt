@@ -6,8 +6,6 @@ mod decimal;
 mod hexadecimal;
 mod lines;
 mod spelling;
-#[cfg(test)]
-mod tests;
 mod words;
 
 pub use decimal::read_decimal;

@@ -1,8 +1,5 @@
-use super::{lane, value};
-use crate::field::{Field, Sum, TextField};
-use crate::sums::sum_right;
-use crate::texts::text_field;
 use bus_model::Dev;
+use field_tables::{Field, Sum, TextField, lane, sum_right, text_field, value};
 use paged_memory::{Image, Key, PAGE_LEN, Page};
 use std::test::Fail;
 

@@ -1,4 +1,4 @@
-use super::{Unit, millis};
+use field_tables::{Unit, millis};
 
 #[test]
 fn temperatures_round_down(rt: HostRuntime) {

@@ -1,9 +1,6 @@
-mod reading;
-
-use crate::{Image, ImageFault, Key, Page, Window, WindowFault};
 use arrayvec::ArrayVec;
-use bus_model::{Bus, BusFault, Dev, Device, Op, Reply, Script, ScriptBus};
-use reading::{select, select_on_window};
+use bus_model::{Bus, BusFault, Dev, Device, MAX_FETCH, Op, Reply, Script, ScriptBus};
+use paged_memory::{Image, ImageFault, Key, Page, Window, WindowFault};
 use std::alloc::Global;
 use std::test::Fail;
 
@@ -32,6 +29,12 @@ fn paths() -> [(Key, u8); 6] {
 
 // Bytes stored on A0 from an address upwards, and the bytes 126, 127 and 128 then; `None` where any of this is refused.
 type Row<'a> = (u8, &'a [u8], Option<[u8; 3]>);
+
+// Selects a page of bank 0, whether or not that is taken, and reads what is selected.
+fn select<B: Bus>(bus: &mut B, page: u8) -> Result<Option<ArrayVec<u8, MAX_FETCH>>, BusFault> {
+    bus.store(Dev::A0, 126, &[0, page])?;
+    bus.fetch(Dev::A0, 126, 2)
+}
 
 fn shown_after(
     bus: &mut ScriptBus<Window<16>>,
@@ -152,7 +155,7 @@ fn stands_behind_a_bus(rt: HostRuntime) -> Result<(), Fail> {
     assert_eq!(rt; cut, ArrayVec::try_from([0x00, 0x00].as_slice()).ok());
     let refused = select(&mut bus, 0x11)?;
     assert_eq!(rt; refused, ArrayVec::try_from([0x00, 0x00].as_slice()).ok());
-    let taken = select_on_window(&mut bus, 0x11)?;
+    let taken = select(&mut bus, 0x11)?;
     assert_eq!(rt; taken, ArrayVec::try_from([0x00, 0x11].as_slice()).ok());
     assert_eq!(rt; select(&mut bus, 0x11).err(), Some(BusFault::TraceFull));
     Ok(())

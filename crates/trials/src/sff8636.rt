@@ -1,6 +1,6 @@
-use crate::{Flags, Identity, Levels, Monitors, SffFault, Thresholds};
 use paged_memory::{Dev, Image, ImageFault, Key};
 use sample_modules::{QSFP28, only, with};
+use sff8636_map::{Flags, Identity, Levels, Monitors, SffFault, Thresholds};
 use std::test::Fail;
 
 fn module() -> Result<Image, ImageFault> {

@@ -1,4 +1,4 @@
-use super::{Weights, WeightsFault};
+use applications::{Weights, WeightsFault};
 use std::test::Fail;
 
 #[test]

@@ -1,5 +1,5 @@
-use super::LaneSet;
 use bitflags::Flags;
+use field_tables::LaneSet;
 
 #[test]
 fn bytes_are_sets_of_lanes(rt: HostRuntime) {

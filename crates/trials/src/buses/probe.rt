@@ -1,7 +1,7 @@
 // A device that remembers what was done to it.
 
-use crate::{Dev, Device, MAX_FETCH};
 use arrayvec::ArrayVec;
+use bus_model::{Dev, Device, MAX_FETCH};
 
 /// The device A0. At addresses below 128 it has the byte that was given last, and above that the time; A2 refuses.
 #[derive(Clone, Copy, Debug, PartialEq, Eq)]

@@ -1,5 +1,5 @@
-use crate::{Image, ImageFault, Key, Page};
 use bus_model::Dev;
+use paged_memory::{Image, ImageFault, Key, Page};
 use std::alloc::{AllocError, Global};
 use std::test::Fail;
 

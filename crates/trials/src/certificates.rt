@@ -1,5 +1,5 @@
-use crate::CertificateFault::{BadLine, NoEnd, OutOfOrder, TooMany};
-use crate::{Certificate, CertificateFault, Entry, Path};
+use plan_certificate::CertificateFault::{BadLine, NoEnd, OutOfOrder, TooMany};
+use plan_certificate::{Certificate, CertificateFault, Entry, Path};
 use std::alloc::{AllocError, Global};
 use std::test::Fail;
 

@@ -1,5 +1,5 @@
-use crate::{QSFP_DD, QSFP28, SFP, only, with, with_run, with_sum};
 use paged_memory::{Dev, Image, Key};
+use sample_modules::{QSFP_DD, QSFP28, SFP, only, with, with_run, with_sum};
 use std::test::Fail;
 
 #[test]

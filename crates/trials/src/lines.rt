@@ -1,4 +1,4 @@
-use crate::{Lines, read_decimal, read_hex_byte, read_hexadecimal, split_words};
+use text_lines::{Lines, read_decimal, read_hex_byte, read_hexadecimal, split_words};
 
 #[test]
 fn cuts_lines_at_line_feeds_alone(rt: HostRuntime) {

@@ -1,6 +1,6 @@
-use crate::{Flags, Identity, Levels, Monitors, SffFault, Thresholds};
 use paged_memory::{Dev, Image, ImageFault, Key};
 use sample_modules::{SFP, only, with};
+use sff8472_map::{Flags, Identity, Levels, Monitors, SffFault, Thresholds};
 use std::test::Fail;
 
 fn module() -> Result<Image, ImageFault> {

@@ -1,4 +1,4 @@
-use crate::{Advert, AdvertFault, App, LaneSet};
+use applications::{Advert, AdvertFault, App, LaneSet};
 use paged_memory::{Dev, Image, ImageFault, Key};
 use sample_modules::{QSFP_DD, only, with};
 use std::test::Fail;

@@ -1,73 +1,77 @@
-use crate::plan;
 use applications::{Advert, Weights};
-use paged_memory::Image;
+use lane_planner::plan;
+use paged_memory::{Dev, Image, Key};
 use plan_certificate::{Path, Verdict, check};
-use std::alloc::Global;
+use sample_modules::{QSFP_DD, with_run, with_sum};
 use std::test::Fail;
 
-// A QSFP-DD module: its lower memory up to the Applications, the rest of it, page 00h, and page 01h but for where the
-// Applications begin on the media side and for its sum.
-const LOWER: &str = "lower A0 1850000600000000000400000000230080e80000000000000000000000000000\
-0000000000000000000000000000000000000000000000000000000000000000\
-00000000000000000000000000000000000000000002";
+// The descriptors of Applications, and the media lanes where they may begin.
+type Apps = (&'static [u8], &'static [u8]);
 
-const LATER: &str = "0000000000000000000000000000000000000000000000000000000000000000\n";
-
-const ADMINISTRATIVE: &str =
-    "upper A0 00 00 184558414d504c452020202020202020200011225144442d343030472d445234\
-202020203141534e303030312020202020202020202032343031333120200000\
-0000000000000000e030000c0000000000000000000000000000000000006a00\
-0000000000000000000000000000000000000000000000000000000000000000\n";
-
-const ADVERTISING: &str =
-    "upper A0 00 01 0000000000000000000000000000000000000000000000000000000000000000\
-07000000000000000000000000000000";
-
-const NO_MORE: &str = "0000000000000000000000000000\
-0000000000000000000000000000000000000000000000000000000000000000\
-00000000000000000000000000000000000000000000000000000000000000";
-
-// The module with these descriptors, media options and sum of page 01h, in hexadecimal.
-fn advert(alloc: Global, bytes: [&str; 3]) -> Result<Advert, Fail> {
-    let [descriptors, media_starts, sum] = bytes;
-    let text = format!(in alloc;
-        "module-image 1\n{LOWER}{descriptors}{LATER}{ADMINISTRATIVE}{ADVERTISING}{media_starts}{NO_MORE}{sum}\nend\n"
-    )?;
-    Ok(Advert::of(&Image::read(text.as_bytes())?)?)
+// A module that advertises these Applications.
+fn advert(apps: Apps) -> Result<Advert, Fail> {
+    let (descriptors, media_starts) = apps;
+    let advertising = Key::upper(Dev::A0, 0, 0x01);
+    let image = Image::read(QSFP_DD.as_bytes())?;
+    let image = with_run(image, Key::lower(Dev::A0), 86, descriptors)?;
+    let image = with_run(image, advertising, 176, media_starts)?;
+    let image = with_sum(image, advertising, 130, 254, 255)?;
+    Ok(Advert::of(&image)?)
 }
 
 // 1: 8 host and 4 media lanes; 2: 2 host and 1 media lanes, from the host lanes 1, 3, 5 and 7 on.
-const DR4: [&str; 3] = ["111c84010d142155ff00", "010f", "17"];
+const DR4: Apps = (
+    &[0x11, 0x1C, 0x84, 0x01, 0x0D, 0x14, 0x21, 0x55, 0xFF, 0x00],
+    &[0x01, 0x0F],
+);
 
 // The same, all from media lane 1 on.
-const NARROW: [&str; 3] = ["111c84010d142155ff00", "0101", "09"];
+const NARROW: Apps = (
+    &[0x11, 0x1C, 0x84, 0x01, 0x0D, 0x14, 0x21, 0x55, 0xFF, 0x00],
+    &[0x01, 0x01],
+);
 
 // Both of 4 host lanes and 1 media lane: 1 from host lanes 1 and 5 on, 2 from host lane 3 on.
-const CROSSING: [&str; 3] = ["111c41110d144104ff00", "0304", "0e"];
+const CROSSING: Apps = (
+    &[0x11, 0x1C, 0x41, 0x11, 0x0D, 0x14, 0x41, 0x04, 0xFF, 0x00],
+    &[0x03, 0x04],
+);
 
 // Both of 4 host and 2 media lanes, apart on the host side, and both with media lane 2.
-const TIGHT: [&str; 3] = ["111c42010d144210ff00", "0102", "0a"];
+const TIGHT: Apps = (
+    &[0x11, 0x1C, 0x42, 0x01, 0x0D, 0x14, 0x42, 0x10, 0xFF, 0x00],
+    &[0x01, 0x02],
+);
 
 // Both of one lane, from host lane 1 on: 1 at media lane 2, 2 at media lane 1.
-const SWAPPED: [&str; 3] = ["0101110102021101ff00", "0201", "0a"];
+const SWAPPED: Apps = (
+    &[0x01, 0x01, 0x11, 0x01, 0x02, 0x02, 0x11, 0x01, 0xFF, 0x00],
+    &[0x02, 0x01],
+);
 
 // One lane each, anywhere.
-const SINGLE: [&str; 3] = ["010111ffff0000000000", "ff00", "06"];
+const SINGLE: Apps = (
+    &[0x01, 0x01, 0x11, 0xFF, 0xFF, 0x00, 0x00, 0x00, 0x00, 0x00],
+    &[0xFF, 0x00],
+);
 
 // One of 8 host and 8 media lanes.
-const WHOLE: [&str; 3] = ["111c8801ff0000000000", "0100", "08"];
+const WHOLE: Apps = (
+    &[0x11, 0x1C, 0x88, 0x01, 0xFF, 0x00, 0x00, 0x00, 0x00, 0x00],
+    &[0x01, 0x00],
+);
 
 #[test]
 fn reached_states_alone_have_entries(rt: HostRuntime) -> Result<(), Fail> {
     let alloc = rt.alloc();
-    let rows: [([&str; 3], &str, usize); 4] = [
+    let rows: [(Apps, &str, usize); 4] = [
         (DR4, "11h = 400\n0Dh = 101", 80),
         (DR4, "", 80),
         (SINGLE, "01h = 4294967295", 1280),
         (WHOLE, "11h = 5", 10),
     ];
-    for (bytes, listed, states) in rows {
-        let advert = advert(alloc, bytes)?;
+    for (apps, listed, states) in rows {
+        let advert = advert(apps)?;
         let text = format!(in alloc; "[host]\n{listed}\n")?;
         let weights = Weights::read(alloc, text.as_bytes())?;
         let certificate = plan(&advert, &weights);
@@ -81,7 +85,7 @@ fn a_plan_weighs_most_and_is_first(rt: HostRuntime) -> Result<(), Fail> {
     let alloc = rt.alloc();
     let four = [[2, 1, 1], [2, 3, 2], [2, 5, 3], [2, 7, 4]];
     let eight = [1, 2, 3, 4, 5, 6, 7, 8].map(|lane| [1, lane, lane]);
-    let rows: [([&str; 3], &str, u64, &[[u8; 3]]); 10] = [
+    let rows: [(Apps, &str, u64, &[[u8; 3]]); 10] = [
         (DR4, "11h = 400\n0Dh = 101", 404, four.as_slice()),
         (DR4, "11h = 400\n0Dh = 100", 400, [[1, 1, 1]].as_slice()),
         (DR4, "0Dh = 1", 4, four.as_slice()),
@@ -103,8 +107,8 @@ fn a_plan_weighs_most_and_is_first(rt: HostRuntime) -> Result<(), Fail> {
         (SWAPPED, "01h = 6\n02h = 6", 6, [[1, 1, 2]].as_slice()),
         (SINGLE, "01h = 4294967295", 34_359_738_360, eight.as_slice()),
     ];
-    for (bytes, listed, weight, paths) in rows {
-        let advert = advert(alloc, bytes)?;
+    for (apps, listed, weight, paths) in rows {
+        let advert = advert(apps)?;
         let text = format!(in alloc; "[host]\n{listed}\n")?;
         let weights = Weights::read(alloc, text.as_bytes())?;
         let certificate = plan(&advert, &weights);
