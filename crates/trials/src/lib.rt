@@ -1,2 +1,8 @@
-//! Tests over the public calls of several crates. No program uses this crate, and it has nothing but tests.
+//! Tests over the public calls of several crates, and a device that lies. No program uses this crate.
 #![tactic(auto)]
+
+mod lying_device;
+#[cfg(test)]
+mod tests;
+
+pub use lying_device::LyingDevice;

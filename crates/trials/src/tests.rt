@@ -1,0 +1,11 @@
+mod applies;
+mod control_bytes;
+mod lanes;
+mod lies;
+mod modules;
+mod plans;
+mod procedures;
+mod provisioning;
+mod refusals;
+mod registers;
+mod starts;
