@@ -14,6 +14,3 @@ pub use fault::{ControlFault, ProvisionFault};
 pub use host_path::{HostPath, agree, control_at, paths_of};
 pub use plan_bytes::bytes_of;
 pub use procedures::{Activated, MAX_STEPS, Next, Procedure, Provisioned, activate, provision};
-
-#[cfg(test)]
-mod tests;

@@ -13,6 +13,3 @@ pub use next::Next;
 pub use procedure::Procedure;
 pub use registers::MAX_STEPS;
 pub use runner::{Activated, Provisioned, activate, provision};
-
-#[cfg(test)]
-mod tests;

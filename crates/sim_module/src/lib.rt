@@ -14,8 +14,6 @@ mod module;
 mod registers;
 mod start;
 mod store;
-#[cfg(test)]
-mod tests;
 mod tick;
 
 pub use delays::{Delays, MAX_DELAY};

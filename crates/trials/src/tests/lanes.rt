@@ -1,5 +1,12 @@
 // How lanes move by ticks.
-use super::*;
+use super::modules::{FOURS, PAIRS, image, module_of, pass, read, select, write};
+use bus_model::{Dev, Device};
+use datapath_states::PathState;
+use module_states::ModuleState;
+use paged_memory::Key;
+use sample_modules::with;
+use sim_module::{Delays, SimModule};
+use std::test::Fail;
 
 const ONES: Delays = Delays {
     apply: 1,
@@ -24,7 +31,7 @@ fn course(module: &mut SimModule) -> [PathState; 6] {
 
 #[test]
 fn a_path_comes_up_and_goes_down(rt: HostRuntime) -> Result<(), Fail> {
-    let mut module = module_of(&PAIRS, ONES)?;
+    let mut module = module_of(PAIRS, ONES)?;
     assert_eq!(rt;
         course(&mut module),
         [
@@ -88,30 +95,9 @@ fn a_thousand_ticks_are_waited_for(rt: HostRuntime) -> Result<(), Fail> {
     Ok(())
 }
 
-// DPDeinit is set before the fourth tick, while the paths are in DPInit.
-#[test]
-fn provisioned_lanes_are_taken_down(rt: HostRuntime) -> Result<(), Fail> {
-    let mut module = module_of(&PAIRS, FOURS)?;
-    pass(&mut module, 3);
-    select(&mut module, 0x10);
-    write(&mut module, 128, &[0xFF]);
-    select(&mut module, 0x11);
-    pass(&mut module, 2);
-    assert_eq!(rt; read::<4>(&mut module, 128), [0x77; 4]);
-    for states in [[0x33; 4], [0x33; 4], [0x33; 4], [0x33; 4], [0x11; 4]] {
-        module.tick();
-        assert_eq!(rt; read::<4>(&mut module, 128), states);
-    }
-    select(&mut module, 0x10);
-    write(&mut module, 143, &[0xFF]);
-    pass(&mut module, 4);
-    assert_eq!(rt; module.active(), [0; 8]);
-    Ok(())
-}
-
 #[test]
 fn low_power_waits_for_the_paths(rt: HostRuntime) -> Result<(), Fail> {
-    let mut module = module_of(&PAIRS, ONES)?;
+    let mut module = module_of(PAIRS, ONES)?;
     pass(&mut module, 4);
     module.low_power_pin(true);
     module.tick();
@@ -143,15 +129,7 @@ fn low_power_waits_for_the_paths(rt: HostRuntime) -> Result<(), Fail> {
 
 #[test]
 fn the_pin_counts_where_it_is_allowed(rt: HostRuntime) -> Result<(), Fail> {
-    let mut allowing = image()?;
-    allowing.put(
-        Key::lower(Dev::A0),
-        page(&[
-            (0, &[0x18, 0x50]),
-            (26, &[0x40]),
-            (86, &[0x11, 0x1C, 0x84, 0x01, 0xFF]),
-        ]),
-    )?;
+    let allowing = with(image()?, Key::lower(Dev::A0), &[(26, 0x40)])?;
     let mut module = SimModule::new(&allowing, FOURS)?;
     module.low_power_pin(true);
     for code in [4, 4, 4, 4, 1, 1] {

@@ -1,6 +1,10 @@
 // What is read and stored at the addresses of a module.
-use super::*;
-use bus_model::{Bus, Script, ScriptBus};
+use super::modules::{FOURS, PAIRS, image, module, pass, read, select, upper, write};
+use arrayvec::ArrayVec;
+use bus_model::{Bus, Dev, Device, Script, ScriptBus};
+use sample_modules::{with, with_run};
+use sim_module::SimModule;
+use std::test::Fail;
 
 #[test]
 fn a_latched_byte_is_kept_until_it_is_read(rt: HostRuntime) -> Result<(), Fail> {
@@ -8,20 +12,18 @@ fn a_latched_byte_is_kept_until_it_is_read(rt: HostRuntime) -> Result<(), Fail> 
     let mut bus = ScriptBus::new(rt.alloc(), module()?, script, 8)?;
     assert_eq!(rt; bus.fetch(Dev::A0, 9, 1)?.is_none(), true);
     for byte in [0x04, 0x00] {
-        let bytes = bus.fetch(Dev::A0, 9, 1)?;
-        assert_eq!(rt; bytes.map(|bytes| bytes[0]), Some(byte));
+        let told = bus.fetch(Dev::A0, 9, 1)?;
+        assert_eq!(rt; told, ArrayVec::try_from([byte].as_slice()).ok());
     }
     Ok(())
 }
 
 #[test]
 fn a_fetch_clears_the_latched_bytes_that_it_read(rt: HostRuntime) -> Result<(), Fail> {
-    let mut flagged = image()?;
-    let flags = [0xFF; 19];
-    flagged.put(upper(0, 0x11), page(&[(134, &flags)]))?;
+    let flagged = with_run(image()?, upper(0, 0x11), 134, &[0xFF; 19])?;
     let mut module = SimModule::new(&flagged, FOURS)?;
     // Under another page nothing latched is read.
-    assert_eq!(rt; read::<6>(&mut module, 134), [0; 6]);
+    assert_eq!(rt; read::<6>(&mut module, 134), *b"LE    ");
     select(&mut module, 0x11);
     assert_eq!(rt; module.fetch(Dev::A2, 134, 19).is_none(), true);
     // It begins outside of the latched bytes and ends inside.
@@ -29,7 +31,7 @@ fn a_fetch_clears_the_latched_bytes_that_it_read(rt: HostRuntime) -> Result<(), 
     assert_eq!(rt; read::<4>(&mut module, 134), [0, 0, 0xFF, 0xFF]);
     assert_eq!(rt; read::<4>(&mut module, 134), [0; 4]);
     // It begins inside and ends outside.
-    assert_eq!(rt; read::<4>(&mut module, 151), [0xFF, 0xFF, 0, 0]);
+    assert_eq!(rt; read::<4>(&mut module, 151), [0xFF, 0xFF, 0, 0x27]);
     assert_eq!(rt; read::<3>(&mut module, 150), [0xFF, 0, 0]);
     // Byte 9 of lower memory is another one.
     assert_eq!(rt; read::<3>(&mut module, 8), [0, 0x04, 0]);
@@ -71,10 +73,10 @@ fn stores_change_a_few_registers_alone(rt: HostRuntime) -> Result<(), Fail> {
 
 #[test]
 fn pages_of_other_banks_are_the_images(rt: HostRuntime) -> Result<(), Fail> {
-    let mut banked = image()?;
-    banked.put(
+    let banked = with(
+        image()?,
         upper(1, 0x10),
-        page(&[(128, &[0x55]), (143, &[0x66]), (145, &[0x77])]),
+        &[(128, 0x55), (143, 0x66), (145, 0x77)],
     )?;
     let mut module = SimModule::new(&banked, FOURS)?;
     assert_eq!(rt; write(&mut module, 126, &[1, 0x10]), true);

@@ -1,5 +1,7 @@
 // What an apply says of the lanes.
-use super::*;
+use super::modules::{FOURS, PAIRS, module, module_of, pass, read, select, write};
+use sim_module::SimModule;
+use std::test::Fail;
 
 // Stages bytes, from lane 1 on, and applies the lanes of a mask; page 10h is selected then.
 fn apply(module: &mut SimModule, staged: &[u8], mask: u8) {
@@ -54,14 +56,14 @@ fn the_first_code_that_applies_is_given(rt: HostRuntime) -> Result<(), Fail> {
     ];
     for (in_use, byte, code) in rows {
         let active = if in_use { PAIRS } else { [0; 8] };
-        let mut module = module_of(&active, FOURS)?;
+        let mut module = module_of(active, FOURS)?;
         pass(&mut module, 1);
         apply(&mut module, &[byte], 0x01);
         let [first, ..] = statuses(&mut module);
         assert_eq!(rt; first, code, "{byte}");
     }
     // 3 before 7: by the lanes of its active path, which DPDeinit keeps deactivated.
-    let mut module = module_of(&PAIRS, FOURS)?;
+    let mut module = module_of(PAIRS, FOURS)?;
     select(&mut module, 0x10);
     write(&mut module, 128, &[0xFF]);
     for (byte, code) in [(0x30, 0x03), (0x00, 0x07), (0x10, 0x04)] {

@@ -1,0 +1,70 @@
+// A procedure that is driven by hand.
+use super::modules::{PAIRS, image, upper};
+use super::plans::bus_of;
+use applications::LaneSet;
+use arrayvec::ArrayVec;
+use bus_model::{Bus, BusFault, Device, Reply, ScriptBus};
+use control_sets::{Next, Procedure, ProvisionFault};
+use paged_memory::Window;
+use sample_modules::{with, with_run};
+use std::test::Fail;
+
+fn provisioning(lanes: LaneSet) -> Procedure {
+    Procedure::provisioning(PAIRS, lanes)
+}
+
+// The answer, where each reply of the bus was one that the procedure takes.
+fn driven<D: Device + Drop>(
+    mut procedure: Procedure,
+    bus: &mut ScriptBus<D>,
+) -> Result<Option<Result<u16, ProvisionFault>>, BusFault> {
+    for _ in 0..5000u16 {
+        match procedure.next() {
+            Next::Do(op) => {
+                let reply = bus.transact(op)?;
+                if !procedure.try_take(&reply) {
+                    return Ok(None);
+                }
+            }
+            Next::Done(answer) => return Ok(Some(answer)),
+        }
+    }
+    Ok(None)
+}
+
+// Lanes 1 to 4 are left as they are: their data paths are up, and no status is theirs.
+#[test]
+fn other_lanes_are_not_looked_at(rt: HostRuntime) -> Result<(), Fail> {
+    let staged = with_run(image()?, upper(0, 0x10), 145, &PAIRS)?;
+    let active = with_run(staged, upper(0, 0x11), 206, &PAIRS)?;
+    let half_up = [(128, 0x44), (129, 0x44), (204, 0x11), (205, 0x11)];
+    let image = with(active, upper(0, 0x11), &half_up)?;
+    for lanes in [0xF0, 0x00] {
+        let mut bus = bus_of(rt.alloc(), Window::<16>::of(&image)?, b"", 5000)?;
+        let told = driven(provisioning(LaneSet::from(lanes)), &mut bus)?;
+        assert_eq!(rt; told, Some(Ok(16)), "{lanes}");
+    }
+    Ok(())
+}
+
+fn bytes_read(bytes: &[u8]) -> Reply {
+    match ArrayVec::try_from(bytes) {
+        Ok(bytes) => Reply::Bytes(bytes),
+        Err(_) => Reply::Refused,
+    }
+}
+
+#[test]
+fn only_fitting_replies_are_taken(rt: HostRuntime) {
+    let mut procedure = provisioning(LaneSet::run(1, 8));
+    let first = procedure;
+    assert!(rt; !procedure.try_take(&Reply::Done));
+    assert!(rt; !procedure.try_take(&bytes_read(&[6, 0])));
+    assert_eq!(rt; procedure, first);
+    assert!(rt; procedure.try_take(&bytes_read(&[0])));
+    assert_eq!(rt;
+        procedure.next(),
+        Next::Done(Err(ProvisionFault::Reserved(0)))
+    );
+    assert!(rt; !procedure.is_answered_by(&Reply::Refused));
+}
