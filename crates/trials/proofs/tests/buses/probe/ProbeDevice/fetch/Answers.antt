@@ -1,6 +1,6 @@
 use Rattle.std.proofs.Common.{ap, ◌∙◌, Some, inl, inr, arith, ◌≤◌, ◌≡◌, take, replicate}
 use Rattle.std.proofs.lemmas.List.{take-replicate}
-use Rattle.bus_model.proofs.tests.probe.ProbeDevice.fetch.Goals as goal
+use Rattle.trials.proofs.tests.buses.probe.ProbeDevice.fetch.Goals as goal
 
 pub returns-in-A0-clause-answer : goal.returns-in-A0-clause-answer
 returns-in-A0-clause-answer c =
