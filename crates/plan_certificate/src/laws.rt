@@ -9,7 +9,8 @@ ghost use Rattle.plan_certificate.specs.CertificateFaults.{IsAnswer};
 /// Lines have one answer at most, whatever room there is for states: two certificates share no text, no text has
 /// both a certificate and a fault, and the first fault of a text is one.
 pub fn one_answer()
-    ensures { (states : ℕ) (lines : List (List ℕ)) (a b : Result Claim CertificateFault) → IsAnswer states lines a → IsAnswer states lines b → a ≡ b }
+    ensures { (states : ℕ) (lines : List (List ℕ)) (a b : Result Claim CertificateFault)
+        → IsAnswer states lines a → IsAnswer states lines b → a ≡ b }
 {}
 
 /// The written text of a certificate is read as this certificate, where there is room for its states, and as nothing else.
