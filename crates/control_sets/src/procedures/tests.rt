@@ -191,6 +191,16 @@ fn a_stuck_module_is_given_up(rt: HostRuntime) {
         run_freely(provisioning([0; 8]), &mut never_down),
         (usize::from(MAX_STEPS), Some(Err(ProvisionFault::GaveUp)))
     );
+    // The last step may still be a success.
+    let (mut at_last, mut too_late) = (new_module(), new_module());
+    assert_eq!(rt;
+        run(provisioning(CONTROL), &mut at_last, (1, 4079), 0),
+        (4096, Some(Ok(4096)))
+    );
+    assert_eq!(rt;
+        run(provisioning(CONTROL), &mut too_late, (1, 4080), 0),
+        (4096, Some(Err(ProvisionFault::GaveUp)))
+    );
 }
 
 #[test]
