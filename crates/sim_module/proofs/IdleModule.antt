@@ -1,18 +1,13 @@
 -- While page 10h is out of reach and no apply is in progress, what is active stays.
-use Rattle.std.proofs.Common.{◌≡◌, ◌⊎◌, inl, inr, ℕ, zero, suc, ◌+◌, ◌-◌, ◌<◌, ◌≤◌, Bool, true, false, None, List, [], ◌∷◌, length, get_or, map, take, refl, ap, sym, subst, ◌∙◌, ◌==◌, ◌&&◌, if◌then◌else◌, nat_lt, arith}
+use Rattle.std.proofs.Common.{◌≡◌, ◌⊎◌, inl, inr, ℕ, zero, suc, ◌+◌, ◌-◌, ◌<◌, ◌≤◌, Bool, true, false, List, [], ◌∷◌, length, take, refl, ap, sym, subst, ◌∙◌, ◌==◌, ◌&&◌, if◌then◌else◌, nat_lt, arith}
 use Rattle.std.specs.FinMap as finmap
 use Rattle.std.proofs.lemmas.Bool.Decides.{nat_tests}
-use Rattle.std.proofs.lemmas.List.{ext_get_or, get_or-map, length-map}
-use Rattle.std.proofs.lemmas.List.FromFn.{get_or-map-range_with_len, length-map-range_with_len}
 use Rattle.bus_model.specs.declared.device.Dev.{Dev}
 use Rattle.bus_model.specs.declared.device.Dev.TheVariants.{A0, A2}
 use Rattle.field_tables.specs.LaneSets.{lanes_in}
 use Rattle.paged_memory.specs.Keys.{upper_key}
-use Rattle.control_sets.specs.HostPaths.{IsLane}
-use Rattle.sim_module.specs.declared.lane.Lane.{Lane}
 use Rattle.sim_module.specs.declared.module.SimModule.{SimModule}
 use Rattle.paged_memory.specs.declared.selection.Selection.{Selection}
-use Rattle.sim_module.specs.Lanes.{active_bytes, all_lanes, lane_at, no_lane}
 use Rattle.paged_memory.specs.Selections.{first_page, mapped}
 use Rattle.sim_module.specs.Ticks.{pinned, ticked}
 use Rattle.sim_module.specs.Applies.{applied, applied_all}

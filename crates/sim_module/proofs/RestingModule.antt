@@ -1,10 +1,9 @@
 -- While no apply is in progress and none is asked for, what is active stays, whichever page is mapped.
-use Rattle.std.proofs.Common.{◌≡◌, inl, inr, ℕ, zero, suc, ◌+◌, ◌-◌, ◌<◌, ◌≤◌, Bool, true, None, List, [], ◌∷◌, length, get_or, map, take, refl, ap, sym, subst, ◌∙◌, if◌then◌else◌, nat_lt, arith}
+use Rattle.std.proofs.Common.{◌≡◌, inl, inr, ℕ, zero, suc, ◌+◌, ◌-◌, ◌<◌, ◌≤◌, Bool, true, List, [], ◌∷◌, length, get_or, map, take, refl, ap, sym, subst, ◌∙◌, if◌then◌else◌, nat_lt, arith}
 use Rattle.std.proofs.lemmas.Bool.{cases_lt}
 use Rattle.std.proofs.lemmas.Bool.Decides.{nat_tests}
 use Rattle.std.proofs.lemmas.List.{ext_get_or, get_or-map, length-map}
 use Rattle.std.proofs.lemmas.List.FromFn.{get_or-map-range_with_len, length-map-range_with_len}
-use Rattle.bus_model.specs.declared.device.Dev.{Dev}
 use Rattle.bus_model.specs.declared.device.Dev.TheVariants.{A0, A2}
 use Rattle.bus_model.specs.declared.operation.Op.{Op}
 use Rattle.bus_model.specs.declared.operation.Op.TheVariants.{Fetch, Store}
@@ -17,7 +16,7 @@ use Rattle.sim_module.specs.ActiveSets.{IsAtRest}
 use Rattle.sim_module.specs.Lanes.{active_bytes, all_lanes, lane_at, no_lane}
 use Rattle.sim_module.specs.Modules.{conduct}
 use Rattle.sim_module.specs.Registers.{is_from}
-use Rattle.sim_module.specs.ShownBytes.{cleared, fetched, is_mapped}
+use Rattle.sim_module.specs.ShownBytes.{cleared, is_mapped}
 use Rattle.sim_module.specs.Stores.{stored_byte, stored_bytes, stored_high, stored_low}
 use Rattle.sim_module.specs.Ticks.{pinned, ticked, ticked_lane}
 use Rattle.sim_module.proofs.Histories.{AnyPin}
