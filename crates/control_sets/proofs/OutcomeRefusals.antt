@@ -10,7 +10,7 @@ use Rattle.bus_model.specs.declared.operation.Step.{Step}
 use Rattle.control_sets.specs.declared.fault.ProvisionFault.{ProvisionFault}
 use Rattle.control_sets.specs.declared.fault.ProvisionFault.TheVariants.{Bus, GaveUp, StagedDiffers}
 use Rattle.bus_model.specs.declared.bus.BusFault.TheVariants.{TraceFull}
-use Rattle.control_sets.specs.SameOperation.{same_op}
+use Rattle.bus_model.specs.SameOperation.{same_op}
 use Rattle.control_sets.specs.Pages.{History, read_selection, selection}
 use Rattle.control_sets.specs.OutcomeSteps.{IsAccepted, IsAmong, Stands}
 use Rattle.control_sets.specs.OutcomeOperations.{apply, control_page, read_active, read_module_state, read_path_states, read_staged, read_statuses, stage, status_page}
@@ -18,7 +18,8 @@ use Rattle.control_sets.specs.OutcomeCodes.{byte_at}
 use Rattle.control_sets.specs.OutcomeAnswers.{Answer, EndsIn}
 use Rattle.control_sets.specs.OutcomeOfProvisioning.{EndsProvisioning, IsProvisioning}
 use Rattle.control_sets.specs.OutcomeExamples.{almost_pairs, gave, on_controls, pairs, ready, refused, took}
-use Rattle.control_sets.proofs.OutcomeWords.{confirms_page, contradicts, ops_same, page_confirmed}
+use Rattle.control_sets.proofs.OutcomeWords.{confirms_page, contradicts, page_confirmed}
+use Rattle.bus_model.proofs.SameOperations.{ops_same}
 
 apart : (op other : Op) → same_op op other ≡ false → op ≡ other → ⊥
 apart op other differs e = contradicts (ops_same op other e) differs
