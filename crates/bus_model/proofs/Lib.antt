@@ -4,3 +4,4 @@ pub mod ScriptRuns
 pub mod DirectiveWords
 pub mod OneScript
 pub mod OneReply
+pub mod SameOperations

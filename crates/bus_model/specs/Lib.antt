@@ -1,5 +1,6 @@
 pub mod DeviceName
 pub mod Operations
+pub mod SameOperation
 pub mod Runs
 pub mod Conduct
 pub mod Scripts

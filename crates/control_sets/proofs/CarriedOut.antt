@@ -1,5 +1,5 @@
 -- A procedure that is carried out on a bus.
-use Rattle.std.proofs.Common.{◌≡◌, ℕ, List, [], ◌∷◌, ◌++◌, reverse, sym, subst}
+use Rattle.std.proofs.Common.{List, [], ◌∷◌, reverse, sym, subst}
 use Rattle.std.proofs.lemmas.List.{reverse-append}
 use Rattle.bus_model.specs.declared.operation.Step.{Step}
 use Rattle.bus_model.specs.Runs.{Ran, Rules, Seen}

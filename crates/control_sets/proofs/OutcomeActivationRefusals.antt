@@ -6,7 +6,7 @@ use Rattle.bus_model.specs.declared.operation.Reply.TheVariants.{Bytes, Done, Re
 use Rattle.bus_model.specs.declared.operation.Step.{Step}
 use Rattle.datapath_states.specs.Lanes.{lane_in}
 use Rattle.control_sets.specs.declared.fault.ProvisionFault.{ProvisionFault}
-use Rattle.control_sets.specs.SameOperation.{same_op}
+use Rattle.bus_model.specs.SameOperation.{same_op}
 use Rattle.control_sets.specs.Pages.{History, selection}
 use Rattle.control_sets.specs.OutcomeSteps.{Gives, IsAccepted, IsAnswered, Stands}
 use Rattle.control_sets.specs.OutcomeOperations.{control_page, read_active, read_module_state, read_path_states}
@@ -14,7 +14,7 @@ use Rattle.control_sets.specs.OutcomeCodes.{IsOf, IsReservedPathState}
 use Rattle.control_sets.specs.OutcomeAnswers.{Answer, EndsIn}
 use Rattle.control_sets.specs.OutcomeOfActivation.{EndsActivation, IsActivation, release}
 use Rattle.control_sets.specs.OutcomeExamples.{gave, ready, took}
-use Rattle.control_sets.proofs.OutcomeWords.{apart}
+use Rattle.bus_model.proofs.SameOperations.{apart}
 
 abbrev newest : Step → History → Step
 newest d [] = d

@@ -8,7 +8,7 @@ use Rattle.control_sets.specs.OutcomeOperations.{Confirms, apply, control_page, 
 use Rattle.control_sets.specs.OutcomeOfProvisioning.{EndsProvisioning, IsProvisioning, IsProvisioningStep}
 use Rattle.control_sets.specs.OutcomeAnswers.{EndsIn}
 use Rattle.control_sets.specs.OutcomeSuccess.{ReadsActive}
-use Rattle.control_sets.proofs.OutcomeWords.{apart}
+use Rattle.bus_model.proofs.SameOperations.{apart}
 
 confirmed : (control : List ℕ) (lanes : Lanes) (step : Step) (before : History) → step.op ≡ read_active → IsProvisioningStep control lanes step before → Confirms status_page before
 confirmed control lanes step before is (inl (inl e)) = absurd (apart read_active read_module_state refl (sym is ∙ e))

@@ -12,7 +12,7 @@ use Rattle.control_sets.specs.declared.fault.ProvisionFault.{ProvisionFault}
 use Rattle.control_sets.specs.declared.fault.ProvisionFault.TheVariants.{Bus, GaveUp, ModuleState, StagedDiffers}
 use Rattle.bus_model.specs.declared.bus.BusFault.TheVariants.{TraceFull}
 use Rattle.module_states.specs.declared.state.ModuleState.TheVariants.{LowPwr}
-use Rattle.control_sets.specs.SameOperation.{same_op}
+use Rattle.bus_model.specs.SameOperation.{same_op}
 use Rattle.control_sets.specs.Pages.{History, read_selection, selection}
 use Rattle.control_sets.specs.OutcomeSteps.{IsAccepted, IsAmong, Stands}
 use Rattle.control_sets.specs.OutcomeOperations.{apply, control_page, read_active, read_module_state, read_path_states, read_staged, read_statuses, set_deinit, stage, status_page}
@@ -20,7 +20,8 @@ use Rattle.control_sets.specs.OutcomeCodes.{byte_at}
 use Rattle.control_sets.specs.OutcomeAnswers.{Answer, EndsIn, NoneEnds}
 use Rattle.control_sets.specs.OutcomeOfProvisioning.{EndsProvisioning, IsProvisioning}
 use Rattle.control_sets.specs.OutcomeExamples.{almost_pairs, gave, low_power, on_controls, pairs, ready, refused, took}
-use Rattle.control_sets.proofs.OutcomeWords.{apart, confirms_page, contradicts, ops_same, page_confirmed}
+use Rattle.control_sets.proofs.OutcomeWords.{confirms_page, contradicts, page_confirmed}
+use Rattle.bus_model.proofs.SameOperations.{apart, ops_same}
 
 not_among : (ops : List Op) (op : Op) → list_all (λ other. not (same_op op other)) ops ≡ true → IsAmong ops op → ⊥
 not_among [] op differ among = among

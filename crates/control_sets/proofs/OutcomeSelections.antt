@@ -9,13 +9,14 @@ use Rattle.bus_model.specs.declared.operation.Step.{Step}
 use Rattle.bus_model.specs.Operations.{Answers}
 use Rattle.control_sets.specs.declared.procedures.task.Task.{Task}
 use Rattle.control_sets.specs.declared.procedures.task.Task.TheVariants.{FindReady, Deinitialize, AwaitDeactivated, Stage, CheckStaged, Apply, AwaitApplied, CheckActive, AwaitActivated}
-use Rattle.control_sets.specs.SameOperation.{same_op}
+use Rattle.bus_model.specs.SameOperation.{same_op}
 use Rattle.control_sets.specs.Pages.{EachStep, History, confirms, is_open, is_read, leaves_open, may_select, read_selection, selection}
 use Rattle.control_sets.specs.Tasks.{operation, page_of}
 use Rattle.control_sets.specs.Procedures.{EachAnswers, EachGoesOn}
 use Rattle.control_sets.specs.OutcomeSteps.{Newest}
 use Rattle.control_sets.specs.OutcomeOperations.{AwaitsReadBack, IsSelection, ReadsSelectionsBack, control_page, status_page}
-use Rattle.control_sets.proofs.OutcomeWords.{contradicts, each_from, ops_are, ops_same}
+use Rattle.control_sets.proofs.OutcomeWords.{contradicts, each_from}
+use Rattle.bus_model.proofs.SameOperations.{ops_are, ops_same}
 use Rattle.control_sets.proofs.OutcomeTurns.{Turn, no_read_back, no_selection}
 
 -- what is known at a step

@@ -10,13 +10,14 @@ use Rattle.bus_model.specs.declared.operation.Reply.TheVariants.{Bytes, Done, Re
 use Rattle.bus_model.specs.declared.operation.Step.{Step}
 use Rattle.control_sets.specs.declared.procedures.task.Task.{Task}
 use Rattle.control_sets.specs.declared.procedures.task.Task.TheVariants.{FindReady, Deinitialize, AwaitDeactivated, Stage, CheckStaged, Apply, AwaitApplied, CheckActive}
-use Rattle.control_sets.specs.SameOperation.{same_op}
+use Rattle.bus_model.specs.SameOperation.{same_op}
 use Rattle.control_sets.specs.Pages.{EachStep, History, read_selection, selection}
 use Rattle.control_sets.specs.Tasks.{operation, page_of, provisioning}
 use Rattle.control_sets.specs.Procedures.{is_met, is_on, meets, was_met}
 use Rattle.control_sets.specs.Judgements.{judgement}
 use Rattle.control_sets.specs.OutcomeOfProvisioning.{IsPrefix, accepted_store, accepted_stores}
-use Rattle.control_sets.proofs.OutcomeWords.{contradicts, ops_same}
+use Rattle.control_sets.proofs.OutcomeWords.{contradicts}
+use Rattle.bus_model.proofs.SameOperations.{ops_same}
 use Rattle.control_sets.proofs.OutcomeTurns.{meets_by, meets_is}
 use Rattle.control_sets.proofs.OutcomeFinds.{all_first, at_it, finds, one_of}
 use Rattle.control_sets.proofs.OutcomeSelections.{Here}

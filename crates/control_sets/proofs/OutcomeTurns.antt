@@ -9,12 +9,13 @@ use Rattle.control_sets.specs.declared.procedures.task.Task.{Task}
 use Rattle.control_sets.specs.declared.procedures.task.Task.TheVariants.{FindReady, Deinitialize, AwaitDeactivated, Stage, CheckStaged, Apply, AwaitApplied, CheckActive, AwaitActivated}
 use Rattle.control_sets.specs.declared.procedures.judgement.Judgement.{Judgement}
 use Rattle.control_sets.specs.declared.procedures.judgement.Judgement.TheVariants.{Met, NotYet, Fails}
-use Rattle.control_sets.specs.SameOperation.{same_op}
+use Rattle.bus_model.specs.SameOperation.{same_op}
 use Rattle.control_sets.specs.Pages.{EachStep, History, confirms, is_open, read_selection, selection}
 use Rattle.control_sets.specs.Tasks.{operation, page_of}
 use Rattle.control_sets.specs.Judgements.{judgement}
 use Rattle.control_sets.specs.Procedures.{EachIsNext, in_hand, is_met, is_on, judgement_at, meets, next_operation, operation_on, was_met}
-use Rattle.control_sets.proofs.OutcomeWords.{contradicts, ops_are, ops_same}
+use Rattle.control_sets.proofs.OutcomeWords.{contradicts}
+use Rattle.bus_model.proofs.SameOperations.{ops_are, ops_same}
 
 -- the selection is read back
 pub record ReadsBack (op : Op) (before : History) : Type 0 where

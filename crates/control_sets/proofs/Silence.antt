@@ -1,44 +1,32 @@
 -- A step says nothing of tasks that it isn't made for, and what that leaves as it was.
-use Rattle.std.proofs.Common.{◌≡◌, ℕ, ◌==◌, ◌&&◌, ◌||◌, Bool, true, false, not, List, [], ◌∷◌, ◌++◌, Option, Some, None, refl, sym, ap, subst, ◌∙◌, inl, inr, if◌then◌else◌, find, nat_eq, arith}
+use Rattle.std.proofs.Common.{◌≡◌, ℕ, ◌&&◌, ◌||◌, Bool, true, false, not, List, [], ◌∷◌, ◌++◌, Option, Some, None, refl, sym, ap, ◌∙◌, inl, inr, if◌then◌else◌}
 use Rattle.std.proofs.lemmas.Bool.{and_parts, and_from, or_cases, or_right}
-use Rattle.std.proofs.lemmas.Bool.Decides.{nat_tests}
 use Rattle.std.specs.List.{list_all, AllByRecursion}
 use Rattle.bus_model.specs.declared.operation.Step.{Step}
 use Rattle.control_sets.specs.declared.fault.ProvisionFault.{ProvisionFault}
 use Rattle.control_sets.specs.declared.procedures.judgement.Judgement.{Judgement}
 use Rattle.control_sets.specs.declared.procedures.judgement.Judgement.TheVariants.{NotYet}
-use Rattle.control_sets.specs.declared.procedures.selection.Selection.{Selection}
-use Rattle.control_sets.specs.declared.procedures.selection.Selection.TheVariants.{Unknown, Open, Page}
+use Rattle.paged_memory.specs.declared.paging.Paging.TheVariants.{BankAndPage}
+use Rattle.paged_memory.specs.declared.paging.Selected.{Selected}
+use Rattle.paged_memory.specs.KnownPages.{Tells, is_awaited, missing_page}
+use Rattle.paged_memory.proofs.KnownPageLaws.{OnePage, is_confirmed, one_page}
 use Rattle.control_sets.specs.declared.procedures.task.Task.{Task}
-use Rattle.control_sets.specs.SameOperation.{same_op}
-use Rattle.control_sets.specs.Pages.{History, confirms, read_selection, selection}
+use Rattle.bus_model.specs.SameOperation.{same_op}
+use Rattle.control_sets.specs.Pages.{History, read_selection, selection}
 use Rattle.control_sets.specs.Tasks.{operation, page_of}
 use Rattle.control_sets.specs.Judgements.{judgement}
 use Rattle.control_sets.specs.Procedures.{all_apart, are_apart, are_other_pages, fault_by, fault_in, in_hand, is_met, is_on, judgement_at, or_else, was_met}
-use Rattle.control_sets.specs.Progress.{Tells}
-use Rattle.control_sets.specs.Selections.{is_awaited, is_known, missing_page, operation_by, operation_with}
+use Rattle.control_sets.specs.Selections.{operation_by, operation_with}
 use Rattle.control_sets.proofs.TaskLaws.{judged_read_back, judged_selection, not_said}
 
 abbrev pub Silent : Step → History → List Task → Type 0
 Silent step before tasks = AllByRecursion (λ task. judgement_at task step before ≡ NotYet) tasks
 
--- no two pages are confirmed
-abbrev pub OnePage : History → Type 0
-OnePage history = (page other : ℕ) → not (other == page) ≡ true → confirms page history ≡ true → confirms other history ≡ false
-
 not_true : (b : Bool) → not b ≡ true → b ≡ false
 not_true true e = sym e
 not_true false e = refl
 
-one_known : (selected : Selection) (page other : ℕ) → not (other == page) ≡ true → is_known selected page ≡ true → is_known selected other ≡ false
-one_known Unknown page other apart known = refl
-one_known Open page other apart known = refl
-one_known (Page number) page other apart known = grind (arith, nat_tests)
-
-pub one_page : (selected : Selection) (history : History) → Tells selected history → OnePage history
-one_page selected history told page other apart confirmed = told.known other ∙ one_known selected page other apart (sym (told.known page) ∙ confirmed)
-
-off_page : (page other : Option ℕ) (before : History) → OnePage before → are_other_pages other page ≡ true → is_on page before ≡ true → is_on other before ≡ false
+off_page : (page other : Option ℕ) (before : History) → OnePage BankAndPage before → are_other_pages other page ≡ true → is_on page before ≡ true → is_on other before ≡ false
 off_page (Some page) (Some other) before one apart on = one page other apart on
 off_page None (Some other) before one apart on = cc
 off_page page None before one apart on = cc
@@ -47,7 +35,7 @@ and_false : (b : Bool) → (b && false) ≡ false
 and_false true = refl
 and_false false = refl
 
-other_silent : (step : Step) (before : History) (task other : Task) → OnePage before → step.op ≡ operation task → is_on (page_of task) before ≡ true → are_apart other task ≡ true → judgement_at other step before ≡ NotYet
+other_silent : (step : Step) (before : History) (task other : Task) → OnePage BankAndPage before → step.op ≡ operation task → is_on (page_of task) before ≡ true → are_apart other task ≡ true → judgement_at other step before ≡ NotYet
 other_silent step before task other one e on apart =
     elim (or_cases (not (same_op (operation other) (operation task))) (are_other_pages (page_of other) (page_of task)) apart) as (λ _. judgement_at other step before ≡ NotYet) [
       | inl differs ↦ not_said other step before (ap (same_op (operation other)) e ∙ not_true _ differs)
@@ -56,7 +44,7 @@ other_silent step before task other one e on apart =
           ∙ ap (λ (b : Bool). if b then judgement other step.reply else NotYet) (and_false (same_op (operation other) step.op))
     ]
 
-module _ (step : Step) (before : History) (task : Task) (one : OnePage before) (e : step.op ≡ operation task) (on : is_on (page_of task) before ≡ true) where
+module _ (step : Step) (before : History) (task : Task) (one : OnePage BankAndPage before) (e : step.op ≡ operation task) (on : is_on (page_of task) before ≡ true) where
   later_silent : (tasks : List Task) → list_all (λ other. are_apart task other && are_apart other task) tasks ≡ true → Silent step before tasks
   later_silent [] apart = tt
   later_silent (other ∷ tasks) apart =
@@ -129,19 +117,15 @@ pub read_back_silent : (step : Step) (before : History) (tasks : List Task) → 
 read_back_silent step before [] e = tt
 read_back_silent step before (task ∷ tasks) e = (judged_read_back task step before e, read_back_silent step before tasks e)
 
-none_missing : (known : Bool) (page : ℕ) → (if known then None else Some page) ≡ None → known ≡ true
-none_missing true page e = refl
-none_missing false page e = cc
-
 -- where no page is missing, the one that is needed is confirmed
-pub on_page : (selected : Selection) (page : Option ℕ) (before : History) → Tells selected before → missing_page selected page ≡ None → is_on page before ≡ true
+pub on_page : (selected : Selected) (page : Option ℕ) (before : History) → Tells BankAndPage selected before → missing_page selected page ≡ None → is_on page before ≡ true
 on_page selected None before told e = refl
-on_page selected (Some page) before told e = told.known page ∙ none_missing (is_known selected page) page e
+on_page selected (Some page) before told e = is_confirmed BankAndPage selected page before told e
 
-module _ (selected : Selection) (step : Step) (before : History) (task : Task) (earlier later : List Task) (told : Tells selected before) (apart : all_apart (earlier ++ task ∷ later) ≡ true) where
+module _ (selected : Selected) (step : Step) (before : History) (task : Task) (earlier later : List Task) (told : Tells BankAndPage selected before) (apart : all_apart (earlier ++ task ∷ later) ≡ true) where
   silent_with : (missing : Option ℕ) → missing_page selected (page_of task) ≡ missing → step.op ≡ operation_with task missing → Silent step before earlier × Silent step before later
   silent_with None none e =
-      let one = one_page selected before told in
+      let one = one_page BankAndPage selected before told in
       let on = on_page selected (page_of task) before told none in
       (earlier_silent step before task one e on earlier later apart, rest_silent step before task one e on earlier later apart)
   silent_with (Some page) some e = (selection_silent step before page earlier e, selection_silent step before page later e)

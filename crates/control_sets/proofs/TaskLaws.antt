@@ -1,9 +1,11 @@
 -- No task's operation is on the page selection, and what is asked for is judged as what was kept says.
-use Rattle.std.proofs.Common.{◌≡◌, ℕ, ◌==◌, ◌&&◌, Bool, true, false, List, [], ◌∷◌, Some, None, refl, ap, ◌∙◌, if◌then◌else◌, eq-eqb, arith}
-use Rattle.std.proofs.lemmas.Bool.{and_from}
+use Rattle.std.proofs.Common.{◌≡◌, ℕ, ◌&&◌, Bool, true, false, refl, sym, ap, ◌∙◌, if◌then◌else◌}
 use Rattle.control_sets.specs.declared.procedures.task.Task.{Task}
 use Rattle.control_sets.specs.declared.procedures.task.Task.TheVariants.{FindReady, Deinitialize, AwaitDeactivated, Stage, CheckStaged, Apply, AwaitApplied, CheckActive, AwaitActivated}
-use Rattle.control_sets.specs.SameOperation.{same_bytes, same_op}
+use Rattle.bus_model.specs.SameOperation.{same_op}
+use Rattle.bus_model.proofs.SameOperations.{ops_same}
+use Rattle.paged_memory.specs.declared.paging.Paging.TheVariants.{BankAndPage}
+use Rattle.paged_memory.specs.KnownPages.{IsApart}
 use Rattle.control_sets.specs.Pages.{History, may_select, read_selection, selection}
 use Rattle.bus_model.specs.declared.operation.Step.{Step}
 use Rattle.control_sets.specs.declared.procedures.judgement.Judgement.TheVariants.{NotYet}
@@ -33,6 +35,9 @@ not_reading_back (AwaitApplied lanes) = refl
 not_reading_back (CheckActive control) = refl
 not_reading_back (AwaitActivated lanes) = refl
 
+pub apart : (task : Task) → IsApart BankAndPage (operation task)
+apart task = record { not_selecting = not_selecting task; not_reading_back = not_reading_back task }
+
 pub no_read_back : (task : Task) → same_op (operation task) read_selection ≡ false
 no_read_back FindReady = refl
 no_read_back (Deinitialize bits) = refl
@@ -55,28 +60,13 @@ no_selection (AwaitApplied lanes) page = refl
 no_selection (CheckActive control) page = refl
 no_selection (AwaitActivated lanes) page = refl
 
-same_bytes_refl : (bytes : List ℕ) → same_bytes bytes bytes ≡ true
-same_bytes_refl [] = refl
-same_bytes_refl (byte ∷ bytes) = and_from _ _ (eq-eqb byte byte refl) (same_bytes_refl bytes)
-
-pub its_own : (task : Task) → same_op (operation task) (operation task) ≡ true
-its_own FindReady = refl
-its_own (Deinitialize bits) = same_bytes_refl (bits ∷ [])
-its_own (AwaitDeactivated lanes) = refl
-its_own (Stage control) = same_bytes_refl control
-its_own (CheckStaged control) = refl
-its_own (Apply bits) = same_bytes_refl (bits ∷ [])
-its_own (AwaitApplied lanes) = refl
-its_own (CheckActive control) = refl
-its_own (AwaitActivated lanes) = refl
-
 -- a step with another operation says nothing of the task
 pub not_said : (task : Task) (step : Step) (before : History) → same_op (operation task) step.op ≡ false → judgement_at task step before ≡ NotYet
 not_said task step before other = ap (λ (b : Bool). if b && is_on (page_of task) before then judgement task step.reply else NotYet) other
 
 -- its own operation on its page is judged by the reply
 pub judged_own : (task : Task) (step : Step) (before : History) → step.op ≡ operation task → is_on (page_of task) before ≡ true → judgement_at task step before ≡ judgement task step.reply
-judged_own task step before e on = (λ i. if (ap (same_op (operation task)) e ∙ its_own task) i && on i then judgement task step.reply else NotYet)
+judged_own task step before e on = (λ i. if (ops_same (operation task) step.op (sym e)) i && on i then judgement task step.reply else NotYet)
 
 pub judged_selection : (task : Task) (step : Step) (before : History) (page : ℕ) → step.op ≡ selection page → judgement_at task step before ≡ NotYet
 judged_selection task step before page e = not_said task step before (ap (same_op (operation task)) e ∙ no_selection task page)

@@ -1,5 +1,5 @@
 -- What a procedure asks for, and what a reply makes of it.
-use Rattle.std.proofs.Common.{◌≡◌, ℕ, zero, suc, ◌+◌, ◌-◌, ◌<◌, ◌≤◌, Bool, true, false, List, [], ◌∷◌, ◌++◌, length, take, drop, get_or, Option, Some, None, Result, Ok, Err, refl, sym, ap, subst, ◌∙◌, inl, inr, if◌then◌else◌, nat_lt, append_assoc, add-one, arith}
+use Rattle.std.proofs.Common.{◌≡◌, ℕ, zero, suc, ◌+◌, ◌<◌, ◌≤◌, Bool, true, false, List, [], ◌∷◌, ◌++◌, length, take, drop, get_or, Option, Some, None, Err, refl, sym, ap, subst, ◌∙◌, inl, inr, if◌then◌else◌, nat_lt, add-one, arith}
 use Rattle.std.specs.List.{slice_get}
 use Rattle.std.specs.Option.{option_map}
 use Rattle.std.proofs.lemmas.List.{drop_all, take_more}
@@ -10,7 +10,10 @@ use Rattle.bus_model.specs.declared.operation.Op.{Op}
 use Rattle.bus_model.specs.declared.operation.Reply.{Reply}
 use Rattle.bus_model.specs.declared.operation.Step.{Step}
 use Rattle.control_sets.specs.declared.procedures.session.Session.{Session}
-use Rattle.control_sets.specs.declared.procedures.selection.Selection.TheVariants.{Unknown}
+use Rattle.paged_memory.specs.declared.paging.Paging.TheVariants.{BankAndPage}
+use Rattle.paged_memory.specs.declared.paging.Selected.TheVariants.{Unknown}
+use Rattle.paged_memory.specs.KnownPages.{Tells}
+use Rattle.paged_memory.proofs.KnownPageLaws.{tells_nothing}
 use Rattle.control_sets.specs.declared.procedures.task.Task.{Task}
 use Rattle.control_sets.specs.declared.procedures.judgement.Judgement.{Judgement}
 use Rattle.control_sets.specs.declared.procedures.judgement.Judgement.TheVariants.{Met, NotYet, Fails}
@@ -22,10 +25,10 @@ use Rattle.control_sets.specs.declared.procedures.procedure.Procedure.{Procedure
 use Rattle.bus_model.specs.Operations.{Answers}
 use Rattle.control_sets.specs.Pages.{History}
 use Rattle.control_sets.specs.declared.procedures.registers.TheConstants.{MAX_STEPS}
-use Rattle.control_sets.specs.Procedures.{EachIsNext, EndsFirst, GivesUp, HasEnded, all_apart, in_hand, judgement_at, next_operation}
+use Rattle.control_sets.specs.Procedures.{all_apart, judgement_at, next_operation}
 use Rattle.control_sets.specs.Selections.{judgement_by, operation_by, selection_after}
 use Rattle.control_sets.specs.Asking.{IsReplyTo, next_after, next_for, next_with, step_with}
-use Rattle.control_sets.specs.Progress.{Follows, HasCome, HasFailed, IsAt, Tells, UnderWay, next, tasks_of}
+use Rattle.control_sets.specs.Progress.{Follows, HasCome, IsAt, UnderWay, next, tasks_of}
 use Rattle.control_sets.proofs.UnderWayLaws.{IsNext, all_met, begun, each_next, ends, goes_on, hand, moves, stays}
 use Rattle.control_sets.proofs.SelectionLaws.{judged_made, next_made}
 use Rattle.control_sets.proofs.Silence.{silent_next}
@@ -41,7 +44,7 @@ moved tasks met d session history more u =
     (subst (λ earlier. UnderWay tasks earlier (drop (suc met) tasks) session history) (sym (take_more tasks met d more)) u)
 
 pub at_start : (tasks : List Task) → UnderWay tasks [] tasks (record { steps = 0; selection = Unknown }) []
-at_start tasks = begun tasks (record { steps = 0; selection = Unknown }) refl (record { awaited = refl; known = λ _. refl })
+at_start tasks = begun tasks (record { steps = 0; selection = Unknown }) refl (tells_nothing BankAndPage)
 
 -- where a reply is taken, there is a task in hand, and a step left
 pub record Awaits (tasks : List Task) (met : ℕ) (session : Session) (fault : Option ProvisionFault) (reply : Reply) (task : Task) : Type 0 where
@@ -74,7 +77,7 @@ awaits_with tasks met d session None reply (Some task) e answers =
 pub awaits : (procedure : Procedure) (d : Task) (reply : Reply) → IsReplyTo (next procedure) reply → Awaits (tasks_of procedure.work) procedure.met procedure.session procedure.fault reply (get_or (tasks_of procedure.work) procedure.met d)
 awaits procedure d reply answers = awaits_with (tasks_of procedure.work) procedure.met d procedure.session procedure.fault reply (slice_get (tasks_of procedure.work) procedure.met) refl answers
 
-next_of : (tasks earlier later : List Task) (task : Task) (old new : Session) (step : Step) (before : History) → Tells old.selection before → tasks ≡ earlier ++ task ∷ later → all_apart tasks ≡ true → old.steps < MAX_STEPS → Answers step.op step.reply →
+next_of : (tasks earlier later : List Task) (task : Task) (old new : Session) (step : Step) (before : History) → Tells BankAndPage old.selection before → tasks ≡ earlier ++ task ∷ later → all_apart tasks ≡ true → old.steps < MAX_STEPS → Answers step.op step.reply →
     step.op ≡ operation_by old.selection task → new.steps ≡ old.steps + 1 → new.selection ≡ selection_after old.selection step → IsNext earlier later task old new step before
 next_of tasks earlier later task old new step before told split apart more answers done count selection =
     let silent = silent_next old.selection step before task earlier later told (subst (λ tasks. all_apart tasks ≡ true) split apart) done in

@@ -1,5 +1,5 @@
 -- How far a procedure has come, and what one step more makes of it.
-use Rattle.std.proofs.Common.{◌≡◌, ◌≢◌, ℕ, suc, ◌+◌, ◌<◌, ◌≤◌, Bool, true, false, not, List, [], ◌∷◌, ◌++◌, length, Option, Some, None, Result, Ok, Err, refl, sym, ap, subst, ◌∙◌, append_assoc, arith}
+use Rattle.std.proofs.Common.{◌≡◌, ◌+◌, ◌<◌, true, not, List, [], ◌∷◌, ◌++◌, Some, None, Ok, Err, refl, sym, ap, subst, ◌∙◌, append_assoc, arith}
 use Rattle.std.specs.List.{list_all}
 use Rattle.std.specs.Option.{option_map}
 use Rattle.std.proofs.lemmas.List.Folds.{list_all-append}
@@ -7,15 +7,16 @@ use Rattle.std.proofs.lemmas.Bool.{and_parts, and_from, or_left}
 use Rattle.bus_model.specs.declared.operation.Step.{Step}
 use Rattle.control_sets.specs.declared.procedures.session.Session.{Session}
 use Rattle.control_sets.specs.declared.procedures.task.Task.{Task}
-use Rattle.control_sets.specs.declared.procedures.judgement.Judgement.{Judgement}
 use Rattle.control_sets.specs.declared.procedures.judgement.Judgement.TheVariants.{Met, NotYet, Fails}
 use Rattle.control_sets.specs.declared.fault.ProvisionFault.{ProvisionFault}
 use Rattle.bus_model.specs.Operations.{Answers}
 use Rattle.control_sets.specs.Pages.{History}
 use Rattle.control_sets.specs.declared.procedures.registers.TheConstants.{MAX_STEPS}
-use Rattle.control_sets.specs.Procedures.{EachGoesOn, EachIsNext, EndsFirst, GoesOn, fault_after, fault_by, fault_in, in_hand, is_met, judgement_at, next_operation, was_met}
+use Rattle.control_sets.specs.Procedures.{EachGoesOn, EachIsNext, EndsFirst, fault_after, fault_by, fault_in, in_hand, is_met, judgement_at, next_operation, was_met}
 use Rattle.control_sets.specs.Selections.{operation_by, selection_after}
-use Rattle.control_sets.specs.Progress.{BeforeGoesOn, Tells, UnderWay}
+use Rattle.paged_memory.specs.declared.paging.Paging.TheVariants.{BankAndPage}
+use Rattle.paged_memory.specs.KnownPages.{Tells}
+use Rattle.control_sets.specs.Progress.{BeforeGoesOn, UnderWay}
 use Rattle.control_sets.proofs.SelectionLaws.{next_made, tells_next}
 use Rattle.control_sets.proofs.Silence.{Silent, fault_shown, in_hand_first, in_hand_past, met_stays, unmet_stays}
 
@@ -23,7 +24,7 @@ none_met : (tasks : List Task) → list_all (λ task. not (was_met task [])) tas
 none_met [] = refl
 none_met (task ∷ tasks) = none_met tasks
 
-pub begun : (tasks : List Task) (session : Session) → session.steps ≡ 0 → Tells session.selection [] → UnderWay tasks [] tasks session []
+pub begun : (tasks : List Task) (session : Session) → session.steps ≡ 0 → Tells BankAndPage session.selection [] → UnderWay tasks [] tasks session []
 begun tasks session none told = record { split = refl; each = tt; answers = tt; count = sym none; few = omega arith; told = told; met = refl; unmet = none_met tasks; no_fault = refl; before = tt }
 
 each_goes_on : (tasks : List Task) (task : Task) (history : History) → in_hand tasks history ≡ Some task → fault_after tasks history ≡ None → BeforeGoesOn tasks history → EachGoesOn tasks history
@@ -53,8 +54,8 @@ module _ (tasks earlier later : List Task) (task : Task) (old new : Session) (hi
   pub each_next : EachIsNext tasks (step ∷ history)
   each_next = (ap (option_map (next_operation history)) (hand tasks earlier later task old history u) ∙ ap (λ op. Some op) (next_made old.selection task history u.told ∙ sym next.done), u.each)
 
-  told_next : Tells new.selection (step ∷ history)
-  told_next = subst (λ selected. Tells selected (step ∷ history)) (sym next.selection) (tells_next old.selection task history step next.done u.told)
+  told_next : Tells BankAndPage new.selection (step ∷ history)
+  told_next = subst (λ selected. Tells BankAndPage selected (step ∷ history)) (sym next.selection) (tells_next old.selection task history step next.done u.told)
 
   fault_next : fault_by tasks step history ≡ fault_in (judgement_at task step history)
   fault_next = ap (λ tasks. fault_by tasks step history) u.split ∙ fault_shown step history earlier later task next.silent_before next.silent_after

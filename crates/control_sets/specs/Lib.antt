@@ -3,7 +3,6 @@ pub mod HostPaths
 pub mod PlanPaths
 pub mod LanesOfPaths
 pub mod PlanLanes
-pub mod SameOperation
 pub mod Pages
 pub mod Tasks
 pub mod Judgements

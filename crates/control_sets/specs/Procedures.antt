@@ -1,6 +1,6 @@
 -- Procedures: tasks in order, each of which is worked at until it is met. What may come next, and how a procedure ends.
 -- Steps stand with the newest first. (docs/bus.md, "Procedures")
-use Rattle.std.specs.Prelude.{◌≡◌, ◌≢◌, ℕ, ◌+◌, ◌<◌, ◌≤◌, ◌⊎◌, ◌==◌, ◌&&◌, ◌||◌, not, Bool, true, false, List, [], ◌∷◌, length, Option, Some, None, if◌then◌else◌, find, Result, Ok, Err, reverse}
+use Rattle.std.specs.Prelude.{◌≡◌, ◌≢◌, ℕ, ◌<◌, ◌≤◌, ◌⊎◌, ◌==◌, ◌&&◌, ◌||◌, not, Bool, true, false, List, [], ◌∷◌, length, Option, Some, None, if◌then◌else◌, find, Result, Ok, Err, reverse}
 use Rattle.std.specs.List.{AllByRecursion, list_all}
 use Rattle.std.specs.Option.{option_map}
 use Rattle.bus_model.specs.declared.bus.BusFault.TheVariants.{TraceFull}
@@ -14,7 +14,7 @@ use Rattle.control_sets.specs.declared.procedures.registers.TheConstants.{MAX_ST
 use Rattle.control_sets.specs.declared.procedures.task.Task.{Task}
 use Rattle.control_sets.specs.declared.procedures.judgement.Judgement.{Judgement}
 use Rattle.control_sets.specs.declared.procedures.judgement.Judgement.TheVariants.{Met, NotYet, Fails}
-use Rattle.control_sets.specs.SameOperation.{same_op}
+use Rattle.bus_model.specs.SameOperation.{same_op}
 use Rattle.control_sets.specs.Pages.{History, selection, read_selection, confirms, is_open}
 use Rattle.control_sets.specs.Tasks.{operation, page_of}
 use Rattle.control_sets.specs.Judgements.{judgement}

@@ -1,23 +1,23 @@
 -- How far a procedure has come: what its data says of the steps that it was told, and what it asks for. (docs/bus.md,
 -- "Procedures")
-use Rattle.std.specs.Prelude.{◌≡◌, ℕ, ◌-◌, ◌<◌, ◌≤◌, Bool, true, not, List, [], ◌∷◌, ◌++◌, length, take, drop, Option, Some, None, Err, slice_get}
+use Rattle.std.specs.Prelude.{◌≡◌, ℕ, ◌-◌, ◌<◌, ◌≤◌, true, not, List, [], ◌∷◌, ◌++◌, length, take, drop, Option, Some, None, Err, slice_get}
 use Rattle.std.specs.List.{list_all}
 use Rattle.std.specs.Option.{option_map}
 use Rattle.bus_model.specs.declared.operation.Op.{Op}
 use Rattle.control_sets.specs.declared.fault.ProvisionFault.{ProvisionFault}
 use Rattle.control_sets.specs.declared.procedures.registers.TheConstants.{MAX_STEPS}
 use Rattle.control_sets.specs.declared.procedures.task.Task.{Task}
-use Rattle.control_sets.specs.declared.procedures.selection.Selection.{Selection}
+use Rattle.paged_memory.specs.declared.paging.Paging.TheVariants.{BankAndPage}
+use Rattle.paged_memory.specs.KnownPages.{Tells}
 use Rattle.control_sets.specs.declared.procedures.session.Session.{Session}
 use Rattle.control_sets.specs.declared.procedures.next.Next.{Next}
 use Rattle.control_sets.specs.declared.procedures.next.Next.TheVariants.{Do, Done}
 use Rattle.control_sets.specs.declared.procedures.procedure.Work.{Work}
 use Rattle.control_sets.specs.declared.procedures.procedure.Work.TheVariants.{Provisioning, Activation}
 use Rattle.control_sets.specs.declared.procedures.procedure.Procedure.{Procedure}
-use Rattle.control_sets.specs.Pages.{History, confirms, is_open}
+use Rattle.control_sets.specs.Pages.{History}
 use Rattle.control_sets.specs.Tasks.{provisioning, activation}
 use Rattle.control_sets.specs.Procedures.{EachAnswers, EachGoesOn, EachIsNext, EndsFirst, HasEnded, all_apart, fault_after, in_hand, next_operation, was_met}
-use Rattle.control_sets.specs.Selections.{is_awaited, is_known}
 use Rattle.control_sets.specs.Asking.{next_after}
 
 abbrev pub tasks_of : Work → List Task
@@ -32,11 +32,6 @@ next procedure = next_after procedure.fault procedure.session (slice_get (tasks_
 abbrev pub steps_left : Procedure → ℕ
 steps_left procedure = MAX_STEPS - procedure.session.steps
 
--- what is known of the selection is what the steps say
-pub record Tells (selected : Selection) (history : History) : Type 0 where
-  pub awaited : is_open history ≡ is_awaited selected
-  pub known : (page : ℕ) → confirms page history ≡ is_known selected page
-
 -- no fewer of the steps end in an answer
 abbrev pub BeforeGoesOn : List Task → History → Type 0
 BeforeGoesOn tasks [] = Unit {0}
@@ -49,7 +44,7 @@ pub record UnderWay (tasks earlier later : List Task) (session : Session) (histo
   pub answers : EachAnswers history
   pub count : length history ≡ session.steps
   pub few : session.steps ≤ MAX_STEPS
-  pub told : Tells session.selection history
+  pub told : Tells BankAndPage session.selection history
   pub met : list_all (λ task. was_met task history) earlier ≡ true
   pub unmet : list_all (λ task. not (was_met task history)) later ≡ true
   pub no_fault : fault_after tasks history ≡ None

@@ -11,7 +11,7 @@ ghost use Rattle.bus_model.specs.declared.bus.BusFault.TheVariants.{TraceFull};
 ghost use Rattle.bus_model.specs.declared.operation.Step.{Step};
 ghost use Rattle.field_tables.specs.LaneSets.{byte_of, every_lane, Lanes};
 ghost use Rattle.control_sets.specs.declared.fault.ProvisionFault.TheVariants.{ActiveDiffers, Bus, GaveUp, ModuleState, Reserved, StagedDiffers};
-ghost use Rattle.control_sets.specs.SameOperation.{same_op};
+ghost use Rattle.bus_model.specs.SameOperation.{same_op};
 ghost use Rattle.control_sets.specs.Pages.{read_selection, selection, History};
 ghost use Rattle.control_sets.specs.OutcomeSteps.{Gives, IsAccepted, IsAnswered, Stands};
 ghost use Rattle.control_sets.specs.OutcomeOperations.{apply, control_page, read_active, read_module_state, read_path_states, read_staged, read_statuses, stage, status_page};

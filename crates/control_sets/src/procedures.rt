@@ -5,7 +5,6 @@ mod next;
 mod procedure;
 mod registers;
 mod runner;
-mod selection;
 mod session;
 mod task;
 

@@ -7,3 +7,4 @@ pub mod Writing
 pub mod PageLineLaws
 pub mod OneAnswer
 pub mod WindowRuns
+pub mod KnownPageLaws

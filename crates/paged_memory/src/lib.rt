@@ -8,6 +8,7 @@ mod key;
 pub mod laws;
 mod page;
 mod page_line;
+mod paging;
 mod selection;
 mod window;
 
@@ -16,5 +17,6 @@ pub use fault::ImageFault;
 pub use image::{Image, MAX_PAGES};
 pub use key::{Half, Key};
 pub use page::{PAGE_LEN, Page};
+pub use paging::{Paging, Selected};
 pub use selection::{Selecting, Selection};
 pub use window::{Window, WindowFault};

@@ -5,11 +5,11 @@ ghost use Rattle.control_sets.specs.Tasks.{provisioning, activation};
 use crate::fault::ProvisionFault;
 use crate::procedures::judgement::Judgement;
 use crate::procedures::next::Next;
-use crate::procedures::selection::Selection;
 use crate::procedures::session::Session;
 use crate::procedures::task::Task;
 use bus_model::{Op, Reply};
 use field_tables::LaneSet;
+use paged_memory::Selected;
 
 /// What a procedure brings about.
 #[derive(Clone, Copy, Debug, PartialEq, Eq)]
@@ -90,7 +90,7 @@ impl Procedure {
             met: 0,
             session: Session {
                 steps: 0,
-                selection: Selection::Unknown,
+                selection: Selected::Unknown,
             },
             fault: None,
         }

@@ -6,9 +6,6 @@ pub const MAX_STEPS: u16 = 4096;
 /// The byte of the lower memory with the module state.
 pub const MODULE_STATE: u8 = 3;
 
-/// BankSelect in the lower memory; PageSelect is next.
-pub const BANK_SELECT: u8 = 126;
-
 /// The page of lane control.
 pub const CONTROL_PAGE: u8 = 0x10;
 

@@ -5,9 +5,9 @@ use crate::fault::ProvisionFault;
 use crate::procedures::judgement::Judgement;
 use crate::procedures::next::Next;
 use crate::procedures::registers::MAX_STEPS;
-use crate::procedures::selection::{Selection, read_selection, select};
 use crate::procedures::task::Task;
 use bus_model::{Op, Reply};
+use paged_memory::{Paging, Selected};
 
 /// What a procedure keeps of the steps that it was told.
 #[derive(Clone, Copy, Debug, PartialEq, Eq)]
@@ -15,7 +15,7 @@ pub struct Session {
     /// How many there were.
     pub steps: u16,
     /// What they say of the page selection.
-    pub selection: Selection,
+    pub selection: Selected,
 }
 
 impl Session {
@@ -38,13 +38,8 @@ impl Session {
         ensures operation { result ≡ operation_by self.now.selection task.now }
         ensures shape { IsWellShaped result }
     {
-        if self.selection.is_open() {
-            return read_selection();
-        }
-        match self.selection.missing(task.page()) {
-            Some(page) => select(page),
-            None => task.op(),
-        }
+        self.selection
+            .wanted(Paging::BankAndPage, task.page(), task.op())
     }
 
     /// Takes the reply to the operation for the task, and says what it says of the task.
@@ -59,13 +54,13 @@ impl Session {
         self.steps += 1;
         if self.selection.is_open() {
             if let Reply::Bytes(bytes) = reply {
-                self.selection = Selection::of(bytes);
+                self.selection = Selected::of(Paging::BankAndPage, bytes);
             }
             return Judgement::NotYet;
         }
         match self.selection.missing(task.page()) {
             Some(_) => {
-                self.selection = Selection::Open;
+                self.selection = Selected::Open;
                 Judgement::NotYet
             }
             None => task.judge(reply),

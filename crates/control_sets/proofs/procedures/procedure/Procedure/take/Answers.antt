@@ -1,4 +1,4 @@
-use Rattle.std.proofs.Common.{◌≡◌, ◌∷◌, ◌+◌, Option, sym, subst, ◌∙◌}
+use Rattle.std.proofs.Common.{◌∷◌, ◌+◌, Option, sym, subst, ◌∙◌}
 use Rattle.control_sets.specs.declared.procedures.judgement.Judgement.TheVariants.{Met, NotYet, Fails}
 use Rattle.control_sets.specs.declared.fault.ProvisionFault.{ProvisionFault}
 use Rattle.control_sets.specs.Progress.{IsAt}
