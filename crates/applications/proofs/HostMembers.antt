@@ -1,5 +1,6 @@
 -- The members of the table `host`, read one after the other.
 use Rattle.std.proofs.Common.{◌≡◌, ◌≢◌, ℕ, ◌+◌, ◌*◌, ◌^◌, ◌<◌, Bool, true, false, ◌&&◌, ◌||◌, ◌==◌, cond, List, [], ◌∷◌, ◌++◌, length, map, Option, Some, None, is_none, nat_lt, pos, unwrap_or, get_or, set, arith, refl, sym, ap, inl, inr, ◌∙◌, append_assoc, append-nil, get_or-set_same, get_or-set_other}
+use Rattle.std.proofs.Math.Bool.{or-false}
 use Rattle.std.proofs.lemmas.Bool.{cases_eq, cond_both, or_parts, ltb-true, eq-eqb, ne_eqb}
 use Rattle.std.proofs.lemmas.List.{ext_get_or, get_or_default, get_or-replicate}
 use Rattle.std.proofs.lemmas.List.Folds.{find-append, list_any-append}
@@ -37,10 +38,6 @@ id_of-below member =
 or_true : (b : Bool) → (b || true) ≡ true
 or_true true = refl
 or_true false = refl
-
-or_false : (b : Bool) → (b || false) ≡ b
-or_false true = refl
-or_false false = refl
 
 or_none : (found : Option Member) → option_map_or weight_of (option_or found None) 0 ≡ option_map_or weight_of found 0
 or_none None = refl
@@ -92,7 +89,7 @@ listed_last : (before : List Member) (member : Member) (host_id : ℕ) → is_of
 listed_last before member host_id e = list_any-append (is_of host_id) before (member ∷ []) ∙ rw e (or_true (is_listed before host_id))
 
 listed_before : (before : List Member) (member : Member) (host_id : ℕ) → is_of host_id member ≡ false → is_listed (before ++ member ∷ []) host_id ≡ is_listed before host_id
-listed_before before member host_id e = list_any-append (is_of host_id) before (member ∷ []) ∙ rw e (or_false (is_listed before host_id))
+listed_before before member host_id e = list_any-append (is_of host_id) before (member ∷ []) ∙ rw e (or-false (is_listed before host_id))
 
 weight_last : (before : List Member) (member : Member) (host_id : ℕ) → is_listed before host_id ≡ false → is_of host_id member ≡ true → weight_in (before ++ member ∷ []) host_id ≡ weight_of member
 unfolding weight_in

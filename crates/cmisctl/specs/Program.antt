@@ -29,19 +29,19 @@ use Rattle.cmisctl.specs.declared.output.stopping_writer.StoppingWriter.{Stoppin
 use Rattle.cmisctl.specs.declared.status.Status.{Status}
 use Rattle.cmisctl.specs.declared.status.Status.TheVariants as status
 
--- what each command answers to an input, where activation is asked for or not
-abbrev pub IsAnswerBy : CommandName → Bool → List ℕ → Answer → Type 0
-IsAnswerBy Inventory activate = IsAnswerTo 1 IsInventoryAnswer
-IsAnswerBy Apps activate = IsAnswerTo 1 IsAppsAnswer
-IsAnswerBy Monitors activate = IsAnswerTo 1 IsMonitorsAnswer
-IsAnswerBy Flags activate = IsAnswerTo 1 IsFlagsAnswer
-IsAnswerBy Plan activate = IsAnswerTo 2 IsPlanAnswer
-IsAnswerBy Check activate = IsAnswerTo 3 IsCheckAnswer
-IsAnswerBy Provision activate = IsAnswerTo 3 (IsProvisionAnswer activate)
-IsAnswerBy Trace activate = IsAnswerTo 3 (IsTraceAnswer activate)
+-- what each command answers to an input, with the flags that are given
+abbrev pub IsAnswerBy : CommandName → Choice → List ℕ → Answer → Type 0
+IsAnswerBy Inventory given = IsAnswerTo 1 IsInventoryAnswer
+IsAnswerBy Apps given = IsAnswerTo 1 IsAppsAnswer
+IsAnswerBy Monitors given = IsAnswerTo 1 IsMonitorsAnswer
+IsAnswerBy Flags given = IsAnswerTo 1 IsFlagsAnswer
+IsAnswerBy Plan given = IsAnswerTo 2 IsPlanAnswer
+IsAnswerBy Check given = IsAnswerTo 3 IsCheckAnswer
+IsAnswerBy Provision given = IsAnswerTo 3 (IsProvisionAnswer given.activate)
+IsAnswerBy Trace given = IsAnswerTo 3 (IsTraceAnswer given.activate)
 
 abbrev pub IsAnswerOf : Choice → List ℕ → Answer → Type 0
-IsAnswerOf choice = IsAnswerBy choice.name choice.activate
+IsAnswerOf choice = IsAnswerBy choice.name choice
 
 -- the words give no choice: `clap` refuses them, or an allocation was refused
 abbrev pub IsRefusalOf : List Text → ChoiceFault → Type 0

@@ -110,6 +110,3 @@ pub fn help_is_a_flag()
     ensures nothing { (program_name : Text)
         → faults_of (program_name ∷ []) ≡ ErrorKind.MissingSubcommand ∷ [] }
 {}
-
-#[cfg(test)]
-mod tests;

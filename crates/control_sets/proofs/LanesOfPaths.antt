@@ -20,9 +20,9 @@ right_lane bytes lane none (from, to) =
     let here : get_or lanes (lane - 1) 0 ≡ lane = get_or-range_with_len 1 8 (lane - 1) 0 (omega (arith, from, to)) ∙ omega (arith, from) in
     not-false (is_right bytes lane) (ap test (sym here) ∙ absent test lanes (lane - 1) 0 none (omega (arith, from, to)))
 
-used_or : (b c : Bool) → (not b || c) ≡ true → b ≡ true → c ≡ true
-used_or true c either used = either
-used_or false c either used = absurd (let wrong = used in cc)
+pub implied : (a b : Bool) → (not a || b) ≡ true → a ≡ true → b ≡ true
+implied true b e h = e
+implied false b e h = cc
 
 same_control : (control other : ControlByte) → are_same control other ≡ true → control ≡ other
 same_control control other same =
@@ -31,7 +31,7 @@ same_control control other same =
     let id = eqb-true control.data_path_id other.data_path_id parts.1 in
     (λ i. record { app_sel_code = code i; data_path_id = id i })
 
-same_itself : (control : ControlByte) → are_same control control ≡ true
+pub same_itself : (control : ControlByte) → are_same control control ≡ true
 same_itself control = and_from _ _ (eq-eqb control.app_sel_code control.app_sel_code refl) (eq-eqb control.data_path_id control.data_path_id refl)
 
 -- a lane that is used: its path begins no later, and each lane in between is told the same
@@ -43,7 +43,7 @@ reached : (bytes : List ℕ) (lane : ℕ) → wrong_lane bytes ≡ None → IsLa
 unfolding is_right
 reached bytes lane none within used =
     let start = first_lane (control_at bytes lane) in
-    let both : is_reached bytes lane ≡ true = used_or (is_used (control_at bytes lane)) (is_reached bytes lane) (right_lane bytes lane none within) used in
+    let both : is_reached bytes lane ≡ true = implied (is_used (control_at bytes lane)) (is_reached bytes lane) (right_lane bytes lane none within) used in
     let parts = and_parts (nat_le start lane) (all_agree bytes start lane) both in
     let first = leb-true start lane parts.0 in
     let row = range_with_len start (lane + 1 - start) in

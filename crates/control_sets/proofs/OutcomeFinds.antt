@@ -20,7 +20,7 @@ use Rattle.control_sets.specs.Judgements.{judged, judged_done, judgement}
 use Rattle.control_sets.specs.Procedures.{EachAnswers, EachGoesOn, fault_by, fault_in, in_hand, is_met, is_on, judgement_at, meets, or_else, was_met}
 use Rattle.control_sets.specs.OutcomeSteps.{Gives, IsAccepted, IsAnswered, Reads, Stands}
 use Rattle.control_sets.proofs.OutcomeWords.{contradicts}
-use Rattle.control_sets.proofs.OutcomeTurns.{IsAt, Meets, Turn, differs, is_at, judged_at, judged_by, meets_by, meets_is}
+use Rattle.control_sets.proofs.OutcomeTurns.{IsAt, Meets, Turn, differs, is_at, judged_at, judged_by, meets_by, meets_is, met_is}
 use Rattle.control_sets.proofs.OutcomeReplies.{Condition, IsWhole, Shows, Told, told}
 
 -- the control bytes of a task are eight
@@ -45,11 +45,6 @@ abbrev Found : Task → Reply → Type 0
 Found task (Bytes bytes) = Condition task bytes.items
 Found task Done = judged_done (operation task) ≡ Met
 Found task Refused = ⊥
-
-met_is : (judged : Judgement) → is_met judged ≡ true → judged ≡ Met
-met_is Met e = refl
-met_is NotYet e = cc
-met_is (Fails fault) e = cc
 
 met_told : (task : Task) (bytes : List ℕ) (judgement : Judgement) → Told task bytes judgement → is_met judgement ≡ true → Condition task bytes
 met_told task bytes Met t e = t.0

@@ -1,16 +1,18 @@
 -- What searches over lanes say in the words of the outcomes.
 use Rattle.std.proofs.Common.{◌≡◌, ◌≢◌, ℕ, zero, suc, ◌+◌, ◌-◌, ◌<◌, ◌≤◌, ◌==◌, ◌&&◌, ◌||◌, Bool, true, false, not, cond, List, [], ◌∷◌, Option, Some, None, find, map, length, slice_index, refl, sym, ap, subst, ◌∙◌, inl, inr, nat_le, arith, eq-eqb, le-leb, leb-true}
-use Rattle.std.proofs.lemmas.Bool.{and_parts, and_from, cases_Bool, eqb-true, or_cases, or_left, or_right}
+use Rattle.std.proofs.lemmas.Bool.{and_parts, and_from, cases_Bool, eqb-true, not-true, or_cases, or_left, or_right}
 use Rattle.std.specs.List.{list_all, range_with_len}
 use Rattle.std.specs.Option.{is_none}
 use Rattle.std.specs.FinSet as set
 use Rattle.field_tables.specs.LaneSets.{Lanes}
-use Rattle.datapath_states.specs.Lanes.{lane_in, lanes_in}
+use Rattle.datapath_states.specs.Lanes.{code_in, codes_in}
 use Rattle.datapath_states.specs.StateCodes.{state_at as path_state_at}
 use Rattle.datapath_states.specs.StatusCodes.{status_at}
 use Rattle.control_sets.specs.HostPaths.{IsLane}
 use Rattle.control_sets.specs.Judgements.{all_have, at_lane, differing_lane, is_rejection, is_reserved_state, is_reserved_status, lowest_lane}
 use Rattle.control_sets.specs.OutcomeCodes.{AllHave, DiffersAt, HasSuch, IsLowest, IsLowestSuch, IsRejection, IsReservedPathState, IsReservedStatus, NoneHas, byte_at}
+use Rattle.field_tables.proofs.TrueTests.{in_range, range_passes}
+use Rattle.control_sets.proofs.LanesOfPaths.{implied}
 use Rattle.control_sets.proofs.OutcomeWords.{contradicts}
 
 -- the first number of a row that passes
@@ -95,40 +97,36 @@ mapped_at f from (suc count) (suc i) below =
     let same : from + 1 + i ≡ from + suc i = omega arith in
     mapped_at f (from + 1) count i (omega (arith, below)) ∙ ap f same
 
-code_is : (bytes : List ℕ) (lane : ℕ) → IsLane lane → at_lane (lanes_in bytes 8) lane ≡ lane_in bytes lane
+code_is : (bytes : List ℕ) (lane : ℕ) → IsLane lane → at_lane (codes_in bytes 8) lane ≡ code_in bytes lane
 code_is bytes lane is_lane =
     let same : 1 + (lane - 1) ≡ lane = omega (arith, is_lane.0) in
-    mapped_at (lane_in bytes) 1 8 (lane - 1) (omega (arith, is_lane.0, is_lane.1)) ∙ ap (lane_in bytes) same
+    mapped_at (code_in bytes) 1 8 (lane - 1) (omega (arith, is_lane.0, is_lane.1)) ∙ ap (code_in bytes) same
 
-has_such : (test : ℕ → Bool) (P : ℕ → Type 0) (lanes : Lanes) (bytes : List ℕ) (lane : ℕ) → Decides test P → IsLane lane → (set.contains lanes lane && test (at_lane (lanes_in bytes 8) lane)) ≡ true → HasSuch P lanes bytes lane
+has_such : (test : ℕ → Bool) (P : ℕ → Type 0) (lanes : Lanes) (bytes : List ℕ) (lane : ℕ) → Decides test P → IsLane lane → (set.contains lanes lane && test (at_lane (codes_in bytes 8) lane)) ≡ true → HasSuch P lanes bytes lane
 has_such test P lanes bytes lane d is_lane e =
     let parts = and_parts _ _ e in
-    ((is_lane, parts.0), d.holds (lane_in bytes lane) (ap test (sym (code_is bytes lane is_lane)) ∙ parts.1))
+    ((is_lane, parts.0), d.holds (code_in bytes lane) (ap test (sym (code_is bytes lane is_lane)) ∙ parts.1))
 
-such_has : (test : ℕ → Bool) (P : ℕ → Type 0) (lanes : Lanes) (bytes : List ℕ) (lane : ℕ) → Decides test P → IsLane lane → HasSuch P lanes bytes lane → (set.contains lanes lane && test (at_lane (lanes_in bytes 8) lane)) ≡ true
+such_has : (test : ℕ → Bool) (P : ℕ → Type 0) (lanes : Lanes) (bytes : List ℕ) (lane : ℕ) → Decides test P → IsLane lane → HasSuch P lanes bytes lane → (set.contains lanes lane && test (at_lane (codes_in bytes 8) lane)) ≡ true
 such_has test P lanes bytes lane d is_lane such =
-    and_from _ _ such.0.1 (ap test (code_is bytes lane is_lane) ∙ d.passes (lane_in bytes lane) such.1)
+    and_from _ _ such.0.1 (ap test (code_is bytes lane is_lane) ∙ d.passes (code_in bytes lane) such.1)
 
-pub such_lane : (test : ℕ → Bool) (P : ℕ → Type 0) (lanes : Lanes) (bytes : List ℕ) (lane : ℕ) → Decides test P → lowest_lane test lanes (lanes_in bytes 8) ≡ Some lane →
-    IsLowestSuch P lanes lane (at_lane (lanes_in bytes 8) lane) bytes
+pub such_lane : (test : ℕ → Bool) (P : ℕ → Type 0) (lanes : Lanes) (bytes : List ℕ) (lane : ℕ) → Decides test P → lowest_lane test lanes (codes_in bytes 8) ≡ Some lane →
+    IsLowestSuch P lanes lane (at_lane (codes_in bytes 8) lane) bytes
 such_lane test P lanes bytes lane d e =
-    let lowest = lowest_is (λ lane. set.contains lanes lane && test (at_lane (lanes_in bytes 8) lane)) (HasSuch P lanes bytes) lane
+    let lowest = lowest_is (λ lane. set.contains lanes lane && test (at_lane (codes_in bytes 8) lane)) (HasSuch P lanes bytes) lane
     (λ lane is_lane passes. has_such test P lanes bytes lane d is_lane passes) (λ lane is_lane such. such_has test P lanes bytes lane d is_lane such) e in
     record { lowest = lowest; its_code = code_is bytes lane lowest.is_lane }
 
-pub no_such_lane : (test : ℕ → Bool) (P : ℕ → Type 0) (lanes : Lanes) (bytes : List ℕ) → Decides test P → lowest_lane test lanes (lanes_in bytes 8) ≡ None → NoneHas P lanes bytes
+pub no_such_lane : (test : ℕ → Bool) (P : ℕ → Type 0) (lanes : Lanes) (bytes : List ℕ) → Decides test P → lowest_lane test lanes (codes_in bytes 8) ≡ None → NoneHas P lanes bytes
 no_such_lane test P lanes bytes d e lane such =
-    none_is (λ lane. set.contains lanes lane && test (at_lane (lanes_in bytes 8) lane)) (HasSuch P lanes bytes)
+    none_is (λ lane. set.contains lanes lane && test (at_lane (codes_in bytes 8) lane)) (HasSuch P lanes bytes)
     (λ lane is_lane such. such_has test P lanes bytes lane d is_lane such) e lane such.0.0 such
 
 -- ---- the tests of codes
 
-not_true : (b : Bool) → not b ≡ true → b ≡ false
-not_true true e = cc
-not_true false e = refl
-
 not_same : (x y : ℕ) → not (x == y) ≡ true → x ≢ y
-not_same x y e same = contradicts (eq-eqb x y same) (not_true (x == y) e)
+not_same x y e same = contradicts (eq-eqb x y same) (not-true (x == y) e)
 
 differ : (x y : ℕ) → x ≢ y → not (x == y) ≡ true
 differ x y other = elim (cases_Bool (x == y)) as (λ _. not (x == y) ≡ true) [
@@ -161,40 +159,20 @@ rejection = record { holds = rejection_is; passes = rejection_by }
 
 -- ---- all lanes have a code
 
-all_in : (test : ℕ → Bool) (from count : ℕ) → list_all test (range_with_len from count) ≡ true → (k : ℕ) → from ≤ k → k < from + count → test k ≡ true
-all_in test from zero e k low high = absurd (omega (arith, low, high))
-all_in test from (suc count) e k low high =
-    let parts = and_parts _ _ e in
-    elim (cases_Bool (from == k)) as (λ _. test k ≡ true) [
-      | inl same ↦ ap test (sym (eqb-true from k same)) ∙ parts.0
-      | inr other ↦
-          let ne : from ≡ k → ⊥ = λ same. contradicts (eq-eqb from k same) other in
-          all_in test (from + 1) count parts.1 k (omega (arith, low, ne)) (omega (arith, high))
-    ]
-
-in_all : (test : ℕ → Bool) (from count : ℕ) → ((k : ℕ) → from ≤ k → k < from + count → test k ≡ true) → list_all test (range_with_len from count) ≡ true
-in_all test from zero each = refl
-in_all test from (suc count) each =
-    and_from _ _ (each from (omega arith) (omega arith)) (in_all test (from + 1) count (λ k low high. each k (omega (arith, low)) (omega (arith, high))))
-
-implied : (a b : Bool) → (not a || b) ≡ true → a ≡ true → b ≡ true
-implied true b e h = e
-implied false b e h = cc
-
 implies : (a b : Bool) → (a ≡ true → b ≡ true) → (not a || b) ≡ true
 implies true b h = h refl
 implies false b h = refl
 
-pub each_has : (code : ℕ) (lanes : Lanes) (bytes : List ℕ) → all_have code lanes (lanes_in bytes 8) ≡ true → AllHave code lanes bytes
+pub each_has : (code : ℕ) (lanes : Lanes) (bytes : List ℕ) → all_have code lanes (codes_in bytes 8) ≡ true → AllHave code lanes bytes
 each_has code lanes bytes e lane of =
-    let here = all_in (λ lane. not (set.contains lanes lane) || at_lane (lanes_in bytes 8) lane == code) 1 8 e lane of.0.0 (omega (arith, of.0.1)) in
-    sym (code_is bytes lane of.0) ∙ eqb-true (at_lane (lanes_in bytes 8) lane) code (implied _ _ here of.1)
+    let here = in_range (λ lane. not (set.contains lanes lane) || at_lane (codes_in bytes 8) lane == code) 1 8 lane e of.0.0 (omega (arith, of.0.1)) in
+    sym (code_is bytes lane of.0) ∙ eqb-true (at_lane (codes_in bytes 8) lane) code (implied _ _ here of.1)
 
-pub has_each : (code : ℕ) (lanes : Lanes) (bytes : List ℕ) → AllHave code lanes bytes → all_have code lanes (lanes_in bytes 8) ≡ true
+pub has_each : (code : ℕ) (lanes : Lanes) (bytes : List ℕ) → AllHave code lanes bytes → all_have code lanes (codes_in bytes 8) ≡ true
 has_each code lanes bytes all =
-    in_all (λ lane. not (set.contains lanes lane) || at_lane (lanes_in bytes 8) lane == code) 1 8 (λ lane low high.
+    range_passes (λ lane. not (set.contains lanes lane) || at_lane (codes_in bytes 8) lane == code) 1 8 (λ lane low high.
     let is_lane : IsLane lane = (low, omega (arith, high)) in
-    implies _ _ (λ inside. eq-eqb (at_lane (lanes_in bytes 8) lane) code (code_is bytes lane is_lane ∙ all lane (is_lane, inside))))
+    implies _ _ (λ inside. eq-eqb (at_lane (codes_in bytes 8) lane) code (code_is bytes lane is_lane ∙ all lane (is_lane, inside))))
 
 -- ---- bytes of lanes
 

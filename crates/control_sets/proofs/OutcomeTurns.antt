@@ -193,7 +193,7 @@ judged_by task step before judged some e =
       | inr no_ ↦ absurd (some (sym (sym (ap (λ (b : Bool). if b then judgement task step.reply else NotYet) no_) ∙ e)))
     ]
 
-met_is : (judged : Judgement) → is_met judged ≡ true → judged ≡ Met
+pub met_is : (judged : Judgement) → is_met judged ≡ true → judged ≡ Met
 met_is Met e = refl
 met_is NotYet e = cc
 met_is (Fails fault) e = cc

@@ -7,18 +7,12 @@ use Rattle.plan_certificate.specs.declared.path.Path.{Path}
 use Rattle.control_sets.specs.declared.control_byte.ControlByte.{ControlByte}
 use Rattle.control_sets.specs.ControlBytes.{control_bytes, control_in}
 use Rattle.control_sets.specs.HostPaths.{IsLane, agree, all_agree, are_same, control_at, first_lane, is_reached, is_right, is_used, wrong_lane}
+use Rattle.field_tables.proofs.TrueTests.{range_passes}
 use Rattle.control_sets.proofs.Bytes.{takes}
 use Rattle.control_sets.proofs.Finding.{none_found}
+use Rattle.control_sets.proofs.LanesOfPaths.{same_itself}
 use Rattle.control_sets.proofs.Owners.{taken_lane, takes_lane}
 use Rattle.control_sets.proofs.ToldLanes.{IsPlan, IsPathOf, lane_cases, told_of, told_free}
-
-same_itself : (control : ControlByte) → are_same control control ≡ true
-same_itself control = and_from _ _ (eq-eqb control.app_sel_code control.app_sel_code refl) (eq-eqb control.data_path_id control.data_path_id refl)
-
-all_in_row : (test : ℕ → Bool) (a n : ℕ) → ((k : ℕ) → a ≤ k → k < a + n → test k ≡ true) → list_all test (range_with_len a n) ≡ true
-all_in_row test a zero passes = refl
-all_in_row test a (suc n) passes =
-    and_from _ _ (passes a (omega arith) (omega arith)) (all_in_row test (a + 1) n (λ k from to. passes k (omega (arith, from)) (omega (arith, to))))
 
 pub first_of : (path : Path) → 1 ≤ path.host → first_lane (control_in path) ≡ path.host
 first_of path from = omega (arith, from)
@@ -38,7 +32,7 @@ reached advert paths path lane plan of taken =
     let Reached : ℕ → Type 0 = λ first. (nat_le first lane && all_agree bytes first lane) ≡ true in
     subst Reached (sym first)
     (and_from _ _ (le-leb path.host lane within.0)
-    (all_in_row (agree bytes lane) path.host (lane + 1 - path.host) (λ other from to.
+    (range_passes (agree bytes lane) path.host (lane + 1 - path.host) (λ other from to.
     path_agrees advert paths path lane other plan of taken (takes_lane advert path other from (omega (arith, to, within.0, within.1))))))
 
 pub lane_right : (advert : Advertised) (paths : List Path) (lane : ℕ) → IsPlan advert paths → IsLane lane → is_right (control_bytes advert paths) lane ≡ true

@@ -6,7 +6,7 @@ use Rattle.plan_certificate.specs.declared.path.Path.{Path}
 use Rattle.plan_certificate.specs.Paths.{is_allowed}
 use Rattle.plan_certificate.specs.Plans.{IsAdmissible}
 use Rattle.control_sets.specs.declared.control_byte.ControlByte.{ControlByte}
-use Rattle.control_sets.specs.ControlBytes.{byte_in, byte_of, control_byte, control_bytes, control_in, control_of, path_on}
+use Rattle.control_sets.specs.ControlBytes.{byte_on, byte_saying, control_byte, control_bytes, control_in, control_of, path_on}
 use Rattle.control_sets.specs.HostPaths.{IsLane, control_at}
 use Rattle.control_sets.proofs.Allowed.{HasLanes, lanes_of_allowed, number_of_allowed}
 use Rattle.control_sets.proofs.Bytes.{takes}
@@ -37,13 +37,13 @@ path_of advert paths path plan (k, below, here) =
       to_fifteen = omega (arith, number.1, plan.few);
     }
 
-read_back : (control : ControlByte) → control.app_sel_code < 16 → control.data_path_id < 8 → control_of (byte_of control) ≡ control
+read_back : (control : ControlByte) → control.app_sel_code < 16 → control.data_path_id < 8 → control_of (byte_saying control) ≡ control
 read_back control code lane =
     let one : (16 * control.app_sel_code + 2 * control.data_path_id) / 16 ≡ control.app_sel_code = omega arith in
     let other : (16 * control.app_sel_code + 2 * control.data_path_id) / 2 % 8 ≡ control.data_path_id = omega arith in
     (λ i. record { app_sel_code = one i; data_path_id = other i })
 
-told : (advert : Advertised) (paths : List Path) (lane : ℕ) → IsLane lane → control_at (control_bytes advert paths) lane ≡ control_of (byte_in (path_on advert paths lane))
+told : (advert : Advertised) (paths : List Path) (lane : ℕ) → IsLane lane → control_at (control_bytes advert paths) lane ≡ control_of (byte_on (path_on advert paths lane))
 unfolding control_bytes control_byte
 told advert paths lane (from, to) = ap control_of (get_or-map-range_with_len (control_byte advert paths) 1 8 (lane - 1) lane 0 (omega (arith, to, from)) (omega (arith, from)))
 
@@ -53,12 +53,12 @@ pub told_of : (advert : Advertised) (paths : List Path) (path : Path) (lane : �
 told_of advert paths path lane plan of taken =
     let within = taken_lane advert path lane taken in
     told advert paths lane (omega (arith, within.0, of.lanes.first), omega (arith, within.1, of.lanes.last))
-    ∙ ap (λ (o : Option Path). control_of (byte_in o)) (owner advert paths path lane plan.admissible of.one taken)
+    ∙ ap (λ (o : Option Path). control_of (byte_on o)) (owner advert paths path lane plan.admissible of.one taken)
     ∙ read_back (control_in path) (omega (arith, of.to_fifteen)) (omega (arith, of.lanes.some, of.lanes.last))
 
 -- a lane in no path is told that
 pub told_free : (advert : Advertised) (paths : List Path) (lane : ℕ) → IsLane lane → path_on advert paths lane ≡ None → control_at (control_bytes advert paths) lane ≡ control_of 0
-told_free advert paths lane within free = told advert paths lane within ∙ ap (λ (o : Option Path). control_of (byte_in o)) free
+told_free advert paths lane within free = told advert paths lane within ∙ ap (λ (o : Option Path). control_of (byte_on o)) free
 
 -- each lane is in no path or in a path of the plan
 pub lane_cases : (advert : Advertised) (paths : List Path) (lane : ℕ) → IsPlan advert paths → (path_on advert paths lane ≡ None) ⊎ ((path : Path) × IsPathOf advert paths path × (takes advert lane path ≡ true))

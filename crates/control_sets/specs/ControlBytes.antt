@@ -13,8 +13,8 @@ abbrev pub control_of : ℕ → ControlByte
 control_of byte = record { app_sel_code = byte / 16; data_path_id = byte / 2 % 8 }
 
 -- the byte that says this, ExplicitControl 0
-abbrev pub byte_of : ControlByte → ℕ
-byte_of control = 16 * control.app_sel_code + 2 * control.data_path_id
+abbrev pub byte_saying : ControlByte → ℕ
+byte_saying control = 16 * control.app_sel_code + 2 * control.data_path_id
 
 -- what the lanes of a path are told
 abbrev pub control_in : Path → ControlByte
@@ -25,12 +25,12 @@ abbrev pub path_on : Advertised → List Path → ℕ → Option Path
 path_on advert paths lane = find (λ path. set.contains (host_lanes advert path) lane) paths
 
 -- 0 for a lane in no path
-abbrev pub byte_in : Option Path → ℕ
-byte_in (Some path) = byte_of (control_in path)
-byte_in None = 0
+abbrev pub byte_on : Option Path → ℕ
+byte_on (Some path) = byte_saying (control_in path)
+byte_on None = 0
 
 unfoldable pub control_byte : Advertised → List Path → ℕ → ℕ
-control_byte advert paths lane = byte_in (path_on advert paths lane)
+control_byte advert paths lane = byte_on (path_on advert paths lane)
 
 -- those of host lanes 1 to 8
 unfoldable pub control_bytes : Advertised → List Path → List ℕ

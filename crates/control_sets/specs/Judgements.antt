@@ -9,7 +9,7 @@ use Rattle.module_states.specs.declared.state.ModuleState.TheVariants.{Ready}
 use Rattle.module_states.specs.Codes.{state_at as module_state_at}
 use Rattle.datapath_states.specs.declared.state.PathState.{PathState}
 use Rattle.datapath_states.specs.declared.state.PathState.TheVariants.{Deactivated, Activated}
-use Rattle.datapath_states.specs.Lanes.{lanes_in}
+use Rattle.datapath_states.specs.Lanes.{codes_in}
 use Rattle.datapath_states.specs.StateCodes.{code_of, state_at}
 use Rattle.datapath_states.specs.StatusCodes.{status_at}
 use Rattle.bus_model.specs.declared.operation.Op.{Op}
@@ -93,13 +93,13 @@ judged_statuses lanes codes =
 unfoldable pub judged : Task → List ℕ → Judgement
 judged FindReady bytes = judged_module (slice_index bytes 0 / 2 % 8)
 judged (Deinitialize bits) bytes = NotYet
-judged (AwaitDeactivated lanes) bytes = judged_states lanes lanes Deactivated (lanes_in bytes 8)
+judged (AwaitDeactivated lanes) bytes = judged_states lanes lanes Deactivated (codes_in bytes 8)
 judged (Stage control) bytes = NotYet
 judged (CheckStaged control) bytes = met_unless StagedDiffers (differing_lane bytes control)
 judged (Apply bits) bytes = NotYet
-judged (AwaitApplied lanes) bytes = judged_statuses lanes (lanes_in bytes 8)
+judged (AwaitApplied lanes) bytes = judged_statuses lanes (codes_in bytes 8)
 judged (CheckActive control) bytes = met_unless ActiveDiffers (differing_lane bytes control)
-judged (AwaitActivated lanes) bytes = judged_states every_lane lanes Activated (lanes_in bytes 8)
+judged (AwaitActivated lanes) bytes = judged_states every_lane lanes Activated (codes_in bytes 8)
 
 -- so many bytes can answer the operation
 abbrev pub HasCount : Op → ℕ → Type 0

@@ -8,7 +8,7 @@ use Rattle.module_states.specs.declared.state.ModuleState.TheVariants.{Ready}
 use Rattle.module_states.specs.Codes.{state_at as module_state_at}
 use Rattle.datapath_states.specs.StateCodes.{state_at as path_state_at}
 use Rattle.datapath_states.specs.StatusCodes.{status_at}
-use Rattle.datapath_states.specs.Lanes.{lane_in}
+use Rattle.datapath_states.specs.Lanes.{code_in}
 use Rattle.control_sets.specs.HostPaths.{IsLane}
 
 -- one of the lanes of a set
@@ -56,11 +56,11 @@ IsRejection code = ((2 ≤ code) × (code ≤ 7)) ⊎ ((13 ≤ code) × (code �
 
 -- each of these lanes has the code
 abbrev pub AllHave : ℕ → Lanes → List ℕ → Type 0
-AllHave code lanes bytes = (lane : ℕ) → IsOf lanes lane → lane_in bytes lane ≡ code
+AllHave code lanes bytes = (lane : ℕ) → IsOf lanes lane → code_in bytes lane ≡ code
 
 -- the lane is one of these, and P holds of its code
 abbrev pub HasSuch : (ℕ → Type 0) → Lanes → List ℕ → ℕ → Type 0
-HasSuch P lanes bytes lane = IsOf lanes lane × P (lane_in bytes lane)
+HasSuch P lanes bytes lane = IsOf lanes lane × P (code_in bytes lane)
 
 -- P holds of the code of none of these lanes
 abbrev pub NoneHas : (ℕ → Type 0) → Lanes → List ℕ → Type 0
@@ -69,7 +69,7 @@ NoneHas P lanes bytes = (lane : ℕ) → ¬ (HasSuch P lanes bytes lane)
 -- of these lanes it is the lowest of whose code P holds, and this is its code
 pub record IsLowestSuch (P : ℕ → Type 0) (lanes : Lanes) (lane code : ℕ) (bytes : List ℕ) : Type 0 where
   pub lowest : IsLowest (HasSuch P lanes bytes) lane
-  pub its_code : code ≡ lane_in bytes lane
+  pub its_code : code ≡ code_in bytes lane
 
 -- of these lanes none has a reserved status, and this one is the lowest that was rejected, with the code
 abbrev pub IsRejectedAt : Lanes → ℕ → ℕ → List ℕ → Type 0

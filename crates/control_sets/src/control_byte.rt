@@ -9,14 +9,14 @@ pub struct ControlByte {
 
 impl ControlByte {
     ghost use Rattle.std.specs.Prelude.{◌≡◌, ◌<◌};
-    ghost use Rattle.control_sets.specs.ControlBytes.{byte_of};
+    ghost use Rattle.control_sets.specs.ControlBytes.{byte_saying};
     ghost use Rattle.control_sets.specs.HostPaths as spec;
 
     /// The byte that says this, ExplicitControl 0.
     pub fn byte(self) -> u8
         requires code { self.app_sel_code < 16 }
         requires lane { self.data_path_id < 8 }
-        ensures { result ≡ byte_of self }
+        ensures { result ≡ byte_saying self }
     {
         16 * self.app_sel_code + 2 * self.data_path_id
     }

@@ -7,9 +7,9 @@ use Rattle.field_tables.specs.Layouts.{nibbles}
 use Rattle.field_tables.specs.Numbers.{number_in}
 
 -- the code of lane i
-unfoldable pub lane_in : List ℕ → ℕ → ℕ
-lane_in bytes i = number_in (slice_index bytes) (nibbles 0 i)
+unfoldable pub code_in : List ℕ → ℕ → ℕ
+code_in bytes i = number_in (slice_index bytes) (nibbles 0 i)
 
 -- the codes of so many lanes, lane 1 first
-abbrev pub lanes_in : List ℕ → ℕ → List ℕ
-lanes_in bytes count = map (lane_in bytes) (range_with_len 1 count)
+abbrev pub codes_in : List ℕ → ℕ → List ℕ
+codes_in bytes count = map (code_in bytes) (range_with_len 1 count)

@@ -1,6 +1,7 @@
 -- No bit belongs to two values: a computed test of all entries, by the span of each value, and what it says.
 use Rattle.std.proofs.Common.{◌≡◌, ℕ, zero, suc, ◌+◌, ◌*◌, ◌≤◌, ◌==◌, ◌&&◌, ◌||◌, Bool, true, false, List, [], ◌∷◌, ◌++◌, refl, sym, subst, ap, ◌∙◌, inl, inr, map, max, min, nat_lt, arith}
 use Rattle.std.specs.Prelude.{Contains}
+use Rattle.std.proofs.lemmas.Bool.{and_parts, eq-eqb, eqb-true, or_cases}
 use Rattle.std.proofs.lemmas.Bool.Decides.{nat_tests}
 use Rattle.std.proofs.lemmas.List.Folds.{list_all-map, list_all-append}
 use Rattle.std.specs.List.{list_all, range_with_len}
@@ -16,7 +17,7 @@ use Rattle.field_tables.specs.Layouts.{Place}
 use Rattle.field_tables.specs.Entries.{Entry, of_field, of_text, of_sum, NoBitTwice, WithinHalf, entry_count, entry_key, entry_place, entry_standard}
 use Rattle.field_tables.specs.RowFits.{in_half}
 use Rattle.field_tables.proofs.EveryValue.{every, every_value}
-use Rattle.field_tables.proofs.TrueTests.{all_in, both, eq_from_true, eq_true, in_range, or_cases}
+use Rattle.field_tables.proofs.TrueTests.{all_in, in_range}
 
 -- ---- all entries
 
@@ -28,8 +29,8 @@ every_entry test all entry =
     let fields = map of_field (every field_enum.enum tt) in
     let texts = map of_text (every text_enum.enum tt) in
     let sums = map of_sum (every sum_enum.enum tt) in
-    let first = both (list_all test fields) (list_all test (texts ++ sums)) (sym (list_all-append test fields (texts ++ sums)) ∙ all) in
-    let later = both (list_all test texts) (list_all test sums) (sym (list_all-append test texts sums) ∙ first.1) in
+    let first = and_parts (list_all test fields) (list_all test (texts ++ sums)) (sym (list_all-append test fields (texts ++ sums)) ∙ all) in
+    let later = and_parts (list_all test texts) (list_all test sums) (sym (list_all-append test texts sums) ∙ first.1) in
     elim entry as (λ (e : Entry). test e ≡ true) [
       | of_field field ↦ every_value field_enum.enum tt (λ f. test (of_field f)) (sym (list_all-map test of_field (every field_enum.enum tt)) ∙ first.0) field
       | of_text text ↦ every_value text_enum.enum tt (λ t. test (of_text t)) (sym (list_all-map test of_text (every text_enum.enum tt)) ∙ later.0) text
@@ -118,7 +119,7 @@ values_clear_at : (a b : Entry) (i j : ℕ) → half_code (entry_standard a) (en
 values_clear_at a b i j codes i_first i_last j_first j_last =
     let c = claim_of a in
     let d = claim_of b in
-    let met : clear_where true c d ≡ true = subst (λ (t : Bool). clear_where t c d ≡ true) (eq_true c.code d.code codes) (pair_clear a b) in
+    let met : clear_where true c d ≡ true = subst (λ (t : Bool). clear_where t c d ≡ true) (eq-eqb c.code d.code codes) (pair_clear a b) in
     let of_a = in_range (λ (n : ℕ). list_all (values_clear c d (span_of a n)) d.spans) 1 (entry_count a) i
     (sym (list_all-map (λ p. list_all (values_clear c d p) d.spans) (span_of a) (range_with_len 1 (entry_count a))) ∙ met) i_first (omega arith) in
     in_range (λ (n : ℕ). values_clear c d (span_of a i) (span_of b n)) 1 (entry_count b) j
@@ -146,9 +147,9 @@ no_bit_twice a b i j bit standards keys in_a in_b =
     let codes : c.code ≡ d.code = ap (λ (s : Standard). half_code s (entry_key a)) standards ∙ ap (half_code (entry_standard b)) keys in
     elim (or_cases (c.number.0 == d.number.0 && c.number.1 == d.number.1 && i == j) (apart (span_of a i).1 (span_of b j).1) (values_clear_at a b i j codes in_a.0 in_a.1 in_b.0 in_b.1)) [
       | inl same ↦
-          let parts = both (c.number.0 == d.number.0 && c.number.1 == d.number.1) (i == j) same in
-          let numbers = both (c.number.0 == d.number.0) (c.number.1 == d.number.1) parts.0 in
-          (same_entry a b (eq_from_true c.number.0 d.number.0 numbers.0) (eq_from_true c.number.1 d.number.1 numbers.1), eq_from_true i j parts.1)
+          let parts = and_parts (c.number.0 == d.number.0 && c.number.1 == d.number.1) (i == j) same in
+          let numbers = and_parts (c.number.0 == d.number.0) (c.number.1 == d.number.1) parts.0 in
+          (same_entry a b (eqb-true c.number.0 d.number.0 numbers.0) (eqb-true c.number.1 d.number.1 numbers.1), eqb-true i j parts.1)
       | inr away ↦ absurd (not_apart (span_of a i).1 (span_of b j).1 (position bit) (in_span (entry_place a i) bit in_a.2) (in_span (entry_place b j) bit in_b.2) away)
     ]
 

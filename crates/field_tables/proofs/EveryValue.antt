@@ -1,11 +1,11 @@
 -- The values of an enum whose variants have no fields, and what a test of each of them says.
 use Rattle.std.proofs.Common.{◌≡◌, Bool, true, List, [], ◌∷◌, sym, subst, ◌∙◌, inl, inr, map}
+use Rattle.std.proofs.lemmas.Bool.{and_parts}
 use Rattle.std.proofs.lemmas.List.Folds.{list_all-map}
 use Rattle.std.specs.List.{list_all}
 use denote.Struct.Field.{Field}
 use denote.Enum.Bare.{Bare}
 use denote.Enum.Declared.{Choice, Record}
-use Rattle.field_tables.proofs.TrueTests.{both}
 
 abbrev pub choices : (parts : List (List Field)) → Bare parts → List (Choice parts)
 choices [] bare = []
@@ -14,9 +14,9 @@ choices ((field ∷ fields) ∷ parts) bare = absurd bare
 
 every_choice : (parts : List (List Field)) (bare : Bare parts) (test : Choice parts → Bool) → list_all test (choices parts bare) ≡ true → (c : Choice parts) → test c ≡ true
 every_choice [] bare test all c = absurd c
-every_choice ([] ∷ parts) bare test all (inl x) = (both (test (inl tt)) (list_all test (map inr (choices parts bare))) all).0
+every_choice ([] ∷ parts) bare test all (inl x) = (and_parts (test (inl tt)) (list_all test (map inr (choices parts bare))) all).0
 every_choice ([] ∷ parts) bare test all (inr c) =
-    let later = (both (test (inl tt)) (list_all test (map inr (choices parts bare))) all).1 in
+    let later = (and_parts (test (inl tt)) (list_all test (map inr (choices parts bare))) all).1 in
     every_choice parts bare (λ (x : Choice parts). test (inr x)) (sym (list_all-map test inr (choices parts bare)) ∙ later) c
 every_choice ((field ∷ fields) ∷ parts) bare test all c = absurd bare
 

@@ -1,5 +1,6 @@
 -- What operations on bytes do to their lanes.
 use Rattle.std.proofs.Common.{◌≡◌, ℕ, ◌+◌, ◌-◌, ◌/◌, ◌^◌, ◌<◌, ◌≤◌, ◌==◌, ◌&&◌, ◌||◌, Bool, true, false, refl, sym, ap, ◌∙◌, inl, inr, nat_eq, nat_lt, nat_le, arith, bit_and, bit_or}
+use Rattle.std.proofs.Math.Bool.{and-false}
 use Rattle.std.proofs.lemmas.Bool.{cases_lt, and_parts, eqb-true, eq-eqb}
 use Rattle.std.proofs.lemmas.Bool.Decides.{nat_tests}
 use Rattle.std.proofs.lemmas.Nat.{and_le_l}
@@ -12,7 +13,8 @@ use Rattle.std.specs.Ordering.{nat_cmp}
 use Rattle.field_tables.specs.LaneSets.{Lanes, every_lane, run_of, lanes_in, byte_of, is_empty, is_disjoint}
 use Rattle.field_tables.specs.LaneBytes.{at_bit, contains-run_of, contains-lanes_in, byte_of-lanes_in}
 
-same_lanes : (lanes others : Lanes) → ((q : ℕ) → set.contains lanes q ≡ set.contains others q) → lanes ≡ others
+-- sets with the same lanes are one
+pub same_lanes : (lanes others : Lanes) → ((q : ℕ) → set.contains lanes q ≡ set.contains others q) → lanes ≡ others
 same_lanes = same_set nat_cmp_total nat_cmp-IsAntisymmetric
 
 -- two bytes with the same lanes are one
@@ -80,16 +82,12 @@ lanes_in-and a b =
     ∙ and_and (set.contains every_lane q) (at_bit a q) (at_bit b q)
     ∙ sym (contains-intersection nat_cmp_total (lanes_in a) (lanes_in b) q ∙ (λ i. contains-lanes_in a q i && contains-lanes_in b q i)))
 
-and_false : (s : Bool) → (s && false) ≡ false
-and_false true = refl
-and_false false = refl
-
 pub lanes_in-zero : lanes_in 0 ≡ set.empty
 lanes_in-zero =
     same_lanes _ _ (λ q.
     contains-lanes_in 0 q
     ∙ ap (λ b. set.contains every_lane q && (b == 1)) (bit_at-zero (q - 1))
-    ∙ and_false (set.contains every_lane q)
+    ∙ and-false (set.contains every_lane q)
     ∙ sym (contains-empty nat_cmp q))
 
 -- ---- tests of sets

@@ -1,4 +1,4 @@
-mod TrueTests
+pub mod TrueTests
 pub mod LaneLaws
 pub mod PlaceNumbers
 mod PlaceWidths

@@ -1,6 +1,6 @@
 -- When sets of lanes share none.
 use Rattle.std.proofs.Common.{◌≡◌, ℕ, ◌+◌, ◌≤◌, ◌&&◌, ◌||◌, ◌⊎◌, Bool, true, false, refl, sym, ap, ◌∙◌, inl, inr, arith}
-use Rattle.std.proofs.lemmas.Bool.{cases_Bool, cases_lt, eqb-true, eq-eqb}
+use Rattle.std.proofs.lemmas.Bool.{cases_Bool, cases_lt, eqb-true, eq-eqb, or_cases}
 use Rattle.std.proofs.lemmas.Bool.Decides.{nat_tests}
 use Rattle.std.specs.Cmp.{nat_cmp_total}
 use Rattle.std.specs.FinSet as set
@@ -41,14 +41,10 @@ apart_from s t apart =
 pub disjoint_back : (s t : Lanes) → is_disjoint s t ≡ true → is_disjoint t s ≡ true
 disjoint_back s t none = apart_from t s (λ q in_t in_s. apart_at s t none q in_s in_t)
 
-either : (b c : Bool) → (b || c) ≡ true → (b ≡ true) ⊎ (c ≡ true)
-either true c one = inl refl
-either false c one = inr one
-
 pub disjoint_union : (s t u : Lanes) → is_disjoint s t ≡ true → is_disjoint s u ≡ true → is_disjoint s (set.union t u) ≡ true
 disjoint_union s t u from_t from_u =
     apart_from s (set.union t u) (λ q in_s in_union.
-    elim (either (set.contains t q) (set.contains u q) (sym (contains-union nat_cmp_total t u q) ∙ in_union)) [
+    elim (or_cases (set.contains t q) (set.contains u q) (sym (contains-union nat_cmp_total t u q) ∙ in_union)) [
       | inl in_t ↦ apart_at s t from_t q in_s in_t
       | inr in_u ↦ apart_at s u from_u q in_s in_u
     ])

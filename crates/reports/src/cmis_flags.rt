@@ -83,7 +83,7 @@ fn raised_flags(alloc: Global, image: &Image) -> Result<Vec<Flag>, AllocError>
     let vcc = module_levels(image, 5);
     push_module_flags(&mut flags, &of_levels(Quantity::Vcc, vcc))?;
     if !is_flat(image) {
-        push_lane_flags(&mut flags, image, &lane_flags())?;
+        push_lane_flags(&mut flags, image, lane_flags())?;
     }
     Ok(flags)
 }
@@ -119,15 +119,15 @@ fn push_lane_flags(
 
 // The flags of lanes, each with the field that has its eight bits, by rising byte.
 #[tactic(auto, unfolding(crate::specs::CmisFlags::lane_flags))]
-fn lane_flags() -> [(FlagName, Field); 19]
-    ensures table { result ≡ spec.lane_flags }
-    ensures fits { IsTrue (list_all is_of_lanes result) }
+fn lane_flags() -> &'static [(FlagName, Field)]
+    ensures table { result.now ≡ spec.lane_flags }
+    ensures fits { IsTrue (list_all is_of_lanes result.now) }
 {
     use FlagName::{Holds, Passed};
     use Level::{HighAlarm, HighWarning, LowAlarm, LowWarning};
     use Quantity::{RxPower, TxBias, TxPower};
     use Condition::{PathStateChanged, RxLol, RxLos, TxEqFail, TxFailure, TxLol, TxLos};
-    [
+    &[
         (Holds(PathStateChanged), Field::CPathStateChanged),
         (Holds(TxFailure), Field::CTxFailure),
         (Holds(TxLos), Field::CTxLos),

@@ -4,9 +4,10 @@ use Rattle.std.proofs.lemmas.Bool.Decides.{nat_tests}
 use Rattle.std.specs.Cmp.{nat_cmp_total}
 use Rattle.std.specs.Ordering.{nat_cmp}
 use Rattle.std.specs.FinSet as set
-use Rattle.std.specs.FinSet.{contains-empty, contains-retain, contains-union, same_set, nat_cmp-IsAntisymmetric}
+use Rattle.std.specs.FinSet.{contains-empty, contains-retain, contains-union, nat_cmp-IsAntisymmetric}
 use Rattle.field_tables.specs.LaneSets.{Lanes, every_lane, run_of}
 use Rattle.field_tables.specs.LaneBytes.{contains-run_of}
+use Rattle.field_tables.proofs.LaneLaws.{same_lanes}
 
 abbrev pub those : (ℕ → Bool) → Lanes
 those test = set.retain every_lane test
@@ -16,9 +17,6 @@ below test lane q = nat_lt q lane && test q
 
 pub in_those : (test : ℕ → Bool) (q : ℕ) → set.contains (those test) q ≡ (nat_le 1 q && nat_lt q 9 && test q)
 in_those test q = contains-retain every_lane test q (λ x tie. ap test (sym (nat_cmp-IsAntisymmetric q x tie))) ∙ ap (λ t. t && test q) (contains-run_of 1 8 q)
-
-same_lanes : (lanes others : Lanes) → ((q : ℕ) → set.contains lanes q ≡ set.contains others q) → lanes ≡ others
-same_lanes = same_set nat_cmp_total nat_cmp-IsAntisymmetric
 
 none_at : (q : ℕ) (b : Bool) → (nat_le 1 q && nat_lt q 9 && (nat_lt q 1 && b)) ≡ false
 none_at q b = grind (arith, nat_tests)

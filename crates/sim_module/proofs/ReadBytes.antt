@@ -1,11 +1,10 @@
 -- What the fetches of provisioning tell of the module that answers them.
-use Rattle.std.proofs.Common.{◌≡◌, ◌≢◌, ℕ, ◌+◌, ◌-◌, ◌*◌, ◌/◌, ◌%◌, lit<, ◌<◌, ◌≤◌, Bool, true, false, Option, Some, None, is_some, unwrap_or, IsTrue, List, [], ◌∷◌, length, get_or, map, slice_index, refl, ap, sym, ◌∙◌, ◌==◌, ◌&&◌, if◌then◌else◌, nat_lt, arith}
+use Rattle.std.proofs.Common.{◌≡◌, ◌≢◌, ℕ, ◌+◌, ◌-◌, ◌*◌, ◌/◌, ◌%◌, lit<, ◌<◌, ◌≤◌, Bool, true, false, Option, Some, None, is_some, IsTrue, List, [], ◌∷◌, length, get_or, map, slice_index, refl, ap, sym, ◌∙◌, ◌==◌, ◌&&◌, if◌then◌else◌, nat_lt, arith}
 use Rattle.std.specs.List.{range_with_len}
 use Rattle.std.specs.FinMap as finmap
 use Rattle.std.proofs.lemmas.Bool.Decides.{nat_tests}
 use Rattle.std.proofs.lemmas.List.{get_or-map, length-map}
 use Rattle.bus_model.specs.declared.device.Dev.TheVariants.{A0}
-use Rattle.field_tables.specs.FirstFault.{first_fault}
 use Rattle.paged_memory.specs.Images.{place_in_half}
 use Rattle.control_sets.specs.HostPaths.{IsLane}
 use Rattle.datapath_states.specs.StatusCodes.{status_code_of}
@@ -13,16 +12,16 @@ use Rattle.sim_module.specs.declared.lane.Lane.{Lane}
 use Rattle.sim_module.specs.declared.module.SimModule.{SimModule}
 use Rattle.sim_module.specs.Lanes.{active_bytes, is_in_progress, lane_at, no_lane}
 use Rattle.paged_memory.specs.Selections.{shown_key}
-use Rattle.sim_module.specs.ShownBytes.{configuration_bytes, fetched, fetched_from, is_mapped, lower_bytes, shown_byte, status_bytes, status_code}
+use Rattle.sim_module.specs.ShownBytes.{configuration_bytes, fetched, fetched_from, first_shown, is_mapped, lower_bytes, shown_byte, status_bytes, status_code}
 use Rattle.sim_module.specs.Soundness.{IsSound}
 use Rattle.sim_module.proofs.EachLane.{each_lane, each_of_eight}
-use Rattle.datapath_states.specs.Lanes.{lane_in}
+use Rattle.datapath_states.specs.Lanes.{code_in}
 use Rattle.datapath_states.proofs.LaneNibbles.{lower_half, upper_half}
 use Rattle.sim_module.proofs.IdleModule.{IsIdle, Shows}
 
 -- four bytes of statuses say ConfigSuccess for each lane
 abbrev pub SaySuccess : List ℕ → Type 0
-SaySuccess bytes = (lane : ℕ) → IsLane lane → lane_in bytes lane ≡ 1
+SaySuccess bytes = (lane : ℕ) → IsLane lane → code_in bytes lane ≡ 1
 
 -- an answered fetch read a half of the image
 pub record Reads (sim : SimModule) (address count : ℕ) (bytes : List ℕ) : Type 0 where
@@ -57,15 +56,15 @@ is_on sim shows = λ i. shows.bank i == 0 && shows.number i == 0x11
 
 -- on page 11h
 pub on_statuses : (sim : SimModule) (page : List ℕ) (address : ℕ) → 128 ≤ address → Shows 0x11 sim →
-    shown_byte sim page address ≡ unwrap_or (first_fault (status_bytes sim address)) (slice_index page (place_in_half address))
+    shown_byte sim page address ≡ first_shown (status_bytes sim address) (slice_index page (place_in_half address))
 unfolding shown_byte
 on_statuses sim page address high shows =
     let byte = slice_index page (place_in_half address) in
     let upper : nat_lt address 128 ≡ false = grind (arith, nat_tests) in
     let rest = if is_mapped sim 0x11 then status_bytes sim address else [] in
-    ap (λ (low : Bool). unwrap_or (first_fault (if low then lower_bytes sim byte address else if is_mapped sim 0x10 then configuration_bytes sim address else rest)) byte) upper
-    ∙ ap (λ (on : Bool). unwrap_or (first_fault (if on then configuration_bytes sim address else rest)) byte) (not_mapped sim shows)
-    ∙ ap (λ (on : Bool). unwrap_or (first_fault (if on then status_bytes sim address else [])) byte) (is_on sim shows)
+    ap (λ (low : Bool). first_shown (if low then lower_bytes sim byte address else if is_mapped sim 0x10 then configuration_bytes sim address else rest) byte) upper
+    ∙ ap (λ (on : Bool). first_shown (if on then configuration_bytes sim address else rest) byte) (not_mapped sim shows)
+    ∙ ap (λ (on : Bool). first_shown (if on then status_bytes sim address else []) byte) (is_on sim shows)
 
 -- the statuses that are read
 shown_statuses : (sim : SimModule) (page : List ℕ) → Shows 0x11 sim → map (shown_byte sim page) (range_with_len 202 4) ≡
@@ -111,7 +110,7 @@ read_statuses sim bytes shows answered success =
     let whole : ℕ → ℕ = λ lane. status_code_of (lane_at sim lane).status in
     let shown : List ℕ = (code 1 + 16 * code 2) ∷ (code 3 + 16 * code 4) ∷ (code 5 + 16 * code 6) ∷ (code 7 + 16 * code 8) ∷ [] in
     let same : bytes ≡ shown = sym answer.bytes_are ∙ shown_statuses sim answer.page shows in
-    let told : (lane : ℕ) → IsLane lane → lane_in shown lane ≡ 1 = λ lane within. ap (λ (bs : List ℕ). lane_in bs lane) (sym same) ∙ success lane within in
+    let told : (lane : ℕ) → IsLane lane → code_in shown lane ≡ 1 = λ lane within. ap (λ (bs : List ℕ). code_in bs lane) (sym same) ∙ success lane within in
     let is : (n : ℕ) → n < 8 → IsLane (n + 1) = λ n below. (omega arith, omega (arith, below)) in
     each_of_eight (λ lane. is_in_progress (lane_at sim lane) ≡ false)
     (odd_one (whole 1) (whole 2) (sym (lower_half shown 0 refl) ∙ told 1 (is 0 (lit< tt))))

@@ -1,12 +1,11 @@
 -- What a fetch answers, and what it makes of a module. (docs/module.md, "Fetches"; OIF-CMIS-05.0, chapter 8 "Module
 -- Management Memory Map")
-use Rattle.std.specs.Prelude.{ℕ, ◌+◌, ◌-◌, ◌*◌, ◌%◌, ◌==◌, ◌&&◌, Bool, Option, Some, None, unwrap_or, if◌then◌else◌, List, [], ◌∷◌, map, nat_lt, slice_index, bit_and}
+use Rattle.std.specs.Prelude.{ℕ, ◌+◌, ◌-◌, ◌*◌, ◌%◌, ◌==◌, ◌&&◌, Bool, Option, Some, None, find, option_map, unwrap_or, if◌then◌else◌, List, [], ◌∷◌, map, nat_lt, slice_index, bit_and}
 use Rattle.std.specs.List.{range_with_len}
 use Rattle.std.specs.FinMap as finmap
 use Rattle.bus_model.specs.declared.device.Dev.{Dev}
 use Rattle.bus_model.specs.declared.device.Dev.TheVariants.{A0, A2}
 use Rattle.paged_memory.specs.Images.{place_in_half}
-use Rattle.field_tables.specs.FirstFault.{first_fault}
 use Rattle.field_tables.specs.LaneSets.{byte_of}
 use Rattle.field_tables.specs.declared.field.Field.TheVariants.{CModuleState, CModuleFlag, CSoftwareReset, CBankSelect, CPageSelect, CDPDeinit, CApplyDPInit, CStagedAppSel, CPathStates, CPathStateChanged, CConfigStatus, CActiveAppSel}
 use Rattle.module_states.specs.Codes as module_codes
@@ -39,6 +38,10 @@ state_byte sim byte = bit_and byte 0xF1 + 2 * module_codes.code_of sim.state
 -- SoftwareReset, bit 3, reads 0
 abbrev pub control_byte : SimModule → ℕ
 control_byte sim = bit_and sim.control 0xF7
+
+-- of bytes with whether they are shown, the first that is, or else this one
+abbrev pub first_shown : List (Bool × ℕ) → ℕ → ℕ
+first_shown bytes byte = unwrap_or (option_map (λ shown. shown.1) (find (λ shown. shown.0) bytes)) byte
 
 -- of lower memory, the bytes that aren't the image's (given its byte there)
 abbrev pub lower_bytes : SimModule → ℕ → ℕ → List (Bool × ℕ)
@@ -79,7 +82,7 @@ own_bytes sim byte address =
 unfoldable pub shown_byte : SimModule → List ℕ → ℕ → ℕ
 shown_byte sim page address =
     let byte = slice_index page (place_in_half address) in
-    unwrap_or (first_fault (own_bytes sim byte address)) byte
+    first_shown (own_bytes sim byte address) byte
 
 -- latched: a flag is 0 once it was read
 abbrev pub left_flag : Bool → ℕ → ℕ

@@ -8,10 +8,9 @@ use field_tables::{Field, row};
 use paged_memory::PAGE_LEN;
 
 impl SimModule {
-    ghost use Rattle.std.specs.Prelude.{◌≡◌, ◌≤◌, ◌<◌, ◌+◌, length, map, unwrap_or, option_map, IfSome};
+    ghost use Rattle.std.specs.Prelude.{◌≡◌, ◌≤◌, ◌<◌, ◌+◌, length, map, option_map, IfSome};
     ghost use Rattle.std.specs.List.{range_with_len};
     ghost use Rattle.bus_model.specs.declared.device.Dev.{Dev};
-    ghost use Rattle.field_tables.specs.FirstFault.{first_fault};
     ghost use Rattle.sim_module.specs.Registers as registers;
     ghost use Rattle.sim_module.specs.ShownBytes as spec;
 
@@ -42,7 +41,7 @@ impl SimModule {
 
     // A byte of lower memory, given the image's.
     fn lower_byte(&self, byte: u8, address: u8) -> u8
-        ensures { result ≡ unwrap_or (first_fault (spec.lower_bytes self.now byte address)) byte }
+        ensures { result ≡ spec.first_shown (spec.lower_bytes self.now byte address) byte }
     {
         if is_at(Field::CModuleState, address) {
             (byte & 0xF1) + 2 * self.state.code()
@@ -61,7 +60,7 @@ impl SimModule {
 
     // A byte of page 10h, given the image's.
     fn configuration_byte(&self, byte: u8, address: u8) -> u8
-        ensures { result ≡ unwrap_or (first_fault (spec.configuration_bytes self.now address)) byte }
+        ensures { result ≡ spec.first_shown (spec.configuration_bytes self.now address) byte }
     {
         if is_at(Field::CDPDeinit, address) {
             self.deinit.byte()
@@ -76,7 +75,7 @@ impl SimModule {
 
     // A byte of page 11h, given the image's.
     fn status_byte(&self, byte: u8, address: u8) -> u8
-        ensures { result ≡ unwrap_or (first_fault (spec.status_bytes self.now address)) byte }
+        ensures { result ≡ spec.first_shown (spec.status_bytes self.now address) byte }
     {
         if let Some(index) = index_in(Field::CPathStates, 4, address) {
             self.path_pair(index)
