@@ -4,6 +4,7 @@ pub mod States
 pub mod ReachedStates
 pub mod Moves
 pub mod Certificates
+pub mod Lookups
 pub mod Verdicts
 pub mod CertificateText
 pub mod CertificateFaults

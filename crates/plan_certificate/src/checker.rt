@@ -7,6 +7,7 @@ ghost use Rattle.plan_certificate.specs.Verdicts as spec;
 
 use crate::certificate::{Certificate, Entry};
 use crate::flaws::plan_flaw;
+use crate::lookup::Entries;
 use crate::moves::{Move, Moves};
 use crate::plan::{Plan, weight_of};
 use crate::state::{HOST_LANES, State, Step};
@@ -51,20 +52,19 @@ fn flaw(
     if weight != weight_of(advert, weights, plan) {
         return Some((Reason::WeightWrong, 0));
     }
-    bound_flaw(advert, weights, entries, weight)
+    bound_flaw(advert, weights, &Entries::of(entries), weight)
 }
 
 // What is wrong with the entries, as bounds on what can be gained.
 fn bound_flaw(
     advert: &Advert,
     weights: &Weights,
-    entries: &[Entry],
+    entries: &Entries,
     weight: u64,
 ) -> Option<(Reason, usize)>
-    requires { HasStates entries.now }
     ensures { result ≡ first_fault (spec.bound_flaws advert.now weights.now entries.now weight) }
 {
-    let Some(start) = potential_of(entries, State::start()) else {
+    let Some(start) = entries.potential_of(State::start()) else {
         return Some((Reason::NoStart, 0));
     };
     if let Some(flaw) = entries_flaw(advert, weights, entries) {
@@ -76,12 +76,12 @@ fn bound_flaw(
     None
 }
 
-fn entries_flaw(advert: &Advert, weights: &Weights, entries: &[Entry]) -> Option<(Reason, usize)>
-    requires { HasStates entries.now }
+fn entries_flaw(advert: &Advert, weights: &Weights, entries: &Entries) -> Option<(Reason, usize)>
     ensures { result ≡ first_fault (spec.entries_flaws advert.now weights.now entries.now) }
 {
     let mut moves = Moves::at(advert, weights, 0);
-    for (place, entry) in entries.iter().enumerate() {
+    let all = entries.all();
+    for (place, entry) in all.iter().enumerate() {
         if let Some(flaw) = entry_flaw(advert, weights, &mut moves, entries, place + 1, entry) {
             return Some(flaw);
         }
@@ -94,11 +94,10 @@ fn entry_flaw(
     advert: &Advert,
     weights: &Weights,
     moves: &mut Moves,
-    entries: &[Entry],
+    entries: &Entries,
     number: usize,
     entry: &Entry,
 ) -> Option<(Reason, usize)>
-    requires entries { HasStates entries.now }
     requires open { moves.old.boundary < 8 }
     requires moves { AreMoves advert.now weights.now moves.old.boundary moves.old.all.items moves.old.heaviest.items }
     ensures flaw { result ≡ first_fault (spec.entry_flaws advert.now weights.now entries.now (number, entry.now)) }
@@ -118,11 +117,10 @@ fn entry_flaw(
 // The first flaw of the free lane's step and those of moves.
 fn steps_flaw(
     moves: &[Move],
-    entries: &[Entry],
+    entries: &Entries,
     number: usize,
     entry: &Entry,
 ) -> Option<(Reason, usize)>
-    requires entries { HasStates entries.now }
     requires open { entry.now.boundary < 8 }
     requires lead_on { All (LeadsOn entry.now.boundary) moves.now }
     ensures { result ≡ first_fault (spec.steps_flaws entries.now (number, entry.now) (steps_by (state_of entry.now) moves.now)) }
@@ -144,31 +142,18 @@ fn steps_flaw(
 }
 
 fn step_flaw(
-    entries: &[Entry],
+    entries: &Entries,
     number: usize,
     entry: &Entry,
     step: &Step,
 ) -> Option<(Reason, usize)>
-    requires { HasStates entries.now }
     ensures { result ≡ first_fault (spec.step_flaws entries.now (number, entry.now) step.now) }
 {
-    let Some(later) = potential_of(entries, step.end) else {
+    let Some(later) = entries.potential_of(step.end) else {
         return Some((Reason::NotClosed, number));
     };
     if u128::from(entry.potential) < u128::from(step.weight) + u128::from(later) {
         return Some((Reason::TooLow, number));
     }
     None
-}
-
-// What can still be gained from a state, as its entry says, where it has one.
-fn potential_of(entries: &[Entry], state: State) -> Option<u64>
-    requires { HasStates entries.now }
-    ensures { result ≡ spec.potential_of entries.now state }
-{
-    let place = state.place();
-    match entries.binary_search_by_key(&place, |entry| entry.place()) {
-        Ok(index) => Some(entries[index].potential),
-        Err(_) => None,
-    }
 }

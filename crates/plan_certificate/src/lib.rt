@@ -7,6 +7,7 @@ mod fault;
 mod flaws;
 pub mod laws;
 mod line;
+mod lookup;
 mod moves;
 mod path;
 mod plan;

@@ -1,8 +1,10 @@
 ghost use Rattle.std.specs.Prelude.{◌≡◌, ◌+◌, ◌<◌, ◌≤◌, ◌++◌, ◌∷◌, [], length, IfSome, MatchOption};
-ghost use Rattle.std.specs.List.{position, position_or_len, before_first, after_first};
+ghost use Rattle.std.specs.List.{position_or_len, before_first, after_first};
 ghost use Rattle.std.specs.Iterator.{YieldsFirstBy, item_count};
 ghost use Rattle.text_lines.specs.Lines.{is_lf, ended_lines, lines_of};
 ghost use Rattle.text_lines.specs.LinesLeft.{lines_left};
+
+use memchr::memchr;
 
 /// The byte that ends a line.
 pub const LF: u8 = b'\n';
@@ -26,8 +28,11 @@ pub fn split_line(text: &[u8]) -> Option<(&[u8], &[u8])>
     ensures behind { IfSome result (λ x. x.1.now ≡ after_first is_lf text.now) }
     ensures shorter { MatchOption result (text.now ≡ []) (λ x. length x.1.now < length text.now) }
 {
-    let (ended, rest) = split_ended_line(text)?;
-    Some((&ended[..line_len(ended)], rest))
+    if text.is_empty() {
+        return None;
+    }
+    let end = line_len(text);
+    Some((&text[..end], &text[(end + 1).min(text.len())..]))
 }
 
 // How many bytes stand before the first LF.
@@ -35,13 +40,11 @@ fn line_len(text: &[u8]) -> usize
     ensures within { result ≤ length text.now }
     ensures value { result ≡ position_or_len is_lf text.now }
 {
-    find_lf(text).unwrap_or(text.len())
-}
-
-fn find_lf(text: &[u8]) -> Option<usize>
-    ensures { result ≡ position is_lf text.now }
-{
-    text.iter().position(|byte| *byte == LF)
+    // An empty line needs no search.
+    if let [LF, ..] = text {
+        return 0;
+    }
+    memchr(LF, text).unwrap_or(text.len())
 }
 
 /// The lines of a text, from the first to the last, each without its LF.

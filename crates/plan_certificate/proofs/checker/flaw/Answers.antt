@@ -1,6 +1,7 @@
 use Rattle.std.proofs.Common.{◌≡◌, ◌==◌, ◌∷◌, ℕ, Bool, true, false, not, List, sym, ap, ◌∙◌}
 use Rattle.std.proofs.lemmas.Bool.{eq-eqb, ne_eqb}
 use Rattle.field_tables.specs.FirstFault.{first_fault}
+use Rattle.plan_certificate.specs.declared.certificate.Entry.{Entry}
 use Rattle.plan_certificate.specs.declared.path.Path.{Path}
 use Rattle.plan_certificate.specs.declared.verdict.Reason.TheVariants.{WeightWrong}
 use Rattle.plan_certificate.specs.Plans.{plan_weight}
@@ -39,4 +40,5 @@ returns c =
     let same = c.as_slice.ensures.value ∙ c.plan.view_is in
     let none = ap (λ (paths : List Path). first_fault (plan_flaws c.args.advert.now paths)) (sym same) ∙ sym c.plan_flaw.ensures.flaw ∙ c.in_default.is in
     let is_right : weight_flaw c.args.weight right ≡ false = ap not (eq-eqb c.args.weight right (c.if-weight-weight_of.false ∙ c.weight_of.ensures)) in
-    sym (none_then flaws ((weight_flaw c.args.weight right, (WeightWrong, 0)) ∷ bounds) none ∙ passes (weight_flaw c.args.weight right) (WeightWrong, 0) bounds is_right ∙ sym c.bound_flaw.ensures)
+    sym (none_then flaws ((weight_flaw c.args.weight right, (WeightWrong, 0)) ∷ bounds) none ∙ passes (weight_flaw c.args.weight right) (WeightWrong, 0) bounds is_right
+    ∙ sym (c.bound_flaw.ensures ∙ ap (λ (entries : List Entry). first_fault (bound_flaws c.args.advert.now c.args.weights.now entries c.args.weight)) c.of.ensures))
