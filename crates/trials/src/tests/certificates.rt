@@ -79,5 +79,9 @@ fn has_room_for_so_many_states(rt: HostRuntime) -> Result<(), Fail> {
         Certificate::<9>::read(text.as_bytes()).err(),
         Some(TooMany)
     );
+    assert_eq!(rt;
+        Certificate::<4>::read(text.as_bytes()).err(),
+        Some(TooMany)
+    );
     Ok(())
 }
