@@ -1,13 +1,21 @@
-/* Preloaded: refuses the growth of number $REFUSE, counted from 1, and no other. */
+/* Preloaded: refuses the growths whose numbers stand in $REFUSE, counted from 1 and with spaces between them, and no other. A
+ * number with a plus sign before it means each growth from there on. */
 #define _GNU_SOURCE
 #include <dlfcn.h>
 #include <stdlib.h>
 
-static unsigned long growths;
-
 static int is_refused(void) {
-    const char *number = getenv("REFUSE");
-    return number && ++growths == strtoul(number, 0, 10);
+    static unsigned long growths;
+    const char *text = getenv("REFUSE");
+    char *rest;
+    growths++;
+    for (; text && *text; text = rest) {
+        unsigned long number = strtoul(text, &rest, 10);
+        if (rest == text) break;
+        if (growths == number || (*text == '+' && growths > number)) return 1;
+        while (*rest == ' ') rest++;
+    }
+    return 0;
 }
 
 void *malloc(size_t size) {

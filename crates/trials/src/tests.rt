@@ -1,4 +1,5 @@
 mod applies;
+mod certificates;
 mod control_bytes;
 mod lanes;
 mod lies;
