@@ -71,6 +71,11 @@ Commands:
 
 Options:
   -h, --help  Print help
+
+An image text tells a module's memory, in lines of hexadecimal digits.
+'tools/module-image PORT' prints that of the module in a network port;
+'cmisctl COMMAND --help' says what else a command reads. docs/formats.md
+describes all texts, and docs/faults.md what each fault means.
 ";
 
 #[test]
