@@ -11,6 +11,7 @@ ghost use Rattle.cmisctl.specs.Entries.{entry_of};
 
 pub mod commands;
 pub mod fault;
+mod help;
 
 use clap::error::ErrorKind;
 use clap::{Arg, ArgAction, ArgMatches, Command};
@@ -34,7 +35,9 @@ fn command<'a>(alloc: Global, entry: &CommandEntry) -> Result<Command<'a>, Alloc
     ensures app { IfOk result (λ c. app_of c ≡ command_app (entry_of entry.now)) }
     ensures local { IfOk result (λ c. (fields_of c).has_globals ≡ false) }
 {
-    let mut command = Command::new(alloc, entry.name).about(entry.about);
+    let mut command = Command::new(alloc, entry.name)
+        .about(entry.about)
+        .after_help(help::of_command(entry.command));
     for given in entry.flags {
         command = command.arg(flag(alloc, given))?;
     }
@@ -48,6 +51,7 @@ fn program<'a>(alloc: Global) -> Result<Command<'a>, AllocError>
 {
     let mut program = Command::new(alloc, "cmisctl")
         .about("Manages pluggable optical modules through their memory map")
+        .after_help(help::OF_PROGRAM)
         .subcommand_required(true)
         .disable_help_subcommand(true);
     for entry in commands::commands() {

@@ -1,0 +1,53 @@
+//! What help says at its end: what the program reads, an example, and how it may end.
+
+use super::commands::CommandName;
+
+/// The end of the program's own help.
+pub const OF_PROGRAM: &str = "An image text tells a module's memory, in lines of hexadecimal digits.
+'tools/module-image PORT' prints that of the module in a network port;
+'cmisctl COMMAND --help' says what else a command reads. docs/formats.md
+describes all texts, and docs/faults.md what each fault means.";
+
+// The end of a command's help: the parts of its input, its example and a status of its own, if it has one. Each part is taken off
+// the first list, and its text put on the second.
+macro_rules! end {
+    ([image $($more:ident)*] [$($text:literal)*] $($rest:literal)*) => {
+        end!([$($more)*] [$($text)* "the image text of a module"] $($rest)*)
+    };
+    ([weights $($more:ident)*] [$($text:literal)*] $($rest:literal)*) => {
+        end!([$($more)*] [$($text)* "weights: '[host]', then lines as '0Dh = 101', by HostInterfaceID"] $($rest)*)
+    };
+    ([certificate $($more:ident)*] [$($text:literal)*] $($rest:literal)*) => {
+        end!([$($more)*] [$($text)* "a certificate, as 'cmisctl plan' prints it"] $($rest)*)
+    };
+    ([script $($more:ident)*] [$($text:literal)*] $($rest:literal)*) => {
+        end!([$($more)*] [$($text)* "a script of the bus: lines as 'ok 4' and 'nack 1', or none"] $($rest)*)
+    };
+    ([] [$first:literal $($further:literal)*] $example:literal $($status:literal)?) => {
+        concat!(
+            "Reads from standard input:\n  ", $first,
+            $("\n  then, behind a line '---', ", $further,)*
+            "\n\nExample, in the repository's folder:\n  ./cmisctl ", $example,
+            "\n\nStatus: 0 answered, 1 input refused, 2 command line refused,",
+            $("\n", $status, ",",)?
+            "\n5 out of memory, 6 a read or write failed. docs/faults.md explains faults."
+        )
+    };
+}
+
+/// The end of the command's help.
+pub fn of_command(command: CommandName) -> &'static str {
+    match command {
+        CommandName::Inventory => end!([image] [] "inventory < examples/qsfp_dd_400g_dr4.txt"),
+        CommandName::Apps => end!([image] [] "apps < examples/osfp_800g_many_apps.txt"),
+        CommandName::Monitors => end!([image] [] "monitors < examples/osfp_800g_dr8.txt"),
+        CommandName::Flags => end!([image] [] "flags < examples/osfp_800g_overheated.txt"),
+        CommandName::Plan => end!([image weights] [] "plan < examples/breakouts_400g_dr4.txt"),
+        CommandName::Check => end!([image weights certificate] []
+            "check < examples/check_800g_one_path.txt" "4 the certificate is bad"),
+        CommandName::Provision => end!([image weights script] []
+            "provision < examples/provision_400g_dr4.txt" "3 not provisioned or not activated"),
+        CommandName::Trace => end!([image weights script] []
+            "trace --activate < examples/provision_400g_dr4.txt" "3 not provisioned or not activated"),
+    }
+}
