@@ -1,6 +1,9 @@
+mod reading;
+
 use arrayvec::ArrayVec;
 use bus_model::{Bus, BusFault, Dev, Device, Op, Reply, Script, ScriptBus};
 use paged_memory::{Image, ImageFault, Key, Page, Window, WindowFault};
+use reading::{select, select_on_window};
 use std::alloc::Global;
 use std::test::Fail;
 
@@ -176,5 +179,20 @@ fn refuses_a_broken_shape_before_a_full_list(rt: HostRuntime) -> Result<(), Fail
     }
     let full = bus.transact(store(255, &[1]));
     assert_eq!(rt; full.err(), Some(BusFault::TraceFull));
+    Ok(())
+}
+
+// A procedure for every bus, over a window behind one.
+#[test]
+fn stands_behind_a_bus(rt: HostRuntime) -> Result<(), Fail> {
+    let script = Script::read(b"cut 1\nok 1\nnack 1\n")?;
+    let window = Window::<16>::of(&image(&paths())?)?;
+    let mut bus = ScriptBus::new(rt.alloc(), window, script, 6)?;
+    let first_page = ArrayVec::try_from([0x00, 0x00].as_slice()).ok();
+    let status_page = ArrayVec::try_from([0x00, 0x11].as_slice()).ok();
+    assert_eq!(rt; select(&mut bus, 0x11)?, first_page, "the store is cut");
+    assert_eq!(rt; select(&mut bus, 0x11)?, first_page, "the store is refused");
+    assert_eq!(rt; select_on_window(&mut bus, 0x11)?, status_page);
+    assert_eq!(rt; select(&mut bus, 0x11).err(), Some(BusFault::TraceFull));
     Ok(())
 }
