@@ -2,9 +2,15 @@ use paged_memory::Image;
 use sample_modules::{QSFP_DD, QSFP28, SFP};
 use std::test::Fail;
 
+const ZEROS: &str = "module-image 1\nlower A0 \
+    0000000000000000000000000000000000000000000000000000000000000000\
+    0000000000000000000000000000000000000000000000000000000000000000\
+    0000000000000000000000000000000000000000000000000000000000000000\
+    0000000000000000000000000000000000000000000000000000000000000000\nend\n";
+
 #[test]
 fn the_texts_are_images(rt: HostRuntime) -> Result<(), Fail> {
-    for text in [QSFP_DD, QSFP28, SFP] {
+    for text in [ZEROS, QSFP_DD, QSFP28, SFP] {
         let image = Image::read(text.as_bytes())?;
         let written = image.write(rt.alloc())?;
         assert_eq!(rt; written.as_slice(), text.as_bytes());
