@@ -4,7 +4,7 @@ use Rattle.field_tables.specs.LaneSets.{Lanes, every_lane}
 use Rattle.bus_model.specs.declared.operation.Reply.{Reply}
 use Rattle.bus_model.specs.declared.operation.Reply.TheVariants.{Bytes, Done, Refused}
 use Rattle.bus_model.specs.declared.operation.Step.{Step}
-use Rattle.datapath_states.specs.Lanes.{lane_in}
+use Rattle.datapath_states.specs.Lanes.{code_in}
 use Rattle.control_sets.specs.declared.fault.ProvisionFault.{ProvisionFault}
 use Rattle.bus_model.specs.SameOperation.{same_op}
 use Rattle.control_sets.specs.Pages.{History, selection}
@@ -54,17 +54,17 @@ module _ (control : List ℕ) (lanes : Lanes) (full : Type 0) where
       ap (λ (step : Step). read_of step.reply) (last_is (gave read_path_states bytes) ends.last before ends.before ends.split) ∙ ap read_of ends.ends.1.1
 
   -- a lane of the plan isn't activated
-  pub overlooks_lane : (bytes : List ℕ) (before : History) (steps lane : ℕ) → IsOf lanes lane → lane_in bytes lane ≢ 4 → IsActivation control lanes full (gave read_path_states bytes ∷ before) (Ok steps) → ⊥
+  pub overlooks_lane : (bytes : List ℕ) (before : History) (steps lane : ℕ) → IsOf lanes lane → code_in bytes lane ≢ 4 → IsActivation control lanes full (gave read_path_states bytes ∷ before) (Ok steps) → ⊥
   overlooks_lane bytes before steps lane is other outcome =
       let ends = success_ends (gave read_path_states bytes ∷ before) steps outcome in
-      other (ap (λ (bytes : List ℕ). lane_in bytes lane) (read_last bytes before steps outcome) ∙ ends.ends.2.1 lane is)
+      other (ap (λ (bytes : List ℕ). code_in bytes lane) (read_last bytes before steps outcome) ∙ ends.ends.2.1 lane is)
 
   -- a lane tells a reserved code
-  pub overlooks_reserved : (bytes : List ℕ) (before : History) (steps lane : ℕ) → IsOf every_lane lane → IsReservedPathState (lane_in bytes lane) →
+  pub overlooks_reserved : (bytes : List ℕ) (before : History) (steps lane : ℕ) → IsOf every_lane lane → IsReservedPathState (code_in bytes lane) →
       IsActivation control lanes full (gave read_path_states bytes ∷ before) (Ok steps) → ⊥
   overlooks_reserved bytes before steps lane is reserved outcome =
       let ends = success_ends (gave read_path_states bytes ∷ before) steps outcome in
-      ends.ends.2.0 lane (is, subst (λ (bytes : List ℕ). IsReservedPathState (lane_in bytes lane)) (read_last bytes before steps outcome) reserved)
+      ends.ends.2.0 lane (is, subst (λ (bytes : List ℕ). IsReservedPathState (code_in bytes lane)) (read_last bytes before steps outcome) reserved)
 
   -- the lanes are released though the control bytes weren't read as active
   pub releases_unread : (step : Step) (before : History) (answer : Answer) → step.op ≡ release lanes → (Stands (Gives read_active control) before → ⊥) → IsActivation control lanes full (step ∷ before) answer → ⊥

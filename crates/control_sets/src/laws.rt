@@ -22,7 +22,7 @@ ghost use Rattle.control_sets.specs.OutcomeAnswers.{Answer};
 ghost use Rattle.control_sets.specs.OutcomeOfProvisioning.{IsProvisioning};
 ghost use Rattle.control_sets.specs.OutcomeOfActivation.{IsActivation, release};
 ghost use Rattle.control_sets.specs.OutcomeCodes.{IsOf, IsReservedPathState};
-ghost use Rattle.datapath_states.specs.Lanes.{lane_in};
+ghost use Rattle.datapath_states.specs.Lanes.{code_in};
 ghost use Rattle.control_sets.specs.OutcomeSuccess.{ReadsActive};
 
 use applications::MAX_APPS;
@@ -118,10 +118,10 @@ pub fn what_activation_refuses()
         (before : History) (steps : ℕ) → same_op step.op read_path_states ≡ false →
         ¬ (IsActivation control lanes (made ≡ room) (step ∷ before) (Ok steps)) }
     ensures lane_overlooked { (control bytes : List ℕ) (lanes : Lanes) (made room lane : ℕ)
-        (before : History) (steps : ℕ) → IsOf lanes lane → lane_in bytes lane ≢ 4 →
+        (before : History) (steps : ℕ) → IsOf lanes lane → code_in bytes lane ≢ 4 →
         ¬ (IsActivation control lanes (made ≡ room) (gave read_path_states bytes ∷ before) (Ok steps)) }
     ensures reserved_code_overlooked { (control bytes : List ℕ) (lanes : Lanes) (made room lane : ℕ)
-        (before : History) (steps : ℕ) → IsOf every_lane lane → IsReservedPathState (lane_in bytes lane) →
+        (before : History) (steps : ℕ) → IsOf every_lane lane → IsReservedPathState (code_in bytes lane) →
         ¬ (IsActivation control lanes (made ≡ room) (gave read_path_states bytes ∷ before) (Ok steps)) }
     ensures release_of_what_is_not_active { (control : List ℕ) (lanes : Lanes) (made room : ℕ) (step : Step)
         (before : History) (answer : Answer) → step.op ≡ release lanes → ¬ (Stands (Gives read_active control) before) →
