@@ -6,3 +6,5 @@ mod OwnAnswers
 mod PartCuts
 mod ProcedureAnswers
 mod ReportAnswers
+mod TextBehind
+mod CheckedPlans

@@ -1,5 +1,5 @@
 -- The answer of a command that carries out procedures, by what it sets up and does.
-use Rattle.std.proofs.Common.{◌≡◌, ◌∙◌, ℕ, Bool, true, false, List, [], ◌∷◌, Option, Some, None, Result, Ok, Err, IfOk, refl, ap, ap₂, ◌++◌, ◌⊎◌, inl, inr, length, arith}
+use Rattle.std.proofs.Common.{◌≡◌, ◌∙◌, ℕ, Bool, true, false, List, [], ◌∷◌, Option, Some, None, Result, Ok, Err, IfOk, refl, sym, subst, ap, ap₂, ◌++◌, ◌⊎◌, inl, inr, length, arith}
 use Rattle.std.specs.Prelude.{MatchOption, is_ok, slice_index}
 use Rattle.hex.specs.Hex.{encode_lower}
 use Rattle.text_lines.specs.Lines.{text_of}
@@ -14,11 +14,14 @@ use Rattle.control_sets.specs.Answers.{provisioned_steps}
 use Rattle.control_sets.specs.declared.fault.ProvisionFault.{ProvisionFault}
 use Rattle.control_sets.specs.declared.procedures.runner.Provisioned.{Provisioned}
 use Rattle.control_sets.specs.ControlBytes.{control_bytes}
+use Rattle.control_sets.specs.PlanLanes.{plan_lanes}
 use Rattle.plan_certificate.specs.declared.path.Path.{Path}
+use Rattle.sim_module.specs.ActiveSets.{IsAtRest}
 use Rattle.sim_module.specs.Lanes.{active_bytes}
 use Rattle.sim_module.specs.Soundness.{IsSound}
 use Rattle.sim_module.specs.declared.fault.SimFault.{SimFault}
 use Rattle.sim_module.specs.declared.module.SimModule.{SimModule}
+use Rattle.sim_module.proofs.Activated.{activation_rests}
 use Rattle.sim_module.proofs.Provisioned.{active_is_planned}
 use Rattle.sim_module.proofs.SoundModule.{sound_start}
 use Rattle.cmisctl.specs.Faults.{fault_of_weights}
@@ -122,8 +125,36 @@ session_sound image listed script session is =
     let new = ap (λ (bus : ModuleBus). bus.state.1) is.bus in
     rw new (sound_start is.set_up.given.is_advert.memory delays)
 
--- after a success the control bytes are active
+-- after a success the control bytes are active, and no apply is in progress
+rests_after : (advert : Advertised) (paths : List Path) (before between : ModuleBus) (provisioned : Ended) → IsSound before.state.1 → Provisions advert paths before between provisioned
+    → IfOk provisioned (λ steps. IsAtRest (control_bytes advert paths) between.state.1)
+rests_after advert paths before between (Ok steps) sound (history, ran, outcome) = active_is_planned before between history (control_bytes advert paths) steps sound ran outcome
+rests_after advert paths before between (Err f) sound made = tt
+
+active_at_rest : (control : List ℕ) (bus : ModuleBus) (provisioned : Ended) → IfOk provisioned (λ steps. IsAtRest control bus.state.1)
+    → IfOk provisioned (λ steps. active_bytes bus.state.1 ≡ control)
+active_at_rest control bus (Ok steps) rest = rest.active
+active_at_rest control bus (Err f) rest = tt
+
 pub active_after : (advert : Advertised) (paths : List Path) (before between : ModuleBus) (provisioned : Ended) → IsSound before.state.1 → Provisions advert paths before between provisioned
     → IfOk provisioned (λ steps. active_bytes between.state.1 ≡ control_bytes advert paths)
-active_after advert paths before between (Ok steps) sound (history, ran, outcome) = active_is_planned before between history (control_bytes advert paths) steps sound ran outcome
-active_after advert paths before between (Err f) sound made = tt
+active_after advert paths before between provisioned sound made =
+    active_at_rest (control_bytes advert paths) between provisioned (rests_after advert paths before between provisioned sound made)
+
+-- and they stay so, whether activation is made or not
+still_at_rest : (activate : Bool) (advert : Advertised) (paths : List Path) (between after : ModuleBus) (provisioned : Ended) (activated : Option Ended)
+    → IfOk provisioned (λ steps. IsAtRest (control_bytes advert paths) between.state.1) → GoesOn activate advert paths provisioned between after activated
+    → IfOk provisioned (λ steps. IsAtRest (control_bytes advert paths) after.state.1)
+still_at_rest activate advert paths between after (Err f) activated rest goes_on = tt
+still_at_rest true advert paths between after (Ok steps) (Some ended) rest (history, ran, outcome) =
+    activation_rests between after history (control_bytes advert paths) (control_bytes advert paths) (plan_lanes advert paths) ended rest ran outcome
+still_at_rest true advert paths between after (Ok steps) None rest goes_on = absurd goes_on
+still_at_rest false advert paths between after (Ok steps) None rest goes_on = subst (λ (bus : ModuleBus). IsAtRest (control_bytes advert paths) bus.state.1) (sym goes_on) rest
+still_at_rest false advert paths between after (Ok steps) (Some ended) rest goes_on = absurd goes_on
+
+pub still_active_after : (activate : Bool) (advert : Advertised) (paths : List Path) (before between after : ModuleBus) (provisioned : Ended) (activated : Option Ended)
+    → IsSound before.state.1 → Provisions advert paths before between provisioned → GoesOn activate advert paths provisioned between after activated
+    → IfOk provisioned (λ steps. active_bytes after.state.1 ≡ control_bytes advert paths)
+still_active_after activate advert paths before between after provisioned activated sound made goes_on =
+    active_at_rest (control_bytes advert paths) after provisioned
+    (still_at_rest activate advert paths between after provisioned activated (rests_after advert paths before between provisioned sound made) goes_on)

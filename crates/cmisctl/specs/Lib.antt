@@ -21,3 +21,4 @@ pub mod CheckCommand
 pub mod ProvisionCommand
 pub mod Sessions
 pub mod Program
+pub mod PlanThenCheck

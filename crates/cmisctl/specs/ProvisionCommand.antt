@@ -71,12 +71,14 @@ GoesOn true advert paths (Err fault) before after None = after ≡ before
 GoesOn false advert paths provisioned before after None = after ≡ before
 GoesOn activate advert paths provisioned before after activated = ⊥
 
--- both procedures, as far as they are made, and the control bytes that are active after a success of the first
+-- both procedures, as far as they are made; after a success of the first the control bytes are active, and still so at the
+-- end, whatever comes of the second
 pub record CarriesOut (activate : Bool) (advert : Advertised) (paths : List Path) (before after : ModuleBus) (provisioned : Ended) (activated : Option Ended) : Type 0 where
   pub between : ModuleBus
   pub provisions : Provisions advert paths before between provisioned
   pub active : IfOk provisioned (λ steps. active_bytes between.state.1 ≡ control_bytes advert paths)
   pub goes_on : GoesOn activate advert paths provisioned between after activated
+  pub still_active : IfOk provisioned (λ steps. active_bytes after.state.1 ≡ control_bytes advert paths)
 
 unfoldable pub provisioned_line : ℕ → List ℕ
 provisioned_line steps = spaced (codes "provisioned" ∷ decimal steps ∷ [])

@@ -6,6 +6,7 @@ mod commands;
 mod failure;
 mod fault;
 mod input;
+mod laws;
 mod output;
 mod parts;
 mod program;

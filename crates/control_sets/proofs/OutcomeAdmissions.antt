@@ -1,17 +1,20 @@
 -- Steps and answers that are provisioning or activation.
-use Rattle.std.proofs.Common.{◌≡◌, List, [], ◌∷◌, Some, None, Err, refl, sym, ◌∙◌, inl, arith}
+use Rattle.std.proofs.Common.{◌≡◌, ℕ, zero, suc, Bool, false, not, List, [], ◌∷◌, length, Some, None, Err, if◌then◌else◌, refl, sym, ap, ◌∙◌, inl, inr, arith}
+use Rattle.std.specs.Prelude.{drop, find}
+use Rattle.std.specs.Option.{option_map}
 use Rattle.field_tables.specs.LaneSets.{every_lane}
 use Rattle.bus_model.specs.declared.bus.BusFault.TheVariants.{TraceFull}
-use Rattle.control_sets.specs.declared.fault.ProvisionFault.TheVariants.{ActiveDiffers, Bus, ModuleState, Reserved}
+use Rattle.control_sets.specs.declared.fault.ProvisionFault.TheVariants.{ActiveDiffers, Bus, GaveUp, ModuleState, Reserved}
 use Rattle.control_sets.specs.declared.procedures.task.Task.{Task}
-use Rattle.control_sets.specs.Pages.{History, read_selection, selection}
+use Rattle.control_sets.specs.declared.procedures.task.Task.TheVariants.{FindReady}
+use Rattle.control_sets.specs.Pages.{History, is_open, read_selection, selection}
 use Rattle.control_sets.specs.Tasks.{activation, provisioning}
 use Rattle.control_sets.specs.Judgements.{judged}
-use Rattle.control_sets.specs.Procedures.{EachGoesOn, GoesOn, fault_after, in_hand}
+use Rattle.control_sets.specs.Procedures.{EachAnswers, EachGoesOn, EachIsNext, GoesOn, fault_after, in_hand, next_operation, was_met}
 use Rattle.control_sets.specs.OutcomeOperations.{control_page, read_active, read_module_state, status_page}
 use Rattle.control_sets.specs.OutcomeOfProvisioning.{IsProvisioning}
 use Rattle.control_sets.specs.OutcomeOfActivation.{IsActivation}
-use Rattle.control_sets.specs.OutcomeExamples.{almost_pairs, gave, low_power, on_controls, on_status_at_once, other_bank, pairs, ready, refused, refused_selection, repeated_selection, took}
+use Rattle.control_sets.specs.OutcomeExamples.{almost_pairs, gave, low_power, on_controls, on_status_at_once, other_bank, pairs, ready, refused, refused_reads, refused_selection, repeated_selection, took}
 use Rattle.control_sets.proofs.OutcomeIsProvisioning.{ended_is_provisioning, filled_is_provisioning}
 use Rattle.control_sets.proofs.OutcomeIsActivation.{ended_is_activation, filled_is_activation}
 
@@ -96,6 +99,52 @@ module _ (full : Type 0) where
       (goes tasks (took (selection control_page) ∷ ready ∷ []) _ refl refl, after_ready),
     ),
   )
+
+-- ---- as many refused reads as may be
+
+-- so many refused reads of the module state
+unmet : (count : ℕ) → was_met FindReady (refused_reads count) ≡ false
+unfolding judged
+unmet zero = refl
+unmet (suc count) = unmet count
+
+in_hand_still : (count : ℕ) → in_hand (provisioning pairs every_lane) (refused_reads count) ≡ Some FindReady
+in_hand_still count = ap (λ (b : Bool). if not b then Some FindReady else find (λ task. not (was_met task (refused_reads count))) (drop 1 (provisioning pairs every_lane))) (unmet count)
+
+closed : (count : ℕ) → is_open (refused_reads count) ≡ false
+closed zero = refl
+closed (suc count) = refl
+
+asks : (count : ℕ) → option_map (next_operation (refused_reads count)) (in_hand (provisioning pairs every_lane) (refused_reads count)) ≡ Some read_module_state
+asks count =
+    ap (option_map (next_operation (refused_reads count))) (in_hand_still count)
+    ∙ ap (λ (b : Bool). Some (if b then read_selection else read_module_state)) (closed count)
+
+each_asked : (count : ℕ) → EachIsNext (provisioning pairs every_lane) (refused_reads count)
+each_asked zero = tt
+each_asked (suc count) = (asks count, each_asked count)
+
+each_answers : (count : ℕ) → EachAnswers (refused_reads count)
+each_answers zero = tt
+each_answers (suc count) = (tt, each_answers count)
+
+no_fault : (count : ℕ) → fault_after (provisioning pairs every_lane) (refused_reads count) ≡ None
+unfolding judged
+no_fault zero = refl
+no_fault (suc count) = refl
+
+each_goes : (count : ℕ) → EachGoesOn (provisioning pairs every_lane) (refused_reads count)
+each_goes zero = goes (provisioning pairs every_lane) [] FindReady (in_hand_still zero) (no_fault zero)
+each_goes (suc count) = (goes (provisioning pairs every_lane) (refused_reads (suc count)) FindReady (in_hand_still (suc count)) (no_fault (suc count)), each_goes count)
+
+so_many : (count : ℕ) → length (refused_reads count) ≡ count
+so_many zero = refl
+so_many (suc count) = ap suc (so_many count)
+
+-- after 4,096 it is given up
+pub given_up : (full : Type 0) → IsProvisioning pairs every_lane full (refused_reads 4096) (Err GaveUp)
+given_up full = let many = so_many 4096 in ended_is_provisioning pairs every_lane refl full (refused_reads 4096) (Err GaveUp)
+    (record { each = each_asked 4096; answers = each_answers 4096; few = omega (arith, many); answered = inr (record { fault = refl; all = many; goes_on = each_goes 4096 }) })
 
 -- activation where the active byte of lane 2 is another
 pub active_is_another : (full : Type 0) → IsActivation pairs every_lane full (gave read_active almost_pairs ∷ on_status_at_once) (Err (ActiveDiffers 2))

@@ -1,19 +1,14 @@
 -- A success of provisioning has read the control bytes as active.
-use Rattle.std.proofs.Common.{◌≡◌, ℕ, false, List, Ok, Err, refl, sym, subst, ◌∙◌, inl, inr}
+use Rattle.std.proofs.Common.{◌≡◌, ℕ, List, Ok, Err, refl, sym, subst, ◌∙◌, inl, inr}
 use Rattle.field_tables.specs.LaneSets.{Lanes, byte_of}
-use Rattle.bus_model.specs.declared.operation.Op.{Op}
 use Rattle.bus_model.specs.declared.operation.Step.{Step}
 use Rattle.control_sets.specs.declared.fault.ProvisionFault.{ProvisionFault}
-use Rattle.control_sets.specs.SameOperation.{same_op}
 use Rattle.control_sets.specs.Pages.{EachStep, History, read_selection, selection}
 use Rattle.control_sets.specs.OutcomeOperations.{Confirms, apply, control_page, read_active, read_module_state, read_staged, set_deinit, stage, status_page}
 use Rattle.control_sets.specs.OutcomeOfProvisioning.{EndsProvisioning, IsProvisioning, IsProvisioningStep}
 use Rattle.control_sets.specs.OutcomeAnswers.{EndsIn}
 use Rattle.control_sets.specs.OutcomeSuccess.{ReadsActive}
-use Rattle.control_sets.proofs.OutcomeWords.{contradicts, ops_same}
-
-apart : (op other : Op) → same_op op other ≡ false → op ≡ other → ⊥
-apart op other differs e = contradicts (ops_same op other e) differs
+use Rattle.control_sets.proofs.OutcomeWords.{apart}
 
 confirmed : (control : List ℕ) (lanes : Lanes) (step : Step) (before : History) → step.op ≡ read_active → IsProvisioningStep control lanes step before → Confirms status_page before
 confirmed control lanes step before is (inl (inl e)) = absurd (apart read_active read_module_state refl (sym is ∙ e))

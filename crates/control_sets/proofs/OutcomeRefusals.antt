@@ -1,32 +1,51 @@
 -- Steps and answers that look right and are no provisioning.
-use Rattle.std.proofs.Common.{◌≡◌, ◌+◌, ℕ, true, false, not, List, [], ◌∷◌, Ok, Err, length, refl, ap, ◌∙◌, inl, inr, arith}
+use Rattle.std.proofs.Common.{◌≡◌, ◌+◌, ℕ, true, false, not, List, [], ◌∷◌, Ok, Err, ◌<◌, length, refl, sym, subst, ap, ◌∙◌, inl, inr, arith}
 use Rattle.std.proofs.lemmas.Bool.{and_parts}
 use Rattle.std.specs.List.{list_all}
 use Rattle.field_tables.specs.LaneSets.{Lanes, byte_of}
 use Rattle.bus_model.specs.declared.operation.Op.{Op}
+use Rattle.bus_model.specs.declared.operation.Op.TheVariants.{Fetch, Store}
 use Rattle.bus_model.specs.declared.operation.Reply.{Reply}
 use Rattle.bus_model.specs.declared.operation.Reply.TheVariants.{Bytes, Done, Refused}
 use Rattle.bus_model.specs.declared.operation.Step.{Step}
 use Rattle.control_sets.specs.declared.fault.ProvisionFault.{ProvisionFault}
-use Rattle.control_sets.specs.declared.fault.ProvisionFault.TheVariants.{Bus, GaveUp, StagedDiffers}
+use Rattle.control_sets.specs.declared.fault.ProvisionFault.TheVariants.{Bus, GaveUp, ModuleState, StagedDiffers}
 use Rattle.bus_model.specs.declared.bus.BusFault.TheVariants.{TraceFull}
+use Rattle.module_states.specs.declared.state.ModuleState.TheVariants.{LowPwr}
 use Rattle.control_sets.specs.SameOperation.{same_op}
 use Rattle.control_sets.specs.Pages.{History, read_selection, selection}
 use Rattle.control_sets.specs.OutcomeSteps.{IsAccepted, IsAmong, Stands}
-use Rattle.control_sets.specs.OutcomeOperations.{apply, control_page, read_active, read_module_state, read_path_states, read_staged, read_statuses, stage, status_page}
+use Rattle.control_sets.specs.OutcomeOperations.{apply, control_page, read_active, read_module_state, read_path_states, read_staged, read_statuses, set_deinit, stage, status_page}
 use Rattle.control_sets.specs.OutcomeCodes.{byte_at}
-use Rattle.control_sets.specs.OutcomeAnswers.{Answer, EndsIn}
+use Rattle.control_sets.specs.OutcomeAnswers.{Answer, EndsIn, NoneEnds}
 use Rattle.control_sets.specs.OutcomeOfProvisioning.{EndsProvisioning, IsProvisioning}
-use Rattle.control_sets.specs.OutcomeExamples.{almost_pairs, gave, on_controls, pairs, ready, refused, took}
-use Rattle.control_sets.proofs.OutcomeWords.{confirms_page, contradicts, ops_same, page_confirmed}
-
-apart : (op other : Op) → same_op op other ≡ false → op ≡ other → ⊥
-apart op other differs e = contradicts (ops_same op other e) differs
+use Rattle.control_sets.specs.OutcomeExamples.{almost_pairs, gave, low_power, on_controls, pairs, ready, refused, took}
+use Rattle.control_sets.proofs.OutcomeWords.{apart, confirms_page, contradicts, ops_same, page_confirmed}
 
 not_among : (ops : List Op) (op : Op) → list_all (λ other. not (same_op op other)) ops ≡ true → IsAmong ops op → ⊥
 not_among [] op differ among = among
 not_among (other ∷ ops) op differ (inl is) = contradicts (and_parts _ _ differ).0 (ap not (ops_same op other is))
 not_among (other ∷ ops) op differ (inr later) = not_among ops op (and_parts _ _ differ).1 later
+
+-- an operation that is one which is none of these
+none_among : (ops : List Op) (op other : Op) → op ≡ other → list_all (λ some. not (same_op other some)) ops ≡ true → IsAmong ops op → ⊥
+none_among ops op other is differ among = not_among ops other differ (subst (IsAmong ops) is among)
+
+abbrev given : Op → List ℕ
+given (Fetch dev offset count) = []
+given (Store dev offset bytes) = bytes.items
+
+abbrev first_of : List ℕ → ℕ
+first_of [] = 0
+first_of (byte ∷ bytes) = byte
+
+abbrev rest : History → History
+rest [] = []
+rest (step ∷ before) = before
+
+pub fault_of : Answer → ProvisionFault
+fault_of (Ok steps) = GaveUp
+fault_of (Err fault) = fault
 
 not_ok : (steps : ℕ) (fault : ProvisionFault) → Ok steps ≡ Err fault → ⊥
 not_ok steps fault e = cc
@@ -82,7 +101,70 @@ module _ (control : List ℕ) (lanes : Lanes) (full : Type 0) where
 
   -- a selection that isn't read back before the next
   pub selects_twice : (answer : Answer) → IsProvisioning control lanes full (took (selection control_page) ∷ took (selection control_page) ∷ ready ∷ []) answer → ⊥
-  selects_twice answer outcome = apart (selection control_page) read_selection refl (outcome.brief.selections.at_once.0 (inl refl))
+  selects_twice answer outcome = apart (selection control_page) read_selection refl (outcome.brief.selections.at_once.0 (inl (inl refl)))
+
+  -- a selection that is made again where its read back was refused
+  pub selects_unread : (answer : Answer) → IsProvisioning control lanes full (took (selection control_page) ∷ refused read_selection ∷ took (selection control_page) ∷ ready ∷ []) answer → ⊥
+  selects_unread answer outcome = apart (selection control_page) read_selection refl (outcome.brief.selections.at_once.0 (inr (refl, refl)))
+
+  -- a selection of page 11h before anything was taken down
+  pub selects_status_first : (answer : Answer) → IsProvisioning control lanes full (took (selection status_page) ∷ ready ∷ []) answer → ⊥
+  selects_status_first answer outcome = elim (outcome.brief.status.0 refl).1 as (λ _. ⊥) [
+    | inl wanted ↦ none_taken wanted.0
+    | inr applied ↦ none_applied applied
+  ] where
+    none_taken : Stands (IsAccepted (set_deinit (byte_of lanes))) (ready ∷ []) → ⊥
+    none_taken (inl accepted) = apart read_module_state (set_deinit (byte_of lanes)) refl accepted.0
+    none_taken (inr none) = none
+
+    none_applied : Stands (IsAccepted (apply (byte_of lanes))) (ready ∷ []) → ⊥
+    none_applied (inl accepted) = apart read_module_state (apply (byte_of lanes)) refl accepted.0
+    none_applied (inr none) = none
+
+  -- a store that is staged in place of the control bytes
+  pub stages_others : (step : Step) (before : History) (answer : Answer) (others : List ℕ) → step.op ≡ stage others → (others ≡ control → ⊥) → IsProvisioning control lanes full (step ∷ before) answer → ⊥
+  stages_others step before answer others is differ outcome = elim outcome.shape.0 as (λ _. ⊥) [
+    | inl among ↦ none_among (read_module_state ∷ read_selection ∷ selection control_page ∷ selection status_page ∷ []) step.op (stage others) is refl among
+    | inr (inl (among, there)) ↦ none_among (read_path_states ∷ read_statuses ∷ read_active ∷ []) step.op (stage others) is refl among
+    | inr (inr (inl e, there)) ↦ apart (stage others) (set_deinit (byte_of lanes)) refl (sym is ∙ e)
+    | inr (inr (inr (inl e), there)) ↦ differ (ap given (sym is ∙ e))
+    | inr (inr (inr (inr among), there)) ↦ none_among (read_staged ∷ apply (byte_of lanes) ∷ []) step.op (stage others) is refl among
+  ]
+
+  -- an Apply of other lanes
+  pub applies_others : (step : Step) (before : History) (answer : Answer) (bits : ℕ) → step.op ≡ apply bits → (bits ≡ byte_of lanes → ⊥) → IsProvisioning control lanes full (step ∷ before) answer → ⊥
+  applies_others step before answer bits is differ outcome = elim outcome.shape.0 as (λ _. ⊥) [
+    | inl among ↦ none_among (read_module_state ∷ read_selection ∷ selection control_page ∷ selection status_page ∷ []) step.op (apply bits) is refl among
+    | inr (inl (among, there)) ↦ none_among (read_path_states ∷ read_statuses ∷ read_active ∷ []) step.op (apply bits) is refl among
+    | inr (inr (inl e, there)) ↦ apart (apply bits) (set_deinit (byte_of lanes)) refl (sym is ∙ e)
+    | inr (inr (inr (inl e), there)) ↦ apart (apply bits) (stage control) refl (sym is ∙ e)
+    | inr (inr (inr (inr (inl e)), there)) ↦ apart (apply bits) read_staged refl (sym is ∙ e)
+    | inr (inr (inr (inr (inr (inl e))), there)) ↦ differ (ap (λ (op : Op). first_of (given op)) (sym is ∙ e))
+    | inr (inr (inr (inr (inr (inr none))), there)) ↦ none
+  ]
+
+  -- a step after one that ended in an answer
+  pub goes_on_ended : (step : Step) (before : History) (answer : Answer) → IsProvisioning control lanes full (step ∷ low_power ∷ before) answer → ⊥
+  goes_on_ended step before answer outcome = elim outcome.answered.answered as (λ _. ⊥) [
+    | inl ends ↦ ended_by (subst (NoneEnds (EndsProvisioning control lanes)) (sym (ap rest ends.split)) ends.first)
+    | inr (inl gives_up) ↦ ended_by gives_up.none.1
+    | inr (inr fills) ↦ ended_by fills.none.1
+  ] where
+    ended_by : NoneEnds (EndsProvisioning control lanes) (low_power ∷ before) → ⊥
+    ended_by none = none.0 (Err (ModuleState 1)) (0x02 ∷ [], (refl, refl), (refl, LowPwr, refl, λ e. cc))
+
+  -- a list that isn't full is said to be
+  pub fills_too_soon : (history : History) → (full → ⊥) → IsProvisioning control lanes full history (Err (Bus TraceFull)) → ⊥
+  unfolding fault_of
+  fills_too_soon history room outcome = elim outcome.answered.answered as (λ _. ⊥) [
+    | inl ends ↦ ends.ends
+    | inr (inl gives_up) ↦ let h : Bus TraceFull ≡ GaveUp = ap fault_of gives_up.fault in cc
+    | inr (inr fills) ↦ room fills.is_full
+  ]
+
+  -- more steps than may be made
+  pub goes_too_far : (history : History) (answer : Answer) → 4096 < length history → IsProvisioning control lanes full history answer → ⊥
+  goes_too_far history answer many outcome = omega (arith, many, outcome.answered.at_most)
 
   -- a selection of the page that is confirmed
   pub selects_again : (answer : Answer) → IsProvisioning control lanes full (took (selection control_page) ∷ on_controls) answer → ⊥
@@ -104,10 +186,6 @@ module _ (control : List ℕ) (lanes : Lanes) (full : Type 0) where
   -- statuses that are read though no Apply was accepted
   pub believes_refused : (step : Step) (before : History) (answer : Answer) → step.op ≡ read_statuses → (Stands (IsAccepted (apply (byte_of lanes))) before → ⊥) → IsProvisioning control lanes full (step ∷ before) answer → ⊥
   believes_refused step before answer is none outcome = none (outcome.order.statuses.0 is)
-
-fault_of : Answer → ProvisionFault
-fault_of (Ok steps) = GaveUp
-fault_of (Err fault) = fault
 
 read_of : Reply → List ℕ
 read_of (Bytes bytes) = bytes.items

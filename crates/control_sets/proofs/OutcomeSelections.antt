@@ -13,8 +13,8 @@ use Rattle.control_sets.specs.SameOperation.{same_op}
 use Rattle.control_sets.specs.Pages.{EachStep, History, confirms, is_open, is_read, leaves_open, may_select, read_selection, selection}
 use Rattle.control_sets.specs.Tasks.{operation, page_of}
 use Rattle.control_sets.specs.Procedures.{EachAnswers, EachGoesOn}
-use Rattle.control_sets.specs.OutcomeSteps.{IsRefused, Newest}
-use Rattle.control_sets.specs.OutcomeOperations.{IsSelection, ReadsSelectionsBack, control_page, status_page}
+use Rattle.control_sets.specs.OutcomeSteps.{Newest}
+use Rattle.control_sets.specs.OutcomeOperations.{AwaitsReadBack, IsSelection, ReadsSelectionsBack, control_page, status_page}
 use Rattle.control_sets.proofs.OutcomeWords.{contradicts, each_from, ops_are, ops_same}
 use Rattle.control_sets.proofs.OutcomeTurns.{Turn, no_read_back, no_selection}
 
@@ -85,9 +85,13 @@ open_reads tasks step before turn e = elim turn.does as (λ _. step.op ≡ read_
   | inr (inr works) ↦ absurd (contradicts e works.closed)
 ]
 
-reads_next : (tasks : List Task) (step : Step) (before : History) → Turn tasks step before → Newest IsSelection before → step.op ≡ read_selection
+leaves_unread : (step : Step) → AwaitsReadBack step → leaves_open step ≡ true
+leaves_unread step (inl selects) = leaves step selects
+leaves_unread step (inr none) = λ i. may_select (none.0 i) || (same_op read_selection (none.0 i) && not (is_read (none.1 i)))
+
+reads_next : (tasks : List Task) (step : Step) (before : History) → Turn tasks step before → Newest AwaitsReadBack before → step.op ≡ read_selection
 reads_next tasks step [] turn newest = absurd newest
-reads_next tasks step (last ∷ before) turn newest = open_reads tasks step (last ∷ before) turn (leaves last newest)
+reads_next tasks step (last ∷ before) turn newest = open_reads tasks step (last ∷ before) turn (leaves_unread last newest)
 
 not_store : (page : ℕ) → selection page ≡ read_selection → ⊥
 not_store page e = contradicts (ops_same (selection page) read_selection e) refl
@@ -97,15 +101,15 @@ refused (Bytes bytes) answers e = cc
 refused Done answers e = absurd answers
 refused Refused answers e = refl
 
-reads_only : (tasks : List Task) (step : Step) (before : History) → Here tasks step before → step.op ≡ read_selection → Newest (λ last. IsSelection last ⊎ IsRefused read_selection last) before
-reads_only tasks step before here is = elim here.turn.does as (λ _. Newest (λ last. IsSelection last ⊎ IsRefused read_selection last) before) [
+reads_only : (tasks : List Task) (step : Step) (before : History) → Here tasks step before → step.op ≡ read_selection → Newest AwaitsReadBack before
+reads_only tasks step before here is = elim here.turn.does as (λ _. Newest AwaitsReadBack before) [
   | inl reads ↦ by before here.turns here.fits reads.awaited
   | inr (inl selects) ↦ absurd (not_store selects.page (sym selects.is ∙ is))
   | inr (inr works) ↦ absurd (no_read_back here.turn.task (sym works.is ∙ is))
 ] where
-  by : (before : History) → EachStep (Turn tasks) before → EachAnswers before → is_open before ≡ true → Newest (λ last. IsSelection last ⊎ IsRefused read_selection last) before
+  by : (before : History) → EachStep (Turn tasks) before → EachAnswers before → is_open before ≡ true → Newest AwaitsReadBack before
   by [] turns fits e = cc
-  by (last ∷ before) turns fits e = elim (or_cases (may_select last.op) (same_op read_selection last.op && not (is_read last.reply)) e) as (λ _. IsSelection last ⊎ IsRefused read_selection last) [
+  by (last ∷ before) turns fits e = elim (or_cases (may_select last.op) (same_op read_selection last.op && not (is_read last.reply)) e) as (λ _. AwaitsReadBack last) [
     | inl selects ↦ inl (selecting tasks last before turns.0 selects)
     | inr unread ↦
         let parts = and_parts _ _ unread in
@@ -115,8 +119,8 @@ reads_only tasks step before here is = elim here.turn.does as (λ _. Newest (λ 
 
 pub reads_back : (tasks : List Task) (history : History) → EachStep (Here tasks) history → ReadsSelectionsBack history
 reads_back tasks history each = record {
-  at_once = each_from (Here tasks) (λ step before. Newest IsSelection before → step.op ≡ read_selection) history (λ step before here newest. reads_next tasks step before here.turn newest) each;
-  only = each_from (Here tasks) (λ step before. step.op ≡ read_selection → Newest (λ last. IsSelection last ⊎ IsRefused read_selection last) before) history (λ step before here is. reads_only tasks step before here is) each;
+  at_once = each_from (Here tasks) (λ step before. Newest AwaitsReadBack before → step.op ≡ read_selection) history (λ step before here newest. reads_next tasks step before here.turn newest) each;
+  only = each_from (Here tasks) (λ step before. step.op ≡ read_selection → Newest AwaitsReadBack before) history (λ step before here is. reads_only tasks step before here is) each;
 }
 
 -- ---- the page that is selected is the one of the task in hand

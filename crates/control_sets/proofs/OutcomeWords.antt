@@ -72,6 +72,10 @@ same_op_refl (Store dev offset bytes) = and_from _ _ (same_device_refl dev) (and
 pub ops_same : (a b : Op) → a ≡ b → same_op a b ≡ true
 ops_same a b e = subst (λ b. same_op a b ≡ true) e (same_op_refl a)
 
+-- operations that a test tells apart are two
+pub apart : (a b : Op) → same_op a b ≡ false → a ≡ b → ⊥
+apart a b differs e = contradicts (ops_same a b e) differs
+
 -- ---- confirmed pages
 
 covers : (op : Op) → may_select op ≡ false → CoversSelection op → ⊥

@@ -1,5 +1,5 @@
 -- Lists of steps, the newest first, to see what the outcome of provisioning admits and what it refuses.
-use Rattle.std.specs.Prelude.{ℕ, List, [], ◌∷◌}
+use Rattle.std.specs.Prelude.{ℕ, zero, suc, List, [], ◌∷◌}
 use Rattle.bus_model.specs.declared.operation.Op.{Op}
 use Rattle.bus_model.specs.declared.operation.Reply.TheVariants.{Bytes, Done, Refused}
 use Rattle.bus_model.specs.declared.operation.Step.{Step}
@@ -29,6 +29,11 @@ ready = gave read_module_state (0x06 ∷ [])
 
 abbrev pub low_power : Step
 low_power = gave read_module_state (0x02 ∷ [])
+
+-- the module state was asked for so often, each time in vain
+abbrev pub refused_reads : ℕ → History
+refused_reads zero = []
+refused_reads (suc count) = refused read_module_state ∷ refused_reads count
 
 -- page 10h was selected, and read back
 abbrev pub on_controls : History

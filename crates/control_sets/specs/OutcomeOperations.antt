@@ -68,9 +68,13 @@ pub record Confirms (page : ℕ) (history : History) : Type 0 where
 abbrev pub IsSelection : Step → Type 0
 IsSelection step = (step.op ≡ selection control_page) ⊎ (step.op ≡ selection status_page)
 
+-- whose reply isn't read yet: a selection, or a read back that was refused
+abbrev pub AwaitsReadBack : Step → Type 0
+AwaitsReadBack step = IsSelection step ⊎ IsRefused read_selection step
+
 -- selections are read back
 pub record ReadsSelectionsBack (history : History) : Type 0 where
-  -- the step next after a selection reads the selection
-  pub at_once : EachStep (λ step before. Newest IsSelection before → step.op ≡ read_selection) history
-  -- else the selection is only read next after such a read that was refused
-  pub only : EachStep (λ step before. step.op ≡ read_selection → Newest (λ last. IsSelection last ⊎ IsRefused read_selection last) before) history
+  -- the step next after a selection reads the selection, and so again until that is answered
+  pub at_once : EachStep (λ step before. Newest AwaitsReadBack before → step.op ≡ read_selection) history
+  -- else the selection isn't read
+  pub only : EachStep (λ step before. step.op ≡ read_selection → Newest AwaitsReadBack before) history

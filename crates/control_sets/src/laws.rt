@@ -1,5 +1,5 @@
 //! What holds of control bytes, over all plans. Each function is a theorem: its contract says it, and its body is empty.
-ghost use Rattle.std.specs.Prelude.{◌≡◌, ℕ, ◌≤◌, List, None, All, Any, IsTrue, length, ◌+◌, [], ◌∷◌, Ok, Err, false};
+ghost use Rattle.std.specs.Prelude.{◌≡◌, ◌≢◌, ℕ, ◌<◌, ◌≤◌, List, None, All, Any, IsTrue, length, ◌+◌, [], ◌∷◌, Ok, Err, false};
 ghost use Rattle.applications.specs.Advertised.{Advertised, InOrder};
 ghost use Rattle.plan_certificate.specs.declared.path.Path.{Path};
 ghost use Rattle.plan_certificate.specs.Plans.{IsAdmissible};
@@ -12,15 +12,17 @@ ghost use Rattle.bus_model.specs.declared.operation.Step.{Step};
 ghost use Rattle.field_tables.specs.LaneSets.{byte_of, every_lane, Lanes};
 ghost use Rattle.control_sets.specs.declared.fault.ProvisionFault.TheVariants.{ActiveDiffers, Bus, GaveUp, ModuleState, Reserved, StagedDiffers};
 ghost use Rattle.control_sets.specs.SameOperation.{same_op};
-ghost use Rattle.control_sets.specs.Pages.{selection, History};
-ghost use Rattle.control_sets.specs.OutcomeSteps.{IsAccepted, Stands};
-ghost use Rattle.control_sets.specs.OutcomeOperations.{apply, control_page, read_active, read_module_state, read_staged, read_statuses, stage};
-ghost use Rattle.control_sets.specs.OutcomeExamples.{almost_pairs, gave, low_power, on_controls, on_status_at_once, other_bank, pairs, ready, refused, refused_selection, repeated_selection, took};
+ghost use Rattle.control_sets.specs.Pages.{read_selection, selection, History};
+ghost use Rattle.control_sets.specs.OutcomeSteps.{Gives, IsAccepted, IsAnswered, Stands};
+ghost use Rattle.control_sets.specs.OutcomeOperations.{apply, control_page, read_active, read_module_state, read_path_states, read_staged, read_statuses, stage, status_page};
+ghost use Rattle.control_sets.specs.OutcomeExamples.{almost_pairs, gave, low_power, on_controls, on_status_at_once, other_bank, pairs, ready, refused, refused_reads, refused_selection, repeated_selection, took};
 ghost use Rattle.control_sets.specs.Tasks.{activation, provisioning};
 ghost use Rattle.control_sets.specs.Procedures.{HasEnded};
 ghost use Rattle.control_sets.specs.OutcomeAnswers.{Answer};
 ghost use Rattle.control_sets.specs.OutcomeOfProvisioning.{IsProvisioning};
-ghost use Rattle.control_sets.specs.OutcomeOfActivation.{IsActivation};
+ghost use Rattle.control_sets.specs.OutcomeOfActivation.{IsActivation, release};
+ghost use Rattle.control_sets.specs.OutcomeCodes.{IsOf, IsReservedPathState};
+ghost use Rattle.datapath_states.specs.Lanes.{lane_in};
 ghost use Rattle.control_sets.specs.OutcomeSuccess.{ReadsActive};
 
 use applications::MAX_APPS;
@@ -79,6 +81,25 @@ pub fn what_provisioning_refuses()
         ¬ (IsProvisioning control lanes (made ≡ room) history answer) }
     ensures selection_of_confirmed_page { (control : List ℕ) (lanes : Lanes) (made room : ℕ) (answer : Answer) →
         ¬ (IsProvisioning control lanes (made ≡ room) (took (selection control_page) ∷ on_controls) answer) }
+    ensures unread_selection_made_again { (control : List ℕ) (lanes : Lanes) (made room : ℕ) (answer : Answer) →
+        let history = took (selection control_page) ∷ refused read_selection ∷ took (selection control_page) ∷ ready ∷ [] in
+        ¬ (IsProvisioning control lanes (made ≡ room) history answer) }
+    ensures selection_of_no_use { (control : List ℕ) (lanes : Lanes) (made room : ℕ) (answer : Answer) →
+        ¬ (IsProvisioning control lanes (made ≡ room) (took (selection status_page) ∷ ready ∷ []) answer) }
+    ensures other_bytes_staged { (control others : List ℕ) (lanes : Lanes) (made room : ℕ) (step : Step)
+        (before : History) (answer : Answer) → step.op ≡ stage others → others ≢ control →
+        ¬ (IsProvisioning control lanes (made ≡ room) (step ∷ before) answer) }
+    ensures other_lanes_applied { (control : List ℕ) (lanes : Lanes) (made room bits : ℕ) (step : Step)
+        (before : History) (answer : Answer) → step.op ≡ apply bits → bits ≢ byte_of lanes →
+        ¬ (IsProvisioning control lanes (made ≡ room) (step ∷ before) answer) }
+    ensures step_after_the_end { (control : List ℕ) (lanes : Lanes) (made room : ℕ) (step : Step)
+        (before : History) (answer : Answer) →
+        ¬ (IsProvisioning control lanes (made ≡ room) (step ∷ low_power ∷ before) answer) }
+    ensures room_left { (control : List ℕ) (lanes : Lanes) (made room : ℕ) (history : History) → made ≢ room →
+        ¬ (IsProvisioning control lanes (made ≡ room) history (Err (Bus TraceFull))) }
+    ensures too_many_steps { (control : List ℕ) (lanes : Lanes) (made room : ℕ) (history : History)
+        (answer : Answer) → 4096 < length history →
+        ¬ (IsProvisioning control lanes (made ≡ room) history answer) }
     ensures store_before_ready { (control : List ℕ) (lanes : Lanes) (made room : ℕ) (answer : Answer) →
         let history = took (selection control_page) ∷ refused read_module_state ∷ [] in
         ¬ (IsProvisioning control lanes (made ≡ room) history answer) }
@@ -91,6 +112,33 @@ pub fn what_provisioning_refuses()
         ¬ (IsProvisioning pairs lanes (made ≡ room) (gave read_staged almost_pairs ∷ before) (Err (StagedDiffers 5))) }
 {}
 
+/// Steps and answers that look right, and are no activation whatever the control bytes, the lanes and the bus.
+pub fn what_activation_refuses()
+    ensures success_by_another_read { (control : List ℕ) (lanes : Lanes) (made room : ℕ) (step : Step)
+        (before : History) (steps : ℕ) → same_op step.op read_path_states ≡ false →
+        ¬ (IsActivation control lanes (made ≡ room) (step ∷ before) (Ok steps)) }
+    ensures lane_overlooked { (control bytes : List ℕ) (lanes : Lanes) (made room lane : ℕ)
+        (before : History) (steps : ℕ) → IsOf lanes lane → lane_in bytes lane ≢ 4 →
+        ¬ (IsActivation control lanes (made ≡ room) (gave read_path_states bytes ∷ before) (Ok steps)) }
+    ensures reserved_code_overlooked { (control bytes : List ℕ) (lanes : Lanes) (made room lane : ℕ)
+        (before : History) (steps : ℕ) → IsOf every_lane lane → IsReservedPathState (lane_in bytes lane) →
+        ¬ (IsActivation control lanes (made ≡ room) (gave read_path_states bytes ∷ before) (Ok steps)) }
+    ensures release_of_what_is_not_active { (control : List ℕ) (lanes : Lanes) (made room : ℕ) (step : Step)
+        (before : History) (answer : Answer) → step.op ≡ release lanes → ¬ (Stands (Gives read_active control) before) →
+        ¬ (IsActivation control lanes (made ≡ room) (step ∷ before) answer) }
+    ensures refused_release_believed { (control : List ℕ) (lanes : Lanes) (made room : ℕ) (step : Step)
+        (before : History) (answer : Answer) → step.op ≡ read_path_states → ¬ (Stands (IsAccepted (release lanes)) before) →
+        ¬ (IsActivation control lanes (made ≡ room) (step ∷ before) answer) }
+    ensures second_release { (control : List ℕ) (lanes : Lanes) (made room : ℕ) (before : History) (answer : Answer) →
+        Stands (IsAccepted (release lanes)) before →
+        ¬ (IsActivation control lanes (made ≡ room) (took (release lanes) ∷ before) answer) }
+    ensures repeated_answered_read { (control bytes : List ℕ) (lanes : Lanes) (made room : ℕ)
+        (before : History) (answer : Answer) → Stands (IsAnswered read_active) before →
+        ¬ (IsActivation control lanes (made ≡ room) (gave read_active bytes ∷ before) answer) }
+    ensures selection_of_no_use { (control : List ℕ) (lanes : Lanes) (made room : ℕ) (answer : Answer) →
+        ¬ (IsActivation control lanes (made ≡ room) (took (selection control_page) ∷ ready ∷ []) answer) }
+{}
+
 /// Steps and answers that are provisioning and activation, where the bus has room for so many steps as there are.
 pub fn what_procedures_may_do()
     ensures no_room { (room : ℕ) → IsProvisioning pairs every_lane (room ≡ room) [] (Err (Bus TraceFull)) }
@@ -101,6 +149,8 @@ pub fn what_procedures_may_do()
         IsProvisioning pairs every_lane (made ≡ room) history (Err (ModuleState 1)) }
     ensures reserved_state { (made room : ℕ) →
         IsProvisioning pairs every_lane (made ≡ room) (gave read_module_state (0x0E ∷ []) ∷ []) (Err (Reserved 7)) }
+    ensures given_up { (made room : ℕ) →
+        IsProvisioning pairs every_lane (made ≡ room) (refused_reads 4096) (Err GaveUp) }
     ensures selected { (room : ℕ) →
         IsProvisioning pairs every_lane (room ≡ room) on_controls (Err (Bus TraceFull)) }
     ensures refused_selection { (room : ℕ) →

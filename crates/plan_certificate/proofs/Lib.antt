@@ -12,7 +12,7 @@ mod NextLines
 mod Drafts
 mod AddedLines
 mod WholeTexts
-mod OneAnswer
+pub mod OneAnswer
 mod WrittenCertificates
 mod Numbered
 pub mod MoveLists

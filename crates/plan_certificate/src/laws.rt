@@ -1,5 +1,5 @@
 //! What holds of certificates and their texts, over all of them.
-ghost use Rattle.std.specs.Prelude.{◌≡◌, ℕ, List, Result};
+ghost use Rattle.std.specs.Prelude.{◌≡◌, ℕ, List, Result, Ok};
 ghost use Rattle.text_lines.specs.Lines.{lines_of, text_of};
 ghost use Rattle.plan_certificate.specs.declared.fault.CertificateFault.{CertificateFault};
 ghost use Rattle.plan_certificate.specs.Certificates.{Claim};
@@ -9,10 +9,14 @@ ghost use Rattle.plan_certificate.specs.CertificateFaults.{IsAnswer};
 /// Lines have one answer at most, whatever room there is for states: two certificates share no text, no text has
 /// both a certificate and a fault, and the first fault of a text is one.
 pub fn one_answer()
-    ensures { (states : ℕ) (lines : List (List ℕ)) (a b : Result Claim CertificateFault) → IsAnswer states lines a → IsAnswer states lines b → a ≡ b }
+    ensures { (states : ℕ) (lines : List (List ℕ)) (a b : Result Claim CertificateFault)
+        → IsAnswer states lines a → IsAnswer states lines b → a ≡ b }
 {}
 
-/// The written text of a certificate is read as this certificate, where there is room for its states.
+/// The written text of a certificate is read as this certificate, where there is room for its states, and as nothing else.
 pub fn written_is_read()
-    ensures { (states : ℕ) (certificate : Claim) → IsReadable states certificate → IsTextOf states (lines_of (text_of (certificate_lines certificate))) certificate }
+    ensures read { (states : ℕ) (certificate : Claim) → IsReadable states certificate
+        → IsTextOf states (lines_of (text_of (certificate_lines certificate))) certificate }
+    ensures alone { (states : ℕ) (certificate : Claim) (answer : Result Claim CertificateFault) → IsReadable states certificate
+        → IsAnswer states (lines_of (text_of (certificate_lines certificate))) answer → answer ≡ Ok certificate }
 {}

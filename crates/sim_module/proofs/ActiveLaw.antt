@@ -1,6 +1,6 @@
 -- After steps that end as a success of provisioning does, what was read of the Active Control Set is active. Steps stand
 -- with the newest first.
-use Rattle.std.proofs.Common.{◌≡◌, ℕ, Some, List, [], ◌∷◌, ◌++◌, reverse, ap, sym, subst, ◌∙◌}
+use Rattle.std.proofs.Common.{◌≡◌, ℕ, Some, List, [], ◌∷◌, ◌++◌, reverse, sym, subst, ◌∙◌}
 use Rattle.std.specs.List.{AllByRecursion}
 use Rattle.bus_model.specs.declared.device.Dev.TheVariants.{A0}
 use Rattle.bus_model.specs.declared.operation.Step.{Step}
@@ -12,6 +12,7 @@ use Rattle.bus_model.specs.ScriptedBus.{script_rules, settled}
 use Rattle.bus_model.proofs.ScriptRuns.{fetched_at}
 use Rattle.sim_module.specs.declared.module.SimModule.{SimModule}
 use Rattle.sim_module.specs.Lanes.{active_bytes}
+use Rattle.sim_module.specs.ActiveSets.{IsAtRest}
 use Rattle.sim_module.specs.Modules.{conduct}
 use Rattle.sim_module.specs.Soundness.{IsSound}
 use Rattle.control_sets.specs.OutcomeOperations.{Confirms, CoversSelection}
@@ -78,7 +79,7 @@ shows_after number state steps confirms may =
     subst (λ (ss : List Step). Shows number (left state ss).1) (sym confirms.split)
     (subst (λ (s : State). Shows number s.1) (sym (after_append (script_rules conduct) state since (step ∷ before))) last)
 
-active_after : (state : State) (steps : List Step) (control : List ℕ) → IsSound state.1 → May state steps → EndsApplied control steps → active_bytes (left state steps).1 ≡ control
+active_after : (state : State) (steps : List Step) (control : List ℕ) → IsSound state.1 → May state steps → EndsApplied control steps → IsAtRest control (left state steps).1
 active_after state steps control sound may ends =
     let last = read 206 8 control in
     let statuses = read 202 4 ends.statuses in
@@ -99,12 +100,13 @@ active_after state steps control sound may ends =
     let idle_found : IsIdle active (found (left state older)) = found_keeps conduct (IsIdle active) (idle_kept active) (left state older) idle_last in
     let shows_last : Shows 0x11 (found (left state older)) = found_keeps conduct (Shows 0x11) (shows_kept 0x11) (left state older) (shows_after 0x11 state older ends.still_shown whole.1) in
     let answer_last = fetched_at conduct A0 206 8 (record { items = control }) (left state older) whole.0 in
-    let is_control : active_bytes (found (left state older)) ≡ control = read_active (found (left state older)) control shows_last idle_found.eight answer_last.answer in
+    let is_control : active_bytes (found (left state older)) ≡ control = read_active (found (left state older)) control shows_last idle_found.rest.eight answer_last.answer in
     let end : IsIdle active (left state (last ∷ older)).1 = subst (IsIdle active) (sym answer_last.left) ((idle_kept active).tick _ (idle_fetched active (found (left state older)) A0 206 8 idle_found)) in
-    ap (λ (ss : List Step). active_bytes (left state ss).1) ends.split ∙ end.active ∙ sym idle_found.active ∙ is_control
+    let rest : IsAtRest control (left state (last ∷ older)).1 = subst (λ (bytes : List ℕ). IsAtRest bytes (left state (last ∷ older)).1) (sym idle_found.rest.active ∙ is_control) end.rest in
+    subst (λ (ss : List Step). IsAtRest control (left state ss).1) (sym ends.split) rest
 
 pub active_is_read : (old new : Seen State) (steps : List Step) (control : List ℕ) → IsSound old.state.1 → Ran (script_rules conduct) old new (reverse steps) → EndsApplied control steps →
-    active_bytes new.state.1 ≡ control
+    IsAtRest control new.state.1
 active_is_read old new steps control sound ran ends =
-    ap (λ (s : State). active_bytes s.1) (ran.state ∙ after_reverse (script_rules conduct) old.state steps)
-    ∙ active_after old.state steps control sound (may_each (script_rules conduct) old.state steps ran.allowed) ends
+    subst (λ (s : State). IsAtRest control s.1) (sym (ran.state ∙ after_reverse (script_rules conduct) old.state steps))
+    (active_after old.state steps control sound (may_each (script_rules conduct) old.state steps ran.allowed) ends)

@@ -1,24 +1,20 @@
 -- While page 10h is out of reach and no apply is in progress, what is active stays.
-use Rattle.std.proofs.Common.{◌≡◌, ◌⊎◌, inl, inr, ℕ, zero, suc, ◌+◌, ◌-◌, ◌<◌, ◌≤◌, Bool, true, false, None, List, [], ◌∷◌, length, get_or, map, take, refl, ap, sym, subst, ◌∙◌, ◌==◌, ◌&&◌, if◌then◌else◌, nat_lt, arith}
+use Rattle.std.proofs.Common.{◌≡◌, ◌⊎◌, inl, inr, ℕ, zero, suc, ◌+◌, ◌-◌, ◌<◌, ◌≤◌, Bool, true, false, List, [], ◌∷◌, length, take, refl, ap, sym, subst, ◌∙◌, ◌==◌, ◌&&◌, if◌then◌else◌, nat_lt, arith}
 use Rattle.std.specs.FinMap as finmap
 use Rattle.std.proofs.lemmas.Bool.Decides.{nat_tests}
-use Rattle.std.proofs.lemmas.List.{ext_get_or, get_or-map, length-map}
-use Rattle.std.proofs.lemmas.List.FromFn.{get_or-map-range_with_len, length-map-range_with_len}
 use Rattle.bus_model.specs.declared.device.Dev.{Dev}
 use Rattle.bus_model.specs.declared.device.Dev.TheVariants.{A0, A2}
 use Rattle.field_tables.specs.LaneSets.{lanes_in}
 use Rattle.paged_memory.specs.Keys.{upper_key}
-use Rattle.control_sets.specs.HostPaths.{IsLane}
-use Rattle.sim_module.specs.declared.lane.Lane.{Lane}
 use Rattle.sim_module.specs.declared.module.SimModule.{SimModule}
 use Rattle.paged_memory.specs.declared.selection.Selection.{Selection}
-use Rattle.sim_module.specs.Lanes.{active_bytes, all_lanes, lane_at, no_lane}
 use Rattle.paged_memory.specs.Selections.{first_page, mapped}
-use Rattle.sim_module.specs.Ticks.{ticked, ticked_lane}
+use Rattle.sim_module.specs.Ticks.{pinned, ticked}
 use Rattle.sim_module.specs.Applies.{applied, applied_all}
 use Rattle.sim_module.specs.ShownBytes.{cleared, fetched, is_mapped}
 use Rattle.sim_module.specs.Stores.{staged_at, stored_byte, stored_bytes, stored_high, stored_low}
 use Rattle.sim_module.specs.Registers.{is_from, is_in}
+use Rattle.sim_module.specs.ActiveSets.{IsAtRest}
 use Rattle.sim_module.specs.Modules.{conduct}
 use Rattle.control_sets.specs.OutcomeOperations.{CoversSelection}
 use Rattle.bus_model.specs.declared.operation.Op.{Op}
@@ -27,7 +23,7 @@ use Rattle.bus_model.specs.Keeping.{IsKeptBy, IsKeptInTime}
 use Rattle.std.proofs.lemmas.Bool.{cases_lt}
 use Rattle.field_tables.specs.declared.field.Field.TheVariants.{CStagedAppSel}
 use Rattle.sim_module.proofs.Histories.{AnyPin}
-use Rattle.sim_module.proofs.LanesInTime.{made_lane, settled_lane}
+use Rattle.sim_module.proofs.RestingModule.{rest_lanes, rest_tick, take_fewer}
 use Rattle.sim_module.proofs.SoundModule.{either, fetched_keeps, kept_by_other, stored_keeps}
 
 -- a page of bank 0 is mapped
@@ -115,11 +111,6 @@ apart_from address bytes leaves =
       ]
     ]
 
-take_fewer : (k : ℕ) (bytes : List ℕ) → length (take k bytes) ≤ length bytes
-take_fewer zero bytes = omega arith
-take_fewer (suc k) [] = omega arith
-take_fewer (suc k) (byte ∷ bytes) = let fewer = take_fewer k bytes in omega (arith, fewer)
-
 cut_apart : (k address : ℕ) (bytes : List ℕ) → (address + length bytes ≤ 126) ⊎ (128 ≤ address) → (address + length (take k bytes) ≤ 126) ⊎ (128 ≤ address)
 cut_apart k address bytes (inl low) = inl (omega (arith, low, take_fewer k bytes))
 cut_apart k address bytes (inr high) = inr high
@@ -137,42 +128,22 @@ shows_by page (Store A2 address bytes) leaves = kept_by_other (Shows page) addre
 -- page 10h isn't mapped, no apply is in progress, and these bytes are active
 pub record IsIdle (control : List ℕ) (sim : SimModule) : Type 0 where
   pub off : is_mapped sim 0x10 ≡ false
-  pub eight : length sim.lanes ≡ 8
-  pub none : (lane : ℕ) → IsLane lane → (lane_at sim lane).kept ≡ None
-  pub active : active_bytes sim ≡ control
+  pub rest : IsAtRest control sim
 
-same_active : (sim : SimModule) (f : ℕ → Lane) → length sim.lanes ≡ 8 → ((lane : ℕ) → IsLane lane → (f lane).active ≡ (lane_at sim lane).active) →
-    map (λ (lane : Lane). lane.active) (map f all_lanes) ≡ active_bytes sim
-same_active sim f eight each =
-    let active = λ (lane : Lane). lane.active in
-    let made = map f all_lanes in
-    let made_eight : length made ≡ 8 = length-map-range_with_len f 1 8 in
-    let len : length (map active made) ≡ 8 = length-map made active ∙ made_eight in
-    ext_get_or 0 (map active made) (active_bytes sim) (len ∙ sym (length-map sim.lanes active ∙ eight))
-    (λ k below.
-    let within : k < 8 = omega (arith, below, len) in
-    let index : k + 1 - 1 ≡ k = omega arith in
-    get_or-map active made k no_lane 0 (omega (arith, within, made_eight))
-    ∙ ap active (get_or-map-range_with_len f 1 8 k (k + 1) no_lane within (omega arith))
-    ∙ each (k + 1) (omega arith, omega (arith, within))
-    ∙ ap (λ (n : ℕ). (get_or sim.lanes n no_lane).active) index
-    ∙ sym (get_or-map active sim.lanes k no_lane 0 (omega (arith, within, eight))))
+-- of a module that differs in other things than lanes
+idle_lanes : (control : List ℕ) (sim other : SimModule) → is_mapped other 0x10 ≡ false → other.lanes ≡ sim.lanes → IsIdle control sim → IsIdle control other
+idle_lanes control sim other off same idle = record { off = off; rest = rest_lanes control sim other same idle.rest }
 
 idle_tick : (control : List ℕ) (sim : SimModule) → IsIdle control sim → IsIdle control (ticked sim)
 unfolding ticked
-idle_tick control sim idle = record {
-  off = idle.off;
-  eight = length-map-range_with_len (ticked_lane sim) 1 8;
-  none = λ lane within. ap (λ (l : Lane). l.kept) (made_lane (ticked_lane sim) lane within ∙ settled_lane sim lane (idle.none lane within)) ∙ idle.none lane within;
-  active = same_active sim (ticked_lane sim) idle.eight (λ lane within. ap (λ (l : Lane). l.active) (settled_lane sim lane (idle.none lane within))) ∙ idle.active;
-}
+idle_tick control sim idle = record { off = idle.off; rest = rest_tick control sim idle.rest }
 
 pub idle_kept : (control : List ℕ) → IsKeptInTime conduct AnyPin (IsIdle control)
-idle_kept control = record { tick = idle_tick control; low_power_pin = λ sim on allowed idle. record { off = idle.off; eight = idle.eight; none = idle.none; active = idle.active } }
+idle_kept control = record { tick = idle_tick control; low_power_pin = λ sim on allowed idle. idle_lanes control sim (pinned sim on) idle.off refl idle }
 
 idle_cleared : (control : List ℕ) (sim : SimModule) (is_read : ℕ → Bool) → IsIdle control sim → IsIdle control (cleared sim is_read)
 unfolding cleared
-idle_cleared control sim is_read idle = record { off = idle.off; eight = idle.eight; none = idle.none; active = idle.active }
+idle_cleared control sim is_read idle = idle_lanes control sim (cleared sim is_read) idle.off refl idle
 
 pub idle_fetched : (control : List ℕ) (sim : SimModule) (dev : Dev) (address count : ℕ) → IsIdle control sim → IsIdle control (fetched sim dev address count).1
 idle_fetched control sim dev address count idle = fetched_keeps (IsIdle control) sim dev address count idle (idle_cleared control sim (is_from address count) idle)
@@ -193,7 +164,7 @@ idle_high control sim address (byte ∷ bytes) high idle =
 -- the selection of page 11h, and its parts
 idle_bank : (control : List ℕ) (sim : SimModule) → IsIdle control sim → IsIdle control (stored_byte sim 126 0)
 unfolding stored_byte
-idle_bank control sim idle = record { off = idle.off; eight = idle.eight; none = idle.none; active = idle.active }
+idle_bank control sim idle = idle_lanes control sim (stored_byte sim 126 0) idle.off refl idle
 
 idle_page : (control : List ℕ) (sim : SimModule) → sim.selection.waiting ≡ 0 → IsIdle control sim → IsIdle control (stored_byte sim 127 0x11)
 unfolding stored_byte
@@ -201,7 +172,7 @@ idle_page control sim zeroth idle =
     let there : Selection = record { bank = sim.selection.waiting; page = 0x11; waiting = sim.selection.waiting } in
     let off : is_mapped (stored_low sim 127 0x11) 0x10 ≡ false =
     either (λ (selection : Selection). (selection.bank == 0 && selection.page == 0x10) ≡ false) (finmap.contains_key sim.image (upper_key A0 sim.selection.waiting 0x11)) there first_page (ap (λ (n : ℕ). n == 0 && false) zeroth) refl in
-    record { off = off; eight = idle.eight; none = idle.none; active = idle.active }
+    idle_lanes control sim (stored_byte sim 127 0x11) off refl idle
 
 waits : (sim : SimModule) → (stored_byte sim 126 0).selection.waiting ≡ 0
 unfolding stored_byte

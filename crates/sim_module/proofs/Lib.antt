@@ -3,7 +3,9 @@ pub mod LaneTests
 pub mod LanesInTime
 pub mod SoundModule
 pub mod Histories
+pub mod RestingModule
 pub mod IdleModule
 pub mod ReadBytes
 pub mod ActiveLaw
 pub mod Provisioned
+pub mod Activated

@@ -131,7 +131,9 @@ none_kept (Some byte) progress off tells = let on : progress ≡ true = tells re
 pub idle_after_success : (sim : SimModule) (bytes : List ℕ) → IsSound sim → Shows 0x11 sim → (fetched sim A0 202 4).0 ≡ Some bytes → SaySuccess bytes → IsIdle (active_bytes sim) sim
 idle_after_success sim bytes sound shows answered success = record {
   off = not_mapped sim shows;
-  eight = sound.eight;
-  none = λ lane within. none_kept (lane_at sim lane).kept (is_in_progress (lane_at sim lane)) (read_statuses sim bytes shows answered success lane within) (sound.progress lane);
-  active = refl;
+  rest = record {
+    eight = sound.eight;
+    none = λ lane within. none_kept (lane_at sim lane).kept (is_in_progress (lane_at sim lane)) (read_statuses sim bytes shows answered success lane within) (sound.progress lane);
+    active = refl;
+  };
 }

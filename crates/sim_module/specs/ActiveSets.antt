@@ -1,20 +1,37 @@
--- What a module's lanes hold after a success of provisioning. (docs/module.md, "After provisioning")
-use Rattle.std.specs.Prelude.{◌≡◌, ℕ, List, Ok, reverse}
+-- What a module's lanes hold after a success of provisioning, and after activation. (docs/module.md, "After provisioning")
+use Rattle.std.specs.Prelude.{◌≡◌, ℕ, List, None, Ok, length, reverse}
 use Rattle.bus_model.specs.declared.script.Directive.{Directive}
 use Rattle.bus_model.specs.Runs.{IsFull, Ran, Seen}
 use Rattle.bus_model.specs.ScriptedBus.{script_rules}
-use Rattle.field_tables.specs.LaneSets.{every_lane}
+use Rattle.field_tables.specs.LaneSets.{Lanes, every_lane}
+use Rattle.control_sets.specs.HostPaths.{IsLane}
+use Rattle.control_sets.specs.OutcomeAnswers.{Answer}
+use Rattle.control_sets.specs.OutcomeOfActivation.{IsActivation}
 use Rattle.control_sets.specs.Pages.{History}
 use Rattle.control_sets.specs.OutcomeOfProvisioning.{IsProvisioning}
 use Rattle.sim_module.specs.declared.module.SimModule.{SimModule}
-use Rattle.sim_module.specs.Lanes.{active_bytes}
+use Rattle.sim_module.specs.Lanes.{active_bytes, lane_at}
 use Rattle.sim_module.specs.Modules.{conduct}
 use Rattle.sim_module.specs.Soundness.{IsSound}
 
+-- there are eight lanes, these control bytes are active, and no apply is in progress that would change them
+pub record IsAtRest (control : List ℕ) (sim : SimModule) : Type 0 where
+  pub eight : length sim.lanes ≡ 8
+  pub none : (lane : ℕ) → IsLane lane → (lane_at sim lane).kept ≡ None
+  pub active : active_bytes sim ≡ control
+
 -- whatever a script refuses or cuts: where the steps on its bus over a sound module are a success of provisioning control
--- bytes on all lanes, these are active afterwards
+-- bytes on all lanes, these are active afterwards, and stay so
 abbrev pub ActiveIsPlanned : Type 0
 ActiveIsPlanned =
     (old new : Seen (List Directive × SimModule)) (history : History) (control : List ℕ) (steps : ℕ) → IsSound old.state.1
     → Ran (script_rules conduct) old new (reverse history) → IsProvisioning control every_lane (IsFull new) history (Ok steps)
-    → active_bytes new.state.1 ≡ control
+    → IsAtRest control new.state.1
+
+-- whatever a script refuses or cuts: where no apply is in progress, the steps of activation leave active what was, whatever
+-- they activate and answer
+abbrev pub ActivationLeavesActive : Type 0
+ActivationLeavesActive =
+    (old new : Seen (List Directive × SimModule)) (history : History) (control active : List ℕ) (lanes : Lanes) (answer : Answer) → IsAtRest active old.state.1
+    → Ran (script_rules conduct) old new (reverse history) → IsActivation control lanes (IsFull new) history answer
+    → IsAtRest active new.state.1

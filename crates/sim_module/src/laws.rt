@@ -3,7 +3,7 @@ ghost use Rattle.paged_memory.specs.Images.{Memory};
 ghost use Rattle.sim_module.specs.declared.delays.Delays.{Delays};
 ghost use Rattle.sim_module.specs.Soundness.{HoldsItsPath, IsAlwaysKept, IsSound, LanesStayUp};
 ghost use Rattle.sim_module.specs.Starts.{start};
-ghost use Rattle.sim_module.specs.ActiveSets.{ActiveIsPlanned};
+ghost use Rattle.sim_module.specs.ActiveSets.{ActivationLeavesActive, ActiveIsPlanned};
 
 /// A new module has eight lanes, and no apply of it is in progress.
 pub fn a_new_module_is_sound()
@@ -26,7 +26,13 @@ pub fn a_lane_that_is_not_down_stays_up()
 {}
 
 /// Over a scripted bus, whatever the script refuses or cuts short: after a success of provisioning the control bytes are
-/// active.
+/// active, and no apply is in progress that would change them.
 pub fn what_is_provisioned_is_active()
     ensures { ActiveIsPlanned }
+{}
+
+/// Over a scripted bus, whatever the script refuses or cuts short: activation leaves active what was, whatever it answers,
+/// where no apply is in progress.
+pub fn activation_leaves_what_is_active()
+    ensures { ActivationLeavesActive }
 {}

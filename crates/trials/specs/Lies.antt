@@ -1,5 +1,5 @@
 -- A device that answers as it likes: each answer is decided by a number, and each unit of time draws another one.
-use Rattle.std.specs.Prelude.{ℕ, ◌+◌, ◌*◌, ◌/◌, ◌%◌, ◌==◌, Bool, not, if◌then◌else◌, nat_lt, List, Option, Some, None, map, take}
+use Rattle.std.specs.Prelude.{ℕ, ◌+◌, ◌*◌, ◌/◌, ◌%◌, ◌==◌, Bool, not, if◌then◌else◌, nat_lt, List, Option, Some, None, map}
 use Rattle.std.specs.List.{range_with_len}
 use Rattle.bus_model.specs.Conduct.{Conduct}
 use Rattle.trials.specs.declared.lying_device.LyingDevice.{LyingDevice}
@@ -33,12 +33,12 @@ lie number place = (number / 256 + 31 * place) % 256
 abbrev pub told_at : LyingDevice → ℕ → ℕ → ℕ
 told_at device address place = if lies device then lie device.number place else pleasing device.number address place
 
--- more bytes than are ever asked for
-abbrev pub told : LyingDevice → ℕ → List ℕ
-told device address = map (told_at device address) (range_with_len 0 128)
+-- the first bytes from an address on
+abbrev pub told : LyingDevice → ℕ → ℕ → List ℕ
+told device address count = map (told_at device address) (range_with_len 0 count)
 
 abbrev pub fetched : LyingDevice → ℕ → ℕ → Option (List ℕ)
-fetched device address count = if refuses device then None else Some (take count (told device address))
+fetched device address count = if refuses device then None else Some (told device address count)
 
 abbrev pub lying_conduct : Conduct LyingDevice
 lying_conduct = record {

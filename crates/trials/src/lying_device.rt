@@ -1,6 +1,5 @@
 use arrayvec::ArrayVec;
 use bus_model::{Dev, Device, MAX_FETCH};
-use std::array;
 
 /// A device that refuses and answers as it likes. Each answer is decided by a number, and each unit of time draws another one:
 /// it is refused, or tells any bytes, or what a host would like who provisions four pairs of lanes.
@@ -15,7 +14,7 @@ pub struct LyingDevice {
 }
 
 impl LyingDevice {
-    ghost use Rattle.std.specs.Prelude.{◌≡◌};
+    ghost use Rattle.std.specs.Prelude.{◌≡◌, ◌≤◌, length};
     ghost use Rattle.trials.specs.Lies as spec;
 
     fn refuses(&self) -> bool
@@ -40,10 +39,16 @@ impl LyingDevice {
         }
     }
 
-    fn told(&self, address: u8) -> [u8; MAX_FETCH]
-        ensures { result ≡ spec.told self.now address }
+    fn told(&self, address: u8, count: u8) -> ArrayVec<u8, MAX_FETCH>
+        requires { count ≤ MAX_FETCH }
+        ensures bytes { result.items ≡ spec.told self.now address count }
+        ensures count { length result.items ≡ count }
     {
-        array::from_fn(|place| self.told_at(address, place as u8))
+        let mut bytes = ArrayVec::new();
+        for place in 0..count {
+            bytes.push(self.told_at(address, place));
+        }
+        bytes
     }
 }
 
@@ -88,11 +93,10 @@ impl Device for LyingDevice {
 
     fn fetch(&mut self, _dev: Dev, offset: u8, count: u8) -> Option<ArrayVec<u8, MAX_FETCH>> {
         if self.refuses() {
-            return None;
+            None
+        } else {
+            Some(self.told(offset, count))
         }
-        let mut bytes = ArrayVec::from(self.told(offset));
-        bytes.truncate(usize::from(count));
-        Some(bytes)
     }
 
     fn store(&mut self, _dev: Dev, _offset: u8, _bytes: &[u8]) -> bool {

@@ -1,5 +1,7 @@
 // What an apply says of the lanes.
-use super::modules::{FOURS, PAIRS, module, module_of, pass, read, select, write};
+use super::modules::{
+    FOURS, PAIRS, Row, first_wrong, module, module_of, pass, read, select, write,
+};
 use sim_module::SimModule;
 use std::test::Fail;
 
@@ -78,23 +80,26 @@ fn the_first_code_that_applies_is_given(rt: HostRuntime) -> Result<(), Fail> {
 fn a_further_apply_ends_the_one_in_progress(rt: HostRuntime) -> Result<(), Fail> {
     let mut module = module()?;
     apply(&mut module, &PAIRS, 0x0F);
-    pass(&mut module, 3);
-    // Nothing is applied where no lane is asked for.
-    write(&mut module, 143, &[0x00]);
-    assert_eq!(rt; statuses(&mut module), [0xCC, 0xCC, 0, 0]);
-    // Lanes 1 and 2 are left out of the further one, which takes its whole time.
-    apply(&mut module, &PAIRS, 0x3C);
-    assert_eq!(rt; statuses(&mut module), [0x22, 0xCC, 0xCC, 0]);
-    pass(&mut module, 3);
-    assert_eq!(rt; module.active(), [0; 8]);
-    pass(&mut module, 1);
-    assert_eq!(rt; statuses(&mut module), [0x22, 0x11, 0x11, 0]);
-    assert_eq!(rt; module.active(), [0, 0, 0x24, 0x24, 0x28, 0x28, 0, 0]);
-    // A refused one ends it too.
-    apply(&mut module, &PAIRS, 0x03);
-    apply(&mut module, &PAIRS, 0x40);
-    assert_eq!(rt; statuses(&mut module), [0x22, 0x11, 0x11, 0x07]);
-    pass(&mut module, 9);
+    let rows: [Row; 14] = [
+        // Nothing is applied where no lane is asked for.
+        (3, 143, &[0x00], &[0]),
+        (0, 126, &[0, 0x11], &[0, 0x11]),
+        (0, 202, &[], &[0xCC, 0xCC, 0, 0]),
+        // Lanes 1 and 2 are left out of the further one, which takes its whole time.
+        (0, 126, &[0, 0x10], &[0, 0x10]),
+        (0, 143, &[0x3C], &[0]),
+        (0, 126, &[0, 0x11], &[0, 0x11]),
+        (0, 202, &[], &[0x22, 0xCC, 0xCC, 0]),
+        (3, 206, &[], &[0; 8]),
+        (1, 202, &[], &[0x22, 0x11, 0x11, 0, 0, 0, 0x24, 0x24]),
+        // A refused one ends it too.
+        (0, 126, &[0, 0x10], &[0, 0x10]),
+        (0, 143, &[0x03], &[0]),
+        (0, 143, &[0x40], &[0]),
+        (9, 126, &[0, 0x11], &[0, 0x11]),
+        (0, 202, &[], &[0x22, 0x11, 0x11, 0x07, 0, 0, 0x24, 0x24]),
+    ];
+    assert_eq!(rt; first_wrong(&mut module, &rows), None);
     assert_eq!(rt; module.active(), [0, 0, 0x24, 0x24, 0x28, 0x28, 0, 0]);
     Ok(())
 }
@@ -103,10 +108,13 @@ fn a_further_apply_ends_the_one_in_progress(rt: HostRuntime) -> Result<(), Fail>
 fn what_was_staged_then_is_applied(rt: HostRuntime) -> Result<(), Fail> {
     let mut module = module()?;
     apply(&mut module, &PAIRS, 0xFF);
-    write(&mut module, 145, &[0x10; 8]);
-    pass(&mut module, 4);
-    assert_eq!(rt; module.active(), PAIRS);
-    assert_eq!(rt; read::<8>(&mut module, 145), [0x10; 8]);
-    assert_eq!(rt; statuses(&mut module), [0x11; 4]);
+    let rows: [Row; 5] = [
+        (0, 145, &[0x10; 8], &[0x10; 8]),
+        (4, 145, &[], &[0x10; 8]),
+        (0, 126, &[0, 0x11], &[0, 0x11]),
+        (0, 202, &[], &[0x11; 4]),
+        (0, 206, &[], &PAIRS),
+    ];
+    assert_eq!(rt; first_wrong(&mut module, &rows), None);
     Ok(())
 }

@@ -1,8 +1,7 @@
 // How lanes move by ticks.
-use super::modules::{FOURS, PAIRS, image, module_of, pass, read, select, write};
+use super::modules::{FOURS, PAIRS, Row, first_wrong, image, module_of, pass, read, select, write};
 use bus_model::{Dev, Device};
 use datapath_states::PathState;
-use module_states::ModuleState;
 use paged_memory::Key;
 use sample_modules::with;
 use sim_module::{Delays, SimModule};
@@ -98,32 +97,31 @@ fn a_thousand_ticks_are_waited_for(rt: HostRuntime) -> Result<(), Fail> {
 #[test]
 fn low_power_waits_for_the_paths(rt: HostRuntime) -> Result<(), Fail> {
     let mut module = module_of(PAIRS, ONES)?;
-    pass(&mut module, 4);
     module.low_power_pin(true);
-    module.tick();
-    // The pin counts where bit 6 of byte 26 allows it.
-    assert_eq!(rt; module.path_states(), [PathState::Activated; 8]);
-    write(&mut module, 26, &[0x40]);
-    let states = [ModuleState::Ready; 4];
-    for state in states {
-        module.tick();
-        assert_eq!(rt; module.state(), state);
-    }
-    assert_eq!(rt; module.path_states(), [PathState::Deactivated; 8]);
-    for state in [ModuleState::PwrDn, ModuleState::LowPwr, ModuleState::LowPwr] {
-        module.tick();
-        assert_eq!(rt; module.state(), state);
-    }
-    assert_eq!(rt; read::<1>(&mut module, 3), [0x02]);
+    let rows: [Row; 11] = [
+        (0, 126, &[0, 0x11], &[0, 0x11]),
+        // The pin counts where bit 6 of byte 26 allows it.
+        (5, 128, &[], &[0x44; 4]),
+        (0, 26, &[0x40], &[0x40]),
+        (1, 3, &[], &[0x06]),
+        (1, 3, &[], &[0x06]),
+        (1, 3, &[], &[0x06]),
+        (1, 3, &[], &[0x06]),
+        (0, 128, &[], &[0x11; 4]),
+        (1, 3, &[], &[0x08]),
+        (1, 3, &[], &[0x02]),
+        (1, 3, &[], &[0x02]),
+    ];
+    assert_eq!(rt; first_wrong(&mut module, &rows), None);
     module.low_power_pin(false);
-    for state in [ModuleState::PwrUp, ModuleState::Ready] {
-        module.tick();
-        assert_eq!(rt; module.state(), state);
-    }
-    // The paths look at the state before the tick.
-    assert_eq!(rt; module.path_states(), [PathState::Deactivated; 8]);
-    module.tick();
-    assert_eq!(rt; module.path_states(), [PathState::Init; 8]);
+    let rows: [Row; 4] = [
+        (1, 3, &[], &[0x04]),
+        (1, 3, &[], &[0x06]),
+        // The paths look at the state before the tick.
+        (0, 128, &[], &[0x11; 4]),
+        (1, 128, &[], &[0x22; 4]),
+    ];
+    assert_eq!(rt; first_wrong(&mut module, &rows), None);
     Ok(())
 }
 

@@ -60,8 +60,12 @@ fn a_success_was_read_whatever_the_device_tells(rt: HostRuntime) -> Result<(), F
     for seed in 1..10001u32 {
         let device = LyingDevice {
             number: seed,
-            refusals: (seed % 17) as u8,
-            lies: (seed / 17 % 8) as u8,
+            refusals: if seed % 100 == 0 {
+                16
+            } else {
+                (seed % 13) as u8
+            },
+            lies: (seed / 13 % 8) as u8,
         };
         let mut bus = bus_of(rt.alloc(), device, b"", 5000)?;
         let (steps, answer) = provisioned(&mut bus, &advert, &plan);

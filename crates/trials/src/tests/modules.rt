@@ -80,6 +80,34 @@ pub fn write(module: &mut SimModule, address: u8, bytes: &[u8]) -> bool {
     op.is_well_shaped() && module.store(Dev::A0, address, bytes)
 }
 
+// What is done to a module, and what it tells then: so many ticks pass, the bytes are stored at the address, if there are any,
+// and as many bytes as are wanted are fetched from there.
+pub type Row<'a> = (u16, u8, &'a [u8], &'a [u8]);
+
+// The number of the first row that isn't so, where its store isn't taken or another answer comes.
+pub fn first_wrong(module: &mut SimModule, rows: &[Row]) -> Option<usize> {
+    for (number, (ticks, address, given, wanted)) in rows.iter().enumerate() {
+        pass(module, *ticks);
+        let is_taken = given.is_empty() || write(module, *address, given);
+        if !is_taken || !tells(module, *address, wanted) {
+            return Some(number);
+        }
+    }
+    None
+}
+
+fn tells(module: &mut SimModule, address: u8, wanted: &[u8]) -> bool {
+    let op = Op::Fetch {
+        dev: Dev::A0,
+        offset: address,
+        count: u8::try_from(wanted.len()).unwrap_or(0),
+    };
+    match fetched(module, &op) {
+        Some(answer) => answer.as_slice() == wanted,
+        None => wanted.is_empty(),
+    }
+}
+
 // Selects a page of bank 0.
 pub fn select(module: &mut SimModule, page: u8) {
     write(module, 126, &[0, page]);

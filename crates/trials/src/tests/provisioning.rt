@@ -105,26 +105,35 @@ fn faults_are_named_at_the_step_that_shows_them(rt: HostRuntime) -> Result<(), F
     Ok(())
 }
 
-// Path states as they are, whatever is stored.
 #[test]
 fn paths_come_up_where_the_bytes_are_active(rt: HostRuntime) -> Result<(), Fail> {
-    let advert = Advert::of(&image()?)?;
-    let mut inactive = bus_of(rt.alloc(), module()?, b"", 5000)?;
-    let told = activated(&mut inactive, &advert, &plan_of(&FOUR_PAIRS)?);
+    let mut bus = bus_of(rt.alloc(), module()?, b"", 5000)?;
+    let told = activated(&mut bus, &Advert::of(&image()?)?, &plan_of(&FOUR_PAIRS)?);
     assert_eq!(rt; told, (4, Some(Err(ProvisionFault::ActiveDiffers(1)))));
+    Ok(())
+}
 
-    let two_pairs = plan_of(&[[2, 1, 1], [2, 3, 2]])?;
+// Lanes 1 to 4 are up, whatever is stored. A reserved code counts in whatever lane.
+#[test]
+fn lanes_of_the_plan_are_waited_for(rt: HostRuntime) -> Result<(), Fail> {
     let active = with_run(image()?, upper(0, 0x11), 206, &[0x20, 0x20, 0x24, 0x24])?;
-    // Lanes 1 to 4 are up. A reserved code counts in whatever lane.
     for (last_lanes, answer) in [
         (0x11, Ok(Activated { steps: 10 })),
         (0x81, Err(ProvisionFault::Reserved(8))),
     ] {
         let states = [(128, 0x44), (129, 0x44), (131, last_lanes)];
         let shown = with(active.copy(), upper(0, 0x11), &states)?;
-        let mut bus = bus_of(rt.alloc(), Window::<16>::of(&shown)?, b"", 5000)?;
-        let told = activated(&mut bus, &advert, &two_pairs);
+        let told = activated_over_window(rt.alloc(), &shown, &[[2, 1, 1], [2, 3, 2]])?;
         assert_eq!(rt; told, (10, Some(answer)));
     }
     Ok(())
+}
+
+fn activated_over_window(
+    alloc: Global,
+    image: &Image,
+    paths: &[[u8; 3]],
+) -> Result<(usize, Option<Result<Activated, ProvisionFault>>), Fail> {
+    let mut bus = bus_of(alloc, Window::<16>::of(image)?, b"", 5000)?;
+    Ok(activated(&mut bus, &Advert::of(image)?, &plan_of(paths)?))
 }

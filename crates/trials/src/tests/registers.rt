@@ -1,5 +1,5 @@
 // What is read and stored at the addresses of a module.
-use super::modules::{FOURS, PAIRS, image, module, pass, read, select, upper, write};
+use super::modules::{FOURS, PAIRS, Row, first_wrong, image, module, upper};
 use arrayvec::ArrayVec;
 use bus_model::{Bus, Dev, Device, Script, ScriptBus};
 use sample_modules::{with, with_run};
@@ -22,20 +22,26 @@ fn a_latched_byte_is_kept_until_it_is_read(rt: HostRuntime) -> Result<(), Fail> 
 fn a_fetch_clears_the_latched_bytes_that_it_read(rt: HostRuntime) -> Result<(), Fail> {
     let flagged = with_run(image()?, upper(0, 0x11), 134, &[0xFF; 19])?;
     let mut module = SimModule::new(&flagged, FOURS)?;
-    // Under another page nothing latched is read.
-    assert_eq!(rt; read::<6>(&mut module, 134), *b"LE    ");
-    select(&mut module, 0x11);
+    let rows: [Row; 2] = [
+        // Under another page nothing latched is read.
+        (0, 134, &[], b"LE    "),
+        (0, 126, &[0, 0x11], &[0, 0x11]),
+    ];
+    assert_eq!(rt; first_wrong(&mut module, &rows), None);
     assert_eq!(rt; module.fetch(Dev::A2, 134, 19).is_none(), true);
-    // It begins outside of the latched bytes and ends inside.
-    assert_eq!(rt; read::<4>(&mut module, 132), [0, 0, 0xFF, 0xFF]);
-    assert_eq!(rt; read::<4>(&mut module, 134), [0, 0, 0xFF, 0xFF]);
-    assert_eq!(rt; read::<4>(&mut module, 134), [0; 4]);
-    // It begins inside and ends outside.
-    assert_eq!(rt; read::<4>(&mut module, 151), [0xFF, 0xFF, 0, 0x27]);
-    assert_eq!(rt; read::<3>(&mut module, 150), [0xFF, 0, 0]);
-    // Byte 9 of lower memory is another one.
-    assert_eq!(rt; read::<3>(&mut module, 8), [0, 0x04, 0]);
-    assert_eq!(rt; read::<3>(&mut module, 8), [0; 3]);
+    let rows: [Row; 7] = [
+        // It begins outside of the latched bytes and ends inside.
+        (0, 132, &[], &[0, 0, 0xFF, 0xFF]),
+        (0, 134, &[], &[0, 0, 0xFF, 0xFF]),
+        (0, 134, &[], &[0; 4]),
+        // It begins inside and ends outside.
+        (0, 151, &[], &[0xFF, 0xFF, 0, 0x27]),
+        (0, 150, &[], &[0xFF, 0, 0]),
+        // Byte 9 of lower memory is another one.
+        (0, 8, &[], &[0, 0x04, 0]),
+        (0, 8, &[], &[0; 3]),
+    ];
+    assert_eq!(rt; first_wrong(&mut module, &rows), None);
     Ok(())
 }
 
@@ -43,31 +49,24 @@ fn a_fetch_clears_the_latched_bytes_that_it_read(rt: HostRuntime) -> Result<(), 
 fn stores_change_a_few_registers_alone(rt: HostRuntime) -> Result<(), Fail> {
     let mut module = module()?;
     assert_eq!(rt; module.store(Dev::A2, 26, &[0x10]), false);
-    // Read only: the identifier, the module state, the flags.
-    for address in [0, 3, 9] {
-        assert_eq!(rt; write(&mut module, address, &[0xFF]), true);
-    }
-    assert_eq!(rt; read::<4>(&mut module, 0), [0x18, 0x50, 0, 0x06]);
-    assert_eq!(rt; read::<1>(&mut module, 9), [0x04]);
-    // Byte 26 keeps what is stored but for SoftwareReset.
-    assert_eq!(rt; write(&mut module, 26, &[0xEF]), true);
-    assert_eq!(rt; read::<1>(&mut module, 26), [0xE7]);
-
-    select(&mut module, 0x10);
-    assert_eq!(rt; write(&mut module, 144, &[1, 2, 3, 4]), true);
-    assert_eq!(rt; write(&mut module, 152, &[5, 6]), true);
-    assert_eq!(rt;
-        read::<10>(&mut module, 144),
-        [0, 2, 3, 4, 0, 0, 0, 0, 5, 0]
-    );
-    assert_eq!(rt; write(&mut module, 128, &[0xAA]), true);
-    assert_eq!(rt; read::<2>(&mut module, 128), [0xAA, 0]);
-    assert_eq!(rt; write(&mut module, 143, &[0x80]), true);
-    assert_eq!(rt; read::<1>(&mut module, 143), [0]);
-    // Page 11h takes nothing.
-    select(&mut module, 0x11);
-    assert_eq!(rt; write(&mut module, 206, &[0x10]), true);
-    assert_eq!(rt; module.active(), [0; 8]);
+    let rows: [Row; 12] = [
+        // Read only: the identifier, the module state, the flags.
+        (0, 0, &[0xFF], &[0x18, 0x50, 0, 0x06]),
+        (0, 3, &[0xFF], &[0x06]),
+        (0, 9, &[0xFF], &[0x04]),
+        // Byte 26 keeps what is stored but for SoftwareReset.
+        (0, 26, &[0xEF], &[0xE7]),
+        (0, 126, &[0, 0x10], &[0, 0x10]),
+        (0, 144, &[1, 2, 3, 4], &[0, 2, 3, 4]),
+        (0, 152, &[5, 6], &[5, 0]),
+        (0, 144, &[], &[0, 2, 3, 4, 0, 0, 0, 0, 5, 0]),
+        (0, 128, &[0xAA], &[0xAA, 0]),
+        (0, 143, &[0x80], &[0]),
+        // Page 11h takes nothing.
+        (0, 126, &[0, 0x11], &[0, 0x11]),
+        (0, 206, &[0x10], &[0; 8]),
+    ];
+    assert_eq!(rt; first_wrong(&mut module, &rows), None);
     Ok(())
 }
 
@@ -79,20 +78,19 @@ fn pages_of_other_banks_are_the_images(rt: HostRuntime) -> Result<(), Fail> {
         &[(128, 0x55), (143, 0x66), (145, 0x77)],
     )?;
     let mut module = SimModule::new(&banked, FOURS)?;
-    assert_eq!(rt; write(&mut module, 126, &[1, 0x10]), true);
-    assert_eq!(rt; read::<2>(&mut module, 126), [1, 0x10]);
-    assert_eq!(rt; write(&mut module, 128, &[0xAA]), true);
-    assert_eq!(rt; write(&mut module, 145, &PAIRS), true);
-    assert_eq!(rt; write(&mut module, 143, &[0xFF]), true);
-    assert_eq!(rt; read::<1>(&mut module, 128), [0x55]);
-    assert_eq!(rt; read::<3>(&mut module, 143), [0x66, 0, 0x77]);
-    select(&mut module, 0x10);
-    assert_eq!(rt; read::<1>(&mut module, 128), [0]);
-    assert_eq!(rt; read::<8>(&mut module, 145), [0; 8]);
-    pass(&mut module, 4);
-    assert_eq!(rt; module.active(), [0; 8]);
-    // A page that isn't there selects page 00h.
-    assert_eq!(rt; write(&mut module, 126, &[1, 0x11]), true);
-    assert_eq!(rt; read::<2>(&mut module, 126), [0, 0]);
+    let rows: [Row; 10] = [
+        (0, 126, &[1, 0x10], &[1, 0x10]),
+        (0, 128, &[0xAA], &[0x55]),
+        (0, 145, &PAIRS, &[0x77]),
+        (0, 143, &[0xFF], &[0x66, 0, 0x77]),
+        (0, 126, &[0, 0x10], &[0, 0x10]),
+        (0, 128, &[], &[0]),
+        (0, 145, &[], &[0; 8]),
+        (4, 126, &[0, 0x11], &[0, 0x11]),
+        (0, 206, &[], &[0; 8]),
+        // A page that isn't there selects page 00h.
+        (0, 126, &[1, 0x11], &[0, 0]),
+    ];
+    assert_eq!(rt; first_wrong(&mut module, &rows), None);
     Ok(())
 }

@@ -1,5 +1,5 @@
 use arrayvec::ArrayVec;
-use bus_model::{Bus, BusFault, Dev, Device, MAX_FETCH, Op, Reply, Script, ScriptBus};
+use bus_model::{Bus, BusFault, Dev, Device, Op, Reply, Script, ScriptBus};
 use paged_memory::{Image, ImageFault, Key, Page, Window, WindowFault};
 use std::alloc::Global;
 use std::test::Fail;
@@ -29,12 +29,6 @@ fn paths() -> [(Key, u8); 6] {
 
 // Bytes stored on A0 from an address upwards, and the bytes 126, 127 and 128 then; `None` where any of this is refused.
 type Row<'a> = (u8, &'a [u8], Option<[u8; 3]>);
-
-// Selects a page of bank 0, whether or not that is taken, and reads what is selected.
-fn select<B: Bus>(bus: &mut B, page: u8) -> Result<Option<ArrayVec<u8, MAX_FETCH>>, BusFault> {
-    bus.store(Dev::A0, 126, &[0, page])?;
-    bus.fetch(Dev::A0, 126, 2)
-}
 
 fn shown_after(
     bus: &mut ScriptBus<Window<16>>,
@@ -146,17 +140,41 @@ fn has_room_for_so_many_pages(rt: HostRuntime) -> Result<(), Fail> {
     Ok(())
 }
 
+fn fetch(offset: u8, count: u8) -> Op {
+    Op::Fetch {
+        dev: Dev::A0,
+        offset,
+        count,
+    }
+}
+
+fn store(offset: u8, bytes: &[u8]) -> Op {
+    Op::Store {
+        dev: Dev::A0,
+        offset,
+        bytes: ArrayVec::try_from(bytes).unwrap_or_default(),
+    }
+}
+
+// A broken shape is told of whether or not the list of steps has room.
 #[test]
-fn stands_behind_a_bus(rt: HostRuntime) -> Result<(), Fail> {
-    let script = Script::read(b"cut 1\nok 1\nnack 1\n")?;
+fn refuses_a_broken_shape_before_a_full_list(rt: HostRuntime) -> Result<(), Fail> {
     let window = Window::<16>::of(&image(&paths())?)?;
-    let mut bus = ScriptBus::new(rt.alloc(), window, script, 6)?;
-    let cut = select(&mut bus, 0x11)?;
-    assert_eq!(rt; cut, ArrayVec::try_from([0x00, 0x00].as_slice()).ok());
-    let refused = select(&mut bus, 0x11)?;
-    assert_eq!(rt; refused, ArrayVec::try_from([0x00, 0x00].as_slice()).ok());
-    let taken = select(&mut bus, 0x11)?;
-    assert_eq!(rt; taken, ArrayVec::try_from([0x00, 0x11].as_slice()).ok());
-    assert_eq!(rt; select(&mut bus, 0x11).err(), Some(BusFault::TraceFull));
+    let mut bus = ScriptBus::new(rt.alloc(), window, Script::read(b"")?, 1)?;
+    for has_room in [true, false] {
+        for op in [
+            fetch(0, 0),
+            fetch(0, 129),
+            fetch(120, 10),
+            fetch(250, 7),
+            store(3, &[]),
+            store(125, &[1; 4]),
+        ] {
+            assert_eq!(rt; bus.transact(op).err(), Some(BusFault::BadShape));
+        }
+        assert_eq!(rt; bus.transact(fetch(0, 128)).is_ok(), has_room);
+    }
+    let full = bus.transact(store(255, &[1]));
+    assert_eq!(rt; full.err(), Some(BusFault::TraceFull));
     Ok(())
 }

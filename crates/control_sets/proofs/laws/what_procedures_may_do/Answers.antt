@@ -1,5 +1,5 @@
 use Rattle.std.proofs.Common.{◌≡◌, refl}
-use Rattle.control_sets.proofs.OutcomeAdmissions.{active_is_another, bank_was_another, controls_selected, in_low_power, in_no_state, none_made, read_after_refusals, selection_was_refused, selection_was_repeated, status_selected}
+use Rattle.control_sets.proofs.OutcomeAdmissions.{active_is_another, bank_was_another, controls_selected, given_up, in_low_power, in_no_state, none_made, read_after_refusals, selection_was_refused, selection_was_repeated, status_selected}
 use Rattle.control_sets.proofs.laws.what_procedures_may_do.Goals as goal
 
 pub returns-clause-no_room : goal.returns-clause-no_room
@@ -31,3 +31,6 @@ returns-clause-active_differs c made room = active_is_another (made ≡ room)
 
 pub returns-clause-activation_without_room : goal.returns-clause-activation_without_room
 returns-clause-activation_without_room c room = status_selected (room ≡ room) refl
+
+pub returns-clause-given_up : goal.returns-clause-given_up
+returns-clause-given_up c made room = given_up (made ≡ room)

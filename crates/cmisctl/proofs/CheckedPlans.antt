@@ -1,0 +1,184 @@
+-- What `check` answers where the third part is the certificate that `plan` wrote.
+use Rattle.std.proofs.Common.{◌≡◌, ◌≢◌, ℕ, ◌≤◌, false, List, [], ◌∷◌, ◌++◌, length, get_or, map, codes, None, Some, Ok, Err, refl, sym, ap, subst, ◌∙◌, arith}
+use Rattle.std.specs.List.{All, before_first}
+use Rattle.std.proofs.lemmas.List.Elements.{All-cons, All-nil}
+use Rattle.text_lines.specs.Lines.{is_lf, ended_lines, lines_of, text_of}
+use Rattle.paged_memory.specs.Images.{Memory}
+use Rattle.paged_memory.specs.ImageText.{IsTextOf as IsImageText}
+use Rattle.paged_memory.proofs.OneAnswer.{same_answer as same_image_answer}
+use Rattle.applications.specs.Advertised.{Advertised, advertised_by}
+use Rattle.applications.specs.Weights.{HostWeights}
+use Rattle.applications.specs.WeightFaults.{IsAnswer as IsWeightsAnswer}
+use Rattle.applications.specs.declared.weights.fault.WeightsFault.{WeightsFault}
+use Rattle.applications.specs.declared.weights.fault.WeightsFault.TheVariants as weights
+use Rattle.plan_certificate.specs.Certificates.{Claim}
+use Rattle.plan_certificate.specs.CertificateText.{IsTextOf, line_text, line_words, lines_in}
+use Rattle.plan_certificate.specs.Verdicts.{verdict}
+use Rattle.plan_certificate.specs.declared.line.Line.{Line}
+use Rattle.plan_certificate.specs.declared.line.Line.TheVariants.{Header, Weight, PathLine, StateLine, End}
+use Rattle.plan_certificate.specs.declared.state.TheConstants.{STATES}
+use Rattle.plan_certificate.specs.declared.verdict.Verdict.{Verdict}
+use Rattle.plan_certificate.specs.declared.verdict.Verdict.TheVariants.{Good, Bad}
+use Rattle.plan_certificate.proofs.OneAnswer.{same_answer}
+use Rattle.reports.specs.PlanText.{plan_lines}
+use Rattle.cmisctl.specs.CheckCommand.{IsCheckAnswer, IsGoodAnswer, IsJudged, good_line}
+use Rattle.cmisctl.specs.Limits.{input_limit}
+use Rattle.cmisctl.specs.Parts.{is_separator_line, parts_of}
+use Rattle.cmisctl.specs.PlanCommand.{IsPlanAnswer, IsPlanned}
+use Rattle.cmisctl.specs.PlanningInputs.{IsAdvertText}
+use Rattle.cmisctl.specs.PlanThenCheck.{good_text, input_with, IsCalledGood, IsEnded}
+use Rattle.cmisctl.specs.Runs.{Answer, IsAnswerTo}
+use Rattle.cmisctl.specs.declared.fault.Fault.TheVariants as fault
+use Rattle.cmisctl.proofs.TextBehind.{is_one_part, is_plain, parts_behind}
+
+-- ---- no line of a certificate's text is a separator
+
+-- a line that begins with another byte than a dash
+begins_otherwise : (first : ℕ) (line : List ℕ) → get_or line 0 0 ≡ first → first ≢ 45 → line ≢ codes "---"
+begins_otherwise first line is other e = other (sym is ∙ ap (λ l. get_or l 0 0) e)
+
+is_not_dashes : (line : Line) → line_text line ≢ codes "---"
+unfolding line_words
+is_not_dashes Header = begins_otherwise 99 (line_text Header) refl (λ e. omega arith)
+is_not_dashes (Weight weight) = begins_otherwise 119 (line_text (Weight weight)) refl (λ e. omega arith)
+is_not_dashes (PathLine path) = begins_otherwise 112 (line_text (PathLine path)) refl (λ e. omega arith)
+is_not_dashes (StateLine entry) = begins_otherwise 115 (line_text (StateLine entry)) refl (λ e. omega arith)
+is_not_dashes End = begins_otherwise 101 (line_text End) refl (λ e. omega arith)
+
+are_plain : (ended : List (List ℕ)) (lines : List Line) → map (before_first is_lf) ended ≡ map line_text lines
+    → All (λ line. is_separator_line line ≡ false) ended
+are_plain [] lines e = All-nil (λ l. is_separator_line l ≡ false)
+are_plain (first ∷ ended) [] e = absurd cc
+are_plain (first ∷ ended) (line ∷ lines) e =
+    let same : before_first is_lf first ≡ line_text line = cc in
+    let plain = is_plain first (λ dashes. is_not_dashes line (sym same ∙ dashes)) in
+    All-cons (λ l. is_separator_line l ≡ false) first ended plain (are_plain ended lines cc)
+
+certificate_is_one_part : (text : List ℕ) (certificate : Claim) → IsTextOf STATES (lines_of text) certificate → parts_of text ≡ text ∷ []
+certificate_is_one_part text certificate is = is_one_part text (are_plain (ended_lines text) (lines_in certificate) is.lines_are)
+
+-- ---- a text is read in one way
+
+same_image : (text : List ℕ) (a b : Memory) → IsImageText (lines_of text) a → IsImageText (lines_of text) b → a ≡ b
+same_image text a b p q = let same = same_image_answer (lines_of text) (Ok a) (Ok b) p q in cc
+
+same_advert : (text : List ℕ) (a b : Advertised) → IsAdvertText text a → IsAdvertText text b → a ≡ b
+same_advert text a b p q =
+    let memory = same_image text p.memory q.memory p.is_module.is_text q.is_module.is_text in
+    p.is_module.advertised ∙ ap advertised_by memory ∙ sym q.is_module.advertised
+
+same_weights : (text : List ℕ) (a b : HostWeights) → IsWeightsAnswer text (Ok a) → IsWeightsAnswer text (Ok b) → a ≡ b
+same_weights text a b p q = p.1 ∙ sym q.1
+
+not_refused : (text : List ℕ) (listed : HostWeights) (f : WeightsFault) → f ≢ weights.Memory
+    → IsWeightsAnswer text (Ok listed) → ¬ (IsWeightsAnswer text (Err f))
+not_refused text listed weights.Memory other p q = other refl
+not_refused text listed f other p q = absurd cc
+
+same_claim : (text : List ℕ) (a b : Claim) → IsTextOf STATES (lines_of text) a → IsTextOf STATES (lines_of text) b → a ≡ b
+same_claim text a b p q = let same = same_answer STATES (lines_of text) (Ok a) (Ok b) p q in cc
+
+-- ---- what `check` answers to the parts
+
+module _ (image_text weights_text text : List ℕ) (planned : IsPlanned image_text weights_text text) where
+  good_answer : IsGoodAnswer image_text weights_text text (good_text planned)
+  good_answer = record {
+    judged = record {
+      advert = planned.given.advert;
+      weights = planned.given.weights;
+      certificate = planned.certificate;
+      is_advert = planned.given.is_advert;
+      are_weights = planned.given.are_weights;
+      is_certificate = planned.read_again;
+      is_verdict = planned.given.judged_again;
+    };
+    is_best = planned.given.is_best;
+    told = refl;
+  }
+
+  module _ (judged : Verdict) (is : IsJudged image_text weights_text text judged) where
+    the_advert : is.advert ≡ planned.given.advert
+    the_advert = same_advert image_text is.advert planned.given.advert is.is_advert planned.given.is_advert
+
+    the_weights : is.weights ≡ planned.given.weights
+    the_weights = same_weights weights_text is.weights planned.given.weights is.are_weights planned.given.are_weights
+
+    the_certificate : is.certificate ≡ planned.certificate
+    the_certificate = same_claim text is.certificate planned.certificate is.is_certificate planned.read_again
+
+    judged_good : judged ≡ Good
+    judged_good = sym is.is_verdict ∙ (λ i. verdict (the_advert i) (the_weights i) (the_certificate i)) ∙ planned.given.judged_again
+
+  told_good : (told : List ℕ) → IsGoodAnswer image_text weights_text text told → told ≡ good_text planned
+  told_good told is =
+      let advert = the_advert Good is.judged in
+      let listed = the_weights Good is.judged in
+      let paths = ap (λ (c : Claim). c.paths) (the_certificate Good is.judged) in
+      is.told ∙ (λ i. text_of (good_line ∷ plan_lines (advert i) (listed i) (paths i)))
+
+  alone : (answer : Answer) → IsCheckAnswer (image_text ∷ weights_text ∷ text ∷ []) answer → answer ≡ Ok (good_text planned, None)
+  alone (Ok (told, None)) is = let same = told_good told is in λ i. Ok (same i, None)
+  alone (Ok (told, Some f)) is = absurd is
+  alone (Err (fault.Bad reason number)) is = let good = judged_good (Bad reason number) is in absurd cc
+  alone (Err (fault.Certificate f)) is =
+      let same = same_answer STATES (lines_of text) (Ok planned.certificate) (Err f) planned.read_again is.2 in
+      absurd cc
+  alone (Err (fault.Weights f)) is = absurd (not_refused weights_text planned.given.weights f is.1.0 planned.given.are_weights is.1.1)
+  alone (Err (fault.Image f)) is =
+      let read = planned.given.is_advert in
+      let same = same_image_answer (lines_of image_text) (Ok read.memory) (Err f) read.is_module.is_text is in
+      absurd cc
+  alone (Err (fault.Advert f)) is =
+      let read = planned.given.is_advert in
+      let same = same_image image_text read.memory is.0 read.is_module.is_text is.1 in
+      let accepted = read.is_module.accepted in
+      absurd (cc is.2)
+  alone (Err f) is = absurd is
+
+  module _ (input : List ℕ) (cut : parts_of input ≡ image_text ∷ weights_text ∷ text ∷ []) (within : length input ≤ input_limit) where
+    counted : length (parts_of input) ≡ 3
+    counted = ap (λ (l : List (List ℕ)). length l) cut
+
+    good_to : IsAnswerTo 3 IsCheckAnswer input (Ok (good_text planned, None))
+    good_to = (within, counted, subst (λ l. IsCheckAnswer l (Ok (good_text planned, None))) (sym cut) good_answer)
+
+    alone_to : (answer : Answer) → IsAnswerTo 3 IsCheckAnswer input answer → answer ≢ Err fault.Memory → answer ≢ Err fault.Io
+        → answer ≡ Ok (good_text planned, None)
+    alone_to (Ok told) is memory read = alone (Ok told) (subst (λ l. IsCheckAnswer l (Ok told)) cut is.2)
+    alone_to (Err fault.Memory) is memory read = absurd (memory refl)
+    alone_to (Err fault.Io) is memory read = absurd (read refl)
+    alone_to (Err fault.TooLong) is memory read = absurd (omega arith)
+    alone_to (Err (fault.Parts number)) is memory read = absurd (is.2 (is.1 ∙ counted))
+    alone_to (Err f) is memory read = alone (Err f) (subst (λ l. IsCheckAnswer l (Err f)) cut is.2)
+
+-- ---- the two commands
+
+record Planned (input text : List ℕ) : Type 0 where
+  image_text : List ℕ
+  weights_text : List ℕ
+  parts : parts_of input ≡ image_text ∷ weights_text ∷ []
+  planned : IsPlanned image_text weights_text text
+
+planned_from : (input text : List ℕ) (parts : List (List ℕ)) → parts_of input ≡ parts → IsPlanAnswer parts (Ok (text, None))
+    → Planned input text
+planned_from input text [] cut is = absurd is
+planned_from input text (image ∷ []) cut is = absurd is
+planned_from input text (image ∷ listed ∷ []) cut is = record { image_text = image; weights_text = listed; parts = cut; planned = is }
+planned_from input text (image ∷ listed ∷ more ∷ rest) cut is = absurd is
+
+pub called_good : (input text : List ℕ) → IsEnded input → IsAnswerTo 2 IsPlanAnswer input (Ok (text, None))
+    → length (input_with input text) ≤ input_limit → IsCalledGood input text
+called_good input text (before, ends) is within =
+    let from = planned_from input text (parts_of input) refl is.2 in
+    let cut : parts_of (input_with input text) ≡ from.image_text ∷ from.weights_text ∷ text ∷ [] =
+    rw ends (parts_behind before text)
+    ∙ ap (λ l. l ++ parts_of text) (ap parts_of (sym ends) ∙ from.parts)
+    ∙ ap (λ l. from.image_text ∷ from.weights_text ∷ l) (certificate_is_one_part text from.planned.certificate from.planned.read_again) in
+    record {
+      image_text = from.image_text;
+      weights_text = from.weights_text;
+      planned = from.planned;
+      parts = cut;
+      good = good_to from.image_text from.weights_text text from.planned (input_with input text) cut within;
+      alone = alone_to from.image_text from.weights_text text from.planned (input_with input text) cut within;
+    }
