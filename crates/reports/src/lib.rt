@@ -8,6 +8,7 @@ mod cmis_inventory;
 mod cmis_monitors;
 mod family;
 mod fault;
+mod fetching;
 mod flag;
 pub mod laws;
 mod maker;
@@ -28,6 +29,7 @@ mod trace;
 pub use by_family::{flags, inventory, monitors};
 pub use cmis_apps::apps;
 pub use fault::ReportFault;
+pub use fetching::fetch_image;
 pub use plan::plan_text;
 pub use trace::trace_text;
 
