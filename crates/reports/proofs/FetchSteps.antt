@@ -1,9 +1,8 @@
 -- What the steps of a reading can't be, by their operations, and what one more leaves as it was.
-use Rattle.std.proofs.Common.{◌≡◌, ◌<◌, ℕ, ◌==◌, Bool, true, false, not, List, [], ◌∷◌, Option, Some, None, refl, sym, ap, subst, ◌∙◌, inl, inr, eq-eqb, arith}
-use Rattle.std.specs.Prelude.{IsTrue, MatchOption}
+use Rattle.std.proofs.Common.{◌≡◌, ◌<◌, ℕ, ◌==◌, true, List, [], ◌∷◌, Option, Some, None, refl, sym, ap, subst, ◌∙◌, inl, inr, eq-eqb, arith}
+use Rattle.std.specs.Prelude.{MatchOption}
 use Rattle.std.specs.FinMap as map
 use Rattle.std.specs.List.{AllByRecursion}
-use Rattle.arrayvec.specs.ArrayVec.{ArrayVec}
 use Rattle.bus_model.specs.declared.device.Dev.{Dev}
 use Rattle.bus_model.specs.declared.device.Dev.TheVariants.{A0, A2}
 use Rattle.bus_model.specs.declared.operation.Op.{Op}
@@ -15,7 +14,7 @@ use Rattle.paged_memory.specs.declared.paging.Paging.TheVariants.{BankAndPage, P
 use Rattle.paged_memory.specs.declared.paging.Selected.{Selected}
 use Rattle.paged_memory.specs.Images.{Memory}
 use Rattle.paged_memory.specs.KnownPages.{IsApart, Tells}
-use Rattle.paged_memory.specs.Paging.{History, confirms, read_selection, selection}
+use Rattle.paged_memory.specs.Paging.{History, read_selection, selection}
 use Rattle.paged_memory.proofs.KnownPageLaws.{one_page}
 use Rattle.reports.specs.declared.fetching.region.Region.{Region}
 use Rattle.reports.specs.declared.fetching.region.Region.TheVariants.{Lower, FirstPage, Page}

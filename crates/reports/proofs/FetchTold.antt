@@ -1,11 +1,11 @@
 -- The reading of a module from its first step to its end.
-use Rattle.std.proofs.Common.{◌≡◌, ◌<◌, ◌≤◌, ◌+◌, ◌⊎◌, ℕ, ◌&&◌, Bool, true, false, List, [], ◌∷◌, ◌++◌, length, drop, Option, Some, None, Ok, Err, refl, sym, ap, subst, ◌∙◌, inl, inr, if◌then◌else◌, cond, nat_lt, arith}
+use Rattle.std.proofs.Common.{◌≡◌, ◌<◌, ◌≤◌, ◌+◌, ℕ, Bool, true, false, List, [], ◌∷◌, ◌++◌, length, drop, Option, Some, None, Ok, Err, refl, sym, ap, subst, ◌∙◌, inl, inr, if◌then◌else◌, cond, nat_lt, arith}
 use Rattle.std.specs.Prelude.{◌-◌, ◌↔◌, Result, IsTrue, MatchOption, is_some}
 use Rattle.std.specs.FinMap as map
-use Rattle.std.specs.List.{AllByRecursion, list_all, slice_get}
+use Rattle.std.specs.List.{AllByRecursion, slice_get}
 use Rattle.std.specs.Ordering.{eq_by_cmp}
 use Rattle.std.specs.Cmp.{eq_by_cmp_equiv}
-use Rattle.std.proofs.lemmas.Bool.{and_parts, cases_Bool, ltb-false, ltb-true}
+use Rattle.std.proofs.lemmas.Bool.{cases_Bool, ltb-false, ltb-true}
 use Rattle.std.proofs.lemmas.List.{length-append}
 use Rattle.std.proofs.lemmas.Option.{slice_get_past, slice_get_within}
 use Rattle.arrayvec.specs.ArrayVec.{ArrayVec}
@@ -26,21 +26,20 @@ use Rattle.paged_memory.specs.Images.{Memory}
 use Rattle.paged_memory.specs.KeyOrder.{key_cmp}
 use Rattle.paged_memory.specs.Keys.{lower_key}
 use Rattle.paged_memory.specs.KnownPages.{Tells, is_awaited, missing_page, selected_after, wanted}
-use Rattle.paged_memory.specs.Paging.{EachStep, History, selection}
+use Rattle.paged_memory.specs.Paging.{EachStep, History}
 use Rattle.paged_memory.proofs.KeyLaws.{keys_total}
 use Rattle.paged_memory.proofs.KnownPageLaws.{after_work, step_of, tells_next, tells_nothing}
 use Rattle.reports.specs.declared.fault.ReportFault.TheVariants.{Bus, GaveUp}
-use Rattle.reports.specs.declared.fetching.reading.Next.{Next}
 use Rattle.reports.specs.declared.fetching.reading.Next.TheVariants.{Do, Complete, GiveUp}
 use Rattle.reports.specs.declared.fetching.reading.Reading.{Reading}
 use Rattle.reports.specs.declared.fetching.region.Region.{Region}
 use Rattle.reports.specs.declared.fetching.region.Region.TheVariants.{Lower, FirstPage, Page}
-use Rattle.reports.specs.Regions.{key_of, operation, page_of, paging_of, regions_of}
+use Rattle.reports.specs.Regions.{operation, page_of, paging_of, regions_of}
 use Rattle.reports.specs.ImageReading as reader
-use Rattle.reports.specs.FetchedImages.{IsFetch, IsFetching, IsKeyAmong, IsLeftOut, IsRead, IsSettled, IsUnfinished, StoresNothing, WasSelected}
+use Rattle.reports.specs.FetchedImages.{IsFetch, IsFetching, IsLeftOut, IsRead, IsUnfinished, StoresNothing, WasSelected}
 use Rattle.reports.proofs.RegionLaws.{all_other, all_others, asked_of_nothing, at_most_five, begins_lower, is_other, keys_are}
 use Rattle.reports.proofs.FetchSteps.{IsUnselected, IsUntouched, leaves_selection, no_selection, other_reads}
-use Rattle.reports.proofs.FetchUnderWay.{HasSettled, IsAt, IsBeginning, IsDone, IsRefusal, IsUnderWay, IsWorking, beginning_is_unfinished, done_gives, working_is_unfinished}
+use Rattle.reports.proofs.FetchUnderWay.{HasSettled, IsAt, IsBeginning, IsDone, IsRefusal, IsUnderWay, beginning_is_unfinished, done_gives, working_is_unfinished}
 use Rattle.reports.proofs.FetchTurns.{at_place, goes_on, of_later, turn}
 
 abbrev given_by : Reply → List ℕ

@@ -1,5 +1,5 @@
 -- What one step more makes of the reading of a module.
-use Rattle.std.proofs.Common.{◌≡◌, ◌<◌, ◌≤◌, ◌+◌, ◌⊎◌, ℕ, ◌&&◌, ◌||◌, ◌==◌, Bool, true, false, not, List, [], ◌∷◌, ◌++◌, length, drop, Option, Some, None, refl, sym, ap, subst, ◌∙◌, inl, inr, if◌then◌else◌, cond, nat_lt, arith}
+use Rattle.std.proofs.Common.{◌≡◌, ◌<◌, ◌≤◌, ◌+◌, ◌⊎◌, ℕ, ◌&&◌, Bool, true, false, List, [], ◌∷◌, ◌++◌, length, drop, Option, Some, None, refl, sym, ap, subst, ◌∙◌, inl, inr, if◌then◌else◌, cond, arith}
 use Rattle.std.specs.Prelude.{IsTrue, MatchOption, is_some}
 use Rattle.std.specs.FinMap as map
 use Rattle.std.specs.List.{AllByRecursion, list_all, slice_get}
@@ -7,10 +7,8 @@ use Rattle.std.specs.Ordering.{eq_by_cmp}
 use Rattle.std.specs.Cmp.{eq_by_cmp_equiv}
 use Rattle.std.proofs.lemmas.Bool.{and_from, and_parts, cases_Bool, lt-ltb, ltb-true}
 use Rattle.std.proofs.lemmas.List.{append_assoc, length-append}
-use Rattle.std.proofs.lemmas.Option.{slice_get_past}
 use Rattle.arrayvec.specs.ArrayVec.{ArrayVec}
 use Rattle.bus_model.specs.declared.device.Dev.TheVariants.{A0}
-use Rattle.bus_model.specs.declared.operation.Op.{Op}
 use Rattle.bus_model.specs.declared.operation.Op.TheVariants.{Fetch}
 use Rattle.bus_model.specs.declared.operation.Reply.{Reply}
 use Rattle.bus_model.specs.declared.operation.Reply.TheVariants.{Bytes, Done, Refused}
@@ -22,23 +20,23 @@ use Rattle.paged_memory.specs.declared.key.Key.{Key}
 use Rattle.paged_memory.specs.declared.paging.Paging.{Paging}
 use Rattle.paged_memory.specs.declared.paging.Paging.TheVariants.{BankAndPage, PageAlone}
 use Rattle.paged_memory.specs.declared.paging.Selected.{Selected}
-use Rattle.paged_memory.specs.declared.paging.Selected.TheVariants.{Unknown, Open}
+use Rattle.paged_memory.specs.declared.paging.Selected.TheVariants.{Open}
 use Rattle.paged_memory.specs.Images.{Memory}
 use Rattle.paged_memory.specs.KeyOrder.{key_cmp}
 use Rattle.paged_memory.specs.Keys.{lower_key}
-use Rattle.paged_memory.specs.KnownPages.{Tells, is_awaited, is_known, missing_page, selected_after, selecting_first, selection_read, wanted}
-use Rattle.paged_memory.specs.Paging.{EachStep, History, is_page, is_selection_of, read_selection, reads_back, selection}
+use Rattle.paged_memory.specs.KnownPages.{Tells, is_awaited, is_known, missing_page, selected_after, selecting_first, selection_read}
+use Rattle.paged_memory.specs.Paging.{History, is_page, read_selection, reads_back, selection}
 use Rattle.paged_memory.proofs.KeyLaws.{keys_total}
-use Rattle.paged_memory.proofs.KnownPageLaws.{after_read, after_selection, after_work, is_confirmed, read_closes, read_tells, reads_itself, selects_alone, step_of, tells_next, tells_nothing}
+use Rattle.paged_memory.proofs.KnownPageLaws.{after_read, after_selection, after_work, is_confirmed, read_closes, read_tells, reads_itself, selects_alone, step_of, tells_next}
 use Rattle.reports.specs.declared.fetching.reading.Reading.{Reading}
 use Rattle.reports.specs.declared.fetching.region.Region.{Region}
 use Rattle.reports.specs.declared.fetching.region.Region.TheVariants.{Lower, FirstPage, Page}
-use Rattle.reports.specs.Regions.{key_of, may_lack, operation, page_of, paging_of, regions_of}
+use Rattle.reports.specs.Regions.{key_of, may_lack, operation, page_of, paging_of}
 use Rattle.reports.specs.ImageReading as reader
-use Rattle.reports.specs.FetchedImages.{IsFetch, IsKeyAmong, IsLeftOut, IsRead, IsSettled, IsShown, IsUnfinished, StoresNothing, WasSelected}
-use Rattle.reports.proofs.RegionLaws.{all_other, all_others, asked_of_nothing, begins_lower, contradicts, is_other, keys_are, other_keys, paging_of_nothing, same_asked, same_keys, same_paging, same_regions}
-use Rattle.reports.proofs.FetchSteps.{IsForOther, IsUntouched, each_for_other, fetch_is_for_other, leaves_selection, no_read_back, no_selection, other_reads, read_back_alone, read_back_fetches, read_back_is_for_other, reads_fetch, selection_is_for_other, selection_stores, stays_settled, unread_yet}
-use Rattle.reports.proofs.FetchUnderWay.{Awaits, HasSettled, IsAt, IsBeginning, IsDone, IsInHand, IsRefusal, IsUnderWay, IsWorking, beginning_is_unfinished, working_is_unfinished}
+use Rattle.reports.specs.FetchedImages.{IsFetch, IsKeyAmong, IsLeftOut, IsRead, IsSettled, IsShown, WasSelected}
+use Rattle.reports.proofs.RegionLaws.{all_other, all_others, contradicts, is_other, keys_are, other_keys, same_asked, same_keys, same_paging, same_regions}
+use Rattle.reports.proofs.FetchSteps.{IsForOther, IsUntouched, each_for_other, fetch_is_for_other, leaves_selection, no_read_back, no_selection, other_reads, read_back_alone, read_back_fetches, read_back_is_for_other, selection_is_for_other, selection_stores, stays_settled, unread_yet}
+use Rattle.reports.proofs.FetchUnderWay.{Awaits, HasSettled, IsAt, IsInHand, IsUnderWay, working_is_unfinished}
 
 -- ---- the lists of halves
 
@@ -102,11 +100,16 @@ in_hand_from paging selected accepted history region untouched closed = record {
 -- then the next one is in hand, if there is one
 pub goes_on : (earlier later : List Region) (reading : Reading) (history : History) → HasSettled earlier later reading history → AllByRecursion (IsUntouched (paging_of reading.image) history) later → is_awaited reading.selected ≡ false → IsAt reading history
 goes_on earlier [] reading history has untouched closed = inr (inr (earlier, has))
-goes_on earlier (hand ∷ later) reading history has untouched closed = inr (inl (earlier, hand, later, record {
-  has = has;
-  in_hand = in_hand_from (paging_of reading.image) reading.selected reading.accepted history hand untouched.0 closed;
-  untouched = untouched.1;
-}))
+goes_on earlier (hand ∷ later) reading history has untouched closed = inr (inl (
+  earlier,
+  hand,
+  later,
+  record {
+    has = has;
+    in_hand = in_hand_from (paging_of reading.image) reading.selected reading.accepted history hand untouched.0 closed;
+    untouched = untouched.1;
+  },
+))
 
 module _ (earlier : List Region) (hand : Region) (later : List Region) (reading : Reading) (history : History) (way : IsUnderWay earlier hand later reading history) (more : reading.steps < 4096) where
   abbrev paging : Paging
@@ -169,13 +172,13 @@ module _ (earlier : List Region) (hand : Region) (later : List Region) (reading 
         only = λ key there. among key (only key there);
         lower = λ bytes read. same ∙ way.has.lower bytes (lower_before bytes read);
       } where
-    lower_before : (bytes : List ℕ) → IsRead (paging_of image) (Lower A0) bytes (step ∷ history) → IsRead paging (Lower A0) bytes history
-    lower_before bytes (inl now) = absurd (reads_not bytes now.0)
-    lower_before bytes (inr earlier) = earlier
+        lower_before : (bytes : List ℕ) → IsRead (paging_of image) (Lower A0) bytes (step ∷ history) → IsRead paging (Lower A0) bytes history
+        lower_before bytes (inl now) = absurd (reads_not bytes now.0)
+        lower_before bytes (inr earlier) = earlier
 
-    among : (key : Key) → IsTrue (map.contains_key reading.image key) ⊎ (key ≡ key_of hand) → IsKeyAmong (earlier ++ hand ∷ []) key
-    among key (inl before) = among_more earlier hand key (way.has.only key before)
-    among key (inr this) = among_last earlier hand key this
+        among : (key : Key) → IsTrue (map.contains_key reading.image key) ⊎ (key ≡ key_of hand) → IsKeyAmong (earlier ++ hand ∷ []) key
+        among key (inl before) = among_more earlier hand key (way.has.only key before)
+        among key (inr this) = among_last earlier hand key this
 
   -- ---- the selection is read back
 
@@ -219,15 +222,20 @@ module _ (earlier : List Region) (hand : Region) (later : List Region) (reading 
   and_false false = refl
 
   read_refused : is_awaited reading.selected ≡ true → IsAt (reader.counted reading) (read_op Refused ∷ history)
-  read_refused e = inr (inl (earlier, hand, later, record {
-    has = stays reading.selected reading.accepted (read_op Refused) (read_told Refused reading.selected e (after_read paging reading.selected Refused)) (read_reads_not Refused);
-    in_hand = record {
-      unread = read_unread Refused;
-      there = still_there hand (read_op Refused) (and_false (same_op (read_selection paging) (read_selection paging))) way.in_hand.there;
-      awaits = read_awaits hand Refused way.in_hand.awaits;
-    };
-    untouched = read_untouched Refused;
-  }))
+  read_refused e = inr (inl (
+    earlier,
+    hand,
+    later,
+    record {
+      has = stays reading.selected reading.accepted (read_op Refused) (read_told Refused reading.selected e (after_read paging reading.selected Refused)) (read_reads_not Refused);
+      in_hand = record {
+        unread = read_unread Refused;
+        there = still_there hand (read_op Refused) (and_false (same_op (read_selection paging) (read_selection paging))) way.in_hand.there;
+        awaits = read_awaits hand Refused way.in_hand.awaits;
+      };
+      untouched = read_untouched Refused;
+    },
+  ))
 
   -- page 00h was read back in the place of the page that was selected
   abbrev shows_first : List ℕ → Bool
@@ -283,15 +291,20 @@ module _ (earlier : List Region) (hand : Region) (later : List Region) (reading 
     answer_awaits (Page page) awaits = λ e. absurd (contradicts e (read_closes paging bytes.items))
 
     read_on : shows_first bytes.items ≡ false → IsAt (after_reading bytes reading.settled) (answer ∷ history)
-    read_on e = inr (inl (earlier, hand, later, record {
-      has = stays (selection_read paging bytes.items) reading.accepted answer answer_told (read_reads_not (Bytes bytes));
-      in_hand = record {
-        unread = read_unread (Bytes bytes);
-        there = shown_there hand e way.in_hand.there way.in_hand.awaits;
-        awaits = answer_awaits hand way.in_hand.awaits;
-      };
-      untouched = read_untouched (Bytes bytes);
-    }))
+    read_on e = inr (inl (
+      earlier,
+      hand,
+      later,
+      record {
+        has = stays (selection_read paging bytes.items) reading.accepted answer answer_told (read_reads_not (Bytes bytes));
+        in_hand = record {
+          unread = read_unread (Bytes bytes);
+          there = shown_there hand e way.in_hand.there way.in_hand.awaits;
+          awaits = answer_awaits hand way.in_hand.awaits;
+        };
+        untouched = read_untouched (Bytes bytes);
+      },
+    ))
 
     read_by : (first : Bool) → shows_first bytes.items ≡ first → IsAt (after_reading bytes (if first then reading.settled + 1 else reading.settled)) (answer ∷ history)
     read_by true e = left_out e
@@ -335,16 +348,21 @@ module _ (earlier : List Region) (hand : Region) (later : List Region) (reading 
       (tells_next paging reading.selected (operation hand) history (leaves_selection paging hand) way.has.told (page_of hand) step
       (λ i. if sym closed i then read_selection paging else selecting_first paging (operation hand) (sym missing i))) in
       let no_zeros : reads_back paging 0 step ≡ false = λ i. selects_alone paging page i && is_page paging 0 reply in
-      inr (inl (earlier, hand, later, record {
-        has = stays Open (reader.is_done reply) step told (λ bytes gives. no_selection paging page (Lower A0) (sym gives.0));
-        in_hand = record {
-          unread = unread_yet paging hand history step way.in_hand.unread (λ bytes gives shown. no_selection paging page hand (sym gives.0));
-          there = still_there hand step no_zeros way.in_hand.there;
-          awaits = subst (Awaits paging Open (reader.is_done reply) (step ∷ history)) (sym is) (selects_awaits page reply);
-        };
-        untouched = each_for_other paging history step later way.untouched
-            (each_other page reply later (subst (λ (region : Region). AllByRecursion (λ other. is_other region other ≡ true) later) is later_others));
-      }))
+      inr (inl (
+        earlier,
+        hand,
+        later,
+        record {
+          has = stays Open (reader.is_done reply) step told (λ bytes gives. no_selection paging page (Lower A0) (sym gives.0));
+          in_hand = record {
+            unread = unread_yet paging hand history step way.in_hand.unread (λ bytes gives shown. no_selection paging page hand (sym gives.0));
+            there = still_there hand step no_zeros way.in_hand.there;
+            awaits = subst (Awaits paging Open (reader.is_done reply) (step ∷ history)) (sym is) (selects_awaits page reply);
+          };
+          untouched = each_for_other paging history step later way.untouched
+              (each_other page reply later (subst (λ (region : Region). AllByRecursion (λ other. is_other region other ≡ true) later) is later_others));
+        },
+      ))
 
   -- ---- the half itself is fetched
 
@@ -380,15 +398,20 @@ module _ (earlier : List Region) (hand : Region) (later : List Region) (reading 
   fetch_refused closed none =
       let step = own_op Refused in
       let no_zeros : reads_back paging 0 step ≡ false = λ i. (leaves_selection paging hand).not_reading_back i && is_page paging 0 Refused in
-      inr (inl (earlier, hand, later, record {
-        has = stays reading.selected reading.accepted step (own_told Refused closed none) (own_reads_not Refused);
-        in_hand = record {
-          unread = unread_yet paging hand history step way.in_hand.unread (λ bytes gives there. (let reply = gives.1 in cc));
-          there = still_there hand step no_zeros way.in_hand.there;
-          awaits = own_awaits hand step refl closed way.in_hand.awaits;
-        };
-        untouched = own_untouched Refused (shown hand none way.in_hand.awaits);
-      }))
+      inr (inl (
+        earlier,
+        hand,
+        later,
+        record {
+          has = stays reading.selected reading.accepted step (own_told Refused closed none) (own_reads_not Refused);
+          in_hand = record {
+            unread = unread_yet paging hand history step way.in_hand.unread (λ bytes gives there. (let reply = gives.1 in cc));
+            there = still_there hand step no_zeros way.in_hand.there;
+            awaits = own_awaits hand step refl closed way.in_hand.awaits;
+          };
+          untouched = own_untouched Refused (shown hand none way.in_hand.awaits);
+        },
+      ))
 
   abbrev kept_image : List ℕ → Memory
   kept_image bytes = map.insert reading.image (key_of hand) bytes

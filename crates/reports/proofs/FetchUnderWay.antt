@@ -1,13 +1,12 @@
 -- How far the reading of a module has come, and that what it has not finished gives no image.
-use Rattle.std.proofs.Common.{◌≡◌, ◌<◌, ◌≤◌, ◌+◌, ◌⊎◌, ℕ, ◌&&◌, Bool, true, false, List, [], ◌∷◌, ◌++◌, length, drop, Option, Some, None, refl, sym, ap, subst, ◌∙◌, inl, inr, arith}
+use Rattle.std.proofs.Common.{◌≡◌, ◌≤◌, ◌⊎◌, ℕ, Bool, true, List, [], ◌∷◌, ◌++◌, length, drop, Option, Some, None, refl, sym, ap, subst, ◌∙◌, inl, inr}
 use Rattle.std.specs.Prelude.{IsTrue, MatchOption}
 use Rattle.std.specs.FinMap as map
-use Rattle.std.specs.List.{AllByRecursion, list_all}
+use Rattle.std.specs.List.{AllByRecursion}
 use Rattle.bus_model.specs.declared.device.Dev.TheVariants.{A0}
 use Rattle.bus_model.specs.declared.operation.Op.TheVariants.{Fetch}
 use Rattle.bus_model.specs.declared.operation.Reply.TheVariants.{Refused}
 use Rattle.bus_model.specs.declared.operation.Step.{Step}
-use Rattle.control_sets.specs.OutcomeSteps.{Gives}
 use Rattle.paged_memory.specs.declared.key.Key.{Key}
 use Rattle.paged_memory.specs.declared.paging.Paging.{Paging}
 use Rattle.paged_memory.specs.declared.paging.Selected.{Selected}
@@ -19,8 +18,8 @@ use Rattle.paged_memory.specs.Paging.{EachStep, History}
 use Rattle.reports.specs.declared.fetching.reading.Reading.{Reading}
 use Rattle.reports.specs.declared.fetching.region.Region.{Region}
 use Rattle.reports.specs.declared.fetching.region.Region.TheVariants.{Lower, FirstPage, Page}
-use Rattle.reports.specs.Regions.{key_of, operation, paging_of, regions_of}
-use Rattle.reports.specs.FetchedImages.{IsImageOf, IsKeyAmong, IsLeftOut, IsRead, IsSettled, IsShown, IsUnfinished, SomeStep, StoresNothing, WasSelected}
+use Rattle.reports.specs.Regions.{key_of, paging_of, regions_of}
+use Rattle.reports.specs.FetchedImages.{IsImageOf, IsKeyAmong, IsLeftOut, IsRead, IsSettled, IsUnfinished, StoresNothing, WasSelected}
 use Rattle.reports.proofs.RegionLaws.{begins_lower, same_asked, same_paging, same_regions}
 use Rattle.reports.proofs.FetchSteps.{IsUntouched}
 
@@ -136,6 +135,6 @@ done_gives reading history (earlier, has) =
       each = subst (AllByRecursion (IsSettled history reading.image)) (sym all) has.settled;
       only = λ key there. subst (λ (regions : List Region). IsKeyAmong regions key) (sym all) (has.only key there);
     } where
-  append_nil : (regions : List Region) → regions ++ [] ≡ regions
-  append_nil [] = refl
-  append_nil (region ∷ regions) = ap (λ (rest : List Region). region ∷ rest) (append_nil regions)
+      append_nil : (regions : List Region) → regions ++ [] ≡ regions
+      append_nil [] = refl
+      append_nil (region ∷ regions) = ap (λ (rest : List Region). region ∷ rest) (append_nil regions)

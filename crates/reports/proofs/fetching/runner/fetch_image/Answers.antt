@@ -1,4 +1,4 @@
-use Rattle.std.proofs.Common.{◌<◌, ◌-◌, ℕ, ◌∷◌, ◌∙◌, Ok, Err, sym, subst}
+use Rattle.std.proofs.Common.{◌<◌, ◌-◌, ◌∷◌, ◌∙◌, Err, sym, subst}
 use Rattle.bus_model.specs.declared.bus.BusFault.{BusFault}
 use Rattle.bus_model.specs.Runs.{IsFull}
 use Rattle.control_sets.specs.Procedures.{MakesHistory}
@@ -8,7 +8,7 @@ use Rattle.reports.specs.declared.fault.ReportFault.TheVariants.{Bus}
 use Rattle.reports.specs.declared.fetching.reading.Reading.{Reading}
 use Rattle.reports.specs.FetchedImages.{IsFetching}
 use Rattle.reports.proofs.FetchUnderWay.{IsAt}
-use Rattle.reports.proofs.FetchTold.{complete, fault_is, fewer, fills, gives_up, place, room_left, starts, told}
+use Rattle.reports.proofs.FetchTold.{complete, fault_is, fewer, fills, gives_up, room_left, told}
 use Rattle.reports.proofs.fetching.runner.fetch_image.Goals as goal
 
 pub take-requires-clause-room : goal.take-requires-clause-room

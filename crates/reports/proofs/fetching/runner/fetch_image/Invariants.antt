@@ -1,7 +1,6 @@
 use Rattle.std.proofs.Common.{◌-◌}
 use Rattle.control_sets.specs.Procedures.{MakesHistory}
 use Rattle.reports.proofs.FetchUnderWay.{IsAt}
-use Rattle.reports.proofs.FetchSteps as steps
 use Rattle.reports.proofs.fetching.runner.fetch_image.Given as goal
 
 abbrev pub decreases-told : goal.decreases-told
