@@ -13,7 +13,7 @@ use Rattle.paged_memory.specs.declared.paging.Selected.TheVariants.{Unknown, Ope
 use Rattle.paged_memory.specs.Paging.{History, confirms, is_page, is_read, is_selection_of, may_select, read_selection, selection}
 use Rattle.paged_memory.specs.KnownPages.{IsApart, Tells, is_awaited, is_known, missing_page, selected_after, selecting_first, selection_read, selection_told, wanted}
 
-abbrev step_of : Op → Reply → Step
+abbrev pub step_of : Op → Reply → Step
 step_of op reply = record { op = op; reply = reply }
 
 -- nothing was known to be selected where a read back is awaited
@@ -22,7 +22,7 @@ none_known Unknown page e = refl
 none_known Open page e = refl
 none_known (Page known) page e = cc
 
-read_closes : (paging : Paging) (bytes : List ℕ) → is_awaited (selection_read paging bytes) ≡ false
+pub read_closes : (paging : Paging) (bytes : List ℕ) → is_awaited (selection_read paging bytes) ≡ false
 read_closes BankAndPage [] = refl
 read_closes BankAndPage (bank ∷ []) = refl
 read_closes BankAndPage (bank ∷ number ∷ []) = elim (bank == 0) as (λ b. is_awaited (if b then Page number else Unknown) ≡ false) [ true ↦ refl | false ↦ refl ]
@@ -31,7 +31,7 @@ read_closes PageAlone [] = refl
 read_closes PageAlone (number ∷ []) = refl
 read_closes PageAlone (number ∷ more ∷ bytes) = refl
 
-read_tells : (paging : Paging) (bytes : List ℕ) (page : ℕ) → is_selection_of paging page bytes ≡ is_known (selection_read paging bytes) page
+pub read_tells : (paging : Paging) (bytes : List ℕ) (page : ℕ) → is_selection_of paging page bytes ≡ is_known (selection_read paging bytes) page
 read_tells BankAndPage [] page = refl
 read_tells BankAndPage (bank ∷ []) page = refl
 read_tells BankAndPage (bank ∷ number ∷ []) page = elim (bank == 0) as (λ b. (b && number == page) ≡ is_known (if b then Page number else Unknown) page) [ true ↦ refl | false ↦ refl ]
@@ -44,7 +44,7 @@ or_false : (b : Bool) → (b || false) ≡ b
 or_false true = refl
 or_false false = refl
 
-reads_itself : (paging : Paging) → same_op (read_selection paging) (read_selection paging) ≡ true
+pub reads_itself : (paging : Paging) → same_op (read_selection paging) (read_selection paging) ≡ true
 reads_itself BankAndPage = refl
 reads_itself PageAlone = refl
 
@@ -56,7 +56,7 @@ selects : (paging : Paging) (page : ℕ) → may_select paging (selection paging
 selects BankAndPage page = refl
 selects PageAlone page = refl
 
-selects_alone : (paging : Paging) (page : ℕ) → same_op (read_selection paging) (selection paging page) ≡ false
+pub selects_alone : (paging : Paging) (page : ℕ) → same_op (read_selection paging) (selection paging page) ≡ false
 selects_alone BankAndPage page = refl
 selects_alone PageAlone page = refl
 
@@ -90,10 +90,10 @@ module _ (paging : Paging) (selected : Selected) (history : History) (told : Tel
     known = λ page. (λ i. (apart.not_reading_back i && is_page paging page reply) || (not (apart.not_selecting i) && confirms paging page history)) ∙ told.known page;
   }
 
-after_read : (paging : Paging) (selected : Selected) (reply : Reply) → selected_after paging selected (step_of (read_selection paging) reply) ≡ selection_told paging selected reply
+pub after_read : (paging : Paging) (selected : Selected) (reply : Reply) → selected_after paging selected (step_of (read_selection paging) reply) ≡ selection_told paging selected reply
 after_read paging selected reply = λ i. if reads_alone paging i then Open else (if reads_itself paging i then selection_told paging selected reply else selected)
 
-after_selection : (paging : Paging) (selected : Selected) (page : ℕ) (reply : Reply) → selected_after paging selected (step_of (selection paging page) reply) ≡ Open
+pub after_selection : (paging : Paging) (selected : Selected) (page : ℕ) (reply : Reply) → selected_after paging selected (step_of (selection paging page) reply) ≡ Open
 after_selection paging selected page reply =
     (λ i. if selects paging page i then Open else (if same_op (read_selection paging) (selection paging page) then selection_told paging selected reply else selected))
 

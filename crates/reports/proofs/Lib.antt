@@ -2,3 +2,8 @@ pub mod Numbered
 pub mod RaisedFlags
 pub mod TextsOfLines
 pub mod MonitorTexts
+pub mod RegionLaws
+pub mod FetchSteps
+pub mod FetchUnderWay
+pub mod FetchTurns
+pub mod FetchTold

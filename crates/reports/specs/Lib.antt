@@ -20,3 +20,6 @@ pub mod Apps
 pub mod PlanText
 pub mod FaultWords
 pub mod Trace
+pub mod Regions
+pub mod ImageReading
+pub mod FetchedImages

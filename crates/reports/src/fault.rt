@@ -2,6 +2,7 @@ ghost use Rattle.std.specs.Prelude.{◌≡◌};
 ghost use Rattle.reports.specs.declared.fault.ReportFault.TheVariants.{Memory, Sff};
 
 use applications::AdvertFault;
+use bus_model::BusFault;
 use field_tables::SffFault;
 use paged_memory::Key;
 use std::alloc::AllocError;
@@ -24,6 +25,10 @@ pub enum ReportFault {
     Sff(SffFault),
     /// The module's Applications are not read.
     Advert(AdvertFault),
+    /// The bus made no transaction more, and the module's memory was not read whole.
+    Bus(BusFault),
+    /// Nor was it within as many transactions as may be made.
+    GaveUp,
 }
 
 impl From<AllocError> for ReportFault {
@@ -53,6 +58,8 @@ impl Spelled for ReportFault {
         match self {
             ReportFault::Memory => Spelling::of("memory"),
             ReportFault::Unknown(identifier) => Spelling::of("RP1").and(identifier),
+            ReportFault::Bus(fault) => Spelling::of("RP2").and(fault),
+            ReportFault::GaveUp => Spelling::of("RP3"),
             ReportFault::Revision(revision) => Spelling::of("RP4").and(revision),
             ReportFault::Absent(key) => Spelling::of("RP6").and(key),
             ReportFault::Sff(fault) => fault.spelling(),
