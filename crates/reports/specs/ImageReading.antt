@@ -56,7 +56,9 @@ keeping reading region bytes =
 -- page 00h was read back in the place of the page that was selected
 abbrev pub settled_by : Reading → Region → List ℕ → ℕ
 settled_by reading region bytes =
-    if reading.accepted && (is_known (selection_read (paging_of reading.image) bytes) 0 && may_lack region) then reading.settled + 1 else reading.settled
+    if reading.accepted && (is_known (selection_read (paging_of reading.image) bytes) 0 && may_lack region)
+    then reading.settled + 1
+    else reading.settled
 
 abbrev pub after_read_back : Reading → Region → Reply → Reading
 after_read_back reading region (Bytes bytes) =
