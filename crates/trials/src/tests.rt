@@ -1,6 +1,7 @@
 mod applies;
 mod certificates;
 mod control_bytes;
+mod fetching;
 mod lanes;
 mod lies;
 mod modules;

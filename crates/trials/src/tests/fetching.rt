@@ -1,0 +1,68 @@
+// Images that are read over a bus, of windows of modules.
+use super::plans::bus_of;
+use bus_model::BusFault;
+use paged_memory::{Dev, Image, Key, Window};
+use reports::{ReportFault, fetch_image};
+use sample_modules::{QSFP_DD, QSFP28, SFP, only};
+use std::alloc::Global;
+use std::test::Fail;
+
+// The steps that are made over a window of this image, and what is answered.
+fn fetched(
+    alloc: Global,
+    image: &Image,
+    script: &[u8],
+    room: usize,
+) -> Result<(usize, Result<Image, ReportFault>), Fail> {
+    let mut bus = bus_of(alloc, Window::<16>::of(image)?, script, room)?;
+    let answer = fetch_image(&mut bus);
+    Ok((bus.steps().len(), answer))
+}
+
+#[test]
+fn a_module_is_read_in_so_many_steps(rt: HostRuntime) -> Result<(), Fail> {
+    let rows: [(&str, &[u8], usize); 4] = [
+        (QSFP_DD, b"", 13),
+        (QSFP_DD, b"ok 4\nnack 1\n", 15),
+        (QSFP28, b"", 7),
+        (SFP, b"", 2),
+    ];
+    for (text, script, wanted) in rows {
+        let (steps, answer) = fetched(rt.alloc(), &Image::read(text.as_bytes())?, script, 4096)?;
+        assert_eq!(rt; steps, wanted, "{text}");
+        assert!(rt; answer.is_ok(), "{text}");
+    }
+    Ok(())
+}
+
+#[test]
+fn an_absent_page_is_left_out(rt: HostRuntime) -> Result<(), Fail> {
+    let module = Image::read(QSFP_DD.as_bytes())?;
+    let page = |page| Key::upper(Dev::A0, 0, page);
+    let kept = [Key::lower(Dev::A0), page(0x00), page(0x01), page(0x11)];
+    let (steps, answer) = fetched(rt.alloc(), &only(&module, &kept)?, b"", 4096)?;
+    assert_eq!(rt; steps, 12);
+    let image = answer?;
+    assert!(rt; image.has(page(0x11)));
+    assert!(rt; !image.has(page(0x02)));
+    Ok(())
+}
+
+#[test]
+fn a_module_is_given_up(rt: HostRuntime) -> Result<(), Fail> {
+    let module = Image::read(QSFP_DD.as_bytes())?;
+    let (steps, answer) = fetched(rt.alloc(), &module, b"", 5)?;
+    let full = ReportFault::Bus(BusFault::TraceFull);
+    assert_eq!(rt; (steps, answer.err()), (5, Some(full)));
+    let (steps, answer) = fetched(rt.alloc(), &Image::new(), b"", 5000)?;
+    assert_eq!(rt; (steps, answer.err()), (4096, Some(ReportFault::GaveUp)));
+    let diagnostics = Image::read(SFP.as_bytes())?;
+    let (steps, answer) = fetched(
+        rt.alloc(),
+        &only(&diagnostics, &[Key::lower(Dev::A0)])?,
+        b"",
+        5000,
+    )?;
+    assert_eq!(rt; (steps, answer.err()), (4096, Some(ReportFault::GaveUp)));
+    Ok(())
+}
