@@ -5,3 +5,4 @@ pub mod DirectiveWords
 pub mod OneScript
 pub mod OneReply
 pub mod SameOperations
+pub mod Histories

@@ -7,3 +7,4 @@ mod FieldAnswers
 mod EveryValue
 mod RowsFit
 mod EntriesApart
+pub mod SameValues

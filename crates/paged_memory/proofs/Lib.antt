@@ -8,3 +8,5 @@ pub mod PageLineLaws
 pub mod OneAnswer
 pub mod WindowRuns
 pub mod KnownPageLaws
+pub mod WindowHistories
+pub mod WindowReads

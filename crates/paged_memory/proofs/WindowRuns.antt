@@ -10,6 +10,7 @@ use Rattle.bus_model.specs.Keeping.{IsKeptInTime}
 use Rattle.bus_model.specs.Operations.{fetch_step, store_step}
 use Rattle.bus_model.specs.Runs.{Seen, Ran, MayInTurn}
 use Rattle.bus_model.specs.ScriptedBus.{settled, script_rules}
+use Rattle.bus_model.proofs.Histories.{AnyPin}
 use Rattle.bus_model.proofs.ScriptRuns.{all_allow, settled_keeps, step_keeps, fetched_at}
 use Rattle.paged_memory.specs.declared.selection.Selection.{Selection}
 use Rattle.paged_memory.specs.declared.selection.Selecting.{Selecting}
@@ -26,16 +27,14 @@ same_memory window dev address bytes =
 abbrev pub IsByBank : Windowed → Type 0
 IsByBank window = selecting_on window.memory A0 ≡ BankAndPage
 
-abbrev AnyPin : Bool → Type 0
-AnyPin on = Unit {0}
-
-in_time : IsKeptInTime window_conduct AnyPin IsByBank
-in_time = record { tick = λ window holds. holds; low_power_pin = λ window on pin holds. holds }
+-- time and the pin leave a window as it is
+pub always : (P : Windowed → Type 0) → IsKeptInTime window_conduct AnyPin P
+always P = record { tick = λ window holds. holds; low_power_pin = λ window on pin holds. holds }
 
 by_store : (bytes : List ℕ) (window : Windowed) → IsByBank window → IsByBank (stored window A0 126 bytes).1
 by_store bytes window holds = rw (same_memory window A0 126 bytes) holds
 
-shown_two : (selecting : Selecting) (selection : Selection) (half : Option (List ℕ)) (bytes : List ℕ) → selecting ≡ BankAndPage
+pub shown_two : (selecting : Selecting) (selection : Selection) (half : Option (List ℕ)) (bytes : List ℕ) → selecting ≡ BankAndPage
     → option_map (bytes_from selecting selection 126 2) half ≡ Some bytes → bytes ≡ selection.bank ∷ selection.page ∷ []
 shown_two BankAndPage selection None bytes is same = absurd cc
 shown_two BankAndPage selection (Some half) bytes is same = cc
@@ -53,9 +52,9 @@ read_back old new made page taken bytes by_bank ran steps =
     let read = fetch_step A0 126 2 (Some bytes) in
     let may = subst (MayInTurn rules old.state) steps ran.allowed in
     let mid = rules.after old.state written in
-    let mid_by_bank = step_keeps window_conduct AnyPin IsByBank in_time written.op (λ window. by_store (0 ∷ page ∷ []) window, λ window kept. by_store (take kept (0 ∷ page ∷ [])) window) old.state (all_allow old.state.0) by_bank in
+    let mid_by_bank = step_keeps window_conduct AnyPin IsByBank (always IsByBank) written.op (λ window. by_store (0 ∷ page ∷ []) window, λ window kept. by_store (take kept (0 ∷ page ∷ [])) window) old.state (all_allow old.state.0) by_bank in
     let before = (settled window_conduct mid.0 mid.1).1 in
-    let before_by_bank = settled_keeps window_conduct AnyPin IsByBank in_time mid.0 (all_allow mid.0) mid.1 mid_by_bank in
+    let before_by_bank = settled_keeps window_conduct AnyPin IsByBank (always IsByBank) mid.0 (all_allow mid.0) mid.1 mid_by_bank in
     let fetched = fetched_at window_conduct A0 126 2 bytes mid may.1.0 in
     let last : new.state ≡ rules.after mid read = ran.state ∙ ap (fold rules.after old.state) steps in
     let same : new.state.1 ≡ before = ap (λ (state : List Directive × Windowed). state.1) last ∙ fetched.left in
