@@ -1,5 +1,5 @@
 -- One more path or state in what has been read of a certificate's text.
-use Rattle.std.proofs.Common.{◌≡◌, ◌≤◌, ◌<◌, ◌-◌, ℕ, zero, suc, List, [], ◌∷◌, ◌++◌, length, get_or, map, sym, ap, subst, ◌∙◌, inl, inr, append_assoc, arith}
+use Rattle.std.proofs.Common.{◌≡◌, ◌≢◌, ◌≤◌, ◌<◌, ◌-◌, ℕ, zero, suc, List, [], ◌∷◌, ◌++◌, length, get_or, map, refl, sym, ap, subst, ◌∙◌, inl, inr, append_assoc, arith}
 use Rattle.std.specs.List.{All, AllPairs, AllByRecursion}
 use Rattle.std.proofs.lemmas.List.{append-nil, length-append, map-append, get_or_append_left}
 use Rattle.std.proofs.lemmas.Bool.{cases_lt}
@@ -9,33 +9,66 @@ use Rattle.std.proofs.Math.Seq.{get_or-append_seam}
 use Rattle.plan_certificate.specs.declared.path.Path.{Path}
 use Rattle.plan_certificate.specs.declared.certificate.Entry.{Entry}
 use Rattle.plan_certificate.specs.declared.line.Line.{Line}
-use Rattle.plan_certificate.specs.declared.line.Line.TheVariants.{Header, Weight, PathLine, StateLine, End}
+use Rattle.plan_certificate.specs.declared.line.Line.TheVariants.{KeptHeader, Weight, KeepLine, PathLine, StateLine, End}
+use Rattle.plan_certificate.specs.declared.stage.Stage.{Stage}
 use Rattle.plan_certificate.specs.declared.stage.Stage.TheVariants.{Weighed}
 use Rattle.plan_certificate.specs.Certificates.{Claim, HasStates, entry_place}
-use Rattle.plan_certificate.specs.CertificateText.{line_text, IsLineInRange, IsPathInRange, IsEntryInRange, IsInRange, IsInRangeAndOrder, IsReadable}
+use Rattle.plan_certificate.specs.CertificateText.{header_of, line_text, IsLineInRange, IsPathInRange, IsEntryInRange, IsInRange, IsInRangeAndOrder, IsReadable}
 use Rattle.plan_certificate.specs.CertificateFaults.{Begins}
-use Rattle.plan_certificate.specs.CertificateDrafts.{lines_before_end, IsDraft}
-use Rattle.plan_certificate.proofs.LineWords.{same_line}
+use Rattle.plan_certificate.specs.CertificateDrafts.{lines_before_end, lines_so_far, IsAt, IsDraft, MayCome}
+use Rattle.plan_certificate.proofs.LineWords.{header_in_range, same_line}
 use Rattle.plan_certificate.proofs.NextLines.{Next, behind_weight}
 use Rattle.plan_certificate.proofs.Drafts.{begins_so_far, line_in}
 
+abbrev pub with_keep : Claim → Path → Claim
+with_keep certificate path = record { weight = certificate.weight; kept = certificate.kept ++ path ∷ []; paths = certificate.paths; entries = certificate.entries }
+
 abbrev pub with_path : Claim → Path → Claim
-with_path certificate path = record { weight = certificate.weight; paths = certificate.paths ++ path ∷ []; entries = certificate.entries }
+with_path certificate path = record { weight = certificate.weight; kept = certificate.kept; paths = certificate.paths ++ path ∷ []; entries = certificate.entries }
 
 abbrev pub with_state : Claim → Entry → Claim
-with_state certificate entry = record { weight = certificate.weight; paths = certificate.paths; entries = certificate.entries ++ entry ∷ [] }
+with_state certificate entry = record { weight = certificate.weight; kept = certificate.kept; paths = certificate.paths; entries = certificate.entries ++ entry ∷ [] }
+
+-- the header and the weight, and then these lines
+abbrev behind_head : Claim → List Line → List Line
+behind_head certificate lines = header_of certificate.kept ∷ Weight certificate.weight ∷ lines
 
 path_lines : (certificate : Claim) (path : Path) → certificate.entries ≡ [] → lines_before_end (with_path certificate path) ≡ lines_before_end certificate ++ PathLine path ∷ []
 path_lines certificate path none =
-    rw none (ap (λ l. Header ∷ Weight certificate.weight ∷ l)
-    (append-nil (map PathLine (certificate.paths ++ path ∷ [])) ∙ map-append PathLine certificate.paths (path ∷ [])
-    ∙ ap (λ l. l ++ PathLine path ∷ []) (sym (append-nil (map PathLine certificate.paths)))))
+    let kept = map KeepLine certificate.kept in
+    let paths = map PathLine certificate.paths in
+    rw none (ap (behind_head certificate)
+    (append-nil (kept ++ map PathLine (certificate.paths ++ path ∷ []))
+    ∙ ap (λ l. kept ++ l) (map-append PathLine certificate.paths (path ∷ []))
+    ∙ sym (append_assoc kept paths (PathLine path ∷ []))
+    ∙ ap (λ l. l ++ PathLine path ∷ []) (sym (append-nil (kept ++ paths)))))
 
 state_lines : (certificate : Claim) (entry : Entry) → lines_before_end (with_state certificate entry) ≡ lines_before_end certificate ++ StateLine entry ∷ []
 state_lines certificate entry =
-    ap (λ l. Header ∷ Weight certificate.weight ∷ l)
-    (ap (λ l. map PathLine certificate.paths ++ l) (map-append StateLine certificate.entries (entry ∷ []))
-    ∙ sym (append_assoc (map PathLine certificate.paths) (map StateLine certificate.entries) (StateLine entry ∷ [])))
+    let items = map KeepLine certificate.kept ++ map PathLine certificate.paths in
+    ap (behind_head certificate)
+    (ap (λ l. items ++ l) (map-append StateLine certificate.entries (entry ∷ []))
+    ∙ sym (append_assoc items (map StateLine certificate.entries) (StateLine entry ∷ [])))
+
+-- the lines of a certificate that has kept paths alone
+pub kept_lines : (certificate : Claim) → certificate.paths ≡ [] → certificate.entries ≡ [] → lines_before_end certificate ≡ behind_head certificate (map KeepLine certificate.kept)
+kept_lines certificate no_paths no_entries =
+    rw (no_paths, no_entries) (ap (behind_head certificate) (append-nil (map KeepLine certificate.kept ++ []) ∙ append-nil (map KeepLine certificate.kept)))
+
+pub some_header : (kept : List Path) → kept ≢ [] → header_of kept ≡ KeptHeader
+some_header [] some = absurd (some refl)
+some_header (path ∷ kept) some = refl
+
+pub longer_header : (kept : List Path) (path : Path) → header_of (kept ++ path ∷ []) ≡ KeptHeader
+longer_header [] path = refl
+longer_header (first ∷ kept) path = refl
+
+-- a kept path more
+pub keep_lines : (certificate : Claim) (path : Path) → certificate.paths ≡ [] → certificate.entries ≡ []
+    → lines_before_end (with_keep certificate path) ≡ (KeptHeader ∷ Weight certificate.weight ∷ map KeepLine certificate.kept) ++ KeepLine path ∷ []
+keep_lines certificate path no_paths no_entries =
+    kept_lines (with_keep certificate path) no_paths no_entries
+    ∙ (λ i. longer_header certificate.kept path i ∷ Weight certificate.weight ∷ map-append KeepLine certificate.kept (path ∷ []) i)
 
 put_between : {A : Type 0} (P : A → Type 0) (xs ys : List A) (y : A) → P y → AllByRecursion P (xs ++ ys) → AllByRecursion P ((xs ++ y ∷ []) ++ ys)
 put_between P [] ys y p h = (p, h)
@@ -64,16 +97,24 @@ found Is ranges certificate line in_range fits goes =
     (other, is, after, behind_weight certificate other line after (lines ∙ ap (λ l. lines_before_end certificate ++ l ∷ after) (same_line next line next_fits fits (sym text))))
 
 more_paths : (certificate other : Claim) (path : Path) (after : List Line) → Next certificate other (PathLine path) after → length certificate.paths < length other.paths
-more_paths certificate other path after (inl next) = omega (arith, ap (λ (l : List Path). length l) next.4, length-append certificate.paths (next.0 ∷ next.1))
-more_paths certificate other path after (inr (inl next)) = absurd cc
-more_paths certificate other path after (inr (inr end)) = absurd cc
+more_paths certificate other path after (inl next) = absurd cc
+more_paths certificate other path after (inr (inl next)) = omega (arith, ap (λ (l : List Path). length l) next.4, length-append certificate.paths (next.0 ∷ next.1))
+more_paths certificate other path after (inr (inr (inl next))) = absurd cc
+more_paths certificate other path after (inr (inr (inr end))) = absurd cc
+
+more_kept : (certificate other : Claim) (path : Path) (after : List Line) → Next certificate other (KeepLine path) after → length certificate.kept < length other.kept
+more_kept certificate other path after (inl next) = omega (arith, ap (λ (l : List Path). length l) next.5, length-append certificate.kept (next.0 ∷ next.1))
+more_kept certificate other path after (inr (inl next)) = absurd cc
+more_kept certificate other path after (inr (inr (inl next))) = absurd cc
+more_kept certificate other path after (inr (inr (inr end))) = absurd cc
 
 more_states : (certificate other : Claim) (entry : Entry) (after : List Line) → Next certificate other (StateLine entry) after → (more : List Entry) × (other.entries ≡ certificate.entries ++ entry ∷ more)
 more_states certificate other entry after (inl next) = absurd cc
-more_states certificate other entry after (inr (inl next)) =
+more_states certificate other entry after (inr (inl next)) = absurd cc
+more_states certificate other entry after (inr (inr (inl next))) =
     let same : next.0 ≡ entry = cc in
     (next.1, next.3 ∙ ap (λ e. certificate.entries ++ e ∷ next.1) same)
-more_states certificate other entry after (inr (inr end)) = absurd cc
+more_states certificate other entry after (inr (inr (inr end))) = absurd cc
 
 -- ---- room for paths
 
@@ -97,11 +138,81 @@ module _ (states : ℕ) (certificate : Claim) (path : Path) (fits : IsPathInRang
       record {
         readable = record {
           ordered = subst IsInRangeAndOrder (sym is) (ordered_path readable.ordered);
+          few_kept = subst (λ (c : Claim). length c.kept ≤ 8) (sym is) readable.few_kept;
           few_paths = few;
           few_states = subst (λ (c : Claim). length c.entries ≤ states) (sym is) readable.few_states;
         };
         lists = tt;
       }
+
+-- ---- room for kept paths
+
+keep_in_range : (kept : List Path) (path : Path) → IsPathInRange path → AllByRecursion IsLineInRange (map KeepLine kept ++ End ∷ []) → AllByRecursion IsLineInRange (map KeepLine (kept ++ path ∷ []) ++ End ∷ [])
+keep_in_range [] path fits ranges = (fits, ranges)
+keep_in_range (first ∷ kept) path fits ranges = (ranges.0, keep_in_range kept path fits ranges.1)
+
+module _ (states : ℕ) (certificate : Claim) (path : Path) (fits : IsPathInRange path) (no_paths : certificate.paths ≡ []) (no_entries : certificate.entries ≡ []) where
+  ranges_keep : IsInRange certificate → IsInRange (with_keep certificate path)
+  ranges_keep ranges =
+      let old = subst (λ l. AllByRecursion IsLineInRange (l ++ End ∷ [])) (kept_lines certificate no_paths no_entries) ranges in
+      subst (λ l. AllByRecursion IsLineInRange (l ++ End ∷ [])) (sym (kept_lines (with_keep certificate path) no_paths no_entries))
+      (header_in_range (certificate.kept ++ path ∷ []), (old.1.0, keep_in_range certificate.kept path fits old.1.1))
+
+  ordered_keep : IsInRangeAndOrder certificate → IsInRangeAndOrder (with_keep certificate path)
+  ordered_keep ordered = record { in_range = ranges_keep ordered.in_range; states = ordered.states }
+
+  pub ninth_kept : certificate.kept ≢ [] → IsInRangeAndOrder certificate → length certificate.kept ≡ 8 → GoesOn IsInRangeAndOrder certificate (KeepLine path) × ¬ (GoesOn (IsReadable states) certificate (KeepLine path))
+  ninth_kept some ordered full =
+      let same : lines_before_end certificate ≡ KeptHeader ∷ Weight certificate.weight ∷ map KeepLine certificate.kept =
+      kept_lines certificate no_paths no_entries ∙ ap (λ line. line ∷ Weight certificate.weight ∷ map KeepLine certificate.kept) (some_header certificate.kept some) in (
+        begins_more IsInRangeAndOrder certificate (with_keep certificate path) (KeepLine path) (keep_lines certificate path no_paths no_entries ∙ ap (λ l. l ++ KeepLine path ∷ []) (sym same)) (ordered_keep ordered),
+        λ goes.
+            let next = found (IsReadable states) (λ other h. h.ordered.in_range) certificate (KeepLine path) ordered.in_range fits goes in
+            omega (arith, more_kept certificate next.0 path next.2 next.3, next.1.few_kept),
+      )
+
+  pub keep_fits : (new : Claim) → new ≡ with_keep certificate path → length new.kept ≤ 8 → IsReadable states certificate → IsDraft states Weighed new
+  keep_fits new is few readable =
+      record {
+        readable = record {
+          ordered = subst IsInRangeAndOrder (sym is) (ordered_keep readable.ordered);
+          few_kept = few;
+          few_paths = subst (λ (c : Claim). length c.paths ≤ 8) (sym is) readable.few_paths;
+          few_states = subst (λ (c : Claim). length c.entries ≤ states) (sym is) readable.few_states;
+        };
+        lists = tt;
+      }
+
+-- a kept path may come behind the weight, or behind kept paths alone
+module _ (states : ℕ) (stage : Stage) (certificate : Claim) (path : Path) (may : MayCome stage certificate (KeepLine path)) (draft : IsDraft states stage certificate) where
+  -- then nothing but kept paths was read
+  pub keep_alone : (certificate.paths ≡ []) × (certificate.entries ≡ [])
+  keep_alone = elim (may) [
+    | inl first ↦ let lists = subst (λ (s : Stage). IsAt s certificate) first draft.lists in (lists.paths, lists.entries)
+    | inr later ↦ (later.1.paths, later.1.entries)
+  ]
+
+  -- and these are the lines so far
+  lines_with_kept : lines_so_far stage certificate ≡ KeptHeader ∷ Weight certificate.weight ∷ map KeepLine certificate.kept
+  lines_with_kept = elim (may) [
+    | inl first ↦
+        let lists = subst (λ (s : Stage). IsAt s certificate) first draft.lists in
+        ap (λ (s : Stage). lines_so_far s certificate) first ∙ ap (λ (kept : List Path). KeptHeader ∷ Weight certificate.weight ∷ map KeepLine kept) (sym lists.kept)
+    | inr later ↦
+        ap (λ (s : Stage). lines_so_far s certificate) later.0 ∙ kept_lines certificate later.1.paths later.1.entries
+        ∙ ap (λ line. line ∷ Weight certificate.weight ∷ map KeepLine certificate.kept) (some_header certificate.kept later.1.kept)
+  ]
+
+  pub keep_added : (new : Claim) → new ≡ with_keep certificate path → lines_before_end new ≡ lines_so_far stage certificate ++ KeepLine path ∷ []
+  keep_added new is =
+      ap lines_before_end is ∙ keep_lines certificate path keep_alone.0 keep_alone.1 ∙ ap (λ l. l ++ KeepLine path ∷ []) (sym lines_with_kept)
+
+  pub ninth_kept_path : (fits : IsPathInRange path) → length certificate.kept ≡ 8
+      → Begins IsInRangeAndOrder (map line_text (lines_so_far stage certificate) ++ line_text (KeepLine path) ∷ []) × ¬ (Begins (IsReadable states) (map line_text (lines_so_far stage certificate) ++ line_text (KeepLine path) ∷ []))
+  ninth_kept_path fits full = elim (may) [
+    | inl first ↦ let lists = subst (λ (s : Stage). IsAt s certificate) first draft.lists in absurd (omega (arith, full, ap (λ (l : List Path). length l) lists.kept))
+    | inr later ↦ rw later.0 (ninth_kept states certificate path fits later.1.paths later.1.entries later.1.kept draft.readable.ordered full)
+  ]
 
 -- ---- the order of states, and room for them
 
@@ -171,6 +282,7 @@ module _ (states : ℕ) (certificate : Claim) (entry : Entry) (fits : IsEntryInR
       record {
         readable = record {
           ordered = subst IsInRangeAndOrder (sym is) (ordered_state readable.ordered above);
+          few_kept = subst (λ (c : Claim). length c.kept ≤ 8) (sym is) readable.few_kept;
           few_paths = subst (λ (c : Claim). length c.paths ≤ 8) (sym is) readable.few_paths;
           few_states = few;
         };

@@ -1,5 +1,5 @@
 -- Sets of used media lanes that a byte can say: those of entries, and of where their steps lead.
-use Rattle.std.proofs.Common.{◌≡◌, ℕ, ◌+◌, ◌-◌, ◌^◌, ◌<◌, ◌≤◌, Bool, true, false, List, [], ◌∷◌, map, filter, cond, nat_lt, sym, subst, ap, ◌∙◌, inl, inr, arith, bit_or}
+use Rattle.std.proofs.Common.{◌≡◌, ℕ, ◌+◌, ◌-◌, ◌^◌, ◌<◌, ◌≤◌, Bool, true, false, List, [], ◌∷◌, ◌++◌, map, filter, cond, nat_lt, sym, subst, ap, ◌∙◌, inl, inr, arith, bit_or}
 use Rattle.std.specs.List.{AllByRecursion}
 use Rattle.std.specs.FinSet as set
 use Rattle.std.proofs.lemmas.Bool.{cases_Bool, and_parts}
@@ -15,8 +15,11 @@ use Rattle.plan_certificate.specs.declared.path.Path.{Path}
 use Rattle.plan_certificate.specs.declared.state.State.{State}
 use Rattle.plan_certificate.specs.declared.state.Step.{Step}
 use Rattle.plan_certificate.specs.Paths.{app_of}
-use Rattle.plan_certificate.specs.States.{fits, free_step, path_step, path_steps, paths_at, steps_from}
+use Rattle.plan_certificate.specs.KeptPaths.{may_stay_free}
+use Rattle.plan_certificate.specs.States.{fits, free_steps, path_step, path_steps, paths_at, steps_from}
 use Rattle.plan_certificate.proofs.Heaviest.{allowed}
+use Rattle.plan_certificate.proofs.KeptPaths.{eligible_allowed}
+use Rattle.plan_certificate.proofs.Lists.{all_of_append}
 
 pub record IsByte (lanes : Lanes) : Type 0 where
   pub byte : ℕ
@@ -43,24 +46,29 @@ start_is_byte = record { byte = 0; below = omega arith; is = sym lanes_in-zero }
 abbrev EndsAtByte : Step → Type 0
 EndsAtByte step = IsByte step.end.used
 
-steps_end_at_bytes : (advert : Advertised) (weights : HostWeights) (state : State) (paths : List Path) → IsByte state.used → AllByRecursion EndsAtByte (path_steps advert weights state paths)
+steps_end_at_bytes : (advert : Advertised) (weights : HostWeights) (kept : List Path) (state : State) (paths : List Path) → IsByte state.used → AllByRecursion EndsAtByte (path_steps advert weights kept state paths)
 unfolding path_steps
-steps_end_at_bytes advert weights state [] is_byte = tt
-steps_end_at_bytes advert weights state (path ∷ paths) is_byte =
-    let rest = steps_end_at_bytes advert weights state paths is_byte in
-    let Made : Bool → Type 0 = λ b. AllByRecursion EndsAtByte (map (path_step advert weights state) (cond b (path ∷ filter (fits advert state) paths) (filter (fits advert state) paths))) in
-    elim (cases_Bool (fits advert state path)) [
+steps_end_at_bytes advert weights kept state [] is_byte = tt
+steps_end_at_bytes advert weights kept state (path ∷ paths) is_byte =
+    let rest = steps_end_at_bytes advert weights kept state paths is_byte in
+    let Made : Bool → Type 0 = λ b. AllByRecursion EndsAtByte (map (path_step advert weights state) (cond b (path ∷ filter (fits advert kept state) paths) (filter (fits advert kept state) paths))) in
+    elim (cases_Bool (fits advert kept state path)) [
       | inl does ↦
-          let lanes = allowed advert path (and_parts _ _ does).0 in
+          let lanes = allowed advert path (eligible_allowed advert kept path (and_parts _ _ does).0) in
           subst Made (sym does) (union_is_byte state.used path.media (app_of advert path).media_lanes is_byte lanes.media_from lanes.media_to, rest)
       | inr fails ↦ subst Made (sym fails) rest
     ]
 
-pub each_end_is_byte : (advert : Advertised) (weights : HostWeights) (state : State) → IsByte state.used → AllByRecursion EndsAtByte (steps_from advert weights state)
+free_ends_at_byte : (may : Bool) (state : State) → IsByte state.used → AllByRecursion EndsAtByte (free_steps may state)
+free_ends_at_byte true state is_byte = (is_byte, tt)
+free_ends_at_byte false state is_byte = tt
+
+pub each_end_is_byte : (advert : Advertised) (weights : HostWeights) (kept : List Path) (state : State) → IsByte state.used → AllByRecursion EndsAtByte (steps_from advert weights kept state)
 unfolding steps_from
-each_end_is_byte advert weights state is_byte =
-    let steps = free_step state ∷ path_steps advert weights state (paths_at advert (state.boundary + 1)) in
-    elim (nat_lt state.boundary 8) as (λ (b : Bool). AllByRecursion EndsAtByte (cond b steps [])) [
-      | true ↦ (is_byte, steps_end_at_bytes advert weights state (paths_at advert (state.boundary + 1)) is_byte)
+each_end_is_byte advert weights kept state is_byte =
+    let may : Bool = may_stay_free advert kept (state.boundary + 1) in
+    let of_paths = path_steps advert weights kept state (paths_at advert (state.boundary + 1)) in
+    elim (nat_lt state.boundary 8) as (λ (b : Bool). AllByRecursion EndsAtByte (cond b (free_steps may state ++ of_paths) [])) [
+      | true ↦ all_of_append EndsAtByte (free_steps may state) of_paths (free_ends_at_byte may state is_byte) (steps_end_at_bytes advert weights kept state (paths_at advert (state.boundary + 1)) is_byte)
       | false ↦ tt
     ]

@@ -4,8 +4,8 @@ use Rattle.std.specs.List.{AllByRecursion}
 use Rattle.std.proofs.lemmas.Bool.{cases_Bool}
 use Rattle.plan_certificate.specs.declared.state.State.{State}
 use Rattle.plan_certificate.specs.declared.state.Step.{Step}
-use Rattle.plan_certificate.specs.States.{free_step}
-use Rattle.plan_certificate.proofs.Lists.{each_of_filter, each_of_map}
+use Rattle.plan_certificate.specs.States.{free_steps}
+use Rattle.plan_certificate.proofs.Lists.{all_of_append, each_of_append, each_of_filter, each_of_map}
 use Rattle.plan_certificate.specs.declared.moves.Move.{Move}
 use Rattle.plan_certificate.specs.Moves.{is_open, move_step, move_steps, steps_by}
 
@@ -23,12 +23,17 @@ steps_of_moves state P (move ∷ moves) each =
       | inr not ↦ subst Made (sym not) rest
     ]
 
-pub record HoldsByMoves (state : State) (P : Step → Type 0) (moves : List Move) : Type 0 where
-  pub free : P (free_step state)
+pub record HoldsByMoves (free : Bool) (state : State) (P : Step → Type 0) (moves : List Move) : Type 0 where
+  pub freed : AllByRecursion P (free_steps free state)
   pub by_moves : AllByRecursion (WhereOpen state P) moves
 
-pub each_of_steps : (state : State) (P : Step → Type 0) (moves : List Move) → AllByRecursion P (steps_by state moves) → HoldsByMoves state P moves
-each_of_steps state P moves all = record {
-  free = all.0;
-  by_moves = each_of_filter (λ (move : Move). P (move_step state move)) (is_open state) moves (each_of_map P (move_step state) (filter (is_open state) moves) all.1);
-}
+pub each_of_steps : (free : Bool) (state : State) (P : Step → Type 0) (moves : List Move) → AllByRecursion P (steps_by free state moves) → HoldsByMoves free state P moves
+each_of_steps free state P moves all =
+    let parts = each_of_append P (free_steps free state) (move_steps state moves) all in
+    record {
+      freed = parts.0;
+      by_moves = each_of_filter (λ (move : Move). P (move_step state move)) (is_open state) moves (each_of_map P (move_step state) (filter (is_open state) moves) parts.1);
+    }
+
+pub each_by_moves : (free : Bool) (state : State) (P : Step → Type 0) (moves : List Move) → HoldsByMoves free state P moves → AllByRecursion P (steps_by free state moves)
+each_by_moves free state P moves holds = all_of_append P (free_steps free state) (move_steps state moves) holds.freed (steps_of_moves state P moves holds.by_moves)

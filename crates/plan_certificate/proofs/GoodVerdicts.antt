@@ -11,6 +11,7 @@ use Rattle.field_tables.specs.LaneBytes.{byte_of-lanes_in}
 use Rattle.applications.specs.Advertised.{Advertised}
 use Rattle.applications.specs.Weights.{HostWeights}
 use Rattle.plan_certificate.specs.declared.certificate.Entry.{Entry}
+use Rattle.plan_certificate.specs.declared.path.Path.{Path}
 use Rattle.plan_certificate.specs.declared.state.State.{State}
 use Rattle.plan_certificate.specs.declared.state.Step.{Step}
 use Rattle.plan_certificate.specs.declared.verdict.Verdict.TheVariants.{Good}
@@ -19,11 +20,11 @@ use Rattle.plan_certificate.specs.declared.verdict.Reason.TheVariants.{WeightWro
 use Rattle.plan_certificate.specs.Plans.{plan_weight}
 use Rattle.plan_certificate.specs.States.{start, state_place, steps_from}
 use Rattle.plan_certificate.specs.Certificates.{Claim, HasStates, IsBound, IsCovered, IsGood, state_of, entry_place}
-use Rattle.plan_certificate.specs.Verdicts.{Flaw, Flaws, potential_of, plan_flaws, step_flaws, entry_flaws, entries_flaws, bound_flaws, all_flaws, judged, verdict}
+use Rattle.plan_certificate.specs.Verdicts.{Flaw, Flaws, potential_of, kept_flaws, missing_flaws, paths_flaws, plan_flaws, step_flaws, entry_flaws, entries_flaws, bound_flaws, all_flaws, judged, verdict}
 use Rattle.plan_certificate.proofs.ByteLanes.{IsByte, lanes_of_byte, start_is_byte, each_end_is_byte}
 use Rattle.plan_certificate.proofs.Lists.{each_pair, found, map_each}
 use Rattle.plan_certificate.proofs.Lookups.{is_there, found_there}
-use Rattle.plan_certificate.proofs.NoFlaw.{NoFlaw, not_false, neither_flaw, flaw_first, none_of_each, plan_admissible}
+use Rattle.plan_certificate.proofs.NoFlaw.{NoFlaw, not_false, neither_flaw, flaw_first, none_of_each, kept_admissible, none_missing, plan_admissible}
 
 -- ---- looking up an entry
 
@@ -101,39 +102,39 @@ numbered : {X : Type 0} (P : X → Type 0) (n : ℕ) (xs : List X) → AllByRecu
 numbered P n [] h = tt
 numbered P n (x ∷ xs) h = (h.0, numbered P (n + 1) xs h.1)
 
-abbrev CoveredAt : Advertised → HostWeights → List Entry → Entry → Type 0
-CoveredAt advert weights entries entry = All (IsCovered entries entry.potential) (steps_from advert weights (state_of entry))
+abbrev CoveredAt : Advertised → HostWeights → List Path → List Entry → Entry → Type 0
+CoveredAt advert weights kept entries entry = All (IsCovered entries entry.potential) (steps_from advert weights kept (state_of entry))
 
 abbrev Below : Entry → Type 0
 Below entry = entry.used < 256
 
-entry_is_covered : (advert : Advertised) (weights : HostWeights) (entries : List Entry) (entry : ℕ × Entry) → HasStates entries → entry.1.used < 256 → NoFlaw (entry_flaws advert weights entries entry) → CoveredAt advert weights entries entry.1
-entry_is_covered advert weights entries entry states fits none =
-    let steps = steps_from advert weights (state_of entry.1) in
-    let ends = each_end_is_byte advert weights (state_of entry.1) (record { byte = entry.1.used; below = fits; is = refl }) in
+entry_is_covered : (advert : Advertised) (weights : HostWeights) (kept : List Path) (entries : List Entry) (entry : ℕ × Entry) → HasStates entries → entry.1.used < 256 → NoFlaw (entry_flaws advert weights kept entries entry) → CoveredAt advert weights kept entries entry.1
+entry_is_covered advert weights kept entries entry states fits none =
+    let steps = steps_from advert weights kept (state_of entry.1) in
+    let ends = each_end_is_byte advert weights kept (state_of entry.1) (record { byte = entry.1.used; below = fits; is = refl }) in
     let each = (none_of_each (step_flaws entries entry) steps).0 none in
     All-from_recursion (IsCovered entries entry.1.potential) steps
     (each_pair (λ (step : Step). IsByte step.end.used) (λ (step : Step). NoFlaw (step_flaws entries entry step)) (IsCovered entries entry.1.potential) steps (λ step is_byte no. step_covered entries entry step states is_byte no) ends each)
 
-covered_entry : (advert : Advertised) (weights : HostWeights) (entries : List Entry) (entry : ℕ × Entry) → HasStates entries → CoveredAt advert weights entries entry.1 → NoFlaw (entry_flaws advert weights entries entry)
-covered_entry advert weights entries entry states covered =
-    let steps = steps_from advert weights (state_of entry.1) in
+covered_entry : (advert : Advertised) (weights : HostWeights) (kept : List Path) (entries : List Entry) (entry : ℕ × Entry) → HasStates entries → CoveredAt advert weights kept entries entry.1 → NoFlaw (entry_flaws advert weights kept entries entry)
+covered_entry advert weights kept entries entry states covered =
+    let steps = steps_from advert weights kept (state_of entry.1) in
     (none_of_each (step_flaws entries entry) steps).1
     (map_each (IsCovered entries entry.1.potential) (λ (step : Step). NoFlaw (step_flaws entries entry step)) steps (λ step covers. covered_step entries entry step states covers) (recursion_from_All (IsCovered entries entry.1.potential) steps covered))
 
-entries_covered : (advert : Advertised) (weights : HostWeights) (entries : List Entry) → HasStates entries → NoFlaw (entries_flaws advert weights entries) ↔ All (CoveredAt advert weights entries) entries
+entries_covered : (advert : Advertised) (weights : HostWeights) (kept : List Path) (entries : List Entry) → HasStates entries → NoFlaw (entries_flaws advert weights kept entries) ↔ All (CoveredAt advert weights kept entries) entries
 unfolding entries_flaws
-entries_covered advert weights entries states =
-    let each = none_of_each (entry_flaws advert weights entries) (enumerate_from 1 entries) in
+entries_covered advert weights kept entries states =
+    let each = none_of_each (entry_flaws advert weights kept entries) (enumerate_from 1 entries) in
     let bytes = numbered Below 1 entries (recursion_from_All Below entries states.bytes) in (
-      λ none. All-from_recursion (CoveredAt advert weights entries) entries
-          (unnumbered (CoveredAt advert weights entries) 1 entries
-          (each_pair (λ (p : ℕ × Entry). Below p.1) (λ (p : ℕ × Entry). NoFlaw (entry_flaws advert weights entries p)) (λ (p : ℕ × Entry). CoveredAt advert weights entries p.1) (enumerate_from 1 entries)
-          (λ p fits no. entry_is_covered advert weights entries p states fits no) bytes (each.0 none))),
+      λ none. All-from_recursion (CoveredAt advert weights kept entries) entries
+          (unnumbered (CoveredAt advert weights kept entries) 1 entries
+          (each_pair (λ (p : ℕ × Entry). Below p.1) (λ (p : ℕ × Entry). NoFlaw (entry_flaws advert weights kept entries p)) (λ (p : ℕ × Entry). CoveredAt advert weights kept entries p.1) (enumerate_from 1 entries)
+          (λ p fits no. entry_is_covered advert weights kept entries p states fits no) bytes (each.0 none))),
       λ all.
           each.1
-          (map_each (λ (p : ℕ × Entry). CoveredAt advert weights entries p.1) (λ (p : ℕ × Entry). NoFlaw (entry_flaws advert weights entries p)) (enumerate_from 1 entries) (λ p covered. covered_entry advert weights entries p states covered)
-          (numbered (CoveredAt advert weights entries) 1 entries (recursion_from_All (CoveredAt advert weights entries) entries all))),
+          (map_each (λ (p : ℕ × Entry). CoveredAt advert weights kept entries p.1) (λ (p : ℕ × Entry). NoFlaw (entry_flaws advert weights kept entries p)) (enumerate_from 1 entries) (λ p covered. covered_entry advert weights kept entries p states covered)
+          (numbered (CoveredAt advert weights kept entries) 1 entries (recursion_from_All (CoveredAt advert weights kept entries) entries all))),
     )
 
 -- ---- the whole certificate
@@ -147,19 +148,19 @@ is_other weight found = not (unwrap_or found 0 == weight)
 abbrev end_flaw : List Entry → ℕ → Flaw
 end_flaw entries weight = (is_other weight (potential_of entries start), (StartNotWeight, 0))
 
-record IsBounded (advert : Advertised) (weights : HostWeights) (entries : List Entry) (weight : ℕ) : Type 0 where
-  closed : All (CoveredAt advert weights entries) entries
+record IsBounded (advert : Advertised) (weights : HostWeights) (kept : List Path) (entries : List Entry) (weight : ℕ) : Type 0 where
+  closed : All (CoveredAt advert weights kept entries) entries
   begun : IsBound entries start weight
 
-bounded : (advert : Advertised) (weights : HostWeights) (entries : List Entry) (weight : ℕ) → HasStates entries → NoFlaw (bound_flaws advert weights entries weight) ↔ IsBounded advert weights entries weight
+bounded : (advert : Advertised) (weights : HostWeights) (kept : List Path) (entries : List Entry) (weight : ℕ) → HasStates entries → NoFlaw (bound_flaws advert weights kept entries weight) ↔ IsBounded advert weights kept entries weight
 unfolding bound_flaws
-bounded advert weights entries weight states =
-    let of_entries = entries_flaws advert weights entries in
+bounded advert weights kept entries weight states =
+    let of_entries = entries_flaws advert weights kept entries in
     let ending : Flaws = end_flaw entries weight ∷ [] in
     let first = flaw_first (start_flaw entries) (of_entries ++ ending) in
     let middle = neither_flaw of_entries ending in
     let last = flaw_first (end_flaw entries weight) [] in
-    let covered = entries_covered advert weights entries states in (
+    let covered = entries_covered advert weights kept entries states in (
       λ none.
           let begins = first.0 none in
           let rest = middle.0 begins.1 in
@@ -174,19 +175,35 @@ bounded advert weights entries weight states =
 pub no_flaw_is_good : (advert : Advertised) (weights : HostWeights) (c : Claim) → HasStates c.entries → NoFlaw (all_flaws advert weights c) ↔ IsGood advert weights c
 no_flaw_is_good advert weights c states =
     let right : ℕ = plan_weight advert weights c.paths in
-    let bounds = bound_flaws advert weights c.entries c.weight in
+    let bounds = bound_flaws advert weights c.kept c.entries c.weight in
     let weighed : Flaw = (not (c.weight == right), (WeightWrong, 0)) in
-    let first = neither_flaw (plan_flaws advert c.paths) (weighed ∷ bounds) in
+    let missing = missing_flaws c.kept c.paths in
+    let plan = plan_flaws advert c.paths in
+    let all = neither_flaw (paths_flaws advert c.kept c.paths) (weighed ∷ bounds) in
+    let zeroth = neither_flaw (kept_flaws advert c.kept) (plan ++ missing) in
+    let first = neither_flaw plan missing in
     let second = flaw_first weighed bounds in
+    let is_kept = kept_admissible advert c.kept in
     let is_plan = plan_admissible advert c.paths in
-    let is_bounded = bounded advert weights c.entries c.weight states in (
+    let is_held = none_missing c.kept c.paths in
+    let is_bounded = bounded advert weights c.kept c.entries c.weight states in (
       λ none.
-          let parts = first.0 none in
-          let rest = second.0 parts.1 in
+          let whole = all.0 none in
+          let begins = zeroth.0 whole.0 in
+          let parts = first.0 begins.1 in
+          let rest = second.0 whole.1 in
           let bound = is_bounded.0 rest.1 in
-          record { admissible = is_plan.0 parts.0; weighs = eqb-true _ _ (not_false (c.weight == right) rest.0); closed = bound.closed; begun = bound.begun },
+          record {
+            kept = is_kept.0 begins.0;
+            admissible = is_plan.0 parts.0;
+            keeps = is_held.0 parts.1;
+            weighs = eqb-true _ _ (not_false (c.weight == right) rest.0);
+            closed = bound.closed;
+            begun = bound.begun;
+          },
       λ good.
-          first.1 (is_plan.1 good.admissible, second.1 (ap not (eq-eqb c.weight right good.weighs), is_bounded.1 (record { closed = good.closed; begun = good.begun }))),
+          let weighs = second.1 (ap not (eq-eqb c.weight right good.weighs), is_bounded.1 (record { closed = good.closed; begun = good.begun })) in
+          all.1 (zeroth.1 (is_kept.1 good.kept, first.1 (is_plan.1 good.admissible, is_held.1 good.keeps)), weighs),
     )
 
 judged_good : (found : Option (Reason × ℕ)) → (judged found ≡ Good) ↔ (found ≡ None)

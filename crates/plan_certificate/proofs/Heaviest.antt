@@ -1,8 +1,8 @@
 -- Why the plan of a good certificate is best: from each state, what is still gained weighs no more than its potential.
-use Rattle.std.proofs.Common.{◌≡◌, ◌≢◌, ℕ, zero, suc, ◌+◌, ◌<◌, ◌≤◌, ◌&&◌, Bool, true, List, [], ◌∷◌, Option, Some, None, refl, sym, subst, ap, inl, inr, filter, cond, nat_lt, arith}
-use Rattle.std.specs.List.{All, AllByRecursion, find, range_with_len, sum_by}
+use Rattle.std.proofs.Common.{◌≡◌, ◌≢◌, ◌⊎◌, ℕ, zero, suc, ◌+◌, ◌<◌, ◌≤◌, ◌&&◌, Bool, true, List, [], ◌∷◌, ◌++◌, Option, Some, None, refl, sym, subst, ap, inl, inr, filter, cond, nat_lt, arith}
+use Rattle.std.specs.List.{All, AllByRecursion, Contains, find, range_with_len, sum_by}
 use Rattle.std.specs.Option.{unwrap_or}
-use Rattle.std.proofs.lemmas.List.Elements.{All-contains, recursion_from_All}
+use Rattle.std.proofs.lemmas.List.Elements.{All-contains, All-from_recursion, recursion_from_All}
 use Rattle.std.proofs.lemmas.Bool.{and_parts, cases_lt, eqb-true}
 use Rattle.std.proofs.lemmas.Bool.Decides.{nat_tests}
 use Rattle.field_tables.specs.LaneSets.{is_disjoint}
@@ -15,11 +15,13 @@ use Rattle.plan_certificate.specs.declared.state.Step.{Step}
 use Rattle.plan_certificate.specs.declared.certificate.Entry.{Entry}
 use Rattle.plan_certificate.specs.Paths.{app_of, has_number, no_app, media_lanes, is_allowed, path_weight}
 use Rattle.plan_certificate.specs.Plans.{are_apart, IsBest, plan_weight}
-use Rattle.plan_certificate.specs.States.{start, free_step, path_step, paths_at, paths_of_app, fits, path_steps, steps_from}
+use Rattle.plan_certificate.specs.KeptPaths.{is_eligible, may_stay_free}
+use Rattle.plan_certificate.specs.States.{start, free_step, free_steps, path_step, paths_at, paths_of_app, fits, path_steps, steps_from}
 use Rattle.plan_certificate.specs.Certificates.{Claim, IsBound, IsCovered, IsGood, state_of}
 use Rattle.plan_certificate.proofs.LaneRuns.{disjoint_back, disjoint_none, disjoint_union, runs_apart}
-use Rattle.plan_certificate.proofs.Lists.{each_of_map, each_pair, map_each, each_of_filter, each_of_flat_map, each_in_range, found}
-use Rattle.plan_certificate.proofs.PathTakenOut.{AreApart, IsApart, from_pairs, pick}
+use Rattle.plan_certificate.proofs.Lists.{each_contained, each_of_append, each_of_map, each_pair, map_each, each_of_filter, each_of_flat_map, each_in_range, found}
+use Rattle.plan_certificate.proofs.KeptPaths.{IsBeside, all_beside, eligible_allowed, plan_eligible}
+use Rattle.plan_certificate.proofs.PathTakenOut.{AreApart, IsApart, Picked, from_pairs, pick}
 
 -- what an allowed path's Application and first lanes are
 pub record Allowed (advert : Advertised) (path : Path) : Type 0 where
@@ -62,40 +64,50 @@ listed advert P path host begins can each =
     subst P (λ i. record { app = number i; host = sym begins i; media = path.media }) one
 
 -- what holds of each step from a state holds of the free lane's step and of each path's that fits
-pub each_step : (advert : Advertised) (weights : HostWeights) (P : Step → Type 0) (state : State) → state.boundary < 8 → AllByRecursion P (steps_from advert weights state)
-    → P (free_step state) × ((path : Path) → path.host ≡ state.boundary + 1 → is_allowed advert path ≡ true → is_disjoint (media_lanes advert path) state.used ≡ true → P (path_step advert weights state path))
+pub each_step : (advert : Advertised) (weights : HostWeights) (kept : List Path) (P : Step → Type 0) (state : State) → state.boundary < 8 → AllByRecursion P (steps_from advert weights kept state)
+    → (may_stay_free advert kept (state.boundary + 1) ≡ true → P (free_step state))
+    × ((path : Path) → path.host ≡ state.boundary + 1 → is_eligible advert kept path ≡ true → is_disjoint (media_lanes advert path) state.used ≡ true → P (path_step advert weights state path))
 unfolding steps_from path_steps
-each_step advert weights P state below each =
+each_step advert weights kept P state below each =
     let host : ℕ = state.boundary + 1 in
-    let steps = free_step state ∷ path_steps advert weights state (paths_at advert host) in
+    let free = free_steps (may_stay_free advert kept host) state in
+    let by_paths = path_steps advert weights kept state (paths_at advert host) in
+    let steps = free ++ by_paths in
     let is_below : nat_lt state.boundary 8 ≡ true = grind (arith, nat_tests) in
     let all : AllByRecursion P steps = subst (λ (b : Bool). AllByRecursion P (cond b steps [])) is_below each in
-    let of_paths = each_of_filter (λ (path : Path). P (path_step advert weights state path)) (fits advert state) (paths_at advert host) (each_of_map P (path_step advert weights state) (filter (fits advert state) (paths_at advert host)) all.1) in
-    (all.0, λ path begins can unused. listed advert (λ (p : Path). fits advert state p ≡ true → P (path_step advert weights state p)) path host begins can of_paths (λ i. can i && unused i))
+    let parts = each_of_append P free by_paths all in
+    let of_paths = each_of_filter (λ (path : Path). P (path_step advert weights state path)) (fits advert kept state) (paths_at advert host) (each_of_map P (path_step advert weights state) (filter (fits advert kept state) (paths_at advert host)) parts.1) in (
+      λ may. (subst (λ (b : Bool). AllByRecursion P (free_steps b state)) may parts.0).0,
+      λ path begins can unused.
+          listed advert (λ (p : Path). fits advert kept state p ≡ true → P (path_step advert weights state p)) path host begins (eligible_allowed advert kept path can) of_paths (λ i. can i && unused i),
+    )
 
 -- a path that may still come: it begins past the boundary, at lanes that aren't used
-pub record IsLater (advert : Advertised) (state : State) (path : Path) : Type 0 where
-  pub can : is_allowed advert path ≡ true
+pub record IsLater (advert : Advertised) (kept : List Path) (state : State) (path : Path) : Type 0 where
+  pub can : is_eligible advert kept path ≡ true
   pub past : state.boundary < path.host
   pub unused : is_disjoint (media_lanes advert path) state.used ≡ true
 
-none_later : (advert : Advertised) (weigh : Path → ℕ) (state : State) (paths : List Path) → 8 ≤ state.boundary → AllByRecursion (IsLater advert state) paths → sum_by weigh paths ≡ 0
-none_later advert weigh state [] ended each = refl
-none_later advert weigh state (path ∷ paths) ended each =
-    let lanes = allowed advert path each.0.can in
+-- what an allowed path's lanes are
+pub lanes_later : (advert : Advertised) (kept : List Path) (state : State) (path : Path) → IsLater advert kept state path → Allowed advert path
+lanes_later advert kept state path later = allowed advert path (eligible_allowed advert kept path later.can)
+
+none_later : (advert : Advertised) (kept : List Path) (weigh : Path → ℕ) (state : State) (paths : List Path) → 8 ≤ state.boundary → AllByRecursion (IsLater advert kept state) paths → sum_by weigh paths ≡ 0
+none_later advert kept weigh state [] ended each = refl
+none_later advert kept weigh state (path ∷ paths) ended each =
+    let lanes = lanes_later advert kept state path each.0 in
     absurd (omega (arith, ended, each.0.past, lanes.host_to, lanes.host_some))
 
 -- the lane after the boundary stays free
-stay_later : (advert : Advertised) (state : State) (paths : List Path) → AllByRecursion (IsLater advert state) paths → AllByRecursion (λ path. path.host ≢ state.boundary + 1) paths → AllByRecursion (IsLater advert (free_step state).end) paths
-stay_later advert state paths each elsewhere =
-    each_pair (IsLater advert state) (λ path. path.host ≢ state.boundary + 1) (IsLater advert (free_step state).end) paths
+pub stay_later : (advert : Advertised) (kept : List Path) (state : State) (paths : List Path) → AllByRecursion (IsLater advert kept state) paths → AllByRecursion (λ path. path.host ≢ state.boundary + 1) paths → AllByRecursion (IsLater advert kept (free_step state).end) paths
+stay_later advert kept state paths each elsewhere =
+    each_pair (IsLater advert kept state) (λ path. path.host ≢ state.boundary + 1) (IsLater advert kept (free_step state).end) paths
     (λ path later other. record { can = later.can; past = omega (arith, later.past, other); unused = later.unused }) each elsewhere
 
-after_path : (advert : Advertised) (weights : HostWeights) (state : State) (taken path : Path) → IsLater advert state taken → taken.host ≡ state.boundary + 1 → IsLater advert state path → IsApart advert taken path → IsLater advert (path_step advert weights state taken).end path
+pub after_path : (advert : Advertised) (weights : HostWeights) (kept : List Path) (state : State) (taken path : Path) → IsLater advert kept state taken → taken.host ≡ state.boundary + 1 → IsLater advert kept state path → IsApart advert taken path → IsLater advert kept (path_step advert weights state taken).end path
 unfolding are_apart
-after_path advert weights state taken path is_taken begins later apart =
-    let lanes = allowed advert path later.can in
-    let taken_lanes = allowed advert taken is_taken.can in
+after_path advert weights kept state taken path is_taken begins later apart =
+    let lanes = lanes_later advert kept state path later in
     let parts = and_parts _ _ apart in
     let past = runs_apart taken.host (app_of advert taken).host_lanes path.host (app_of advert path).host_lanes parts.0 lanes.host_some (omega (arith, begins, later.past)) in
     record {
@@ -109,48 +121,91 @@ abbrev pub LeavesEnough : (State → ℕ → Type 0) → ℕ → Step → Type 0
 LeavesEnough Bounds potential step = (later : ℕ) × Bounds step.end later × (step.weight + later ≤ potential)
 
 -- what bounds the gain at a state does so after each step
-abbrev pub IsKept : Advertised → HostWeights → (State → ℕ → Type 0) → Type 0
-IsKept advert weights Bounds = (state : State) (potential : ℕ) → Bounds state potential → AllByRecursion (LeavesEnough Bounds potential) (steps_from advert weights state)
+abbrev pub IsKept : Advertised → HostWeights → List Path → (State → ℕ → Type 0) → Type 0
+IsKept advert weights kept Bounds = (state : State) (potential : ℕ) → Bounds state potential → AllByRecursion (LeavesEnough Bounds potential) (steps_from advert weights kept state)
 
--- then no paths that may still come weigh more
-pub bounded : (advert : Advertised) (weights : HostWeights) (Bounds : State → ℕ → Type 0) → IsKept advert weights Bounds → (left : ℕ) (state : State) (potential : ℕ) → 8 ≤ state.boundary + left → Bounds state potential
-    → (paths : List Path) → AreApart advert paths → AllByRecursion (IsLater advert state) paths → plan_weight advert weights paths ≤ potential
-bounded advert weights Bounds kept zero state potential ends bound paths apart each = omega (arith, none_later advert (path_weight advert weights) state paths (omega (arith, ends)) each)
-bounded advert weights Bounds kept (suc left) state potential ends bound paths apart each =
+-- a kept path is one of those that may still come, or its host lanes are decided
+abbrev pub ComesOrCame : Advertised → State → List Path → Path → Type 0
+ComesOrCame advert state paths path = Contains paths path ⊎ (path.host + (app_of advert path).host_lanes ≤ state.boundary + 1)
+
+-- where none of them begins at the next host lane, that lane may stay free
+lane_free : (advert : Advertised) (keeping kept : List Path) (state : State) (paths : List Path) → AllByRecursion (IsLater advert keeping state) paths → AllByRecursion (λ path. path.host ≢ state.boundary + 1) paths
+    → AllByRecursion (ComesOrCame advert state paths) kept → may_stay_free advert kept (state.boundary + 1) ≡ true
+lane_free advert keeping kept state paths each elsewhere come =
+    let lane : ℕ = state.boundary + 1 in
+    let Past : Path → Type 0 = λ path. lane < path.host in
+    let past = All-from_recursion Past paths (each_pair (IsLater advert keeping state) (λ path. path.host ≢ lane) Past paths (λ path later other. omega (arith, later.past, other)) each elsewhere) in
+    all_beside advert kept lane (map_each (ComesOrCame advert state paths) (IsBeside advert lane) kept (λ path either. elim (either) [
+      | inl comes ↦ inl (All-contains Past paths path past comes)
+      | inr came ↦ inr came
+    ]) come)
+
+pub come_free : (advert : Advertised) (kept : List Path) (state : State) (paths : List Path) → AllByRecursion (ComesOrCame advert state paths) kept → AllByRecursion (ComesOrCame advert (free_step state).end paths) kept
+come_free advert kept state paths come =
+    map_each (ComesOrCame advert state paths) (ComesOrCame advert (free_step state).end paths) kept (λ path either. elim (either) [
+      | inl comes ↦ inl comes
+      | inr came ↦ inr (omega (arith, came))
+    ]) come
+
+pub come_taken : (advert : Advertised) (weights : HostWeights) (weigh : Path → ℕ) (kept : List Path) (state : State) (paths : List Path) → (picked : Picked advert weigh paths (state.boundary + 1)) → AllByRecursion (ComesOrCame advert state paths) kept
+    → AllByRecursion (ComesOrCame advert (path_step advert weights state picked.path).end picked.rest) kept
+come_taken advert weights weigh kept state paths picked come =
+    let End : State = (path_step advert weights state picked.path).end in
+    let Left : Path → Type 0 = λ path. Contains picked.rest path ⊎ (path ≡ picked.path) in
+    let left = All-from_recursion Left paths (picked.back Left (inr refl, map_each (Contains picked.rest) Left picked.rest (λ path comes. inl comes) (each_contained picked.rest))) in
+    map_each (ComesOrCame advert state paths) (ComesOrCame advert End picked.rest) kept (λ path either. elim (either) [
+      | inl comes ↦ elim (All-contains Left paths path left comes) [
+        | inl rest ↦ inl rest
+        | inr same ↦ inr (omega (arith, picked.begins, ap (λ (p : Path). p.host + (app_of advert p).host_lanes) same))
+      ]
+      | inr came ↦ inr (omega (arith, came))
+    ]) come
+
+-- then no paths that may still come, the kept ones among them, weigh more
+pub bounded : (advert : Advertised) (weights : HostWeights) (kept : List Path) (Bounds : State → ℕ → Type 0) → IsKept advert weights kept Bounds → (left : ℕ) (state : State) (potential : ℕ) → 8 ≤ state.boundary + left → Bounds state potential
+    → (paths : List Path) → AreApart advert paths → AllByRecursion (IsLater advert kept state) paths → AllByRecursion (ComesOrCame advert state paths) kept → plan_weight advert weights paths ≤ potential
+bounded advert weights kept Bounds is_kept zero state potential ends bound paths apart each come = omega (arith, none_later advert kept (path_weight advert weights) state paths (omega (arith, ends)) each)
+bounded advert weights kept Bounds is_kept (suc left) state potential ends bound paths apart each come =
     let weigh = path_weight advert weights in
     elim (cases_lt state.boundary 8) [
-      | inr ended ↦ omega (arith, none_later advert weigh state paths (omega (arith, ended)) each)
+      | inr ended ↦ omega (arith, none_later advert kept weigh state paths (omega (arith, ended)) each)
       | inl below ↦
-          let steps = each_step advert weights (LeavesEnough Bounds potential) state below (kept state potential bound) in
+          let steps = each_step advert weights kept (LeavesEnough Bounds potential) state below (is_kept state potential bound) in
           elim (pick advert weigh paths (state.boundary + 1) apart) [
             | inr elsewhere ↦
-                let rest = bounded advert weights Bounds kept left (free_step state).end steps.0.0 (omega (arith, ends)) steps.0.1 paths apart (stay_later advert state paths each elsewhere) in
-                omega (arith, rest, steps.0.2)
+                let step = steps.0 (lane_free advert kept kept state paths each elsewhere come) in
+                let rest = bounded advert weights kept Bounds is_kept left (free_step state).end step.0 (omega (arith, ends)) step.1 paths apart (stay_later advert kept state paths each elsewhere) (come_free advert kept state paths come) in
+                omega (arith, rest, step.2)
             | inl picked ↦
-                let parts = picked.each (IsLater advert state) each in
+                let parts = picked.each (IsLater advert kept state) each in
                 let step = steps.1 picked.path picked.begins parts.0.can parts.0.unused in
-                let lanes = allowed advert picked.path parts.0.can in
-                let later = each_pair (IsLater advert state) (IsApart advert picked.path) (IsLater advert (path_step advert weights state picked.path).end) picked.rest
-                (λ path is_later apart. after_path advert weights state picked.path path parts.0 picked.begins is_later apart) parts.1 picked.path_apart in
-                let rest = bounded advert weights Bounds kept left (path_step advert weights state picked.path).end step.0 (omega (arith, ends, lanes.host_some)) step.1 picked.rest picked.rest_apart later in
+                let lanes = lanes_later advert kept state picked.path parts.0 in
+                let End : State = (path_step advert weights state picked.path).end in
+                let later = each_pair (IsLater advert kept state) (IsApart advert picked.path) (IsLater advert kept End) picked.rest
+                (λ path is_later apart. after_path advert weights kept state picked.path path parts.0 picked.begins is_later apart) parts.1 picked.path_apart in
+                let rest = bounded advert weights kept Bounds is_kept left End step.0 (omega (arith, ends, lanes.host_some)) step.1 picked.rest picked.rest_apart later (come_taken advert weights weigh kept state paths picked come) in
                 omega (arith, rest, step.2, picked.weighs)
           ]
     ]
 
 -- the potentials of a good certificate's entries do
-entries_kept : (advert : Advertised) (weights : HostWeights) (c : Claim) → IsGood advert weights c → IsKept advert weights (IsBound c.entries)
+entries_kept : (advert : Advertised) (weights : HostWeights) (c : Claim) → IsGood advert weights c → IsKept advert weights c.kept (IsBound c.entries)
 entries_kept advert weights c good state potential bound =
     let Covered : Step → Type 0 = IsCovered c.entries potential in
-    let at_entry = All-contains (λ (entry : Entry). All (IsCovered c.entries entry.potential) (steps_from advert weights (state_of entry))) c.entries bound.0 good.closed bound.1 in
-    let at_state : All Covered (steps_from advert weights state) =
-    subst (λ (s : State). All Covered (steps_from advert weights s)) bound.2 (subst (λ (p : ℕ). All (IsCovered c.entries p) (steps_from advert weights (state_of bound.0))) bound.3 at_entry) in
-    recursion_from_All Covered (steps_from advert weights state) at_state
+    let at_entry = All-contains (λ (entry : Entry). All (IsCovered c.entries entry.potential) (steps_from advert weights c.kept (state_of entry))) c.entries bound.0 good.closed bound.1 in
+    let at_state : All Covered (steps_from advert weights c.kept state) =
+    subst (λ (s : State). All Covered (steps_from advert weights c.kept s)) bound.2 (subst (λ (p : ℕ). All (IsCovered c.entries p) (steps_from advert weights c.kept (state_of bound.0))) bound.3 at_entry) in
+    recursion_from_All Covered (steps_from advert weights c.kept state) at_state
 
-pub good_is_best : (advert : Advertised) (weights : HostWeights) (c : Claim) → IsGood advert weights c → IsBest advert weights c.paths
+pub good_is_best : (advert : Advertised) (weights : HostWeights) (c : Claim) → IsGood advert weights c → IsBest advert weights c.kept c.paths
 good_is_best advert weights c good = record {
   admissible = good.admissible;
-  heaviest = λ others is_plan.
-      let can = recursion_from_All (λ path. is_allowed advert path ≡ true) others is_plan.allowed in
-      let each = map_each (λ path. is_allowed advert path ≡ true) (IsLater advert start) others (λ path one. record { can = one; past = (allowed advert path one).host_from; unused = disjoint_none (media_lanes advert path) }) can in
-      omega (arith, good.weighs, bounded advert weights (IsBound c.entries) (entries_kept advert weights c good) 8 start c.weight (omega arith) good.begun others (from_pairs advert others is_plan.apart) each);
+  keeps = good.keeps;
+  heaviest = λ others is_plan keeps.
+      let later : (path : Path) → Contains others path → IsLater advert c.kept start path = λ path listed.
+      let can = All-contains (λ (p : Path). is_allowed advert p ≡ true) others path is_plan.allowed listed in
+      record { can = plan_eligible advert c.kept others is_plan keeps path listed can; past = (allowed advert path can).host_from; unused = disjoint_none (media_lanes advert path) } in
+      let each = map_each (Contains others) (IsLater advert c.kept start) others later (each_contained others) in
+      let come = map_each (Contains others) (ComesOrCame advert start others) c.kept (λ path listed. inl listed) keeps in
+      omega (arith, good.weighs, bounded advert weights c.kept (IsBound c.entries) (entries_kept advert weights c good) 8 start c.weight (omega arith) good.begun others (from_pairs advert others is_plan.apart) each come);
 }

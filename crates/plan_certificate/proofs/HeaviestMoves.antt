@@ -1,5 +1,5 @@
 -- Of moves on the same lanes the heaviest stand for all: what holds of their steps, and of lighter ones, holds of each.
-use Rattle.std.proofs.Common.{◌≡◌, ℕ, ◌+◌, ◌≤◌, ◌∙◌, true, List, subst, ap}
+use Rattle.std.proofs.Common.{◌≡◌, ℕ, ◌+◌, ◌≤◌, ◌∙◌, Bool, true, List, subst, ap}
 use Rattle.std.specs.List.{All, AllByRecursion, Contains}
 use Rattle.std.specs.FinSet as set
 use Rattle.std.proofs.lemmas.List.Elements.{All-contains, All-from_recursion, All-weaker, recursion_from_All}
@@ -8,7 +8,7 @@ use Rattle.plan_certificate.specs.declared.moves.Move.{Move}
 use Rattle.plan_certificate.specs.declared.state.State.{State}
 use Rattle.plan_certificate.specs.declared.state.Step.{Step}
 use Rattle.plan_certificate.specs.Moves.{AreHeaviest, IsOutweighed, LeadsOn, is_open, move_step, steps_by}
-use Rattle.plan_certificate.proofs.EachMove.{WhereOpen, each_of_steps, steps_of_moves}
+use Rattle.plan_certificate.proofs.EachMove.{WhereOpen, each_by_moves, each_of_steps}
 
 -- what holds of a step holds of lighter ones to the same state
 abbrev pub HoldsOfLighter : (Step → Type 0) → Type 0
@@ -22,18 +22,24 @@ one_outweighed state P moves move lighter each by unused =
     let light : Made other.host_lanes other.media_lanes = lighter (move_step state other) move.weight by.weighs (All-contains (WhereOpen state P) moves other each by.listed open_too) in
     subst (λ (host : ℕ). Made host move.media_lanes) by.lanes.host_lanes (subst (Made other.host_lanes) by.lanes.media_lanes light)
 
-pub each_outweighed : (state : State) (P : Step → Type 0) (moves heaviest : List Move) → HoldsOfLighter P → AreHeaviest moves heaviest → AllByRecursion P (steps_by state heaviest) → AllByRecursion P (steps_by state moves)
-each_outweighed state P moves heaviest lighter are each =
-    let parts = each_of_steps state P heaviest each in
+pub each_outweighed : (free : Bool) (state : State) (P : Step → Type 0) (moves heaviest : List Move) → HoldsOfLighter P → AreHeaviest moves heaviest → AllByRecursion P (steps_by free state heaviest) → AllByRecursion P (steps_by free state moves)
+each_outweighed free state P moves heaviest lighter are each =
+    let parts = each_of_steps free state P heaviest each in
     let kept = All-from_recursion (WhereOpen state P) heaviest parts.by_moves in
-    (parts.free, steps_of_moves state P moves (recursion_from_All (WhereOpen state P) moves (All-weaker (IsOutweighed heaviest) (WhereOpen state P) (λ move by. one_outweighed state P heaviest move lighter kept by) moves are.outweighed)))
+    each_by_moves free state P moves (record {
+      freed = parts.freed;
+      by_moves = recursion_from_All (WhereOpen state P) moves (All-weaker (IsOutweighed heaviest) (WhereOpen state P) (λ move by. one_outweighed state P heaviest move lighter kept by) moves are.outweighed);
+    })
 
 -- and what holds of the steps of all holds of theirs
-pub each_among : (state : State) (P : Step → Type 0) (moves heaviest : List Move) → AreHeaviest moves heaviest → AllByRecursion P (steps_by state moves) → AllByRecursion P (steps_by state heaviest)
-each_among state P moves heaviest are each =
-    let parts = each_of_steps state P moves each in
+pub each_among : (free : Bool) (state : State) (P : Step → Type 0) (moves heaviest : List Move) → AreHeaviest moves heaviest → AllByRecursion P (steps_by free state moves) → AllByRecursion P (steps_by free state heaviest)
+each_among free state P moves heaviest are each =
+    let parts = each_of_steps free state P moves each in
     let all = All-from_recursion (WhereOpen state P) moves parts.by_moves in
-    (parts.free, steps_of_moves state P heaviest (recursion_from_All (WhereOpen state P) heaviest (All-weaker (Contains moves) (WhereOpen state P) (λ move listed. All-contains (WhereOpen state P) moves move all listed) heaviest are.among)))
+    each_by_moves free state P heaviest (record {
+      freed = parts.freed;
+      by_moves = recursion_from_All (WhereOpen state P) heaviest (All-weaker (Contains moves) (WhereOpen state P) (λ move listed. All-contains (WhereOpen state P) moves move all listed) heaviest are.among);
+    })
 
 pub heaviest_lead_on : (boundary : ℕ) (moves heaviest : List Move) → AreHeaviest moves heaviest → All (LeadsOn boundary) moves → All (LeadsOn boundary) heaviest
 heaviest_lead_on boundary moves heaviest are all =

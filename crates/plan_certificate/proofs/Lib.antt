@@ -1,8 +1,10 @@
 pub mod LaneRuns
 pub mod Lists
+pub mod Ranks
 mod Lookups
 mod NoFlaw
 pub mod PathTakenOut
+pub mod KeptPaths
 pub mod Searches
 pub mod ByteLanes
 pub mod GoodVerdicts
@@ -16,6 +18,7 @@ pub mod OneAnswer
 mod WrittenCertificates
 mod Numbered
 pub mod MoveLists
+mod MoveOrder
 pub mod MoveSteps
 pub mod EachMove
 pub mod HeaviestMoves

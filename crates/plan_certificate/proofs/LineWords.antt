@@ -16,15 +16,22 @@ use Rattle.text_lines.specs.Lines.{is_lf, HasNoLf}
 use Rattle.text_lines.specs.Words.{is_space, words_of, spaced}
 use Rattle.text_lines.proofs.WrittenWords.{words_of-spaced, spaced_passes}
 use Rattle.text_lines.proofs.HexDigits.{digits_pass}
+use Rattle.plan_certificate.specs.declared.path.Path.{Path}
 use Rattle.plan_certificate.specs.declared.line.Line.{Line}
-use Rattle.plan_certificate.specs.declared.line.Line.TheVariants.{Header, Weight, PathLine, StateLine, End}
-use Rattle.plan_certificate.specs.CertificateText.{line_words, line_text, IsLineInRange}
+use Rattle.plan_certificate.specs.declared.line.Line.TheVariants.{Header, KeptHeader, Weight, KeepLine, PathLine, StateLine, End}
+use Rattle.plan_certificate.specs.CertificateText.{header_of, line_words, line_text, IsLineInRange}
+
+pub header_in_range : (kept : List Path) → IsLineInRange (header_of kept)
+header_in_range [] = tt
+header_in_range (path ∷ kept) = tt
 
 -- a test that the bytes of such lines pass, but for the spaces
 record Passes (p : ℕ → Bool) : Type 0 where
   certificate : list_all p (codes "certificate") ≡ true
   one : list_all p (codes "1") ≡ true
+  two : list_all p (codes "2") ≡ true
   weight : list_all p (codes "weight") ≡ true
+  keep : list_all p (codes "keep") ≡ true
   path : list_all p (codes "path") ≡ true
   state : list_all p (codes "state") ≡ true
   end : list_all p (codes "end") ≡ true
@@ -47,7 +54,12 @@ module _ (p : ℕ → Bool) (passes : Passes p) where
   words_pass : (line : Line) → IsLineInRange line → AllByRecursion (AllPass p) (line_words line)
   unfolding line_words
   words_pass Header h = (name_passes (codes "certificate") passes.certificate, (name_passes (codes "1") passes.one, tt))
+  words_pass KeptHeader h = (name_passes (codes "certificate") passes.certificate, (name_passes (codes "2") passes.two, tt))
   words_pass (Weight weight) h = (name_passes (codes "weight") passes.weight, (decimal_passes weight h, tt))
+  words_pass (KeepLine path) h = (
+    name_passes (codes "keep") passes.keep,
+    (decimal_passes path.app (omega (arith, h.app)), (decimal_passes path.host (omega (arith, h.host)), (decimal_passes path.media (omega (arith, h.media)), tt))),
+  )
   words_pass (PathLine path) h = (
     name_passes (codes "path") passes.path,
     (decimal_passes path.app (omega (arith, h.app)), (decimal_passes path.host (omega (arith, h.host)), (decimal_passes path.media (omega (arith, h.media)), tt))),
@@ -59,15 +71,17 @@ module _ (p : ℕ → Bool) (passes : Passes p) where
   words_pass End h = (name_passes (codes "end") passes.end, tt)
 
 no_spaces : Passes (λ byte. not (is_space byte))
-no_spaces = record { certificate = refl; one = refl; weight = refl; path = refl; state = refl; end = refl; decimals = λ byte low high. grind (arith, nat_tests); hexadecimals = refl }
+no_spaces = record { certificate = refl; one = refl; two = refl; weight = refl; keep = refl; path = refl; state = refl; end = refl; decimals = λ byte low high. grind (arith, nat_tests); hexadecimals = refl }
 
 no_line_ends : Passes (λ byte. not (is_lf byte))
-no_line_ends = record { certificate = refl; one = refl; weight = refl; path = refl; state = refl; end = refl; decimals = λ byte low high. grind (arith, nat_tests); hexadecimals = refl }
+no_line_ends = record { certificate = refl; one = refl; two = refl; weight = refl; keep = refl; path = refl; state = refl; end = refl; decimals = λ byte low high. grind (arith, nat_tests); hexadecimals = refl }
 
 pub words_of-line_text : (line : Line) → IsLineInRange line → words_of (line_text line) ≡ line_words line
 unfolding line_words
 words_of-line_text Header h = words_of-spaced _ _ (words_pass _ no_spaces Header h)
+words_of-line_text KeptHeader h = words_of-spaced _ _ (words_pass _ no_spaces KeptHeader h)
 words_of-line_text (Weight weight) h = words_of-spaced _ _ (words_pass _ no_spaces (Weight weight) h)
+words_of-line_text (KeepLine path) h = words_of-spaced _ _ (words_pass _ no_spaces (KeepLine path) h)
 words_of-line_text (PathLine path) h = words_of-spaced _ _ (words_pass _ no_spaces (PathLine path) h)
 words_of-line_text (StateLine entry) h = words_of-spaced _ _ (words_pass _ no_spaces (StateLine entry) h)
 words_of-line_text End h = words_of-spaced _ _ (words_pass _ no_spaces End h)
@@ -78,7 +92,9 @@ line_has_no_lf line h = spaced_passes (λ byte. not (is_lf byte)) refl (line_wor
 pub word_count : (line : Line) → length (line_words line) ≤ 4
 unfolding line_words
 word_count Header = omega arith
+word_count KeptHeader = omega arith
 word_count (Weight weight) = omega arith
+word_count (KeepLine path) = omega arith
 word_count (PathLine path) = omega arith
 word_count (StateLine entry) = omega arith
 word_count End = omega arith
@@ -105,10 +121,11 @@ number_back n fits = (decimal_is_IsNumeral n fits).1
 -- the line of these words, by the first byte of the first of them
 abbrev line_with : ℕ → List ℕ → List ℕ → List ℕ → Line
 line_with letter first second third =
-    cond (eqb letter 99) Header
+    cond (eqb letter 99) (cond (eqb (get_or first 0 0) 50) KeptHeader Header)
+    (cond (eqb letter 107) (KeepLine (record { app = digits_value 10 first; host = digits_value 10 second; media = digits_value 10 third }))
     (cond (eqb letter 119) (Weight (digits_value 10 first))
     (cond (eqb letter 112) (PathLine (record { app = digits_value 10 first; host = digits_value 10 second; media = digits_value 10 third }))
-    (cond (eqb letter 115) (StateLine (record { boundary = digits_value 10 first; used = byte_in (decode_of second); potential = digits_value 10 third })) End)))
+    (cond (eqb letter 115) (StateLine (record { boundary = digits_value 10 first; used = byte_in (decode_of second); potential = digits_value 10 third })) End))))
 
 abbrev line_back : List (List ℕ) → Line
 line_back words = line_with (get_or (get_or words 0 []) 0 0) (get_or words 1 []) (get_or words 2 []) (get_or words 3 [])
@@ -116,7 +133,13 @@ line_back words = line_with (get_or (get_or words 0 []) 0 0) (get_or words 1 [])
 back : (line : Line) → IsLineInRange line → line_back (line_words line) ≡ line
 unfolding line_words
 back Header h = refl
+back KeptHeader h = refl
 back (Weight weight) h = ap Weight (number_back weight h)
+back (KeepLine path) h =
+    let app = number_back path.app (omega (arith, h.app)) in
+    let host = number_back path.host (omega (arith, h.host)) in
+    let media = number_back path.media (omega (arith, h.media)) in
+    λ i. KeepLine (record { app = app i; host = host i; media = media i })
 back (PathLine path) h =
     let app = number_back path.app (omega (arith, h.app)) in
     let host = number_back path.host (omega (arith, h.host)) in

@@ -1,5 +1,5 @@
 -- The flaws of the steps of moves: where the heaviest moves have none, none has.
-use Rattle.std.proofs.Common.{◌≡◌, ℕ, ◌+◌, ◌<◌, ◌≤◌, Bool, true, false, List, [], ◌∷◌, Option, Some, None, length, drop, get_or, map, filter, cond, nat_lt, refl, sym, ap, ◌∙◌, arith}
+use Rattle.std.proofs.Common.{◌≡◌, ℕ, ◌+◌, ◌<◌, ◌≤◌, Bool, false, List, [], ◌∷◌, Option, Some, None, nat_lt, refl, sym, ap, ◌∙◌, arith}
 use Rattle.std.specs.List.{flat_map}
 use Rattle.std.specs.Option.{is_none, is_some, unwrap_or}
 use Rattle.std.proofs.lemmas.Bool.Decides.{nat_tests}
@@ -8,12 +8,13 @@ use Rattle.applications.specs.Advertised.{Advertised}
 use Rattle.applications.specs.Weights.{HostWeights}
 use Rattle.plan_certificate.specs.declared.certificate.Entry.{Entry}
 use Rattle.plan_certificate.specs.declared.moves.Move.{Move}
+use Rattle.plan_certificate.specs.declared.path.Path.{Path}
 use Rattle.plan_certificate.specs.declared.state.State.{State}
 use Rattle.plan_certificate.specs.declared.state.Step.{Step}
 use Rattle.plan_certificate.specs.declared.verdict.Reason.{Reason}
 use Rattle.plan_certificate.specs.declared.verdict.Reason.TheVariants.{NotClosed, TooLow}
 use Rattle.plan_certificate.specs.Certificates.{state_of}
-use Rattle.plan_certificate.specs.Moves.{AreHeaviest, AreMoves, is_open, move_step, move_steps, steps_by}
+use Rattle.plan_certificate.specs.Moves.{AreHeaviest, AreMoves, move_steps, steps_by}
 use Rattle.plan_certificate.specs.Verdicts.{Flaw, Flaws, entry_flaws, potential_of, step_flaws, steps_flaws}
 use Rattle.plan_certificate.proofs.HeaviestMoves.{HoldsOfLighter, each_outweighed}
 use Rattle.plan_certificate.proofs.MoveSteps.{no_steps, steps_are}
@@ -37,22 +38,22 @@ lighter_none entries (number, entry) step weight light none =
     let test : nat_lt entry.potential (weight + unwrap_or later 0) ≡ false = grind (arith, nat_tests, heavy, light) in
     (flaw_first not_closed (lighter ∷ [])).1 (first.0, (flaw_first lighter []).1 (test, refl))
 
-pub none_of_heaviest : (entries : List Entry) (entry : ℕ × Entry) (state : State) (moves heaviest : List Move) → AreHeaviest moves heaviest → NoFlaw (steps_flaws entries entry (steps_by state heaviest)) → NoFlaw (steps_flaws entries entry (steps_by state moves))
-none_of_heaviest entries entry state moves heaviest are none =
+pub none_of_heaviest : (entries : List Entry) (entry : ℕ × Entry) (free : Bool) (state : State) (moves heaviest : List Move) → AreHeaviest moves heaviest → NoFlaw (steps_flaws entries entry (steps_by free state heaviest)) → NoFlaw (steps_flaws entries entry (steps_by free state moves))
+none_of_heaviest entries entry free state moves heaviest are none =
     let flaws = step_flaws entries entry in
-    (none_of_each flaws (steps_by state moves)).1
-    (each_outweighed state (λ step. NoFlaw (flaws step)) moves heaviest (lighter_none entries entry) are ((none_of_each flaws (steps_by state heaviest)).0 none))
+    (none_of_each flaws (steps_by free state moves)).1
+    (each_outweighed free state (λ step. NoFlaw (flaws step)) moves heaviest (lighter_none entries entry) are ((none_of_each flaws (steps_by free state heaviest)).0 none))
 
 -- ---- an entry's flaws
 
-pub entry_flaws_are : (advert : Advertised) (weights : HostWeights) (entries : List Entry) (number : ℕ) (entry : Entry) (moves heaviest : List Move) → entry.boundary < 8 → AreMoves advert weights entry.boundary moves heaviest
-    → entry_flaws advert weights entries (number, entry) ≡ steps_flaws entries (number, entry) (steps_by (state_of entry) moves)
-entry_flaws_are advert weights entries number entry moves heaviest below are =
+pub entry_flaws_are : (advert : Advertised) (weights : HostWeights) (kept : List Path) (entries : List Entry) (number : ℕ) (entry : Entry) (free : Bool) (moves heaviest : List Move) → entry.boundary < 8 → AreMoves advert weights kept entry.boundary free moves heaviest
+    → entry_flaws advert weights kept entries (number, entry) ≡ steps_flaws entries (number, entry) (steps_by free (state_of entry) moves)
+entry_flaws_are advert weights kept entries number entry free moves heaviest below are =
     let flaws = steps_flaws entries (number, entry) in
-    ap flaws (steps_are advert weights (state_of entry) below) ∙ ap (λ (ms : List Move). flaws (steps_by (state_of entry) ms)) (sym are.listed)
+    ap flaws (steps_are advert weights kept (state_of entry) below) ∙ (λ i. flaws (steps_by (sym are.freed i) (state_of entry) (sym are.listed i)))
 
-pub ended_has_none : (advert : Advertised) (weights : HostWeights) (entries : List Entry) (number : ℕ) (entry : Entry) → 8 ≤ entry.boundary → first_fault (entry_flaws advert weights entries (number, entry)) ≡ None
-ended_has_none advert weights entries number entry past = ap (λ (steps : List Step). first_fault (steps_flaws entries (number, entry) steps)) (no_steps advert weights (state_of entry) past)
+pub ended_has_none : (advert : Advertised) (weights : HostWeights) (kept : List Path) (entries : List Entry) (number : ℕ) (entry : Entry) → 8 ≤ entry.boundary → first_fault (entry_flaws advert weights kept entries (number, entry)) ≡ None
+ended_has_none advert weights kept entries number entry past = ap (λ (steps : List Step). first_fault (steps_flaws entries (number, entry) steps)) (no_steps advert weights kept (state_of entry) past)
 
 pub none_is : (found : Option (Reason × ℕ)) → is_some found ≡ false → found ≡ None
 none_is None is = refl

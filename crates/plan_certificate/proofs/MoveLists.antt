@@ -12,23 +12,25 @@ use Rattle.applications.specs.Advertised.{Advertised}
 use Rattle.applications.specs.Weights.{HostWeights}
 use Rattle.plan_certificate.specs.declared.path.Path.{Path}
 use Rattle.plan_certificate.specs.Paths.{is_allowed}
+use Rattle.plan_certificate.specs.KeptPaths.{is_eligible}
 use Rattle.plan_certificate.specs.States.{paths_at, paths_of_app}
 use Rattle.plan_certificate.specs.Moves.{LeadsOn, move_of, moves_at, moves_of}
 use Rattle.plan_certificate.proofs.Heaviest.{allowed}
+use Rattle.plan_certificate.proofs.KeptPaths.{eligible_allowed}
 use Rattle.plan_certificate.proofs.Lists.{all_of_flat_map, all_of_map}
 
-pub moves_of_both : (advert : Advertised) (weights : HostWeights) (paths more : List Path) → moves_of advert weights (paths ++ more) ≡ moves_of advert weights paths ++ moves_of advert weights more
+pub moves_of_both : (advert : Advertised) (weights : HostWeights) (kept paths more : List Path) → moves_of advert weights kept (paths ++ more) ≡ moves_of advert weights kept paths ++ moves_of advert weights kept more
 unfolding moves_of
-moves_of_both advert weights paths more =
-    ap (map (move_of advert weights)) (filter-append (is_allowed advert) paths more) ∙ map-append (move_of advert weights) (filter (is_allowed advert) paths) (filter (is_allowed advert) more)
+moves_of_both advert weights kept paths more =
+    ap (map (move_of advert weights)) (filter-append (is_eligible advert kept) paths more) ∙ map-append (move_of advert weights) (filter (is_eligible advert kept) paths) (filter (is_eligible advert kept) more)
 
-pub move_of_one : (advert : Advertised) (weights : HostWeights) (path : Path) → is_allowed advert path ≡ true → moves_of advert weights (path ∷ []) ≡ move_of advert weights path ∷ []
+pub move_of_one : (advert : Advertised) (weights : HostWeights) (kept : List Path) (path : Path) → is_eligible advert kept path ≡ true → moves_of advert weights kept (path ∷ []) ≡ move_of advert weights path ∷ []
 unfolding moves_of
-move_of_one advert weights path can = ap (λ (b : Bool). map (move_of advert weights) (cond b (path ∷ []) [])) can
+move_of_one advert weights kept path can = ap (λ (b : Bool). map (move_of advert weights) (cond b (path ∷ []) [])) can
 
-pub no_move_of_one : (advert : Advertised) (weights : HostWeights) (path : Path) → is_allowed advert path ≡ false → moves_of advert weights (path ∷ []) ≡ []
+pub no_move_of_one : (advert : Advertised) (weights : HostWeights) (kept : List Path) (path : Path) → is_eligible advert kept path ≡ false → moves_of advert weights kept (path ∷ []) ≡ []
 unfolding moves_of
-no_move_of_one advert weights path barred = ap (λ (b : Bool). map (move_of advert weights) (cond b (path ∷ []) [])) barred
+no_move_of_one advert weights kept path barred = ap (λ (b : Bool). map (move_of advert weights) (cond b (path ∷ []) [])) barred
 
 -- the paths of an Application at so many media lanes
 abbrev pub paths_at_media : ℕ → ℕ → ℕ → List Path
@@ -60,16 +62,16 @@ leads_on advert weights host path begins can =
     let lanes = allowed advert path can in
     record { further = lanes.host_some; within = omega (arith, begins, lanes.host_from, lanes.host_to) }
 
-of_paths_lead_on : (advert : Advertised) (weights : HostWeights) (host : ℕ) (paths : List Path) → AllByRecursion (BeginsAt host) paths → AllByRecursion (LeadsOn (host - 1)) (moves_of advert weights paths)
+of_paths_lead_on : (advert : Advertised) (weights : HostWeights) (kept : List Path) (host : ℕ) (paths : List Path) → AllByRecursion (BeginsAt host) paths → AllByRecursion (LeadsOn (host - 1)) (moves_of advert weights kept paths)
 unfolding moves_of
-of_paths_lead_on advert weights host [] begin = tt
-of_paths_lead_on advert weights host (path ∷ paths) begin =
-    let rest = of_paths_lead_on advert weights host paths begin.1 in
-    let Made : Bool → Type 0 = λ b. AllByRecursion (LeadsOn (host - 1)) (map (move_of advert weights) (cond b (path ∷ filter (is_allowed advert) paths) (filter (is_allowed advert) paths))) in
-    elim (cases_Bool (is_allowed advert path)) [
-      | inl can ↦ subst Made (sym can) (leads_on advert weights host path begin.0 can, rest)
+of_paths_lead_on advert weights kept host [] begin = tt
+of_paths_lead_on advert weights kept host (path ∷ paths) begin =
+    let rest = of_paths_lead_on advert weights kept host paths begin.1 in
+    let Made : Bool → Type 0 = λ b. AllByRecursion (LeadsOn (host - 1)) (map (move_of advert weights) (cond b (path ∷ filter (is_eligible advert kept) paths) (filter (is_eligible advert kept) paths))) in
+    elim (cases_Bool (is_eligible advert kept path)) [
+      | inl can ↦ subst Made (sym can) (leads_on advert weights host path begin.0 (eligible_allowed advert kept path can), rest)
       | inr barred ↦ subst Made (sym barred) rest
     ]
 
-pub moves_lead_on : (advert : Advertised) (weights : HostWeights) (host : ℕ) → AllByRecursion (LeadsOn (host - 1)) (moves_at advert weights host)
-moves_lead_on advert weights host = of_paths_lead_on advert weights host (paths_at advert host) (each_begins advert host)
+pub moves_lead_on : (advert : Advertised) (weights : HostWeights) (kept : List Path) (host : ℕ) → AllByRecursion (LeadsOn (host - 1)) (moves_at advert weights kept host)
+moves_lead_on advert weights kept host = of_paths_lead_on advert weights kept host (paths_at advert host) (each_begins advert host)

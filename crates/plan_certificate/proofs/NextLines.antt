@@ -1,18 +1,21 @@
 -- Which line comes next in a certificate's text.
-use Rattle.std.proofs.Common.{◌≡◌, ℕ, List, [], ◌∷◌, ◌++◌, map, refl, sym, subst, ◌∙◌, ◌⊎◌, inl, inr, append_assoc}
+use Rattle.std.proofs.Common.{◌≡◌, ◌≢◌, ℕ, List, [], ◌∷◌, ◌++◌, map, refl, sym, ap, subst, ◌∙◌, ◌⊎◌, inl, inr, append_assoc}
 use Rattle.std.specs.List.{AllByRecursion}
 use Rattle.plan_certificate.specs.declared.path.Path.{Path}
 use Rattle.plan_certificate.specs.declared.certificate.Entry.{Entry}
 use Rattle.plan_certificate.specs.declared.line.Line.{Line}
-use Rattle.plan_certificate.specs.declared.line.Line.TheVariants.{Header, Weight, PathLine, StateLine, End}
+use Rattle.plan_certificate.specs.declared.line.Line.TheVariants.{Header, KeptHeader, Weight, KeepLine, PathLine, StateLine, End}
 use Rattle.plan_certificate.specs.declared.stage.Stage.{Stage}
-use Rattle.plan_certificate.specs.declared.stage.Stage.TheVariants.{Start, Headed, Weighed, Ended}
+use Rattle.plan_certificate.specs.declared.stage.Stage.TheVariants.{Start, Headed, KeptHeaded, KeptWeighed, Weighed, Ended}
 use Rattle.plan_certificate.specs.Certificates.{Claim}
-use Rattle.plan_certificate.specs.CertificateText.{line_text, IsLineInRange, lines_in}
+use Rattle.plan_certificate.specs.CertificateText.{header_of, line_text, IsLineInRange, lines_in}
 use Rattle.plan_certificate.specs.CertificateDrafts.{lines_before_end, lines_so_far, MayCome}
 use Rattle.plan_certificate.proofs.LineWords.{same_line}
 
 -- the line behind these paths and entries, in a text that has these others
+abbrev pub NextKeep : List Path → List Path → List Path → List Entry → Line → Type 0
+NextKeep kept others paths entries line = (path : Path) × (more : List Path) × (line ≡ KeepLine path) × (paths ≡ []) × (entries ≡ []) × (others ≡ kept ++ path ∷ more)
+
 abbrev pub NextPath : List Path → List Path → List Entry → Line → Type 0
 NextPath paths others entries line = (path : Path) × (more : List Path) × (line ≡ PathLine path) × (entries ≡ []) × (others ≡ paths ++ path ∷ more)
 
@@ -37,7 +40,8 @@ after_states (entry ∷ entries) (other ∷ others) line after e =
 
 abbrev pub Next : Claim → Claim → Line → List Line → Type 0
 Next certificate other line after =
-    NextPath certificate.paths other.paths certificate.entries line ⊎ (NextState certificate.entries other.entries line ⊎ NextEnd line after)
+    NextKeep certificate.kept other.kept certificate.paths certificate.entries line
+    ⊎ (NextPath certificate.paths other.paths certificate.entries line ⊎ (NextState certificate.entries other.entries line ⊎ NextEnd line after))
 
 after_paths : (paths more : List Path) (entries others : List Entry) (line : Line) (after : List Line)
     → map PathLine more ++ (map StateLine others ++ End ∷ []) ≡ map PathLine paths ++ (map StateLine entries ++ line ∷ after)
@@ -55,36 +59,90 @@ after_paths (path ∷ paths) (next ∷ more) entries others line after e =
       | inr later ↦ inr later
     ]
 
--- behind the weight, and paths and states, if any
+after_kept : (kept more paths others : List Path) (entries states : List Entry) (line : Line) (after : List Line)
+    → map KeepLine more ++ (map PathLine others ++ (map StateLine states ++ End ∷ [])) ≡ map KeepLine kept ++ (map PathLine paths ++ (map StateLine entries ++ line ∷ after))
+    → NextKeep kept more paths entries line ⊎ (NextPath paths others entries line ⊎ (NextState entries states line ⊎ NextEnd line after))
+after_kept [] [] paths others entries states line after e = inr (after_paths paths others entries states line after e)
+after_kept [] (path ∷ more) [] others [] states line after e = inl (path, more, cc, refl, refl, refl)
+after_kept [] (path ∷ more) [] others (entry ∷ entries) states line after e = absurd cc
+after_kept [] (path ∷ more) (first ∷ paths) others entries states line after e = absurd cc
+after_kept (path ∷ kept) [] paths [] entries [] line after e = absurd cc
+after_kept (path ∷ kept) [] paths [] entries (state ∷ states) line after e = absurd cc
+after_kept (path ∷ kept) [] paths (other ∷ others) entries states line after e = absurd cc
+after_kept (path ∷ kept) (next ∷ more) paths others entries states line after e =
+    let first : next ≡ path = cc in
+    let rest : map KeepLine more ++ (map PathLine others ++ (map StateLine states ++ End ∷ [])) ≡ map KeepLine kept ++ (map PathLine paths ++ (map StateLine entries ++ line ∷ after)) = cc in
+    elim (after_kept kept more paths others entries states line after rest) [
+      | inl found ↦ inl (found.0, found.1, found.2, found.3, found.4, λ i. first i ∷ found.5 i)
+      | inr later ↦ inr later
+    ]
+
+-- three lists, one after another, and lines behind them
+pub regrouped : (kept paths : List Path) (entries : List Entry) (after : List Line)
+    → map KeepLine kept ++ map PathLine paths ++ map StateLine entries ++ after ≡ map KeepLine kept ++ (map PathLine paths ++ (map StateLine entries ++ after))
+regrouped kept paths entries after =
+    append_assoc (map KeepLine kept ++ map PathLine paths) (map StateLine entries) after
+    ∙ append_assoc (map KeepLine kept) (map PathLine paths) (map StateLine entries ++ after)
+
+-- behind the weight, and kept paths, paths and states, if any
 pub behind_weight : (certificate other : Claim) (line : Line) (after : List Line) → lines_in other ≡ lines_before_end certificate ++ line ∷ after → Next certificate other line after
 behind_weight certificate other line after e =
-    let lists : map PathLine other.paths ++ map StateLine other.entries ++ End ∷ [] ≡ map PathLine certificate.paths ++ map StateLine certificate.entries ++ line ∷ after = cc in
-    after_paths certificate.paths other.paths certificate.entries other.entries line after
-    (sym (append_assoc (map PathLine other.paths) (map StateLine other.entries) (End ∷ [])) ∙ lists
-    ∙ append_assoc (map PathLine certificate.paths) (map StateLine certificate.entries) (line ∷ after))
+    let lists : map KeepLine other.kept ++ map PathLine other.paths ++ map StateLine other.entries ++ End ∷ [] ≡ map KeepLine certificate.kept ++ map PathLine certificate.paths ++ map StateLine certificate.entries ++ line ∷ after = cc in
+    after_kept certificate.kept other.kept certificate.paths other.paths certificate.entries other.entries line after
+    (sym (regrouped other.kept other.paths other.entries (End ∷ [])) ∙ lists ∙ regrouped certificate.kept certificate.paths certificate.entries (line ∷ after))
 
-may_come : (certificate other : Claim) (line : Line) (after : List Line) → Next certificate other line after → MayCome Weighed certificate line
-may_come certificate other line after (inl next) = subst (MayCome Weighed certificate) (sym next.2) (refl, next.3)
-may_come certificate other line after (inr (inl next)) = subst (MayCome Weighed certificate) (sym next.2) (refl, tt)
-may_come certificate other line after (inr (inr end)) = subst (MayCome Weighed certificate) (sym end.0) (refl, tt)
+same_header : (certificate other : Claim) (line : Line) (after : List Line) → lines_in other ≡ lines_before_end certificate ++ line ∷ after → header_of other.kept ≡ header_of certificate.kept
+same_header certificate other line after e = cc
+
+-- headers tell whether anything is kept
+some_kept : (kept others more : List Path) (path : Path) → header_of others ≡ header_of kept → others ≡ kept ++ path ∷ more → kept ≢ []
+some_kept [] others more path same is none = absurd (let other : KeptHeader ≡ Header = ap header_of (sym is) ∙ same in cc)
+some_kept (first ∷ kept) others more path same is none = cc
+
+may_come : (certificate other : Claim) (line : Line) (after : List Line) → header_of other.kept ≡ header_of certificate.kept → Next certificate other line after → MayCome Weighed certificate line
+may_come certificate other line after same (inl next) =
+    subst (MayCome Weighed certificate) (sym next.2) (inr (refl, record { kept = some_kept certificate.kept other.kept next.1 next.0 same next.5; paths = next.3; entries = next.4 }))
+may_come certificate other line after same (inr (inl next)) = subst (MayCome Weighed certificate) (sym next.2) (refl, next.3)
+may_come certificate other line after same (inr (inr (inl next))) = subst (MayCome Weighed certificate) (sym next.2) refl
+may_come certificate other line after same (inr (inr (inr end))) = subst (MayCome Weighed certificate) (sym end.0) refl
 
 pub nothing_left : (certificate other : Claim) (line : Line) (after : List Line) → Next certificate other End (line ∷ after) → ⊥
 nothing_left certificate other line after (inl next) = cc
 nothing_left certificate other line after (inr (inl next)) = cc
-nothing_left certificate other line after (inr (inr end)) = cc
+nothing_left certificate other line after (inr (inr (inl next))) = cc
+nothing_left certificate other line after (inr (inr (inr end))) = cc
+
+-- the first line of a text
+first_line : (kept : List Path) (certificate : Claim) (line : Line) → header_of kept ≡ line → MayCome Start certificate line
+first_line [] certificate line is = subst (MayCome Start certificate) is refl
+first_line (path ∷ kept) certificate line is = subst (MayCome Start certificate) is refl
+
+-- the line behind the weight, where paths are kept
+first_keep : (kept : List Path) (tail : List Line) (certificate : Claim) (line : Line) (after : List Line) → header_of kept ≡ KeptHeader → map KeepLine kept ++ tail ≡ line ∷ after → MayCome KeptWeighed certificate line
+first_keep [] tail certificate line after same e = absurd cc
+first_keep (path ∷ kept) tail certificate line after same e =
+    let is : KeepLine path ≡ line = cc in
+    subst (MayCome KeptWeighed certificate) is (inl refl)
 
 -- a line that comes next is one that may
 pub comes_in_turn : (stage : Stage) (certificate other : Claim) (line : Line) (after : List Line) → lines_in other ≡ lines_so_far stage certificate ++ line ∷ after → MayCome stage certificate line
 comes_in_turn Start certificate other line after e =
-    let is : Header ≡ line = cc in
-    subst (MayCome Start certificate) is (refl, tt)
+    let is : header_of other.kept ≡ line = cc in
+    first_line other.kept certificate line is
 comes_in_turn Headed certificate other line after e =
     let is : Weight other.weight ≡ line = cc in
-    subst (MayCome Headed certificate) is (refl, tt)
-comes_in_turn Weighed certificate other line after e = may_come certificate other line after (behind_weight certificate other line after e)
+    subst (MayCome Headed certificate) is (inl refl)
+comes_in_turn KeptHeaded certificate other line after e =
+    let is : Weight other.weight ≡ line = cc in
+    subst (MayCome KeptHeaded certificate) is (inr refl)
+comes_in_turn KeptWeighed certificate other line after e =
+    let same : header_of other.kept ≡ KeptHeader = cc in
+    let lists : map KeepLine other.kept ++ map PathLine other.paths ++ map StateLine other.entries ++ End ∷ [] ≡ line ∷ after = cc in
+    first_keep other.kept (map PathLine other.paths ++ (map StateLine other.entries ++ End ∷ [])) certificate line after same (sym (regrouped other.kept other.paths other.entries (End ∷ [])) ∙ lists)
+comes_in_turn Weighed certificate other line after e = may_come certificate other line after (same_header certificate other line after e) (behind_weight certificate other line after e)
 comes_in_turn Ended certificate other line after e =
-    let regrouped = append_assoc (lines_before_end certificate) (End ∷ []) (line ∷ after) in
-    absurd (nothing_left certificate other line after (behind_weight certificate other End (line ∷ after) (e ∙ regrouped)))
+    let behind_end = append_assoc (lines_before_end certificate) (End ∷ []) (line ∷ after) in
+    absurd (nothing_left certificate other line after (behind_weight certificate other End (line ∷ after) (e ∙ behind_end)))
 
 -- ---- the lines of a text tell which lines they are
 

@@ -1,6 +1,7 @@
 -- What holds where no flaw applies.
-use Rattle.std.proofs.Common.{◌≡◌, ◌↔◌, ℕ, ◌+◌, ◌-◌, ◌<◌, ◌≤◌, Bool, true, false, not, List, [], ◌∷◌, ◌++◌, None, length, take, get_or, map, refl, sym, subst, ap, ◌∙◌, arith}
-use Rattle.std.specs.List.{All, AllByRecursion, AllPairs, flat_map, enumerate_from, list_all}
+use Rattle.std.proofs.Common.{◌≡◌, ◌↔◌, ℕ, ◌+◌, ◌-◌, ◌<◌, ◌≤◌, ◌&&◌, Bool, true, false, not, List, [], ◌∷◌, ◌++◌, None, length, take, get_or, map, refl, sym, subst, ap, ◌∙◌, arith}
+use Rattle.std.specs.List.{All, AllByRecursion, AllPairs, Contains, flat_map, enumerate_from}
+use Rattle.std.proofs.lemmas.Bool.{and_parts}
 use Rattle.std.proofs.lemmas.List.Elements.{All-from_recursion, recursion_from_All}
 use Rattle.std.proofs.lemmas.List.FromFn.{get_or-enumerate_from, length-enumerate_from}
 use Rattle.std.proofs.lemmas.List.Sums.{AllPass-from_list_all, list_all-from_AllPass}
@@ -9,8 +10,10 @@ use Rattle.field_tables.specs.FirstFault.{first_fault}
 use Rattle.applications.specs.Advertised.{Advertised}
 use Rattle.plan_certificate.specs.declared.path.Path.{Path}
 use Rattle.plan_certificate.specs.Paths.{is_allowed}
-use Rattle.plan_certificate.specs.Plans.{are_apart, IsAdmissible}
-use Rattle.plan_certificate.specs.Verdicts.{Flaw, Flaws, path_flaw, lane_flaw, path_flaws, lane_flaws, plan_flaws}
+use Rattle.plan_certificate.specs.Plans.{are_apart, IsAdmissible, Keeps}
+use Rattle.plan_certificate.specs.KeptPaths.{is_apart_from}
+use Rattle.plan_certificate.specs.Verdicts.{Flaw, Flaws, kept_flaw, path_flaw, lane_flaw, missing_flaw, kept_flaws, path_flaws, lane_flaws, missing_flaws, plan_flaws}
+use Rattle.plan_certificate.proofs.KeptPaths.{among_listed, listed_among}
 use Rattle.plan_certificate.proofs.Searches.{numbered_at, numbered_below}
 
 abbrev pub NoFlaw : Flaws → Type 0
@@ -73,27 +76,57 @@ none_not_allowed advert paths =
     let by_number = none_at (path_flaw advert) paths in
     (λ none k d below. not_false _ (by_number.0 none k d below), λ all. by_number.1 (λ k d below. ap not (all k d below)))
 
+-- no path takes a lane of a path before it
+abbrev ApartFromEarlier : Advertised → List Path → Type 0
+ApartFromEarlier advert paths = (k : ℕ) (d : Path) → k < length paths → is_apart_from advert (take (k + 1 - 1) paths) (get_or paths k d) ≡ true
+
+each_earlier : (advert : Advertised) (paths : List Path) → ApartFromEarlier advert paths ↔ AllPairs (λ path other. are_apart advert path other ≡ true) paths
+each_earlier advert paths = (
+  λ apart i j d before below.
+      let path : Path = get_or paths j d in
+      let place : j + 1 - 1 ≡ j = omega arith in
+      let within : j ≤ length paths = omega (arith, below) in
+      let here : is_apart_from advert (take j paths) path ≡ true = ap (λ (n : ℕ). is_apart_from advert (take n paths) path) (sym place) ∙ apart j d below in
+      let each = AllPass-from_list_all (λ (earlier : Path). are_apart advert earlier path) (take j paths) here in
+      ap (λ (earlier : Path). are_apart advert earlier path) (sym (get_or-take j paths i d before)) ∙ each i d (omega (arith, before, length-take-le j paths within)),
+  λ pairs j d below.
+      let path : Path = get_or paths j d in
+      let place : j + 1 - 1 ≡ j = omega arith in
+      let within : j ≤ length paths = omega (arith, below) in
+      let each = list_all-from_AllPass (λ (earlier : Path). are_apart advert earlier path) (take j paths) (λ i e inside.
+      let before : i < j = omega (arith, inside, length-take-le j paths within) in
+      ap (λ (earlier : Path). are_apart advert earlier path) (get_or-take j paths i e before) ∙ ap (are_apart advert (get_or paths i e)) (get_or_default paths j d e below) ∙ pairs i j e before below) in
+      ap (λ (n : ℕ). is_apart_from advert (take n paths) path) place ∙ each,
+)
+
 pub none_share : (advert : Advertised) (paths : List Path) → NoFlaw (lane_flaws advert paths) ↔ AllPairs (λ path other. are_apart advert path other ≡ true) paths
 unfolding lane_flaws
 none_share advert paths =
-    let by_number = none_at (lane_flaw advert paths) paths in (
-      λ none i j d before below.
-          let path : Path = get_or paths j d in
-          let place : j + 1 - 1 ≡ j = omega arith in
-          let within : j ≤ length paths = omega (arith, below) in
-          let here : list_all (λ (earlier : Path). are_apart advert earlier path) (take j paths) ≡ true =
-          ap (λ (n : ℕ). list_all (λ (earlier : Path). are_apart advert earlier path) (take n paths)) (sym place) ∙ not_false _ (by_number.0 none j d below) in
-          let each = AllPass-from_list_all (λ (earlier : Path). are_apart advert earlier path) (take j paths) here in
-          ap (λ (earlier : Path). are_apart advert earlier path) (sym (get_or-take j paths i d before)) ∙ each i d (omega (arith, before, length-take-le j paths within)),
-      λ pairs.
-          by_number.1 (λ j d below.
-          let path : Path = get_or paths j d in
-          let place : j + 1 - 1 ≡ j = omega arith in
-          let within : j ≤ length paths = omega (arith, below) in
-          let each = list_all-from_AllPass (λ (earlier : Path). are_apart advert earlier path) (take j paths) (λ i e inside.
-          let before : i < j = omega (arith, inside, length-take-le j paths within) in
-          ap (λ (earlier : Path). are_apart advert earlier path) (get_or-take j paths i e before) ∙ ap (are_apart advert (get_or paths i e)) (get_or_default paths j d e below) ∙ pairs i j e before below) in
-          ap not (ap (λ (n : ℕ). list_all (λ (earlier : Path). are_apart advert earlier path) (take n paths)) place ∙ each)),
+    let by_number = none_at (lane_flaw advert paths) paths in
+    let earlier = each_earlier advert paths in
+    (λ none. earlier.0 (λ k d below. not_false _ (by_number.0 none k d below)), λ pairs. by_number.1 (λ k d below. ap not (earlier.1 pairs k d below)))
+
+-- kept paths without a flaw are a plan that the module can carry
+pub kept_admissible : (advert : Advertised) (kept : List Path) → NoFlaw (kept_flaws advert kept) ↔ IsAdmissible advert kept
+unfolding kept_flaws
+kept_admissible advert kept =
+    let by_number = none_at (kept_flaw advert kept) kept in
+    let earlier = each_earlier advert kept in (
+      λ none.
+          let parts = λ (k : ℕ) (d : Path) (below : k < length kept). and_parts _ _ (not_false _ (by_number.0 none k d below)) in
+          record { allowed = λ k d below. (parts k d below).0; apart = earlier.0 (λ k d below. (parts k d below).1) },
+      λ plan. by_number.1 (λ k d below. (λ i. not (plan.allowed k d below i && earlier.1 plan.apart k d below i))),
+    )
+
+-- none is missing
+pub none_missing : (kept paths : List Path) → NoFlaw (missing_flaws kept paths) ↔ Keeps kept paths
+unfolding missing_flaws
+none_missing kept paths =
+    let by_number = none_at (missing_flaw paths) kept in (
+      λ none. recursion_from_All (Contains paths) kept (λ k d below. listed_among paths (get_or kept k d) (not_false _ (by_number.0 none k d below))),
+      λ keeps.
+          let all = All-from_recursion (Contains paths) kept keeps in
+          by_number.1 (λ k d below. ap not (among_listed paths (get_or kept k d) (all k d below))),
     )
 
 pub plan_admissible : (advert : Advertised) (paths : List Path) → NoFlaw (plan_flaws advert paths) ↔ IsAdmissible advert paths

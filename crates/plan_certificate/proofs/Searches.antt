@@ -1,10 +1,10 @@
 -- Searches from the front of a list, one element after another: what is left to search.
-use Rattle.std.proofs.Common.{◌≡◌, ◌&&◌, map, option_map, ℕ, suc, ◌+◌, ◌<◌, ◌≤◌, Bool, true, false, List, [], ◌∷◌, ◌++◌, Some, None, length, drop, get_or, refl, ap, ◌∙◌, cond, arith}
+use Rattle.std.proofs.Common.{◌≡◌, ◌&&◌, ◌||◌, map, option_map, ℕ, suc, ◌+◌, ◌<◌, ◌≤◌, Bool, true, false, List, [], ◌∷◌, ◌++◌, Some, None, length, drop, get_or, refl, ap, ◌∙◌, cond, arith}
 use Rattle.std.proofs.Math.Seq.{drop-cons}
 use Rattle.std.proofs.Math.ListN.{drop_of_length-le}
 use Rattle.std.proofs.lemmas.List.Concat.{flat_map_single}
 use Rattle.std.proofs.lemmas.List.FromFn.{get_or-enumerate_from, length-enumerate_from}
-use Rattle.std.specs.List.{find, flat_map, enumerate_from, list_all}
+use Rattle.std.specs.List.{flat_map, enumerate_from, list_all, list_any}
 use Rattle.field_tables.specs.FirstFault.{first_fault}
 
 abbrev rest_from : {X : Type 0} → ℕ → List X → List X
@@ -74,6 +74,16 @@ all_later test xs k d below passes =
 pub not_all : {X : Type 0} (test : X → Bool) (xs : List X) (k : ℕ) (d : X) → k < length xs → test (get_or xs k d) ≡ false → list_all test (drop k xs) ≡ false
 not_all test xs k d below fails =
     ap (list_all test) (next xs k d below) ∙ ap (λ b. b && list_all test (rest_from k xs)) fails
+
+-- ---- whether some element passes a test
+
+pub any_later : {X : Type 0} (test : X → Bool) (xs : List X) (k : ℕ) (d : X) → k < length xs → test (get_or xs k d) ≡ false → list_any test (drop k xs) ≡ list_any test (drop (k + 1) xs)
+any_later test xs k d below fails =
+    ap (list_any test) (next xs k d below) ∙ ap (λ b. b || list_any test (rest_from k xs)) fails
+
+pub any_here : {X : Type 0} (test : X → Bool) (xs : List X) (k : ℕ) (d : X) → k < length xs → test (get_or xs k d) ≡ true → list_any test (drop k xs) ≡ true
+any_here test xs k d below passes =
+    ap (list_any test) (next xs k d below) ∙ ap (λ b. b || list_any test (rest_from k xs)) passes
 
 -- ---- faults of numbered elements
 

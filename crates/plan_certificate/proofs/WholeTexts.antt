@@ -4,14 +4,14 @@ use Rattle.std.specs.List.{AllByRecursion}
 use Rattle.plan_certificate.specs.declared.path.Path.{Path}
 use Rattle.plan_certificate.specs.declared.certificate.Entry.{Entry}
 use Rattle.plan_certificate.specs.declared.line.Line.{Line}
-use Rattle.plan_certificate.specs.declared.line.Line.TheVariants.{PathLine, StateLine, End}
+use Rattle.plan_certificate.specs.declared.line.Line.TheVariants.{KeepLine, PathLine, StateLine, End}
 use Rattle.plan_certificate.specs.declared.stage.Stage.{Stage}
-use Rattle.plan_certificate.specs.declared.stage.Stage.TheVariants.{Start, Headed, Weighed, Ended}
+use Rattle.plan_certificate.specs.declared.stage.Stage.TheVariants.{Start, Headed, KeptHeaded, KeptWeighed, Weighed, Ended}
 use Rattle.plan_certificate.specs.Certificates.{Claim}
 use Rattle.plan_certificate.specs.CertificateText.{line_text, certificate_lines, lines_in, IsLineInRange, IsInRange}
 use Rattle.plan_certificate.specs.CertificateDrafts.{lines_before_end, lines_so_far}
 use Rattle.plan_certificate.proofs.LineWords.{same_line}
-use Rattle.plan_certificate.proofs.NextLines.{behind_weight, nothing_left}
+use Rattle.plan_certificate.proofs.NextLines.{behind_weight, nothing_left, regrouped}
 use Rattle.plan_certificate.proofs.Drafts.{so_far_in_range}
 
 pub same_lines : (xs ys : List Line) → AllByRecursion IsLineInRange xs → AllByRecursion IsLineInRange ys → map line_text xs ≡ map line_text ys → xs ≡ ys
@@ -27,6 +27,11 @@ same_lines (x ∷ xs) (y ∷ ys) hx hy e =
 
 -- ---- the certificate that lines are those of
 
+abbrev kept_in : List Line → List Path
+kept_in [] = []
+kept_in (KeepLine path ∷ lines) = path ∷ kept_in lines
+kept_in (line ∷ lines) = kept_in lines
+
 abbrev paths_in : List Line → List Path
 paths_in [] = []
 paths_in (PathLine path ∷ lines) = path ∷ paths_in lines
@@ -37,34 +42,54 @@ entries_in [] = []
 entries_in (StateLine entry ∷ lines) = entry ∷ entries_in lines
 entries_in (line ∷ lines) = entries_in lines
 
-paths_back : (paths : List Path) (entries : List Entry) → paths_in (map PathLine paths ++ (map StateLine entries ++ End ∷ [])) ≡ paths
-paths_back [] [] = refl
-paths_back [] (entry ∷ entries) = paths_back [] entries
-paths_back (path ∷ paths) entries = ap (λ l. path ∷ l) (paths_back paths entries)
+-- the lists of a certificate, one after another
+abbrev lists_of : List Path → List Path → List Entry → List Line
+lists_of kept paths entries = map KeepLine kept ++ (map PathLine paths ++ (map StateLine entries ++ End ∷ []))
 
-entries_back : (paths : List Path) (entries : List Entry) → entries_in (map PathLine paths ++ (map StateLine entries ++ End ∷ [])) ≡ entries
-entries_back [] [] = refl
-entries_back [] (entry ∷ entries) = ap (λ l. entry ∷ l) (entries_back [] entries)
-entries_back (path ∷ paths) entries = entries_back paths entries
+kept_back : (kept paths : List Path) (entries : List Entry) → kept_in (lists_of kept paths entries) ≡ kept
+kept_back [] [] [] = refl
+kept_back [] [] (entry ∷ entries) = kept_back [] [] entries
+kept_back [] (path ∷ paths) entries = kept_back [] paths entries
+kept_back (path ∷ kept) paths entries = ap (λ l. path ∷ l) (kept_back kept paths entries)
+
+paths_back : (kept paths : List Path) (entries : List Entry) → paths_in (lists_of kept paths entries) ≡ paths
+paths_back [] [] [] = refl
+paths_back [] [] (entry ∷ entries) = paths_back [] [] entries
+paths_back [] (path ∷ paths) entries = ap (λ l. path ∷ l) (paths_back [] paths entries)
+paths_back (path ∷ kept) paths entries = paths_back kept paths entries
+
+entries_back : (kept paths : List Path) (entries : List Entry) → entries_in (lists_of kept paths entries) ≡ entries
+entries_back [] [] [] = refl
+entries_back [] [] (entry ∷ entries) = ap (λ l. entry ∷ l) (entries_back [] [] entries)
+entries_back [] (path ∷ paths) entries = entries_back [] paths entries
+entries_back (path ∷ kept) paths entries = entries_back kept paths entries
 
 same_parts : (a b : Claim) → lines_in a ≡ lines_in b → a ≡ b
 same_parts a b e =
     let weights : a.weight ≡ b.weight = cc in
-    let nested = λ (c : Claim). append_assoc (map PathLine c.paths) (map StateLine c.entries) (End ∷ []) in
-    let lists : map PathLine a.paths ++ map StateLine a.entries ++ End ∷ [] ≡ map PathLine b.paths ++ map StateLine b.entries ++ End ∷ [] = cc in
-    let whole = sym (nested a) ∙ lists ∙ nested b in
-    let paths = sym (paths_back a.paths a.entries) ∙ ap paths_in whole ∙ paths_back b.paths b.entries in
-    let entries = sym (entries_back a.paths a.entries) ∙ ap entries_in whole ∙ entries_back b.paths b.entries in
-    λ i. record { weight = weights i; paths = paths i; entries = entries i }
+    let lists : map KeepLine a.kept ++ map PathLine a.paths ++ map StateLine a.entries ++ End ∷ [] ≡ map KeepLine b.kept ++ map PathLine b.paths ++ map StateLine b.entries ++ End ∷ [] = cc in
+    let whole = sym (regrouped a.kept a.paths a.entries (End ∷ [])) ∙ lists ∙ regrouped b.kept b.paths b.entries (End ∷ []) in
+    let kept = sym (kept_back a.kept a.paths a.entries) ∙ ap kept_in whole ∙ kept_back b.kept b.paths b.entries in
+    let paths = sym (paths_back a.kept a.paths a.entries) ∙ ap paths_in whole ∙ paths_back b.kept b.paths b.entries in
+    let entries = sym (entries_back a.kept a.paths a.entries) ∙ ap entries_in whole ∙ entries_back b.kept b.paths b.entries in
+    λ i. record { weight = weights i; kept = kept i; paths = paths i; entries = entries i }
 
 pub same_certificate : (a b : Claim) → IsInRange a → IsInRange b → certificate_lines a ≡ certificate_lines b → a ≡ b
 same_certificate a b ra rb e = same_parts a b (same_lines (lines_in a) (lines_in b) ra rb e)
 
 -- ---- without `end`
 
+ends : (lines : List Line) → lines ++ End ∷ [] ≢ []
+ends [] none = cc
+ends (line ∷ lines) none = cc
+
 no_end : (stage : Stage) (certificate other : Claim) → stage ≢ Ended → lines_in other ≢ lines_so_far stage certificate
 no_end Start certificate other short e = cc
 no_end Headed certificate other short e = cc
+no_end KeptHeaded certificate other short e = cc
+no_end KeptWeighed certificate other short e =
+    let none : map KeepLine other.kept ++ map PathLine other.paths ++ map StateLine other.entries ++ End ∷ [] ≡ [] = cc in
+    ends (map KeepLine other.kept ++ map PathLine other.paths ++ map StateLine other.entries) none
 no_end Weighed certificate other short e =
     let longer = ap (λ l. l ++ End ∷ []) (sym e) ∙ append_assoc (lines_before_end other) (End ∷ []) (End ∷ []) in
     nothing_left other certificate End [] (behind_weight other certificate End (End ∷ []) longer)

@@ -1,4 +1,5 @@
--- The text of a certificate: a header, the weight, the paths in their order, the entries by rising states, and `end`.
+-- The text of a certificate: a header, the weight, the kept paths and the paths in their order, the entries by rising
+-- states, and `end`. The header says version 2 where paths are kept, else version 1.
 -- (docs/formats.md, "Certificate")
 use Rattle.std.specs.Prelude.{◌≡◌, ℕ, ◌<◌, ◌≤◌, ◌^◌, List, [], ◌∷◌, ◌++◌, length, map, codes}
 use Rattle.std.specs.List.{AllByRecursion}
@@ -8,7 +9,7 @@ use Rattle.text_lines.specs.Words.{spaced}
 use Rattle.plan_certificate.specs.declared.path.Path.{Path}
 use Rattle.plan_certificate.specs.declared.certificate.Entry.{Entry}
 use Rattle.plan_certificate.specs.declared.line.Line.{Line}
-use Rattle.plan_certificate.specs.declared.line.Line.TheVariants.{Header, Weight, PathLine, StateLine, End}
+use Rattle.plan_certificate.specs.declared.line.Line.TheVariants.{Header, KeptHeader, Weight, KeepLine, PathLine, StateLine, End}
 use Rattle.plan_certificate.specs.Certificates.{Claim, HasStates}
 
 -- the Application, its first host lane and its first media lane
@@ -21,7 +22,9 @@ state_values entry = decimal entry.boundary ∷ encode_lower (entry.used ∷ [])
 
 unfoldable pub line_words : Line → List (List ℕ)
 line_words Header = codes "certificate" ∷ codes "1" ∷ []
+line_words KeptHeader = codes "certificate" ∷ codes "2" ∷ []
 line_words (Weight weight) = codes "weight" ∷ decimal weight ∷ []
+line_words (KeepLine path) = codes "keep" ∷ path_values path
 line_words (PathLine path) = codes "path" ∷ path_values path
 line_words (StateLine entry) = codes "state" ∷ state_values entry
 line_words End = codes "end" ∷ []
@@ -29,7 +32,7 @@ line_words End = codes "end" ∷ []
 abbrev pub line_text : Line → List ℕ
 line_text line = spaced (line_words line)
 
--- the numbers of a path line are numbers of one byte
+-- the numbers of a path are numbers of one byte
 pub record IsPathInRange (path : Path) : Type 0 where
   pub app : path.app < 256
   pub host : path.host < 256
@@ -44,14 +47,24 @@ pub record IsEntryInRange (entry : Entry) : Type 0 where
 -- the numbers of a line are in their ranges
 abbrev pub IsLineInRange : Line → Type 0
 IsLineInRange Header = Unit {0}
+IsLineInRange KeptHeader = Unit {0}
 IsLineInRange (Weight weight) = weight < 2 ^ 64
+IsLineInRange (KeepLine path) = IsPathInRange path
 IsLineInRange (PathLine path) = IsPathInRange path
 IsLineInRange (StateLine entry) = IsEntryInRange entry
 IsLineInRange End = Unit {0}
 
+-- the first line of a certificate that keeps these paths
+abbrev pub header_of : List Path → Line
+header_of [] = Header
+header_of (path ∷ paths) = KeptHeader
+
 -- the lines of a certificate
 abbrev pub lines_in : Claim → List Line
-lines_in certificate = Header ∷ Weight certificate.weight ∷ map PathLine certificate.paths ++ map StateLine certificate.entries ++ End ∷ []
+lines_in certificate =
+    header_of certificate.kept
+    ∷ Weight certificate.weight
+    ∷ map KeepLine certificate.kept ++ map PathLine certificate.paths ++ map StateLine certificate.entries ++ End ∷ []
 
 abbrev pub certificate_lines : Claim → List (List ℕ)
 certificate_lines certificate = map line_text (lines_in certificate)
@@ -65,9 +78,10 @@ pub record IsInRangeAndOrder (certificate : Claim) : Type 0 where
   pub in_range : IsInRange certificate
   pub states : HasStates certificate.entries
 
--- and there are at most 8 paths, and so many states at most
+-- and there are at most 8 kept paths, 8 paths, and so many states
 pub record IsReadable (states : ℕ) (certificate : Claim) : Type 0 where
   pub ordered : IsInRangeAndOrder certificate
+  pub few_kept : length certificate.kept ≤ 8
   pub few_paths : length certificate.paths ≤ 8
   pub few_states : length certificate.entries ≤ states
 

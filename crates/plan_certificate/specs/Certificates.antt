@@ -1,5 +1,5 @@
--- Certificates: a plan with a bound, for each state, on what can still be gained from it. (docs/planning.md,
--- "Certificates")
+-- Certificates: a plan, what it keeps, and a bound, for each state, on what can still be gained from it.
+-- (docs/planning.md, "Certificates")
 use Rattle.std.specs.Prelude.{◌≡◌, ℕ, ◌+◌, ◌*◌, ◌<◌, ◌≤◌, List, All, AllPairs, Contains}
 use Rattle.field_tables.specs.LaneSets.{lanes_in}
 use Rattle.applications.specs.Advertised.{Advertised}
@@ -8,12 +8,13 @@ use Rattle.plan_certificate.specs.declared.path.Path.{Path}
 use Rattle.plan_certificate.specs.declared.certificate.Entry.{Entry}
 use Rattle.plan_certificate.specs.declared.state.State.{State}
 use Rattle.plan_certificate.specs.declared.state.Step.{Step}
-use Rattle.plan_certificate.specs.Plans.{IsAdmissible, plan_weight}
+use Rattle.plan_certificate.specs.Plans.{IsAdmissible, Keeps, plan_weight}
 use Rattle.plan_certificate.specs.States.{start, steps_from}
 
 -- what a certificate says, be it right or not
 pub record Claim : Type 0 where
   pub weight : ℕ
+  pub kept : List Path
   pub paths : List Path
   pub entries : List Entry
 
@@ -40,7 +41,10 @@ IsCovered entries potential step = (later : ℕ) × IsBound entries step.end lat
 
 -- the certificate is right for these Applications and weights
 pub record IsGood (advert : Advertised) (weights : HostWeights) (certificate : Claim) : Type 0 where
+  pub kept : IsAdmissible advert certificate.kept
   pub admissible : IsAdmissible advert certificate.paths
+  pub keeps : Keeps certificate.kept certificate.paths
   pub weighs : certificate.weight ≡ plan_weight advert weights certificate.paths
-  pub closed : All (λ entry. All (IsCovered certificate.entries entry.potential) (steps_from advert weights (state_of entry))) certificate.entries
+  pub closed : All (λ entry. All (IsCovered certificate.entries entry.potential) (steps_from advert weights certificate.kept (state_of entry)))
+      certificate.entries
   pub begun : IsBound certificate.entries start certificate.weight

@@ -1,5 +1,6 @@
 pub mod Paths
 pub mod Plans
+pub mod KeptPaths
 pub mod States
 pub mod ReachedStates
 pub mod Moves
@@ -8,5 +9,6 @@ pub mod Lookups
 pub mod Verdicts
 pub mod CertificateText
 pub mod CertificateFaults
+pub mod KeptText
 pub mod CertificateDrafts
 pub mod FaultWords

@@ -1,6 +1,6 @@
--- The allowed paths that begin at a host lane, listed once for all states, and the steps that they give from a state.
+-- The paths that may begin at a host lane, listed once for all states, and the steps that they give from a state.
 -- (docs/planning.md, "States and steps")
-use Rattle.std.specs.Prelude.{◌≡◌, ℕ, ◌+◌, ◌≤◌, Bool, List, ◌∷◌, All, Contains, length, map, filter}
+use Rattle.std.specs.Prelude.{◌≡◌, ℕ, ◌+◌, ◌≤◌, Bool, List, ◌++◌, All, Contains, length, map, filter}
 use Rattle.std.specs.FinSet as set
 use Rattle.field_tables.specs.LaneSets.{is_disjoint}
 use Rattle.applications.specs.Advertised.{Advertised}
@@ -9,8 +9,9 @@ use Rattle.plan_certificate.specs.declared.path.Path.{Path}
 use Rattle.plan_certificate.specs.declared.moves.Move.{Move}
 use Rattle.plan_certificate.specs.declared.state.State.{State}
 use Rattle.plan_certificate.specs.declared.state.Step.{Step}
-use Rattle.plan_certificate.specs.Paths.{app_of, media_lanes, is_allowed, path_weight}
-use Rattle.plan_certificate.specs.States.{free_step, paths_at}
+use Rattle.plan_certificate.specs.Paths.{app_of, media_lanes, path_weight}
+use Rattle.plan_certificate.specs.KeptPaths.{is_eligible, may_stay_free}
+use Rattle.plan_certificate.specs.States.{free_steps, paths_at}
 
 abbrev pub move_of : Advertised → HostWeights → Path → Move
 move_of advert weights path = record {
@@ -20,13 +21,13 @@ move_of advert weights path = record {
   weight = path_weight advert weights path;
 }
 
--- those of the paths that are allowed
-unfoldable pub moves_of : Advertised → HostWeights → List Path → List Move
-moves_of advert weights paths = map (move_of advert weights) (filter (is_allowed advert) paths)
+-- those of the paths that a plan with these kept paths may hold
+unfoldable pub moves_of : Advertised → HostWeights → List Path → List Path → List Move
+moves_of advert weights kept paths = map (move_of advert weights) (filter (is_eligible advert kept) paths)
 
 -- by rising Application and media lane
-abbrev pub moves_at : Advertised → HostWeights → ℕ → List Move
-moves_at advert weights host = moves_of advert weights (paths_at advert host)
+abbrev pub moves_at : Advertised → HostWeights → List Path → ℕ → List Move
+moves_at advert weights kept host = moves_of advert weights kept (paths_at advert host)
 
 -- a move is open at a state that uses none of its media lanes
 abbrev pub is_open : State → Move → Bool
@@ -41,9 +42,9 @@ move_step state move = record {
 abbrev pub move_steps : State → List Move → List Step
 move_steps state moves = map (move_step state) (filter (is_open state) moves)
 
--- the free lane's step, and those of the moves that are open
-abbrev pub steps_by : State → List Move → List Step
-steps_by state moves = free_step state ∷ move_steps state moves
+-- the free lane's step, where it may stay free, and those of the moves that are open
+abbrev pub steps_by : Bool → State → List Move → List Step
+steps_by free state moves = free_steps free state ++ move_steps state moves
 
 -- from a state with this boundary a move leads further, and not past the last host lane
 pub record LeadsOn (boundary : ℕ) (move : Move) : Type 0 where
@@ -69,7 +70,9 @@ pub record AreHeaviest (moves heaviest : List Move) : Type 0 where
   pub few : length heaviest ≤ length moves
 
 -- what begins at the host lane after a boundary
-pub record AreMoves (advert : Advertised) (weights : HostWeights) (boundary : ℕ) (all heaviest : List Move) : Type 0 where
-  pub listed : all ≡ moves_at advert weights (boundary + 1)
+pub record AreMoves (advert : Advertised) (weights : HostWeights) (kept : List Path) (boundary : ℕ) (free : Bool)
+    (all heaviest : List Move) : Type 0 where
+  pub freed : free ≡ may_stay_free advert kept (boundary + 1)
+  pub listed : all ≡ moves_at advert weights kept (boundary + 1)
   pub heavy : AreHeaviest all heaviest
   pub lead_on : All (LeadsOn boundary) all

@@ -1,6 +1,6 @@
 -- Data paths: which are allowed on a module, the lanes that they take, and what they weigh. (docs/planning.md, "Data
 -- paths"; OIF-CMIS-05.0, chapter 6 "Core Management Features", "Data Paths", and chapter 8, "Applications Advertising")
-use Rattle.std.specs.Prelude.{ℕ, ◌+◌, ◌==◌, ◌&&◌, Bool, nat_le, find}
+use Rattle.std.specs.Prelude.{◌≡◌, ℕ, ◌+◌, ◌<◌, ◌⊎◌, ◌==◌, ◌&&◌, Bool, nat_le, find}
 use Rattle.std.specs.Option.{unwrap_or}
 use Rattle.std.specs.FinSet as set
 use Rattle.field_tables.specs.LaneSets.{Lanes, run_of, is_disjoint}
@@ -53,3 +53,7 @@ is_allowed advert path =
 
 abbrev pub path_weight : Advertised → HostWeights → Path → ℕ
 path_weight advert weights path = weight_at weights (app_of advert path).host_id
+
+-- the path has the lower Application, or the same and the lower media lane
+abbrev pub IsLower : Path → Path → Type 0
+IsLower path other = (path.app < other.app) ⊎ ((path.app ≡ other.app) × (path.media < other.media))

@@ -1,6 +1,6 @@
 -- How a plan grows, one host lane after another: states, and the steps from a state. (docs/planning.md, "States and
 -- steps")
-use Rattle.std.specs.Prelude.{ℕ, ◌+◌, ◌*◌, ◌/◌, ◌%◌, ◌&&◌, Bool, nat_lt, if◌then◌else◌, List, [], ◌∷◌, map, filter, flat_map}
+use Rattle.std.specs.Prelude.{ℕ, ◌+◌, ◌*◌, ◌/◌, ◌%◌, ◌&&◌, Bool, nat_lt, if◌then◌else◌, List, [], ◌∷◌, ◌++◌, map, filter, flat_map}
 use Rattle.std.specs.List.{range_with_len}
 use Rattle.std.specs.FinSet as set
 use Rattle.field_tables.specs.LaneSets.{is_disjoint, lanes_in, byte_of}
@@ -9,7 +9,8 @@ use Rattle.applications.specs.Weights.{HostWeights}
 use Rattle.plan_certificate.specs.declared.path.Path.{Path}
 use Rattle.plan_certificate.specs.declared.state.State.{State}
 use Rattle.plan_certificate.specs.declared.state.Step.{Step}
-use Rattle.plan_certificate.specs.Paths.{app_of, media_lanes, is_allowed, path_weight}
+use Rattle.plan_certificate.specs.Paths.{app_of, media_lanes, path_weight}
+use Rattle.plan_certificate.specs.KeptPaths.{is_eligible, may_stay_free}
 
 -- the place of a state among all 2,304: by boundary, then by the byte of used media lanes
 abbrev pub state_place : State → ℕ
@@ -25,6 +26,10 @@ start = record { boundary = 0; used = set.empty }
 -- the next host lane stays free
 abbrev pub free_step : State → Step
 free_step state = record { weight = 0; end = record { boundary = state.boundary + 1; used = state.used } }
+
+-- its step, where it may
+abbrev pub free_steps : Bool → State → List Step
+free_steps may state = if may then free_step state ∷ [] else []
 
 -- a path begins at the next host lane
 abbrev pub path_step : Advertised → HostWeights → State → Path → Step
@@ -44,16 +49,17 @@ paths_of_app host app = map (λ media. record { app = app; host = host; media = 
 abbrev pub paths_at : Advertised → ℕ → List Path
 paths_at advert host = flat_map (λ app. paths_of_app host app.number) advert.apps
 
-abbrev pub fits : Advertised → State → Path → Bool
-fits advert state path = is_allowed advert path && is_disjoint (media_lanes advert path) state.used
+abbrev pub fits : Advertised → List Path → State → Path → Bool
+fits advert kept state path = is_eligible advert kept path && is_disjoint (media_lanes advert path) state.used
 
 -- the steps of those of these paths that fit
-unfoldable pub path_steps : Advertised → HostWeights → State → List Path → List Step
-path_steps advert weights state paths = map (path_step advert weights state) (filter (fits advert state) paths)
+unfoldable pub path_steps : Advertised → HostWeights → List Path → State → List Path → List Step
+path_steps advert weights kept state paths = map (path_step advert weights state) (filter (fits advert kept state) paths)
 
--- the free lane's step, then those of the paths that fit
-unfoldable pub steps_from : Advertised → HostWeights → State → List Step
-steps_from advert weights state =
+-- the free lane's step, unless the lane is a kept path's, and then those of the paths that fit
+unfoldable pub steps_from : Advertised → HostWeights → List Path → State → List Step
+steps_from advert weights kept state =
     if nat_lt state.boundary 8
-    then free_step state ∷ path_steps advert weights state (paths_at advert (state.boundary + 1))
+    then free_steps (may_stay_free advert kept (state.boundary + 1)) state
+    ++ path_steps advert weights kept state (paths_at advert (state.boundary + 1))
     else []

@@ -1,6 +1,6 @@
 -- How a certificate is judged: its flaws in order, of which the first counts. (docs/planning.md, "The checker")
 use Rattle.std.specs.Prelude.{ℕ, ◌+◌, ◌-◌, ◌==◌, Bool, not, nat_lt, List, [], ◌∷◌, ◌++◌, Option, Some, None, map, take, find, flat_map}
-use Rattle.std.specs.List.{enumerate_from, list_all}
+use Rattle.std.specs.List.{enumerate_from}
 use Rattle.std.specs.Option.{option_map, unwrap_or, is_none}
 use Rattle.field_tables.specs.FirstFault.{first_fault}
 use Rattle.applications.specs.Advertised.{Advertised}
@@ -12,9 +12,10 @@ use Rattle.plan_certificate.specs.declared.certificate.Entry.{Entry}
 use Rattle.plan_certificate.specs.declared.verdict.Verdict.{Verdict}
 use Rattle.plan_certificate.specs.declared.verdict.Verdict.TheVariants.{Good, Bad}
 use Rattle.plan_certificate.specs.declared.verdict.Reason.{Reason}
-use Rattle.plan_certificate.specs.declared.verdict.Reason.TheVariants.{PathNotAllowed, LaneTwice, WeightWrong, NoStart, NotClosed, TooLow, StartNotWeight}
+use Rattle.plan_certificate.specs.declared.verdict.Reason.TheVariants.{KeptNotAdmissible, PathNotAllowed, LaneTwice, KeptMissing, WeightWrong, NoStart, NotClosed, TooLow, StartNotWeight}
 use Rattle.plan_certificate.specs.Paths.{is_allowed}
-use Rattle.plan_certificate.specs.Plans.{are_apart, plan_weight}
+use Rattle.plan_certificate.specs.Plans.{plan_weight}
+use Rattle.plan_certificate.specs.KeptPaths.{is_among, is_apart_from, may_join}
 use Rattle.plan_certificate.specs.States.{start, state_place, steps_from}
 use Rattle.plan_certificate.specs.Certificates.{Claim, state_of, entry_place}
 
@@ -25,13 +26,24 @@ Flaw = Bool × (Reason × ℕ)
 abbrev pub Flaws : Type 0
 Flaws = List Flaw
 
+-- a kept path that isn't allowed, or takes a lane of a kept path before it; kept paths count from 1
+abbrev pub kept_flaw : Advertised → List Path → ℕ × Path → Flaw
+kept_flaw advert kept (number, path) = (not (may_join advert (take (number - 1) kept) path), (KeptNotAdmissible, number))
+
 -- a path that isn't allowed; paths count from 1
 abbrev pub path_flaw : Advertised → ℕ × Path → Flaw
 path_flaw advert (number, path) = (not (is_allowed advert path), (PathNotAllowed, number))
 
 -- a path that takes a lane of a path before it
 abbrev pub lane_flaw : Advertised → List Path → ℕ × Path → Flaw
-lane_flaw advert paths (number, path) = (not (list_all (λ earlier. are_apart advert earlier path) (take (number - 1) paths)), (LaneTwice, number))
+lane_flaw advert paths (number, path) = (not (is_apart_from advert (take (number - 1) paths) path), (LaneTwice, number))
+
+-- a kept path that the plan lacks
+abbrev pub missing_flaw : List Path → ℕ × Path → Flaw
+missing_flaw paths (number, path) = (not (is_among paths path), (KeptMissing, number))
+
+unfoldable pub kept_flaws : Advertised → List Path → Flaws
+kept_flaws advert kept = map (kept_flaw advert kept) (enumerate_from 1 kept)
 
 unfoldable pub path_flaws : Advertised → List Path → Flaws
 path_flaws advert paths = map (path_flaw advert) (enumerate_from 1 paths)
@@ -39,8 +51,19 @@ path_flaws advert paths = map (path_flaw advert) (enumerate_from 1 paths)
 unfoldable pub lane_flaws : Advertised → List Path → Flaws
 lane_flaws advert paths = map (lane_flaw advert paths) (enumerate_from 1 paths)
 
+unfoldable pub missing_flaws : List Path → List Path → Flaws
+missing_flaws kept paths = map (missing_flaw paths) (enumerate_from 1 kept)
+
+-- the number of the first kept path that isn't allowed, or takes a lane of a kept path before it
+abbrev pub kept_fault : Advertised → List Path → Option ℕ
+kept_fault advert kept = option_map (λ flaw. flaw.1) (first_fault (kept_flaws advert kept))
+
 abbrev pub plan_flaws : Advertised → List Path → Flaws
 plan_flaws advert paths = path_flaws advert paths ++ lane_flaws advert paths
+
+-- the kept paths', the plan's, and then the plan's where it lacks kept ones
+abbrev pub paths_flaws : Advertised → List Path → List Path → Flaws
+paths_flaws advert kept paths = kept_flaws advert kept ++ (plan_flaws advert paths ++ missing_flaws kept paths)
 
 -- the potential of a state, where it has an entry
 unfoldable pub potential_of : List Entry → State → Option ℕ
@@ -57,25 +80,25 @@ step_flaws entries (number, entry) step =
 abbrev pub steps_flaws : List Entry → ℕ × Entry → List Step → Flaws
 steps_flaws entries entry steps = flat_map (step_flaws entries entry) steps
 
-abbrev pub entry_flaws : Advertised → HostWeights → List Entry → ℕ × Entry → Flaws
-entry_flaws advert weights entries entry = steps_flaws entries entry (steps_from advert weights (state_of entry.1))
+abbrev pub entry_flaws : Advertised → HostWeights → List Path → List Entry → ℕ × Entry → Flaws
+entry_flaws advert weights kept entries entry = steps_flaws entries entry (steps_from advert weights kept (state_of entry.1))
 
-unfoldable pub entries_flaws : Advertised → HostWeights → List Entry → Flaws
-entries_flaws advert weights entries = flat_map (entry_flaws advert weights entries) (enumerate_from 1 entries)
+unfoldable pub entries_flaws : Advertised → HostWeights → List Path → List Entry → Flaws
+entries_flaws advert weights kept entries = flat_map (entry_flaws advert weights kept entries) (enumerate_from 1 entries)
 
 -- entries that don't bound what can be gained, or not by the weight
-unfoldable pub bound_flaws : Advertised → HostWeights → List Entry → ℕ → Flaws
-bound_flaws advert weights entries weight =
+unfoldable pub bound_flaws : Advertised → HostWeights → List Path → List Entry → ℕ → Flaws
+bound_flaws advert weights kept entries weight =
     (is_none (potential_of entries start), (NoStart, 0))
-    ∷ entries_flaws advert weights entries
+    ∷ entries_flaws advert weights kept entries
     ++ (not (unwrap_or (potential_of entries start) 0 == weight), (StartNotWeight, 0))
     ∷ []
 
 abbrev pub all_flaws : Advertised → HostWeights → Claim → Flaws
 all_flaws advert weights certificate =
-    plan_flaws advert certificate.paths
+    paths_flaws advert certificate.kept certificate.paths
     ++ (not (certificate.weight == plan_weight advert weights certificate.paths), (WeightWrong, 0))
-    ∷ bound_flaws advert weights certificate.entries certificate.weight
+    ∷ bound_flaws advert weights certificate.kept certificate.entries certificate.weight
 
 abbrev pub judged : Option (Reason × ℕ) → Verdict
 judged None = Good

@@ -40,10 +40,13 @@ impl Entry {
     }
 }
 
-/// A plan, its weight, and entries that are to show that no plan weighs more: `check` says whether they do.
+/// A plan, its weight, the paths that it keeps, and entries that are to show that no plan that keeps them weighs more:
+/// `check` says whether they do.
 #[derive(Debug, Drop)]
 pub struct Certificate<const STATES: usize> {
     pub weight: u64,
+    /// Paths that a plan has to hold, in any order.
+    pub kept: Plan,
     pub plan: Plan,
     /// The states rise by boundary, then by the byte of used media lanes.
     pub entries: ArrayVec<Entry, STATES>,
@@ -54,7 +57,7 @@ impl<const STATES: usize> Model for Certificate<STATES> {
 
     ghost Value = { Claim };
 
-    ghost view = { λ certificate. record { weight = certificate.weight; paths = certificate.plan; entries = certificate.entries.items } };
+    ghost view = { λ certificate. record { weight = certificate.weight; kept = certificate.kept; paths = certificate.plan; entries = certificate.entries.items } };
 
     ghost invariant = { λ certificate. HasStates certificate.entries.items };
 }

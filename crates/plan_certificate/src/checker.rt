@@ -1,14 +1,15 @@
 ghost use Rattle.std.specs.Prelude.{◌≡◌, ◌↔◌, ◌<◌, ◌≤◌, ◌+◌, All};
 ghost use Rattle.field_tables.specs.FirstFault.{first_fault};
-ghost use Rattle.plan_certificate.specs.Plans.{IsBest};
+ghost use Rattle.plan_certificate.specs.Plans.{AreAllowed, IsBest};
 ghost use Rattle.plan_certificate.specs.Moves.{AreMoves, LeadsOn, steps_by};
 ghost use Rattle.plan_certificate.specs.Certificates.{HasStates, IsGood, state_of};
 ghost use Rattle.plan_certificate.specs.Verdicts as spec;
 
 use crate::certificate::{Certificate, Entry};
-use crate::flaws::plan_flaw;
+use crate::flaws::paths_flaw;
 use crate::lookup::Entries;
 use crate::moves::{Move, Moves};
+use crate::path::Path;
 use crate::plan::{Plan, weight_of};
 use crate::state::{HOST_LANES, State, Step};
 use crate::verdict::{Reason, Verdict};
@@ -22,12 +23,13 @@ pub fn check<const STATES: usize>(
 ) -> Verdict
     ensures verdict { result ≡ spec.verdict advert.now weights.now certificate.now }
     ensures good { (result ≡ Verdict.Good) ↔ IsGood advert.now weights.now certificate.now }
-    ensures best { result ≡ Verdict.Good → IsBest advert.now weights.now certificate.now.paths }
+    ensures best { result ≡ Verdict.Good → IsBest advert.now weights.now certificate.now.kept certificate.now.paths }
 {
     match flaw(
         advert,
         weights,
         certificate.weight,
+        &certificate.kept,
         &certificate.plan,
         certificate.entries.as_slice(),
     ) {
@@ -40,34 +42,38 @@ fn flaw(
     advert: &Advert,
     weights: &Weights,
     weight: u64,
+    kept: &Plan,
     plan: &Plan,
     entries: &[Entry],
 ) -> Option<(Reason, usize)>
     requires { HasStates entries.now }
-    ensures { result ≡ first_fault (spec.all_flaws advert.now weights.now (record { weight = weight; paths = plan.now; entries = entries.now })) }
+    ensures { result ≡ first_fault (spec.all_flaws advert.now weights.now (record { weight = weight; kept = kept.now; paths = plan.now; entries = entries.now })) }
 {
-    if let Some(flaw) = plan_flaw(advert, plan.paths.as_slice()) {
+    let (kept, paths) = (kept.paths.as_slice(), plan.paths.as_slice());
+    if let Some(flaw) = paths_flaw(advert, kept, paths) {
         return Some(flaw);
     }
     if weight != weight_of(advert, weights, plan) {
         return Some((Reason::WeightWrong, 0));
     }
-    bound_flaw(advert, weights, &Entries::of(entries), weight)
+    bound_flaw(advert, weights, kept, &Entries::of(entries), weight)
 }
 
 // What is wrong with the entries, as bounds on what can be gained.
 fn bound_flaw(
     advert: &Advert,
     weights: &Weights,
+    kept: &[Path],
     entries: &Entries,
     weight: u64,
 ) -> Option<(Reason, usize)>
-    ensures { result ≡ first_fault (spec.bound_flaws advert.now weights.now entries.now weight) }
+    requires { AreAllowed advert.now kept.now }
+    ensures { result ≡ first_fault (spec.bound_flaws advert.now weights.now kept.now entries.now weight) }
 {
     let Some(start) = entries.potential_of(State::start()) else {
         return Some((Reason::NoStart, 0));
     };
-    if let Some(flaw) = entries_flaw(advert, weights, entries) {
+    if let Some(flaw) = entries_flaw(advert, weights, kept, entries) {
         return Some(flaw);
     }
     if start != weight {
@@ -76,13 +82,27 @@ fn bound_flaw(
     None
 }
 
-fn entries_flaw(advert: &Advert, weights: &Weights, entries: &Entries) -> Option<(Reason, usize)>
-    ensures { result ≡ first_fault (spec.entries_flaws advert.now weights.now entries.now) }
+fn entries_flaw(
+    advert: &Advert,
+    weights: &Weights,
+    kept: &[Path],
+    entries: &Entries,
+) -> Option<(Reason, usize)>
+    requires { AreAllowed advert.now kept.now }
+    ensures { result ≡ first_fault (spec.entries_flaws advert.now weights.now kept.now entries.now) }
 {
-    let mut moves = Moves::at(advert, weights, 0);
+    let mut moves = Moves::at(advert, weights, kept, 0);
     let all = entries.all();
     for (place, entry) in all.iter().enumerate() {
-        if let Some(flaw) = entry_flaw(advert, weights, &mut moves, entries, place + 1, entry) {
+        if let Some(flaw) = entry_flaw(
+            advert,
+            weights,
+            kept,
+            &mut moves,
+            entries,
+            place + 1,
+            entry,
+        ) {
             return Some(flaw);
         }
     }
@@ -93,29 +113,33 @@ fn entries_flaw(advert: &Advert, weights: &Weights, entries: &Entries) -> Option
 fn entry_flaw(
     advert: &Advert,
     weights: &Weights,
+    kept: &[Path],
     moves: &mut Moves,
     entries: &Entries,
     number: usize,
     entry: &Entry,
 ) -> Option<(Reason, usize)>
     requires open { moves.old.boundary < 8 }
-    requires moves { AreMoves advert.now weights.now moves.old.boundary moves.old.all.items moves.old.heaviest.items }
-    ensures flaw { result ≡ first_fault (spec.entry_flaws advert.now weights.now entries.now (number, entry.now)) }
+    requires kept { AreAllowed advert.now kept.now }
+    requires moves { AreMoves advert.now weights.now kept.now moves.old.boundary moves.old.may_stay_free moves.old.all.items moves.old.heaviest.items }
+    ensures flaw { result ≡ first_fault (spec.entry_flaws advert.now weights.now kept.now entries.now (number, entry.now)) }
     ensures open { moves.new.boundary < 8 }
-    ensures moves { AreMoves advert.now weights.now moves.new.boundary moves.new.all.items moves.new.heaviest.items }
+    ensures moves { AreMoves advert.now weights.now kept.now moves.new.boundary moves.new.may_stay_free moves.new.all.items moves.new.heaviest.items }
 {
     if entry.boundary >= HOST_LANES {
         return None;
     }
-    moves.turn_to(advert, weights, entry.boundary);
-    if steps_flaw(moves.heaviest.as_slice(), entries, number, entry).is_none() {
+    moves.turn_to(advert, weights, kept, entry.boundary);
+    let free = moves.may_stay_free;
+    if steps_flaw(free, moves.heaviest.as_slice(), entries, number, entry).is_none() {
         return None;
     }
-    steps_flaw(moves.all.as_slice(), entries, number, entry)
+    steps_flaw(free, moves.all.as_slice(), entries, number, entry)
 }
 
-// The first flaw of the free lane's step and those of moves.
+// The first flaw of the free lane's step, where it may stay free, and those of moves.
 fn steps_flaw(
+    may_stay_free: bool,
     moves: &[Move],
     entries: &Entries,
     number: usize,
@@ -123,12 +147,14 @@ fn steps_flaw(
 ) -> Option<(Reason, usize)>
     requires open { entry.now.boundary < 8 }
     requires lead_on { All (LeadsOn entry.now.boundary) moves.now }
-    ensures { result ≡ first_fault (spec.steps_flaws entries.now (number, entry.now) (steps_by (state_of entry.now) moves.now)) }
+    ensures { result ≡ first_fault (spec.steps_flaws entries.now (number, entry.now) (steps_by may_stay_free (state_of entry.now) moves.now)) }
 {
     let state = entry.state();
-    let free = state.free_step();
-    if let Some(flaw) = step_flaw(entries, number, entry, &free) {
-        return Some(flaw);
+    if may_stay_free {
+        let free = state.free_step();
+        if let Some(flaw) = step_flaw(entries, number, entry, &free) {
+            return Some(flaw);
+        }
     }
     for one in moves {
         if one.is_open(&state) {

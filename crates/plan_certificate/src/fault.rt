@@ -9,7 +9,7 @@ pub enum CertificateFault {
     BadLine(usize),
     /// The state of the line isn't above the one before it.
     OutOfOrder(usize),
-    /// It would be the ninth path, or a state for which there is no room.
+    /// It would be the ninth kept path, the ninth path, or a state for which there is no room.
     TooMany,
     /// The text ends without `end`.
     NoEnd,
@@ -28,6 +28,34 @@ impl Spelled for CertificateFault {
             CertificateFault::OutOfOrder(line) => Spelling::of("CT2").and(line),
             CertificateFault::TooMany => Spelling::of("CT3"),
             CertificateFault::NoEnd => Spelling::of("CT4"),
+        }
+    }
+}
+
+/// Why a text names no kept paths, or why these can't be kept. Lines and paths count from 1.
+#[derive(Clone, Copy, Debug, PartialEq, Eq, Drop, Error)]
+#[error("these paths can't be kept")]
+pub enum KeptFault {
+    /// The line names no kept path.
+    BadLine(usize),
+    /// It would be the ninth kept path.
+    TooMany,
+    /// A path that isn't allowed or shares a lane with an earlier one, as `kept_fault` finds it.
+    NotAdmissible(u8),
+}
+
+impl Spelled for KeptFault {
+    ghost use Rattle.plan_certificate.specs.FaultWords.{kept_fault_words};
+
+    ghost words = { kept_fault_words };
+
+    ghost most = { 2 };
+
+    fn spelling(&self) -> Spelling {
+        match self {
+            KeptFault::BadLine(line) => Spelling::of("KP1").and(line),
+            KeptFault::TooMany => Spelling::of("KP2"),
+            KeptFault::NotAdmissible(number) => Spelling::of("KP3").and(number),
         }
     }
 }

@@ -1,14 +1,28 @@
 // What is wrong with the paths of a plan.
-ghost use Rattle.std.specs.Prelude.{◌≡◌, ◌↔◌, All, None, true};
-ghost use Rattle.std.specs.List.{list_all};
+ghost use Rattle.std.specs.Prelude.{◌≡◌, ◌↔◌, ◌≤◌, None, IfSome, length};
 ghost use Rattle.field_tables.specs.FirstFault.{first_fault};
-ghost use Rattle.plan_certificate.specs.Paths.{is_allowed};
-ghost use Rattle.plan_certificate.specs.Plans.{are_apart, IsAdmissible};
-ghost use Rattle.plan_certificate.specs.Verdicts.{path_flaws, lane_flaws, plan_flaws};
+ghost use Rattle.plan_certificate.specs.Plans.{AreAllowed, IsAdmissible};
+ghost use Rattle.plan_certificate.specs.Verdicts.{kept_flaws, path_flaws, lane_flaws, missing_flaws, paths_flaws, plan_flaws};
 
+use crate::kept::{is_among, is_apart_from, may_join};
 use crate::path::Path;
 use crate::verdict::Reason;
 use applications::Advert;
+
+/// What is wrong with kept paths and with the plan that is to hold them.
+pub fn paths_flaw(advert: &Advert, kept: &[Path], paths: &[Path]) -> Option<(Reason, usize)>
+    ensures flaw { result ≡ first_fault (paths_flaws advert.now kept.now paths.now) }
+    ensures kept { result ≡ None → IsAdmissible advert.now kept.now }
+    ensures plan { result ≡ None → IsAdmissible advert.now paths.now }
+{
+    if let Some(flaw) = kept_flaw(advert, kept) {
+        return Some(flaw);
+    }
+    if let Some(flaw) = plan_flaw(advert, paths) {
+        return Some(flaw);
+    }
+    missing_flaw(kept, paths)
+}
 
 /// What is wrong with the paths of a plan.
 pub fn plan_flaw(advert: &Advert, paths: &[Path]) -> Option<(Reason, usize)>
@@ -35,26 +49,39 @@ fn path_flaw(advert: &Advert, paths: &[Path]) -> Option<(Reason, usize)>
 
 // The first path that takes a lane of a path before it.
 fn lane_flaw(advert: &Advert, paths: &[Path]) -> Option<(Reason, usize)>
-    requires { All (λ path. is_allowed advert.now path ≡ true) paths.now }
+    requires { AreAllowed advert.now paths.now }
     ensures { result ≡ first_fault (lane_flaws advert.now paths.now) }
 {
     for (place, path) in paths.iter().enumerate() {
-        if !is_apart_from_all(advert, *path, &paths[..place]) {
+        if !is_apart_from(advert, &paths[..place], *path) {
             return Some((Reason::LaneTwice, place + 1));
         }
     }
     None
 }
 
-fn is_apart_from_all(advert: &Advert, path: Path, others: &[Path]) -> bool
-    requires path { is_allowed advert.now path ≡ true }
-    requires others { All (λ other. is_allowed advert.now other ≡ true) others.now }
-    ensures { result ≡ list_all (λ other. are_apart advert.now other path) others.now }
+/// The first kept path that isn't allowed or shares a lane with an earlier one.
+pub fn kept_flaw(advert: &Advert, kept: &[Path]) -> Option<(Reason, usize)>
+    ensures flaw { result ≡ first_fault (kept_flaws advert.now kept.now) }
+    ensures none { (result ≡ None) ↔ IsAdmissible advert.now kept.now }
+    ensures within { IfSome result (λ flaw. flaw.1 ≤ length kept.now) }
 {
-    for other in others {
-        if !other.is_apart(path, advert) {
-            return false;
+    for (place, path) in kept.iter().enumerate() {
+        if !may_join(advert, &kept[..place], *path) {
+            return Some((Reason::KeptNotAdmissible, place + 1));
         }
     }
-    true
+    None
+}
+
+// The first kept path that the plan lacks.
+fn missing_flaw(kept: &[Path], paths: &[Path]) -> Option<(Reason, usize)>
+    ensures { result ≡ first_fault (missing_flaws kept.now paths.now) }
+{
+    for (place, path) in kept.iter().enumerate() {
+        if !is_among(paths, *path) {
+            return Some((Reason::KeptMissing, place + 1));
+        }
+    }
+    None
 }

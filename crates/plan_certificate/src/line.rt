@@ -15,8 +15,12 @@ use text_lines::{HexByte, read_decimal, read_hex_byte, split_words};
 /// A line of a certificate's text.
 #[derive(Clone, Copy, Debug)]
 pub enum Line {
+    /// Of version 1: nothing is kept.
     Header,
+    /// Of version 2: kept paths follow the weight.
+    KeptHeader,
     Weight(u64),
+    KeepLine(Path),
     PathLine(Path),
     StateLine(Entry),
     End,
@@ -29,7 +33,12 @@ impl fmt::Display for Line {
     fn fmt<W: fmt::Write>(&self, f: &mut fmt::Formatter<W>) -> fmt::Result {
         match self {
             Line::Header => write!(f, "certificate 1"),
+            Line::KeptHeader => write!(f, "certificate 2"),
             Line::Weight(weight) => write!(f, "weight {weight}"),
+            Line::KeepLine(path) => {
+                let (app, host, media) = (path.app, path.host, path.media);
+                write!(f, "keep {app} {host} {media}")
+            }
             Line::PathLine(path) => {
                 let (app, host, media) = (path.app, path.host, path.media);
                 write!(f, "path {app} {host} {media}")
@@ -92,6 +101,8 @@ fn read_head(name: &[u8], value: &[u8]) -> Option<Line>
     if name == b"certificate".as_slice() {
         return if value == b"1".as_slice() {
             Some(Line::Header)
+        } else if value == b"2".as_slice() {
+            Some(Line::KeptHeader)
         } else {
             None
         };
@@ -105,13 +116,18 @@ fn read_head(name: &[u8], value: &[u8]) -> Option<Line>
     }
 }
 
-// A path or a state.
+// A kept path, a path or a state.
 #[tactic(auto, unfolding(crate::specs::CertificateText::line_words))]
 fn read_item(name: &[u8], first: &[u8], second: &[u8], third: &[u8]) -> Option<Line>
     ensures { MatchOption result ((line : Line) → IsLineInRange line → name.now ∷ first.now ∷ second.now ∷ third.now ∷ [] ≢ line_words line)
         (λ line. IsLineInRange line × (name.now ∷ first.now ∷ second.now ∷ third.now ∷ [] ≡ line_words line)) }
 {
-    if name == b"path".as_slice() {
+    if name == b"keep".as_slice() {
+        match read_path(first, second, third) {
+            Some(path) => Some(Line::KeepLine(path)),
+            None => None,
+        }
+    } else if name == b"path".as_slice() {
         match read_path(first, second, third) {
             Some(path) => Some(Line::PathLine(path)),
             None => None,

@@ -1,20 +1,22 @@
-ghost use Rattle.std.specs.Prelude.{◌≡◌, ◌≤◌, ◌<◌, ◌+◌, ◌-◌, ◌++◌, ◌⊎◌, length, true, All, Contains, IfSome};
+ghost use Rattle.std.specs.Prelude.{◌≡◌, ◌≤◌, ◌<◌, ◌+◌, ◌-◌, ◌++◌, ◌⊎◌, length, true, All, AllPairs, Contains, IfSome};
 ghost use Rattle.std.specs.List.{HoldsAt};
-ghost use Rattle.plan_certificate.specs.Paths.{is_allowed};
+ghost use Rattle.plan_certificate.specs.Paths.{IsLower, is_allowed};
+ghost use Rattle.plan_certificate.specs.Plans.{AreAllowed};
 ghost use Rattle.plan_certificate.specs.States.{paths_of_app};
 ghost use Rattle.plan_certificate.specs.Moves.{AreHeaviest, AreMoves, HasLanesOf, IsOutweighed, LeadsOn};
 ghost use Rattle.plan_certificate.specs.Moves as spec;
 
+use crate::kept::{is_eligible, may_stay_free};
 use crate::path::Path;
 use crate::state::{State, Step};
 use applications::{Advert, Weights};
 use arrayvec::ArrayVec;
 use field_tables::LaneSet;
 
-/// How many allowed paths begin at a host lane at most: one for each Application and media lane.
+/// How many paths that are allowed begin at a host lane at most: one for each Application and media lane.
 pub const MAX_MOVES: usize = 120;
 
-/// An allowed path, and what its step needs: how far it leads, the media lanes that it takes, what it weighs.
+/// A path that a plan may hold, and what its step needs: how far it leads, its media lanes, what it weighs.
 #[derive(Clone, Copy, Debug, PartialEq, Eq, Default)]
 pub struct Move {
     pub path: Path,
@@ -48,10 +50,12 @@ impl Move {
     }
 }
 
-/// The moves at the host lane after a boundary.
+/// The moves at the host lane after a boundary, for plans that keep certain paths.
 #[derive(Debug, Drop)]
 pub struct Moves {
     pub boundary: u8,
+    /// Whether the lane may stay free: no kept path has it.
+    pub may_stay_free: bool,
     /// By rising Application and media lane.
     pub all: ArrayVec<Move, MAX_MOVES>,
     /// Of those on the same lanes one that weighs most.
@@ -59,41 +63,52 @@ pub struct Moves {
 }
 
 impl Moves {
-    pub fn at(advert: &Advert, weights: &Weights, boundary: u8) -> Self
-        requires { boundary < 8 }
+    pub fn at(advert: &Advert, weights: &Weights, kept: &[Path], boundary: u8) -> Self
+        requires open { boundary < 8 }
+        requires kept { AreAllowed advert.now kept.now }
         ensures boundary { result.boundary ≡ boundary }
-        ensures moves { AreMoves advert.now weights.now boundary result.all.items result.heaviest.items }
+        ensures moves { AreMoves advert.now weights.now kept.now boundary result.may_stay_free result.all.items result.heaviest.items }
     {
-        let all = moves_at(advert, weights, boundary + 1);
+        let all = moves_at(advert, weights, kept, boundary + 1);
         let heaviest = heaviest(all.as_slice());
         Moves {
             boundary,
+            may_stay_free: may_stay_free(advert, kept, boundary + 1),
             all,
             heaviest,
         }
     }
 
     /// Turns to the host lane after another boundary.
-    pub fn turn_to(&mut self, advert: &Advert, weights: &Weights, boundary: u8)
+    pub fn turn_to(&mut self, advert: &Advert, weights: &Weights, kept: &[Path], boundary: u8)
         requires boundary { boundary < 8 }
-        requires moves { AreMoves advert.now weights.now self.old.boundary self.old.all.items self.old.heaviest.items }
+        requires kept { AreAllowed advert.now kept.now }
+        requires moves { AreMoves advert.now weights.now kept.now self.old.boundary self.old.may_stay_free self.old.all.items self.old.heaviest.items }
         ensures boundary { self.new.boundary ≡ boundary }
-        ensures moves { AreMoves advert.now weights.now boundary self.new.all.items self.new.heaviest.items }
+        ensures moves { AreMoves advert.now weights.now kept.now boundary self.new.may_stay_free self.new.all.items self.new.heaviest.items }
     {
         if self.boundary != boundary {
-            *self = Moves::at(advert, weights, boundary);
+            *self = Moves::at(advert, weights, kept, boundary);
         }
     }
 }
 
-/// The moves of the allowed paths from a host lane on, by rising Application and media lane.
-pub fn moves_at(advert: &Advert, weights: &Weights, host: u8) -> ArrayVec<Move, MAX_MOVES>
-    ensures moves { result.items ≡ spec.moves_at advert.now weights.now host }
+/// The moves of the paths from a host lane on that a plan with the kept ones may hold, by rising Application and media
+/// lane.
+pub fn moves_at(
+    advert: &Advert,
+    weights: &Weights,
+    kept: &[Path],
+    host: u8,
+) -> ArrayVec<Move, MAX_MOVES>
+    requires { AreAllowed advert.now kept.now }
+    ensures moves { result.items ≡ spec.moves_at advert.now weights.now kept.now host }
+    ensures rising { AllPairs (λ one later. IsLower one.path later.path) result.items }
     ensures lead_on { All (LeadsOn (host - 1)) result.items }
 {
     let mut moves = ArrayVec::new();
     for app in advert.apps() {
-        push_moves(&mut moves, advert, weights, host, app.number);
+        push_moves(&mut moves, advert, weights, kept, host, app.number);
     }
     moves
 }
@@ -103,11 +118,13 @@ fn push_moves(
     moves: &mut ArrayVec<Move, MAX_MOVES>,
     advert: &Advert,
     weights: &Weights,
+    kept: &[Path],
     host: u8,
     app: u8,
 )
     requires room { length moves.old.items + 8 ≤ MAX_MOVES }
-    ensures moves { moves.new.items ≡ moves.old.items ++ spec.moves_of advert.now weights.now (paths_of_app host app) }
+    requires kept { AreAllowed advert.now kept.now }
+    ensures moves { moves.new.items ≡ moves.old.items ++ spec.moves_of advert.now weights.now kept.now (paths_of_app host app) }
     ensures few { length moves.new.items ≤ length moves.old.items + 8 }
 {
     for before in 0..8 {
@@ -116,7 +133,7 @@ fn push_moves(
             host,
             media: before + 1,
         };
-        if path.is_allowed(advert) {
+        if is_eligible(advert, kept, path) {
             let one = move_of(advert, weights, path);
             moves.push(one);
         }

@@ -6,6 +6,7 @@ use applications::{Advert, App, Weights};
 use field_tables::LaneSet;
 
 /// A data path: an Application on consecutive host lanes and consecutive media lanes.
+#[repr(C)]
 #[derive(Clone, Copy, Debug, PartialEq, Eq, Default)]
 pub struct Path {
     /// The Application's number, 1 to 15 in an allowed path.

@@ -1,4 +1,4 @@
-use crate::flaws::plan_flaw;
+use crate::flaws::{kept_flaw, plan_flaw};
 use crate::path::Path;
 use applications::{Advert, Weights};
 use arrayvec::ArrayVec;
@@ -22,14 +22,26 @@ impl Model for Plan {
     ghost view = { λ plan. plan.paths.items };
 }
 
-ghost use Rattle.std.specs.Prelude.{◌≡◌, ◌↔◌, IsTrue};
+ghost use Rattle.std.specs.Prelude.{◌≡◌, ◌↔◌, IsTrue, None};
 ghost use Rattle.plan_certificate.specs.Plans.{IsAdmissible, plan_weight};
+ghost use Rattle.plan_certificate.specs.Verdicts.{kept_fault};
 
 /// Whether the module can carry the plan: its paths are allowed, and no two share a lane.
 pub fn admissible(advert: &Advert, plan: &Plan) -> bool
     ensures { IsTrue result ↔ IsAdmissible advert.now plan.now }
 {
     plan_flaw(advert, plan.paths.as_slice()).is_none()
+}
+
+/// The number from 1 of the first path that isn't allowed or shares a lane with an earlier one.
+pub fn kept_fault(advert: &Advert, kept: &Plan) -> Option<u8>
+    ensures fault { result ≡ kept_fault advert.now kept.now }
+    ensures none { (result ≡ None) ↔ IsAdmissible advert.now kept.now }
+{
+    match kept_flaw(advert, kept.paths.as_slice()) {
+        Some((_, number)) => Some(number as u8),
+        None => None,
+    }
 }
 
 /// What a plan weighs.

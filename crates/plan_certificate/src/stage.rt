@@ -3,9 +3,13 @@
 pub enum Stage {
     /// No line.
     Start,
-    /// The header.
+    /// The header of a certificate that keeps nothing.
     Headed,
-    /// The weight, and paths and states, if any.
+    /// The header of one that keeps paths.
+    KeptHeaded,
+    /// That header and the weight: the first kept path is due.
+    KeptWeighed,
+    /// The weight, kept paths if the header says so, and paths and states, if any.
     Weighed,
     /// All lines, up to `end`.
     Ended,

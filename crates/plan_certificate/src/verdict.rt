@@ -17,6 +17,10 @@ pub enum Reason {
     TooLow,
     /// The potential of the state without decided lanes isn't the weight.
     StartNotWeight,
+    /// A kept path that the module can't carry, or that shares a lane with an earlier kept one.
+    KeptNotAdmissible,
+    /// A kept path that isn't in the plan.
+    KeptMissing,
 }
 
 impl Spelled for Reason {
@@ -35,6 +39,8 @@ impl Spelled for Reason {
             Reason::NotClosed => "VR5",
             Reason::TooLow => "VR6",
             Reason::StartNotWeight => "VR7",
+            Reason::KeptNotAdmissible => "VR8",
+            Reason::KeptMissing => "VR9",
         })
     }
 }
@@ -42,8 +48,8 @@ impl Spelled for Reason {
 /// What a certificate is worth.
 #[derive(Clone, Copy, Debug, PartialEq, Eq)]
 pub enum Verdict {
-    /// The plan is admissible, and no admissible plan weighs more.
+    /// The plan is admissible and holds the kept paths, and no admissible plan that does weighs more.
     Good,
-    /// The first reason against it, and the number from 1 of the path or the entry, or else 0.
+    /// The first reason against it, and the number from 1 of the path, the kept path or the entry, or else 0.
     Bad(Reason, usize),
 }

@@ -1,14 +1,15 @@
 // Reading a certificate from its text, one line after another.
-ghost use Rattle.std.specs.Prelude.{◌≡◌, ◌↔◌, ◌<◌, ◌≤◌, ◌+◌, ◌++◌, ◌∷◌, [], ℕ, IsTrue, IfOk, IfErr, map, length};
+ghost use Rattle.std.specs.Prelude.{◌≡◌, ◌≢◌, ◌↔◌, ◌<◌, ◌≤◌, ◌+◌, ◌++◌, ◌∷◌, [], ℕ, IsTrue, IfOk, IfErr, map, length};
 ghost use Rattle.std.specs.Bool.{OnTrue, OnFalse};
 ghost use Rattle.std.specs.List.{All};
 ghost use Rattle.text_lines.specs.Lines.{lines_of};
 ghost use Rattle.plan_certificate.specs.declared.line.Line.{Line};
+ghost use Rattle.plan_certificate.specs.declared.stage.Stage.TheVariants as stages;
 ghost use Rattle.plan_certificate.specs.declared.plan.TheConstants.{MAX_PATHS};
 ghost use Rattle.plan_certificate.specs.Certificates.{entry_place, HasStates};
-ghost use Rattle.plan_certificate.specs.CertificateText.{line_text, IsLineInRange, IsEntryInRange, IsTextOf};
+ghost use Rattle.plan_certificate.specs.CertificateText.{line_text, IsLineInRange, IsTextOf};
 ghost use Rattle.plan_certificate.specs.CertificateFaults.{IsLineFault, IsFirstFault};
-ghost use Rattle.plan_certificate.specs.CertificateDrafts.{lines_so_far, text_so_far, due, IsInTurn, IsDraft};
+ghost use Rattle.plan_certificate.specs.CertificateDrafts.{lines_so_far, text_so_far, HasKeptAlone, MayCome, IsDraft};
 
 use super::{Certificate, Entry};
 use crate::fault::CertificateFault;
@@ -45,10 +46,13 @@ impl<const STATES: usize> Certificate<STATES> {
 
     // What is known before any line.
     fn blank() -> Self
-        ensures { result ≡ record { weight = 0; paths = []; entries = [] } }
+        ensures { result ≡ record { weight = 0; kept = []; paths = []; entries = [] } }
     {
         Certificate {
             weight: 0,
+            kept: Plan {
+                paths: ArrayVec::new(),
+            },
             plan: Plan {
                 paths: ArrayVec::new(),
             },
@@ -72,36 +76,55 @@ impl<const STATES: usize> Certificate<STATES> {
         let Some(line) = read_line(line) else {
             return Err(CertificateFault::BadLine(number));
         };
-        if stage != due(line) || !self.is_in_turn(line) {
+        if !self.may_come(stage, line) {
             return Err(CertificateFault::BadLine(number));
         }
-        self.add(line, number)
+        self.add(stage, line, number)
     }
 
-    // Paths come before all states.
-    fn is_in_turn(&self, line: Line) -> bool
-        ensures { IsTrue result ↔ IsInTurn self.now line }
+    // Kept paths come before paths, and paths before states.
+    fn may_come(&self, stage: Stage, line: Line) -> bool
+        ensures { IsTrue result ↔ MayCome stage self.now line }
     {
         match line {
-            Line::PathLine(_) => self.entries.is_empty(),
-            _ => true,
+            Line::Header | Line::KeptHeader => stage == Stage::Start,
+            Line::Weight(_) => stage == Stage::Headed || stage == Stage::KeptHeaded,
+            Line::KeepLine(_) => {
+                stage == Stage::KeptWeighed || stage == Stage::Weighed && self.has_kept_alone()
+            }
+            Line::PathLine(_) => stage == Stage::Weighed && self.entries.is_empty(),
+            Line::StateLine(_) | Line::End => stage == Stage::Weighed,
         }
+    }
+
+    fn has_kept_alone(&self) -> bool
+        ensures { IsTrue result ↔ HasKeptAlone self.now }
+    {
+        let (kept, plan) = (&self.kept, &self.plan);
+        !kept.paths.is_empty() && plan.paths.is_empty() && self.entries.is_empty()
     }
 
     // Adds what the next line says.
-    fn add(&mut self, line: Line, number: usize) -> Result<Stage, CertificateFault>
-        requires drafted { IsDraft STATES (due line) self.old }
-        requires in_turn { IsInTurn self.old line }
+    fn add(&mut self, stage: Stage, line: Line, number: usize) -> Result<Stage, CertificateFault>
+        requires drafted { IsDraft STATES stage self.old }
+        requires in_turn { MayCome stage self.old line }
         requires fits { IsLineInRange line }
-        requires counted { number ≡ length (lines_so_far (due line) self.old) + 1 }
+        requires counted { number ≡ length (lines_so_far stage self.old) + 1 }
         ensures drafted { IfOk result (λ next. IsDraft STATES next self.new) }
-        ensures added { IfOk result (λ next. lines_so_far next self.new ≡ lines_so_far (due line) self.old ++ line ∷ []) }
-        ensures fault { IfErr result (IsLineFault STATES (text_so_far (due line) self.old ++ line_text line ∷ [])) }
+        ensures added { IfOk result (λ next. lines_so_far next self.new ≡ lines_so_far stage self.old ++ line ∷ []) }
+        ensures fault { IfErr result (IsLineFault STATES (text_so_far stage self.old ++ line_text line ∷ [])) }
     {
         match line {
             Line::Header => Ok(Stage::Headed),
+            Line::KeptHeader => Ok(Stage::KeptHeaded),
             Line::Weight(weight) => {
                 self.weight = weight;
+                Ok(weighed(stage))
+            }
+            Line::KeepLine(path) => {
+                if !add_path(&mut self.kept, path) {
+                    return Err(CertificateFault::TooMany);
+                }
                 Ok(Stage::Weighed)
             }
             Line::PathLine(path) => {
@@ -124,14 +147,14 @@ impl<const STATES: usize> Certificate<STATES> {
     }
 }
 
-// How much has been read where a line comes next.
-fn due(line: Line) -> Stage
-    ensures { result ≡ due line }
+// What a weight leads to.
+fn weighed(stage: Stage) -> Stage
+    ensures kept { stage ≡ stages.KeptHeaded → result ≡ stages.KeptWeighed }
+    ensures others { stage ≢ stages.KeptHeaded → result ≡ stages.Weighed }
 {
-    match line {
-        Line::Header => Stage::Start,
-        Line::Weight(_) => Stage::Headed,
-        Line::PathLine(_) | Line::StateLine(_) | Line::End => Stage::Weighed,
+    match stage {
+        Stage::KeptHeaded => Stage::KeptWeighed,
+        _ => Stage::Weighed,
     }
 }
 

@@ -5,7 +5,7 @@ ghost use Rattle.std.specs.List.{AllByRecursion};
 ghost use Rattle.text_lines.specs.Lines.{lines_of, text_of};
 ghost use Rattle.plan_certificate.specs.declared.line.Line.{Line};
 ghost use Rattle.plan_certificate.specs.Certificates.{HasStates};
-ghost use Rattle.plan_certificate.specs.CertificateText.{line_text, certificate_lines, IsPathInRange, IsEntryInRange, IsReadable, IsTextOf};
+ghost use Rattle.plan_certificate.specs.CertificateText.{header_of, line_text, certificate_lines, IsPathInRange, IsEntryInRange, IsReadable, IsTextOf};
 
 use super::{Certificate, Entry};
 use crate::line::Line;
@@ -20,10 +20,11 @@ impl<const STATES: usize> Certificate<STATES> {
         ensures readable { OnOk result (IsReadable STATES self.now) }
         ensures read_back { IfOk result (λ text. IsTextOf STATES (lines_of text.items) self.now) }
     {
-        let (weight, plan) = (self.weight, &self.plan);
+        let (weight, kept, plan) = (self.weight, &self.kept, &self.plan);
         let mut text = String::new(alloc);
-        write_line(&mut text, Line::Header)?;
+        write_line(&mut text, header_of(&kept.paths))?;
         write_line(&mut text, Line::Weight(weight))?;
+        write_kept(&mut text, &kept.paths)?;
         write_paths(&mut text, &plan.paths)?;
         write_entries(&mut text, &self.entries)?;
         write_line(&mut text, Line::End)?;
@@ -35,6 +36,36 @@ fn write_line(text: &mut String, line: Line) -> Result<(), AllocError>
     ensures { OnOk result (string_bytes text.new ≡ string_bytes text.old ++ (line_text line ++ 10 ∷ [])) }
 {
     writeln!(text, "{line}")
+}
+
+// The first line of a certificate that keeps these paths.
+fn header_of(kept: &[Path]) -> Line
+    ensures { result ≡ header_of kept.now }
+{
+    if kept.is_empty() {
+        Line::Header
+    } else {
+        Line::KeptHeader
+    }
+}
+
+fn write_kept(text: &mut String, paths: &[Path]) -> Result<(), AllocError>
+    ensures written { OnOk result (string_bytes text.new ≡ string_bytes text.old ++ text_of (map line_text (map (λ path. Line.KeepLine path) paths.now))) }
+    ensures each { OnOk result (AllByRecursion IsPathInRange paths.now) }
+{
+    for path in paths {
+        write_keep(text, *path)?;
+    }
+    Ok(())
+}
+
+fn write_keep(text: &mut String, path: Path) -> Result<(), AllocError>
+    ensures written { OnOk result (string_bytes text.new ≡ string_bytes text.old ++ (line_text (Line.KeepLine path) ++ 10 ∷ [])) }
+    ensures fits { OnOk result (IsPathInRange path) }
+{
+    // Read here, the three are known to be bytes, as `fits` says.
+    let (_app, _host, _media) = (path.app, path.host, path.media);
+    write_line(text, Line::KeepLine(path))
 }
 
 fn write_paths(text: &mut String, paths: &[Path]) -> Result<(), AllocError>

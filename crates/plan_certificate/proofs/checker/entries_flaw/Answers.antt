@@ -12,18 +12,18 @@ no_entry = record { boundary = 0; used = 0; potential = 0 }
 
 pub loop-place-init : goal.loop-place-init
 unfolding entries_flaws
-loop-place-init c = record { none = refl; below = omega (arith, c.at-moves.ensures.boundary); moves = subst (λ (n : ℕ). AreMoves c.args.advert.now c.args.weights.now n c.at-moves.result.all.items c.at-moves.result.heaviest.items) (sym c.at-moves.ensures.boundary) c.at-moves.ensures.moves }
+loop-place-init c = record { none = refl; below = omega (arith, c.at-moves.ensures.boundary); moves = subst (λ (n : ℕ). AreMoves c.args.advert.now c.args.weights.now c.args.kept.now n c.at-moves.result.may_stay_free c.at-moves.result.all.items c.at-moves.result.heaviest.items) (sym c.at-moves.ensures.boundary) c.at-moves.ensures.moves }
 
 pub returns-in-Some : goal.returns-in-Some
 returns-in-Some c =
-    let flaws = entry_flaws c.args.advert.now c.args.weights.now c.args.entries.now in
+    let flaws = entry_flaws c.args.advert.now c.args.weights.now c.args.kept.now c.args.entries.now in
     let place = c.loop-place.place in
     let here = numbered_here flaws c.all-all.result.now place no_entry c.in-Some.flaw c.loop-place-test.true (sym c.entry_flaw.ensures.flaw ∙ c.in-Some.is) in
     sym (sym c.loop-place.invariant.none ∙ subst (λ (entries : List Entry). first_fault (flat_map flaws (drop place (enumerate_from 1 entries))) ≡ Some c.in-Some.flaw) c.all-all.ensures here)
 
 pub loop-place-preserved : goal.loop-place-preserved
 loop-place-preserved c =
-    let flaws = entry_flaws c.args.advert.now c.args.weights.now c.args.entries.now in
+    let flaws = entry_flaws c.args.advert.now c.args.weights.now c.args.kept.now c.args.entries.now in
     let place = c.loop-place.place in
     let later = numbered_later flaws c.all-all.result.now place no_entry c.loop-place-test.true (sym c.entry_flaw.ensures.flaw ∙ c.in_default.is) in
     record {
@@ -36,6 +36,6 @@ loop-place-preserved c =
 
 pub returns : goal.returns
 returns c =
-    let flaws = entry_flaws c.args.advert.now c.args.weights.now c.args.entries.now in
+    let flaws = entry_flaws c.args.advert.now c.args.weights.now c.args.kept.now c.args.entries.now in
     let length_is : length c.all-all.result.now ≡ length c.args.entries.now = ap (λ (entries : List Entry). length entries) c.all-all.ensures in
     sym (sym c.loop-place.invariant.none ∙ numbered_end flaws c.args.entries.now c.loop-place.place (omega (arith, length_is, c.loop-place-test.false)))

@@ -9,8 +9,8 @@ use Rattle.plan_certificate.proofs.checker.entries_flaw.Given as goal
 abbrev pub invariant-loop-place : goal.invariant-loop-place
 invariant-loop-place l = record {
   none :
-      first_fault (flat_map (entry_flaws l.advert l.weights l.entries) (drop l.place (enumerate_from 1 l.entries)))
-      ≡ first_fault (entries_flaws l.advert l.weights l.entries);
+      first_fault (flat_map (entry_flaws l.advert l.weights l.kept l.entries) (drop l.place (enumerate_from 1 l.entries)))
+      ≡ first_fault (entries_flaws l.advert l.weights l.kept l.entries);
   below : l.moves.boundary < 8;
-  moves : AreMoves l.advert l.weights l.moves.boundary l.moves.all.items l.moves.heaviest.items;
+  moves : AreMoves l.advert l.weights l.kept l.moves.boundary l.moves.may_stay_free l.moves.all.items l.moves.heaviest.items;
 }

@@ -12,7 +12,7 @@ use Rattle.plan_certificate.proofs.checker.entry_flaw.Goals as goal
 
 pub returns-then-entry-ge-HOST_LANES-clause-flaw : goal.returns-then-entry-ge-HOST_LANES-clause-flaw
 returns-then-entry-ge-HOST_LANES-clause-flaw c =
-    sym (ended_has_none c.args.advert.now c.args.weights.now c.args.entries.now c.args.number c.args.entry.now c.if-entry-ge-HOST_LANES.true)
+    sym (ended_has_none c.args.advert.now c.args.weights.now c.args.kept.now c.args.entries.now c.args.number c.args.entry.now c.if-entry-ge-HOST_LANES.true)
 
 pub steps_flaw-requires-clause-lead_on : goal.steps_flaw-requires-clause-lead_on
 steps_flaw-requires-clause-lead_on c =
@@ -27,11 +27,11 @@ returns-then-is_none-clause-flaw c =
     let all = c.turn_to.new.self.all.items in
     let heaviest = c.turn_to.new.self.heaviest.items in
     let are = c.turn_to.ensures.moves in
-    let flaws : List Move → Option (Reason × ℕ) = λ moves. first_fault (steps_flaws entries (c.args.number, entry) (steps_by (state_of entry) moves)) in
+    let flaws : List Move → Option (Reason × ℕ) = λ moves. first_fault (steps_flaws entries (c.args.number, entry) (steps_by c.turn_to.new.self.may_stay_free (state_of entry) moves)) in
     let none : c.steps_flaw.result ≡ None = none_is c.steps_flaw.result (c.is_none.ensures ∙ ap not c.if-is_none.true) in
     let of_heaviest : flaws heaviest ≡ None = ap flaws (sym c.as_slice.ensures.value) ∙ sym c.steps_flaw.ensures ∙ none in
-    sym (ap first_fault (entry_flaws_are c.args.advert.now c.args.weights.now entries c.args.number entry all heaviest c.if-entry-ge-HOST_LANES.false are)
-    ∙ none_of_heaviest entries (c.args.number, entry) (state_of entry) all heaviest are.heavy of_heaviest)
+    sym (ap first_fault (entry_flaws_are c.args.advert.now c.args.weights.now c.args.kept.now entries c.args.number entry c.turn_to.new.self.may_stay_free all heaviest c.if-entry-ge-HOST_LANES.false are)
+    ∙ none_of_heaviest entries (c.args.number, entry) c.turn_to.new.self.may_stay_free (state_of entry) all heaviest are.heavy of_heaviest)
 
 pub returns-clause-flaw : goal.returns-clause-flaw
 returns-clause-flaw c =
@@ -39,6 +39,6 @@ returns-clause-flaw c =
     let entries = c.args.entries.now in
     let all = c.turn_to.new.self.all.items in
     let heaviest = c.turn_to.new.self.heaviest.items in
-    let flaws : List Move → Option (Reason × ℕ) = λ moves. first_fault (steps_flaws entries (c.args.number, entry) (steps_by (state_of entry) moves)) in
+    let flaws : List Move → Option (Reason × ℕ) = λ moves. first_fault (steps_flaws entries (c.args.number, entry) (steps_by c.turn_to.new.self.may_stay_free (state_of entry) moves)) in
     c.steps_flaw-2.ensures ∙ ap flaws c.as_slice-2.ensures.value
-    ∙ sym (ap first_fault (entry_flaws_are c.args.advert.now c.args.weights.now entries c.args.number entry all heaviest c.if-entry-ge-HOST_LANES.false c.turn_to.ensures.moves))
+    ∙ sym (ap first_fault (entry_flaws_are c.args.advert.now c.args.weights.now c.args.kept.now entries c.args.number entry c.turn_to.new.self.may_stay_free all heaviest c.if-entry-ge-HOST_LANES.false c.turn_to.ensures.moves))

@@ -10,4 +10,4 @@ use Rattle.plan_certificate.proofs.checker.steps_flaw.Given as goal
 abbrev pub invariant-loop-one : goal.invariant-loop-one
 invariant-loop-one l =
     first_fault (flaws_by (step_flaws l.entries (l.number, l.entry)) l.state (drop l.one-index l.moves))
-    ≡ first_fault (steps_flaws l.entries (l.number, l.entry) (steps_by (state_of l.entry) l.moves))
+    ≡ first_fault (steps_flaws l.entries (l.number, l.entry) (steps_by l.may_stay_free (state_of l.entry) l.moves))

@@ -19,18 +19,18 @@ pub loop-place-init : goal.loop-place-init
 unfolding lane_flaws
 loop-place-init c = ap first_fault (alone (lane_flaw c.args.advert.now c.args.paths.now) (enumerate_from 1 c.args.paths.now))
 
-pub returns-then-not-is_apart_from_all : goal.returns-then-not-is_apart_from_all
-returns-then-not-is_apart_from_all c =
+pub returns-then-not-is_apart_from : goal.returns-then-not-is_apart_from
+returns-then-not-is_apart_from c =
     let place : c.loop-place.place + 1 - 1 ≡ c.loop-place.place = omega arith in
     let among = ap (λ (n : ℕ). list_all (λ (earlier : Path). are_apart c.args.advert.now earlier (get_or c.args.paths.now c.loop-place.place no_path)) (take n c.args.paths.now)) place in
-    let at : alone_at c.args.advert.now c.args.paths.now c.loop-place.place ≡ false = among ∙ sym c.is_apart_from_all.ensures ∙ c.if-not-is_apart_from_all.true in
+    let at : alone_at c.args.advert.now c.args.paths.now c.loop-place.place ≡ false = among ∙ sym c.is_apart_from.ensures ∙ c.if-not-is_apart_from.true in
     sym (sym c.loop-place.invariant ∙ flaw_here (lane_flaw c.args.advert.now c.args.paths.now) c.args.paths.now c.loop-place.place no_path _ c.loop-place-test.true (ap (λ (b : Bool). (not b, (LaneTwice, c.loop-place.place + 1))) at))
 
 pub loop-place-preserved : goal.loop-place-preserved
 loop-place-preserved c =
     let place : c.loop-place.place + 1 - 1 ≡ c.loop-place.place = omega arith in
     let among = ap (λ (n : ℕ). list_all (λ (earlier : Path). are_apart c.args.advert.now earlier (get_or c.args.paths.now c.loop-place.place no_path)) (take n c.args.paths.now)) place in
-    let at : alone_at c.args.advert.now c.args.paths.now c.loop-place.place ≡ true = among ∙ sym c.is_apart_from_all.ensures ∙ c.if-not-is_apart_from_all.false in
+    let at : alone_at c.args.advert.now c.args.paths.now c.loop-place.place ≡ true = among ∙ sym c.is_apart_from.ensures ∙ c.if-not-is_apart_from.false in
     sym (flaw_later (lane_flaw c.args.advert.now c.args.paths.now) c.args.paths.now c.loop-place.place no_path c.loop-place-test.true (ap not at)) ∙ c.loop-place.invariant
 
 pub returns : goal.returns

@@ -7,6 +7,6 @@ use Rattle.plan_certificate.proofs.moves.moves_at.Given as goal
 -- the moves of the Applications so far
 abbrev pub invariant-loop-app : goal.invariant-loop-app
 invariant-loop-app l = record {
-  moves : l.moves.items ≡ moves_of l.advert l.weights (flat_map (λ app. paths_of_app l.host app.number) (take l.app-index l.app-items));
+  moves : l.moves.items ≡ moves_of l.advert l.weights l.kept (flat_map (λ app. paths_of_app l.host app.number) (take l.app-index l.app-items));
   few : length l.moves.items ≤ 8 * l.app-index;
 }

@@ -1,7 +1,7 @@
 use Rattle.std.proofs.Common.{◌≡◌, drop}
 use Rattle.std.specs.List.{list_all}
 use Rattle.plan_certificate.specs.Plans.{are_apart}
-use Rattle.plan_certificate.proofs.flaws.is_apart_from_all.Given as goal
+use Rattle.plan_certificate.proofs.kept.is_apart_from.Given as goal
 
 -- those so far are apart from the path
 abbrev pub invariant-loop-other : goal.invariant-loop-other

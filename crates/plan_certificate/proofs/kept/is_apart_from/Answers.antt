@@ -3,7 +3,7 @@ use Rattle.std.specs.List.{list_all}
 use Rattle.plan_certificate.specs.declared.path.Path.{Path}
 use Rattle.plan_certificate.specs.Plans.{are_apart}
 use Rattle.plan_certificate.proofs.Searches.{all_later, not_all, none_left}
-use Rattle.plan_certificate.proofs.flaws.is_apart_from_all.Goals as goal
+use Rattle.plan_certificate.proofs.kept.is_apart_from.Goals as goal
 
 abbrev no_path : Path
 no_path = record { app = 0; host = 0; media = 0 }
