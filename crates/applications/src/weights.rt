@@ -26,7 +26,7 @@ impl Model for Weights {
 }
 
 impl Weights {
-    ghost use Rattle.std.specs.Prelude.{◌≡◌, IsTrue};
+    ghost use Rattle.std.specs.Prelude.{◌≡◌, IsTrue, length};
     ghost use Rattle.applications.specs.Weights.{weight_at};
     ghost use Rattle.applications.specs.HostTable.{KeysRise, document_of, host_members};
     ghost use Rattle.applications.specs.WeightFaults.{IsAnswer, judges_keys};
@@ -44,6 +44,16 @@ impl Weights {
             Err(error) if error.is_memory() => Err(WeightsFault::Memory),
             Err(_) => Err(WeightsFault::NotToml),
         }
+    }
+
+    /// The weights of the HostInterfaceIDs from 00h on.
+    pub fn of_table(table: &[u32]) -> Weights
+        requires { length table.now ≡ 256 }
+        ensures { result ≡ table.now }
+    {
+        let mut by_host_id = [0; 256];
+        by_host_id.copy_from_slice(table);
+        Weights { by_host_id }
     }
 
     /// The weight of a HostInterfaceID.
