@@ -1,5 +1,5 @@
 -- The first move that keeps the gain is that of the first path that does.
-use Rattle.std.proofs.Common.{◌≡◌, ℕ, ◌+◌, ◌-◌, ◌&&◌, ◌==◌, Bool, true, false, List, [], ◌∷◌, Option, Some, None, map, filter, find, option_map, cond, nat_lt, refl, sym, subst, ap, ◌∙◌, inl, inr, arith}
+use Rattle.std.proofs.Common.{◌≡◌, ℕ, ◌+◌, ◌-◌, ◌&&◌, ◌||◌, ◌==◌, Bool, true, false, List, [], ◌∷◌, Option, Some, None, map, filter, find, option_map, cond, nat_lt, refl, sym, subst, ap, ◌∙◌, inl, inr, arith}
 use Rattle.std.specs.List.{All, AllByRecursion}
 use Rattle.std.proofs.lemmas.Bool.{cases_Bool}
 use Rattle.std.proofs.lemmas.List.Elements.{recursion_from_All}
@@ -9,7 +9,8 @@ use Rattle.applications.specs.Weights.{HostWeights}
 use Rattle.plan_certificate.specs.declared.moves.Move.{Move}
 use Rattle.plan_certificate.specs.declared.path.Path.{Path}
 use Rattle.plan_certificate.specs.declared.state.State.{State}
-use Rattle.plan_certificate.specs.Paths.{media_lanes, is_allowed, path_weight}
+use Rattle.plan_certificate.specs.Paths.{media_lanes, path_weight}
+use Rattle.plan_certificate.specs.KeptPaths.{is_among, is_eligible}
 use Rattle.plan_certificate.specs.States.{path_step, paths_at}
 use Rattle.plan_certificate.specs.Moves.{LeadsOn, move_of, move_step, moves_at, moves_of}
 use Rattle.plan_certificate.proofs.Lists.{found}
@@ -18,23 +19,23 @@ use Rattle.lane_planner.specs.Tables.{chosen, gain_at, keeps_gain, move_keeps_ga
 abbrev path_of : Move → Path
 path_of move = move.path
 
-find_of_moves : (advert : Advertised) (weights : HostWeights) (table : List ℕ) (state : State) (paths : List Path) → find (keeps_gain advert weights table state) paths ≡ option_map path_of (find (move_keeps_gain table state) (moves_of advert weights paths))
+find_of_moves : (advert : Advertised) (weights : HostWeights) (kept : List Path) (table : List ℕ) (state : State) (paths : List Path) → find (keeps_gain advert weights kept table state) paths ≡ option_map path_of (find (move_keeps_gain kept table state) (moves_of advert weights kept paths))
 unfolding keeps_gain moves_of
-find_of_moves advert weights table state [] = refl
-find_of_moves advert weights table state (path ∷ paths) =
-    let rest = find_of_moves advert weights table state paths in
+find_of_moves advert weights kept table state [] = refl
+find_of_moves advert weights kept table state (path ∷ paths) =
+    let rest = find_of_moves advert weights kept table state paths in
     let unused : Bool = is_disjoint (media_lanes advert path) state.used in
-    let some : Bool = nat_lt 0 (path_weight advert weights path) in
+    let some : Bool = nat_lt 0 (path_weight advert weights path) || is_among kept path in
     let leaves : Bool = path_weight advert weights path + gain_at table (path_step advert weights state path).end == gain_at table state in
-    let later : Option Path = find (keeps_gain advert weights table state) paths in
-    let moves : List Move = map (move_of advert weights) (filter (is_allowed advert) paths) in
+    let later : Option Path = find (keeps_gain advert weights kept table state) paths in
+    let moves : List Move = map (move_of advert weights) (filter (is_eligible advert kept) paths) in
     let Left : Bool → Option Path = λ b. cond (b && unused && some && leaves) (Some path) later in
-    let Right : Bool → Option Path = λ b. option_map path_of (find (move_keeps_gain table state) (map (move_of advert weights) (cond b (path ∷ filter (is_allowed advert) paths) (filter (is_allowed advert) paths)))) in
-    elim (cases_Bool (is_allowed advert path)) [
+    let Right : Bool → Option Path = λ b. option_map path_of (find (move_keeps_gain kept table state) (map (move_of advert weights) (cond b (path ∷ filter (is_eligible advert kept) paths) (filter (is_eligible advert kept) paths)))) in
+    elim (cases_Bool (is_eligible advert kept path)) [
       | inr barred ↦ ap Left barred ∙ rest ∙ ap Right (sym barred)
       | inl can ↦
           let One : Bool → Option Path = λ b. cond b (Some path) later in
-          let Other : Bool → Option Path = λ b. option_map path_of (cond b (Some (move_of advert weights path)) (find (move_keeps_gain table state) moves)) in
+          let Other : Bool → Option Path = λ b. option_map path_of (cond b (Some (move_of advert weights path)) (find (move_keeps_gain kept table state) moves)) in
           let keeps : Bool = unused && some && leaves in
           let middle : One keeps ≡ Other keeps = elim (cases_Bool keeps) [
             | inl is ↦ ap One is ∙ sym (ap Other is)
@@ -43,43 +44,43 @@ find_of_moves advert weights table state (path ∷ paths) =
           ap Left can ∙ middle ∙ ap Right (sym can)
     ]
 
-pub chosen_of_moves : (advert : Advertised) (weights : HostWeights) (table : List ℕ) (state : State) → chosen advert weights table state ≡ option_map path_of (find (move_keeps_gain table state) (moves_at advert weights (state.boundary + 1)))
+pub chosen_of_moves : (advert : Advertised) (weights : HostWeights) (kept : List Path) (table : List ℕ) (state : State) → chosen advert weights kept table state ≡ option_map path_of (find (move_keeps_gain kept table state) (moves_at advert weights kept (state.boundary + 1)))
 unfolding chosen
-chosen_of_moves advert weights table state = find_of_moves advert weights table state (paths_at advert (state.boundary + 1))
+chosen_of_moves advert weights kept table state = find_of_moves advert weights kept table state (paths_at advert (state.boundary + 1))
 
 -- ---- each move is its path's
 
 abbrev IsOfPath : Advertised → HostWeights → Move → Type 0
 IsOfPath advert weights move = move ≡ move_of advert weights move.path
 
-each_of_paths : (advert : Advertised) (weights : HostWeights) (paths : List Path) → AllByRecursion (IsOfPath advert weights) (moves_of advert weights paths)
+each_of_paths : (advert : Advertised) (weights : HostWeights) (kept : List Path) (paths : List Path) → AllByRecursion (IsOfPath advert weights) (moves_of advert weights kept paths)
 unfolding moves_of
-each_of_paths advert weights [] = tt
-each_of_paths advert weights (path ∷ paths) =
-    let rest = each_of_paths advert weights paths in
-    let Made : Bool → Type 0 = λ b. AllByRecursion (IsOfPath advert weights) (map (move_of advert weights) (cond b (path ∷ filter (is_allowed advert) paths) (filter (is_allowed advert) paths))) in
-    elim (cases_Bool (is_allowed advert path)) [
+each_of_paths advert weights kept [] = tt
+each_of_paths advert weights kept (path ∷ paths) =
+    let rest = each_of_paths advert weights kept paths in
+    let Made : Bool → Type 0 = λ b. AllByRecursion (IsOfPath advert weights) (map (move_of advert weights) (cond b (path ∷ filter (is_eligible advert kept) paths) (filter (is_eligible advert kept) paths))) in
+    elim (cases_Bool (is_eligible advert kept path)) [
       | inl can ↦ subst Made (sym can) (refl, rest)
       | inr barred ↦ subst Made (sym barred) rest
     ]
 
 -- the move that is found: its path is the chosen one, and leads where it leads
-pub record IsChosenMove (advert : Advertised) (weights : HostWeights) (table : List ℕ) (state : State) (move : Move) : Type 0 where
-  pub path : chosen advert weights table state ≡ Some move.path
+pub record IsChosenMove (advert : Advertised) (weights : HostWeights) (kept : List Path) (table : List ℕ) (state : State) (move : Move) : Type 0 where
+  pub path : chosen advert weights kept table state ≡ Some move.path
   pub end : (move_step state move).end ≡ (path_step advert weights state move.path).end
 
-pub chosen_move : (advert : Advertised) (weights : HostWeights) (table : List ℕ) (state : State) (moves : List Move) (move : Move) → moves ≡ moves_at advert weights (state.boundary + 1) → find (move_keeps_gain table state) moves ≡ Some move → IsChosenMove advert weights table state move
-chosen_move advert weights table state moves move same is =
-    let there = ap (find (move_keeps_gain table state)) (sym same) ∙ is in
-    let of_path = found (IsOfPath advert weights) (move_keeps_gain table state) (moves_at advert weights (state.boundary + 1)) move there (each_of_paths advert weights (paths_at advert (state.boundary + 1))) in
+pub chosen_move : (advert : Advertised) (weights : HostWeights) (kept : List Path) (table : List ℕ) (state : State) (moves : List Move) (move : Move) → moves ≡ moves_at advert weights kept (state.boundary + 1) → find (move_keeps_gain kept table state) moves ≡ Some move → IsChosenMove advert weights kept table state move
+chosen_move advert weights kept table state moves move same is =
+    let there = ap (find (move_keeps_gain kept table state)) (sym same) ∙ is in
+    let of_path = found (IsOfPath advert weights) (move_keeps_gain kept table state) (moves_at advert weights kept (state.boundary + 1)) move there (each_of_paths advert weights kept (paths_at advert (state.boundary + 1))) in
     record {
-      path = chosen_of_moves advert weights table state ∙ ap (option_map path_of) there;
+      path = chosen_of_moves advert weights kept table state ∙ ap (option_map path_of) there;
       end = ap (λ (m : Move). (move_step state m).end) of_path.0;
     }
 
-pub no_chosen_move : (advert : Advertised) (weights : HostWeights) (table : List ℕ) (state : State) (moves : List Move) → moves ≡ moves_at advert weights (state.boundary + 1) → find (move_keeps_gain table state) moves ≡ None → chosen advert weights table state ≡ None
-no_chosen_move advert weights table state moves same none =
-    chosen_of_moves advert weights table state ∙ ap (option_map path_of) (ap (find (move_keeps_gain table state)) (sym same) ∙ none)
+pub no_chosen_move : (advert : Advertised) (weights : HostWeights) (kept : List Path) (table : List ℕ) (state : State) (moves : List Move) → moves ≡ moves_at advert weights kept (state.boundary + 1) → find (move_keeps_gain kept table state) moves ≡ None → chosen advert weights kept table state ≡ None
+no_chosen_move advert weights kept table state moves same none =
+    chosen_of_moves advert weights kept table state ∙ ap (option_map path_of) (ap (find (move_keeps_gain kept table state)) (sym same) ∙ none)
 
 pub chosen_leads_on : (boundary : ℕ) (test : Move → Bool) (moves : List Move) (move : Move) → find test moves ≡ Some move → All (LeadsOn (boundary + 1 - 1)) moves → LeadsOn boundary move
 chosen_leads_on boundary test moves move is all =

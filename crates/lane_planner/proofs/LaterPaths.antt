@@ -11,44 +11,45 @@ use Rattle.plan_certificate.specs.Plans.{are_apart, plan_weight}
 use Rattle.plan_certificate.specs.States.{free_step, path_step}
 use Rattle.plan_certificate.proofs.Heaviest.{allowed}
 use Rattle.plan_certificate.proofs.LaneRuns.{disjoint_back}
+use Rattle.lane_planner.specs.FirstBest.{IsOfUse}
 use Rattle.lane_planner.proofs.DisjointLanes.{runs_disjoint, disjoint_first, disjoint_second}
 
 -- ---- the paths before a state
 
 -- a path that ends at or below the boundary, at used media lanes
-pub record IsEarlier (advert : Advertised) (weights : HostWeights) (state : State) (path : Path) : Type 0 where
+pub record IsEarlier (advert : Advertised) (weights : HostWeights) (kept : List Path) (state : State) (path : Path) : Type 0 where
   pub can : is_allowed advert path ≡ true
   pub before : path.host + (app_of advert path).host_lanes ≤ state.boundary + 1
   pub used : (others : Lanes) → is_disjoint others state.used ≡ true → is_disjoint others (media_lanes advert path) ≡ true
-  pub weighs : 0 < path_weight advert weights path
+  pub of_use : IsOfUse advert weights kept path
 
 -- any two: the one ahead is at lower host lanes, and they share no lane
 pub record AreInOrder (advert : Advertised) (path later : Path) : Type 0 where
   pub apart : are_apart advert path later ≡ true
   pub rises : path.host < later.host
 
-pub earlier_free : (advert : Advertised) (weights : HostWeights) (state : State) (path : Path) → IsEarlier advert weights state path → IsEarlier advert weights (free_step state).end path
-earlier_free advert weights state path is = record { can = is.can; before = omega (arith, is.before); used = is.used; weighs = is.weighs }
+pub earlier_free : (advert : Advertised) (weights : HostWeights) (kept : List Path) (state : State) (path : Path) → IsEarlier advert weights kept state path → IsEarlier advert weights kept (free_step state).end path
+earlier_free advert weights kept state path is = record { can = is.can; before = omega (arith, is.before); used = is.used; of_use = is.of_use }
 
-pub earlier_path : (advert : Advertised) (weights : HostWeights) (state : State) (taken path : Path) → IsEarlier advert weights state path → IsEarlier advert weights (path_step advert weights state taken).end path
-earlier_path advert weights state taken path is = record {
+pub earlier_path : (advert : Advertised) (weights : HostWeights) (kept : List Path) (state : State) (taken path : Path) → IsEarlier advert weights kept state path → IsEarlier advert weights kept (path_step advert weights state taken).end path
+earlier_path advert weights kept state taken path is = record {
   can = is.can;
   before = omega (arith, is.before);
   used = λ others none. is.used others (disjoint_first others state.used (media_lanes advert taken) none);
-  weighs = is.weighs;
+  of_use = is.of_use;
 }
 
-pub taken_earlier : (advert : Advertised) (weights : HostWeights) (state : State) (taken : Path) → taken.host ≡ state.boundary + 1 → is_allowed advert taken ≡ true → 0 < path_weight advert weights taken → IsEarlier advert weights (path_step advert weights state taken).end taken
-taken_earlier advert weights state taken begins can weighs = record {
+pub taken_earlier : (advert : Advertised) (weights : HostWeights) (kept : List Path) (state : State) (taken : Path) → taken.host ≡ state.boundary + 1 → is_allowed advert taken ≡ true → IsOfUse advert weights kept taken → IsEarlier advert weights kept (path_step advert weights state taken).end taken
+taken_earlier advert weights kept state taken begins can worth = record {
   can = can;
   before = omega (arith, begins);
   used = λ others none. disjoint_second others state.used (media_lanes advert taken) none;
-  weighs = weighs;
+  of_use = worth;
 }
 
-pub in_order : (advert : Advertised) (weights : HostWeights) (state : State) (path taken : Path) → IsEarlier advert weights state path → taken.host ≡ state.boundary + 1 → is_disjoint (media_lanes advert taken) state.used ≡ true → AreInOrder advert path taken
+pub in_order : (advert : Advertised) (weights : HostWeights) (kept : List Path) (state : State) (path taken : Path) → IsEarlier advert weights kept state path → taken.host ≡ state.boundary + 1 → is_disjoint (media_lanes advert taken) state.used ≡ true → AreInOrder advert path taken
 unfolding are_apart
-in_order advert weights state path taken is begins unused =
+in_order advert weights kept state path taken is begins unused =
     let lanes = allowed advert path is.can in
     let hosts = runs_disjoint path.host (app_of advert path).host_lanes taken.host (app_of advert taken).host_lanes (omega (arith, is.before, begins)) in
     let media = disjoint_back (media_lanes advert taken) (media_lanes advert path) (is.used (media_lanes advert taken) unused) in

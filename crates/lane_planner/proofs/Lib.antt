@@ -1,6 +1,7 @@
 mod DisjointLanes
 mod StepKinds
-mod RunPaths
+mod KeptLanes
+mod FreeLanes
 mod GainLaws
 mod Places
 mod StepEnds
@@ -12,5 +13,9 @@ mod TableGains
 mod MostGained
 mod KeptGains
 mod LaterPaths
+mod ChosenPaths
+mod FirstPlans
+mod KeptTaken
+mod FirstLaws
 mod ReadOffs
 mod ReachedEntries

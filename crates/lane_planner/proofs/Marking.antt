@@ -5,6 +5,7 @@ use Rattle.std.proofs.Common.{get_or-set_same, get_or-set_other}
 use Rattle.std.proofs.Math.ListN.{set, length-set}
 use Rattle.std.proofs.lemmas.Bool.{cases_eq}
 use Rattle.std.proofs.lemmas.List.Elements.{Contains-append_left, Contains-push, Contains-push_cases}
+use Rattle.plan_certificate.specs.declared.path.Path.{Path}
 use Rattle.applications.specs.Advertised.{Advertised}
 use Rattle.applications.specs.Weights.{HostWeights}
 use Rattle.plan_certificate.specs.declared.state.State.{State}
@@ -52,8 +53,8 @@ none_marked marks = record {
 }
 
 -- one place further, where its state isn't marked
-pub marks_past : (advert : Advertised) (weights : HostWeights) (place : ℕ) (marks : List Bool) → AreMarks advert weights place marks → (IsMarked marks place → ⊥) → AreMarks advert weights (place + 1) marks
-marks_past advert weights place marks are not = record {
+pub marks_past : (advert : Advertised) (weights : HostWeights) (kept : List Path) (place : ℕ) (marks : List Bool) → AreMarks advert weights kept place marks → (IsMarked marks place → ⊥) → AreMarks advert weights kept (place + 1) marks
+marks_past advert weights kept place marks are not = record {
   all = are.all;
   begun = are.begun;
   sound = are.sound;
@@ -65,38 +66,38 @@ marks_past advert weights place marks are not = record {
 }
 
 -- and where it is, and the ends of its steps have been marked
-pub marks_more : (advert : Advertised) (weights : HostWeights) (place : ℕ) (marks more : List Bool) → AreMarks advert weights place marks → place < 2304 → IsMarked marks place → MarksEnds (steps_from advert weights (state_at place)) marks more → AreMarks advert weights (place + 1) more
-marks_more advert weights place marks more are below marked new =
-    let late : (step : Step) → Contains (steps_from advert weights (state_at place)) step → place + 1 ≤ state_place step.end = (λ step contains.
-    place_past place step.end (ends_later advert weights (state_at place) step (at_is_byte place) contains).past) in
+pub marks_more : (advert : Advertised) (weights : HostWeights) (kept : List Path) (place : ℕ) (marks more : List Bool) → AreMarks advert weights kept place marks → place < 2304 → IsMarked marks place → MarksEnds (steps_from advert weights kept (state_at place)) marks more → AreMarks advert weights kept (place + 1) more
+marks_more advert weights kept place marks more are below marked new =
+    let late : (step : Step) → Contains (steps_from advert weights kept (state_at place)) step → place + 1 ≤ state_place step.end = (λ step contains.
+    place_past place step.end (ends_later advert weights kept (state_at place) step (at_is_byte place) contains).past) in
     record {
       all = new.all ∙ are.all;
       begun = new.kept 0 are.begun;
       sound = λ other within is. elim (new.only other is) [
         | inl before ↦ are.sound other within before
         | inr ends ↦
-            let byte = (ends_later advert weights (state_at place) ends.0 (at_is_byte place) ends.1).is_byte in
+            let byte = (ends_later advert weights kept (state_at place) ends.0 (at_is_byte place) ends.1).is_byte in
             let state : state_at other ≡ ends.0.end = ap state_at (sym ends.2) ∙ state_of_place ends.0.end byte in
-            subst (IsReached advert weights) (sym state) (reached_on advert weights (state_at place) ends.0 (are.sound place below marked) ends.1)
+            subst (IsReached advert weights kept) (sym state) (reached_on advert weights kept (state_at place) ends.0 (are.sound place below marked) ends.1)
       ];
       closed = λ other low is step contains. elim (new.only other is) [
         | inr ends ↦ absurd (omega (arith, late ends.0 ends.1, ends.2, low))
         | inl before ↦ elim (cases_eq other place) [
-          | inl same ↦ new.ends step (subst (λ (n : ℕ). Contains (steps_from advert weights (state_at n)) step) same contains)
+          | inl same ↦ new.ends step (subst (λ (n : ℕ). Contains (steps_from advert weights kept (state_at n)) step) same contains)
           | inr differs ↦ new.kept (state_place step.end) (are.closed other (omega (arith, low, differs)) before step contains)
         ]
       ];
     }
 
 -- at the end each reached state is marked
-reached_from : (advert : Advertised) (weights : HostWeights) (marks : List Bool) → AreMarks advert weights 2304 marks → (steps : List Step) (from state : State) → IsByte from.used → from.boundary ≤ 8 → IsMarked marks (state_place from) → Leads advert weights from steps state → IsMarked marks (state_place state)
-reached_from advert weights marks are [] from state is_byte within marked leads = subst (λ (s : State). IsMarked marks (state_place s)) leads marked
-reached_from advert weights marks are (step ∷ steps) from state is_byte within marked leads =
-    let ends = ends_later advert weights from step is_byte leads.0 in
+reached_from : (advert : Advertised) (weights : HostWeights) (kept : List Path) (marks : List Bool) → AreMarks advert weights kept 2304 marks → (steps : List Step) (from state : State) → IsByte from.used → from.boundary ≤ 8 → IsMarked marks (state_place from) → Leads advert weights kept from steps state → IsMarked marks (state_place state)
+reached_from advert weights kept marks are [] from state is_byte within marked leads = subst (λ (s : State). IsMarked marks (state_place s)) leads marked
+reached_from advert weights kept marks are (step ∷ steps) from state is_byte within marked leads =
+    let ends = ends_later advert weights kept from step is_byte leads.0 in
     let at : state_at (state_place from) ≡ from = state_of_place from is_byte in
-    let contains = subst (λ (s : State). Contains (steps_from advert weights s) step) (sym at) leads.0 in
-    reached_from advert weights marks are steps step.end state ends.is_byte ends.within (are.closed (state_place from) (place_below from within) marked step contains) leads.1
+    let contains = subst (λ (s : State). Contains (steps_from advert weights kept s) step) (sym at) leads.0 in
+    reached_from advert weights kept marks are steps step.end state ends.is_byte ends.within (are.closed (state_place from) (place_below from within) marked step contains) leads.1
 
-pub all_marked : (advert : Advertised) (weights : HostWeights) (marks : List Bool) (state : State) → AreMarks advert weights 2304 marks → IsReached advert weights state → IsMarked marks (state_place state)
-all_marked advert weights marks state are is =
-    reached_from advert weights marks are is.0 start state start_is_byte (omega arith) (subst (IsMarked marks) (sym start_place) are.begun) is.1
+pub all_marked : (advert : Advertised) (weights : HostWeights) (kept : List Path) (marks : List Bool) (state : State) → AreMarks advert weights kept 2304 marks → IsReached advert weights kept state → IsMarked marks (state_place state)
+all_marked advert weights kept marks state are is =
+    reached_from advert weights kept marks are is.0 start state start_is_byte (omega arith) (subst (IsMarked marks) (sym start_place) are.begun) is.1

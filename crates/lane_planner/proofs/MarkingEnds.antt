@@ -3,6 +3,7 @@ use Rattle.std.proofs.Common.{◌≡◌, ℕ, zero, suc, Bool, true, false, List
 use Rattle.std.proofs.Common.{get_or-set_same, get_or-set_other}
 use Rattle.std.proofs.Math.ListN.{length-replicate, length-set}
 use Rattle.std.proofs.lemmas.Bool.{cases_eq, cases_lt}
+use Rattle.plan_certificate.specs.declared.path.Path.{Path}
 use Rattle.applications.specs.Advertised.{Advertised}
 use Rattle.applications.specs.Weights.{HostWeights}
 use Rattle.plan_certificate.specs.declared.state.State.{State}
@@ -21,28 +22,28 @@ use Rattle.lane_planner.proofs.Marking.{all_marked}
 use Rattle.lane_planner.proofs.Places.{place_of_state_at, start_place, state_of_place}
 use Rattle.lane_planner.proofs.StepKinds.{step_is}
 
-start_reached : (advert : Advertised) (weights : HostWeights) → IsReached advert weights (state_at 0)
-start_reached advert weights = ([], sym (ap state_at (sym start_place) ∙ state_of_place start start_is_byte))
+start_reached : (advert : Advertised) (weights : HostWeights) (kept : List Path) → IsReached advert weights kept (state_at 0)
+start_reached advert weights kept = ([], sym (ap state_at (sym start_place) ∙ state_of_place start start_is_byte))
 
-pub marks_begun : (advert : Advertised) (weights : HostWeights) (blank : List Bool) → length blank ≡ 2304 → ((place : ℕ) → IsMarked blank place → ⊥) → AreMarks advert weights 0 (set blank 0 true)
-marks_begun advert weights blank all none = record {
+pub marks_begun : (advert : Advertised) (weights : HostWeights) (kept : List Path) (blank : List Bool) → length blank ≡ 2304 → ((place : ℕ) → IsMarked blank place → ⊥) → AreMarks advert weights kept 0 (set blank 0 true)
+marks_begun advert weights kept blank all none = record {
   all = length-set blank 0 true ∙ all;
   begun = get_or-set_same blank 0 true false (omega (arith, all));
   sound = λ place within marked. elim (cases_eq place 0) [
-    | inl same ↦ subst (λ (n : ℕ). IsReached advert weights (state_at n)) (sym same) (start_reached advert weights)
+    | inl same ↦ subst (λ (n : ℕ). IsReached advert weights kept (state_at n)) (sym same) (start_reached advert weights kept)
     | inr other ↦ absurd (none place (sym (get_or-set_other blank 0 place true false other) ∙ marked))
   ];
   closed = λ place low. absurd (omega (arith, low));
 }
 
-marks_closed : (advert : Advertised) (weights : HostWeights) (marks : List Bool) → AreMarks advert weights 2048 marks → AreMarks advert weights 2304 marks
-marks_closed advert weights marks are = record {
+marks_closed : (advert : Advertised) (weights : HostWeights) (kept : List Path) (marks : List Bool) → AreMarks advert weights kept 2048 marks → AreMarks advert weights kept 2304 marks
+marks_closed advert weights kept marks are = record {
   all = are.all;
   begun = are.begun;
   sound = are.sound;
   closed = λ place low marked step contains. elim (cases_lt place 2048) [
     | inl before ↦ are.closed place before marked step contains
-    | inr past ↦ absurd (omega (arith, past, (step_is advert weights (state_at place) step contains).below))
+    | inr past ↦ absurd (omega (arith, past, (step_is advert weights kept (state_at place) step contains).below))
   ];
 }
 
@@ -51,32 +52,32 @@ none_blank zero place marked = absurd (let wrong : false ≡ true = marked in cc
 none_blank (suc n) zero marked = absurd (let wrong : false ≡ true = marked in cc)
 none_blank (suc n) (suc place) marked = none_blank n place marked
 
-pub marks_of_blank : (advert : Advertised) (weights : HostWeights) (n : ℕ) → n ≡ 2304 → AreMarks advert weights 0 (set (replicate n false) 0 true)
-marks_of_blank advert weights n is = marks_begun advert weights (replicate n false) (length-replicate n false ∙ is) (none_blank n)
+pub marks_of_blank : (advert : Advertised) (weights : HostWeights) (kept : List Path) (n : ℕ) → n ≡ 2304 → AreMarks advert weights kept 0 (set (replicate n false) 0 true)
+marks_of_blank advert weights kept n is = marks_begun advert weights kept (replicate n false) (length-replicate n false ∙ is) (none_blank n)
 
 -- so exactly the reached states are marked
-pub marks_ended : (advert : Advertised) (weights : HostWeights) (marks : List Bool) → AreMarks advert weights 2048 marks → MarksReached advert weights marks
-marks_ended advert weights marks are = record {
+pub marks_ended : (advert : Advertised) (weights : HostWeights) (kept : List Path) (marks : List Bool) → AreMarks advert weights kept 2048 marks → MarksReached advert weights kept marks
+marks_ended advert weights kept marks are = record {
   all = are.all;
   reached = λ place below. (
     (λ marked. are.sound place below marked),
-    (λ is. subst (IsMarked marks) (place_of_state_at place) (all_marked advert weights marks (state_at place) (marks_closed advert weights marks are) is)),
+    (λ is. subst (IsMarked marks) (place_of_state_at place) (all_marked advert weights kept marks (state_at place) (marks_closed advert weights kept marks are) is)),
   );
 }
 
 -- where the steps of the heaviest moves are marked, those of all are
-pub ends_of_heaviest : (state : State) (all heaviest : List Move) (marks more : List Bool) → AreHeaviest all heaviest → MarksEnds (steps_by state heaviest) marks more → MarksEnds (steps_by state all) marks more
-ends_of_heaviest state all heaviest marks more are new =
+pub ends_of_heaviest : (free : Bool) (state : State) (all heaviest : List Move) (marks more : List Bool) → AreHeaviest all heaviest → MarksEnds (steps_by free state heaviest) marks more → MarksEnds (steps_by free state all) marks more
+ends_of_heaviest free state all heaviest marks more are new =
     let End : Step → Type 0 = λ step. IsMarked more (state_place step.end) in
-    let of_heaviest = map_each (Contains (steps_by state heaviest)) End (steps_by state heaviest) (λ step listed. new.ends step listed) (each_contained (steps_by state heaviest)) in
-    let of_all = All-from_recursion End (steps_by state all) (each_outweighed state End all heaviest (λ step weight light marked. marked) are of_heaviest) in
-    let among = All-from_recursion (Contains (steps_by state all)) (steps_by state heaviest) (each_among state (Contains (steps_by state all)) all heaviest are (each_contained (steps_by state all))) in
+    let of_heaviest = map_each (Contains (steps_by free state heaviest)) End (steps_by free state heaviest) (λ step listed. new.ends step listed) (each_contained (steps_by free state heaviest)) in
+    let of_all = All-from_recursion End (steps_by free state all) (each_outweighed free state End all heaviest (λ step weight light marked. marked) are of_heaviest) in
+    let among = All-from_recursion (Contains (steps_by free state all)) (steps_by free state heaviest) (each_among free state (Contains (steps_by free state all)) all heaviest are (each_contained (steps_by free state all))) in
     record {
       all = new.all;
-      ends = λ step listed. All-contains End (steps_by state all) step of_all listed;
+      ends = λ step listed. All-contains End (steps_by free state all) step of_all listed;
       kept = new.kept;
       only = λ place marked. elim (new.only place marked) [
         | inl before ↦ inl before
-        | inr ends ↦ inr (ends.0, All-contains (Contains (steps_by state all)) (steps_by state heaviest) ends.0 among ends.1, ends.2)
+        | inr ends ↦ inr (ends.0, All-contains (Contains (steps_by free state all)) (steps_by free state heaviest) ends.0 among ends.1, ends.2)
       ];
     }

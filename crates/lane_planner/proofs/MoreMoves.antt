@@ -5,7 +5,9 @@ use Rattle.std.proofs.lemmas.List.{map-append}
 use Rattle.std.proofs.lemmas.List.Elements.{filter-append}
 use Rattle.plan_certificate.specs.declared.state.State.{State}
 use Rattle.plan_certificate.specs.declared.moves.Move.{Move}
-use Rattle.plan_certificate.specs.Moves.{is_open, move_step, move_steps}
+use Rattle.plan_certificate.specs.declared.state.Step.{Step}
+use Rattle.plan_certificate.specs.States.{free_step}
+use Rattle.plan_certificate.specs.Moves.{is_open, move_step, move_steps, steps_by}
 
 of_both : (state : State) (moves more : List Move) → move_steps state (moves ++ more) ≡ move_steps state moves ++ move_steps state more
 of_both state moves more =
@@ -17,15 +19,25 @@ one_more moves k move below is =
     let split = take-suc moves k move below in
     cc
 
-pub open_more : (state : State) (moves : List Move) (k : ℕ) (move : Move) → k < length moves → move ≡ get_or moves k move → is_open state move ≡ true → move_steps state (take (k + 1) moves) ≡ move_steps state (take k moves) ++ move_step state move ∷ []
+open_more : (state : State) (moves : List Move) (k : ℕ) (move : Move) → k < length moves → move ≡ get_or moves k move → is_open state move ≡ true → move_steps state (take (k + 1) moves) ≡ move_steps state (take k moves) ++ move_step state move ∷ []
 open_more state moves k move below is open_there =
     ap (move_steps state) (one_more moves k move below is)
     ∙ of_both state (take k moves) (move ∷ [])
     ∙ ap (λ (b : Bool). move_steps state (take k moves) ++ map (move_step state) (cond b (move ∷ []) [])) open_there
 
-pub shut_more : (state : State) (moves : List Move) (k : ℕ) (move : Move) → k < length moves → move ≡ get_or moves k move → is_open state move ≡ false → move_steps state (take (k + 1) moves) ≡ move_steps state (take k moves)
+shut_more : (state : State) (moves : List Move) (k : ℕ) (move : Move) → k < length moves → move ≡ get_or moves k move → is_open state move ≡ false → move_steps state (take (k + 1) moves) ≡ move_steps state (take k moves)
 shut_more state moves k move below is shut =
     ap (move_steps state) (one_more moves k move below is)
     ∙ of_both state (take k moves) (move ∷ [])
     ∙ ap (λ (b : Bool). move_steps state (take k moves) ++ map (move_step state) (cond b (move ∷ []) [])) shut
     ∙ append-nil (move_steps state (take k moves))
+
+-- ---- after the free lane's step, where there is one
+
+pub one_step_more : (free : Bool) (state : State) (moves : List Move) (k : ℕ) (move : Move) → k < length moves → move ≡ get_or moves k move → is_open state move ≡ true → steps_by free state (take (k + 1) moves) ≡ steps_by free state (take k moves) ++ move_step state move ∷ []
+one_step_more true state moves k move below is open_there = ap (λ (steps : List Step). free_step state ∷ steps) (open_more state moves k move below is open_there)
+one_step_more false state moves k move below is open_there = open_more state moves k move below is open_there
+
+pub no_step_more : (free : Bool) (state : State) (moves : List Move) (k : ℕ) (move : Move) → k < length moves → move ≡ get_or moves k move → is_open state move ≡ false → steps_by free state (take (k + 1) moves) ≡ steps_by free state (take k moves)
+no_step_more true state moves k move below is shut = ap (λ (steps : List Step). free_step state ∷ steps) (shut_more state moves k move below is shut)
+no_step_more false state moves k move below is shut = shut_more state moves k move below is shut

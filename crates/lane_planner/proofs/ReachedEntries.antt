@@ -5,6 +5,7 @@ use Rattle.std.proofs.lemmas.Bool.{cases_eq}
 use Rattle.std.proofs.lemmas.List.{get_or-map, length-append, length-map}
 use Rattle.std.proofs.lemmas.List.Elements.{All-contains, All-map, All-push, All-weaker, Contains-append_left, Contains-get_or, Contains-push}
 use Rattle.std.proofs.lemmas.List.Quantifiers.{all_pairs_push}
+use Rattle.plan_certificate.specs.declared.path.Path.{Path}
 use Rattle.applications.specs.Advertised.{Advertised}
 use Rattle.applications.specs.Weights.{HostWeights}
 use Rattle.plan_certificate.specs.declared.certificate.Entry.{Entry}
@@ -65,48 +66,48 @@ no_entry_more marks table place entries are not = record {
 contains_mapped : {X Y : Type 0} (f : X → Y) (xs : List X) (x : X) → Contains xs x → Contains (map f xs) (f x)
 contains_mapped f xs x contains = (contains.0, omega (arith, contains.1, length-map xs f), get_or-map f xs contains.0 x (f x) contains.1 ∙ ap f contains.2)
 
-module _ (advert : Advertised) (weights : HostWeights) (marks : List Bool) (table : List ℕ) (entries : List Entry) (reached : MarksReached advert weights marks) (has : HasGains advert weights 0 table) (are : AreEntries marks table 2304 entries) where
-  pub entry_reached : (entry : Entry) → Contains entries entry → IsReached advert weights (state_of entry)
+module _ (advert : Advertised) (weights : HostWeights) (kept : List Path) (marks : List Bool) (table : List ℕ) (entries : List Entry) (reached : MarksReached advert weights kept marks) (has : HasGains advert weights kept 0 table) (are : AreEntries marks table 2304 entries) where
+  pub entry_reached : (entry : Entry) → Contains entries entry → IsReached advert weights kept (state_of entry)
   entry_reached entry contains =
       let at = All-contains (IsMarkedEntry marks table) entries entry are.marked contains in
       let below = All-contains (λ e. entry_place e < 2304) entries entry are.below contains in
-      subst (IsReached advert weights) (sym (ap state_of at.1)) ((reached.reached (entry_place entry) below).0 at.0)
+      subst (IsReached advert weights kept) (sym (ap state_of at.1)) ((reached.reached (entry_place entry) below).0 at.0)
 
-  entry_gain : (entry : Entry) → Contains entries entry → IsGain advert weights (state_of entry) entry.potential
+  entry_gain : (entry : Entry) → Contains entries entry → IsGain advert weights kept (state_of entry) entry.potential
   entry_gain entry contains =
       let at = All-contains (IsMarkedEntry marks table) entries entry are.marked contains in
       let below = All-contains (λ e. entry_place e < 2304) entries entry are.below contains in
       let gain = has.gains (entry_place entry) (omega arith) below ((reached.reached (entry_place entry) below).0 at.0) in
-      subst (λ (e : Entry). IsGain advert weights (state_of e) e.potential) (sym at.1) gain
+      subst (λ (e : Entry). IsGain advert weights kept (state_of e) e.potential) (sym at.1) gain
 
-  pub bound_at : (state : State) → IsReached advert weights state → IsBound entries state (gain_at table state)
+  pub bound_at : (state : State) → IsReached advert weights kept state → IsBound entries state (gain_at table state)
   bound_at state is =
-      let at = has_place advert weights state is in
+      let at = has_place advert weights kept state is in
       let place : ℕ = state_place state in
       let same : state_at place ≡ state = state_of_place state at.is_byte in
       let below : place < 2304 = place_below state at.within in
-      let marked = (reached.reached place below).1 (subst (IsReached advert weights) (sym same) is) in
+      let marked = (reached.reached place below).1 (subst (IsReached advert weights kept) (sym same) is) in
       (entry_at table place, are.each place below marked, same, refl)
 
-  pub each_gain : All (λ entry. IsGain advert weights (state_of entry) entry.potential) entries
+  pub each_gain : All (λ entry. IsGain advert weights kept (state_of entry) entry.potential) entries
   each_gain k d below = entry_gain (get_or entries k d) (Contains-get_or entries k d below)
 
-  pub each_covers : All (λ entry. All (IsCovered entries entry.potential) (steps_from advert weights (state_of entry))) entries
+  pub each_covers : All (λ entry. All (IsCovered entries entry.potential) (steps_from advert weights kept (state_of entry))) entries
   each_covers k d below n e inside =
       let entry : Entry = get_or entries k d in
       let listed = Contains-get_or entries k d below in
       let state : State = state_of entry in
-      let steps = steps_from advert weights state in
+      let steps = steps_from advert weights kept state in
       let step : Step = get_or steps n e in
       let contains = Contains-get_or steps n e inside in
-      let is = reached_on advert weights state step (entry_reached entry listed) contains in
-      let later = gain_in advert weights 0 table step.end has is (omega arith) in
-      (gain_at table step.end, bound_at step.end is, covers_step advert weights state entry.potential (gain_at table step.end) step (entry_gain entry listed) later contains)
+      let is = reached_on advert weights kept state step (entry_reached entry listed) contains in
+      let later = gain_in advert weights kept 0 table step.end has is (omega arith) in
+      (gain_at table step.end, bound_at step.end is, covers_step advert weights kept state entry.potential (gain_at table step.end) step (entry_gain entry listed) later contains)
 
-  pub states_are : (state : State) → IsReached advert weights state ↔ Contains (map state_of entries) state
+  pub states_are : (state : State) → IsReached advert weights kept state ↔ Contains (map state_of entries) state
   states_are state = (
     (λ is.
         let bound = bound_at state is in
         subst (Contains (map state_of entries)) bound.2 (contains_mapped state_of entries bound.0 bound.1)),
-    (λ contains. All-contains (IsReached advert weights) (map state_of entries) state (All-map (IsReached advert weights) state_of entries (λ k d below. entry_reached (get_or entries k d) (Contains-get_or entries k d below))) contains),
+    (λ contains. All-contains (IsReached advert weights kept) (map state_of entries) state (All-map (IsReached advert weights kept) state_of entries (λ k d below. entry_reached (get_or entries k d) (Contains-get_or entries k d below))) contains),
   )

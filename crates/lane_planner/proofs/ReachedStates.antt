@@ -1,6 +1,7 @@
 -- The states that steps from the start reach: with one the ends of its steps, and none past the last host lane.
 use Rattle.std.proofs.Common.{◌≤◌, List, [], ◌∷◌, ◌++◌, refl, sym, subst, arith}
 use Rattle.std.specs.List.{Contains}
+use Rattle.plan_certificate.specs.declared.path.Path.{Path}
 use Rattle.applications.specs.Advertised.{Advertised}
 use Rattle.applications.specs.Weights.{HostWeights}
 use Rattle.plan_certificate.specs.declared.state.State.{State}
@@ -10,25 +11,25 @@ use Rattle.plan_certificate.specs.ReachedStates.{IsReached, Leads}
 use Rattle.plan_certificate.proofs.ByteLanes.{IsByte, start_is_byte}
 use Rattle.lane_planner.proofs.StepEnds.{ends_later}
 
-leads_on : (advert : Advertised) (weights : HostWeights) (from : State) (steps : List Step) (state : State) (step : Step) → Leads advert weights from steps state → Contains (steps_from advert weights state) step → Leads advert weights from (steps ++ step ∷ []) step.end
-leads_on advert weights from [] state step leads contains = (subst (λ (s : State). Contains (steps_from advert weights s) step) (sym leads) contains, refl)
-leads_on advert weights from (first ∷ steps) state step leads contains = (leads.0, leads_on advert weights first.end steps state step leads.1 contains)
+leads_on : (advert : Advertised) (weights : HostWeights) (kept : List Path) (from : State) (steps : List Step) (state : State) (step : Step) → Leads advert weights kept from steps state → Contains (steps_from advert weights kept state) step → Leads advert weights kept from (steps ++ step ∷ []) step.end
+leads_on advert weights kept from [] state step leads contains = (subst (λ (s : State). Contains (steps_from advert weights kept s) step) (sym leads) contains, refl)
+leads_on advert weights kept from (first ∷ steps) state step leads contains = (leads.0, leads_on advert weights kept first.end steps state step leads.1 contains)
 
-pub reached_on : (advert : Advertised) (weights : HostWeights) (state : State) (step : Step) → IsReached advert weights state → Contains (steps_from advert weights state) step → IsReached advert weights step.end
-reached_on advert weights state step is contains = (is.0 ++ step ∷ [], leads_on advert weights start is.0 state step is.1 contains)
+pub reached_on : (advert : Advertised) (weights : HostWeights) (kept : List Path) (state : State) (step : Step) → IsReached advert weights kept state → Contains (steps_from advert weights kept state) step → IsReached advert weights kept step.end
+reached_on advert weights kept state step is contains = (is.0 ++ step ∷ [], leads_on advert weights kept start is.0 state step is.1 contains)
 
-pub start_reached : (advert : Advertised) (weights : HostWeights) → IsReached advert weights start
-start_reached advert weights = ([], refl)
+pub start_reached : (advert : Advertised) (weights : HostWeights) (kept : List Path) → IsReached advert weights kept start
+start_reached advert weights kept = ([], refl)
 
 pub record HasPlace (state : State) : Type 0 where
   pub within : state.boundary ≤ 8
   pub is_byte : IsByte state.used
 
-led_has_place : (advert : Advertised) (weights : HostWeights) (from : State) (steps : List Step) (state : State) → HasPlace from → Leads advert weights from steps state → HasPlace state
-led_has_place advert weights from [] state has leads = subst HasPlace leads has
-led_has_place advert weights from (step ∷ steps) state has leads =
-    let ends = ends_later advert weights from step has.is_byte leads.0 in
-    led_has_place advert weights step.end steps state (record { within = ends.within; is_byte = ends.is_byte }) leads.1
+led_has_place : (advert : Advertised) (weights : HostWeights) (kept : List Path) (from : State) (steps : List Step) (state : State) → HasPlace from → Leads advert weights kept from steps state → HasPlace state
+led_has_place advert weights kept from [] state has leads = subst HasPlace leads has
+led_has_place advert weights kept from (step ∷ steps) state has leads =
+    let ends = ends_later advert weights kept from step has.is_byte leads.0 in
+    led_has_place advert weights kept step.end steps state (record { within = ends.within; is_byte = ends.is_byte }) leads.1
 
-pub has_place : (advert : Advertised) (weights : HostWeights) (state : State) → IsReached advert weights state → HasPlace state
-has_place advert weights state is = led_has_place advert weights start is.0 state (record { within = omega arith; is_byte = start_is_byte }) is.1
+pub has_place : (advert : Advertised) (weights : HostWeights) (kept : List Path) (state : State) → IsReached advert weights kept state → HasPlace state
+has_place advert weights kept state is = led_has_place advert weights kept start is.0 state (record { within = omega arith; is_byte = start_is_byte }) is.1

@@ -4,6 +4,7 @@ use Rattle.std.proofs.Common.{get_or-set_same, get_or-set_other}
 use Rattle.std.specs.List.{Contains}
 use Rattle.std.proofs.Math.ListN.{length-replicate, length-set}
 use Rattle.std.proofs.lemmas.Bool.{cases_eq}
+use Rattle.plan_certificate.specs.declared.path.Path.{Path}
 use Rattle.applications.specs.Advertised.{Advertised}
 use Rattle.applications.specs.Weights.{HostWeights}
 use Rattle.plan_certificate.specs.declared.state.State.{State}
@@ -17,35 +18,35 @@ use Rattle.lane_planner.proofs.ReachedStates.{has_place, reached_on}
 use Rattle.lane_planner.proofs.StepEnds.{at_is_byte, ends_later, place_past}
 use Rattle.lane_planner.proofs.StepKinds.{step_is}
 
-pub gain_in : (advert : Advertised) (weights : HostWeights) (from : ℕ) (table : List ℕ) (state : State) → HasGains advert weights from table → IsReached advert weights state → from ≤ state_place state → IsGain advert weights state (gain_at table state)
-gain_in advert weights from table state has is after =
-    let at = has_place advert weights state is in
+pub gain_in : (advert : Advertised) (weights : HostWeights) (kept : List Path) (from : ℕ) (table : List ℕ) (state : State) → HasGains advert weights kept from table → IsReached advert weights kept state → from ≤ state_place state → IsGain advert weights kept state (gain_at table state)
+gain_in advert weights kept from table state has is after =
+    let at = has_place advert weights kept state is in
     let same : state_at (state_place state) ≡ state = state_of_place state at.is_byte in
-    subst (λ (s : State). IsGain advert weights s (gain_at table state)) same (has.gains (state_place state) after (place_below state at.within) (subst (IsReached advert weights) (sym same) is))
+    subst (λ (s : State). IsGain advert weights kept s (gain_at table state)) same (has.gains (state_place state) after (place_below state at.within) (subst (IsReached advert weights kept) (sym same) is))
 
 -- what can be gained after a step from the state at a place
-pub gain_after : (advert : Advertised) (weights : HostWeights) (table : List ℕ) (place : ℕ) (step : Step) → HasGains advert weights (place + 1) table → IsReached advert weights (state_at place) → Contains (steps_from advert weights (state_at place)) step → IsGain advert weights step.end (gain_at table step.end)
-gain_after advert weights table place step has is contains =
-    let ends = ends_later advert weights (state_at place) step (at_is_byte place) contains in
-    gain_in advert weights (place + 1) table step.end has (reached_on advert weights (state_at place) step is contains) (place_past place step.end ends.past)
+pub gain_after : (advert : Advertised) (weights : HostWeights) (kept : List Path) (table : List ℕ) (place : ℕ) (step : Step) → HasGains advert weights kept (place + 1) table → IsReached advert weights kept (state_at place) → Contains (steps_from advert weights kept (state_at place)) step → IsGain advert weights kept step.end (gain_at table step.end)
+gain_after advert weights kept table place step has is contains =
+    let ends = ends_later advert weights kept (state_at place) step (at_is_byte place) contains in
+    gain_in advert weights kept (place + 1) table step.end has (reached_on advert weights kept (state_at place) step is contains) (place_past place step.end ends.past)
 
 pub small_in : (table : List ℕ) (state : State) → IsTable table → state.boundary ≤ 8 → gain_at table state ≤ 4294967295 * (8 - state.boundary)
 small_in table state numbers within = omega (arith, numbers.small (state_place state) (place_below state within), boundary_of_place state)
 
 -- ---- one state more
 
-pub gains_past : (advert : Advertised) (weights : HostWeights) (place : ℕ) (table : List ℕ) → HasGains advert weights (place + 1) table → (IsReached advert weights (state_at place) → ⊥) → HasGains advert weights place table
-gains_past advert weights place table has not = record {
+pub gains_past : (advert : Advertised) (weights : HostWeights) (kept : List Path) (place : ℕ) (table : List ℕ) → HasGains advert weights kept (place + 1) table → (IsReached advert weights kept (state_at place) → ⊥) → HasGains advert weights kept place table
+gains_past advert weights kept place table has not = record {
   numbers = has.numbers;
   gains = λ k from inside is.
       elim (cases_eq k place) [
-        | inl same ↦ absurd (not (subst (λ (n : ℕ). IsReached advert weights (state_at n)) same is))
+        | inl same ↦ absurd (not (subst (λ (n : ℕ). IsReached advert weights kept (state_at n)) same is))
         | inr other ↦ has.gains k (omega (arith, from, other)) inside is
       ];
 }
 
-pub gains_more : (advert : Advertised) (weights : HostWeights) (place : ℕ) (table : List ℕ) (gain : ℕ) → HasGains advert weights (place + 1) table → place < 2304 → IsGain advert weights (state_at place) gain → gain ≤ 4294967295 * (8 - place / 256) → HasGains advert weights place (set table place gain)
-gains_more advert weights place table gain has below is small =
+pub gains_more : (advert : Advertised) (weights : HostWeights) (kept : List Path) (place : ℕ) (table : List ℕ) (gain : ℕ) → HasGains advert weights kept (place + 1) table → place < 2304 → IsGain advert weights kept (state_at place) gain → gain ≤ 4294967295 * (8 - place / 256) → HasGains advert weights kept place (set table place gain)
+gains_more advert weights kept place table gain has below is small =
     let within : place < length table = omega (arith, below, has.numbers.all) in
     let new : get_or (set table place gain) place 0 ≡ gain = get_or-set_same table place gain 0 within in
     record {
@@ -59,28 +60,28 @@ gains_more advert weights place table gain has below is small =
       };
       gains = λ k from inside reached.
           elim (cases_eq k place) [
-            | inl same ↦ subst (λ (n : ℕ). IsGain advert weights (state_at n) (get_or (set table place gain) n 0)) (sym same) (subst (IsGain advert weights (state_at place)) (sym new) is)
-            | inr other ↦ subst (IsGain advert weights (state_at k)) (sym (get_or-set_other table place k gain 0 other)) (has.gains k (omega (arith, from, other)) inside reached)
+            | inl same ↦ subst (λ (n : ℕ). IsGain advert weights kept (state_at n) (get_or (set table place gain) n 0)) (sym same) (subst (IsGain advert weights kept (state_at place)) (sym new) is)
+            | inr other ↦ subst (IsGain advert weights kept (state_at k)) (sym (get_or-set_other table place k gain 0 other)) (has.gains k (omega (arith, from, other)) inside reached)
           ];
     }
 
 -- ---- at the last boundary
 
-nothing_follows : (advert : Advertised) (weights : HostWeights) (state : State) → 8 ≤ state.boundary → (steps : List Step) → Follow advert weights state steps → steps_weight steps ≤ 0
-nothing_follows advert weights state past [] follow = omega arith
-nothing_follows advert weights state past (step ∷ steps) follow = absurd (omega (arith, past, (step_is advert weights state step follow.0).below))
+nothing_follows : (advert : Advertised) (weights : HostWeights) (kept : List Path) (state : State) → 8 ≤ state.boundary → (steps : List Step) → Follow advert weights kept state steps → steps_weight steps ≤ 0
+nothing_follows advert weights kept state past [] follow = omega arith
+nothing_follows advert weights kept state past (step ∷ steps) follow = absurd (omega (arith, past, (step_is advert weights kept state step follow.0).below))
 
 zero_at : (n place : ℕ) → ◌≡◌ {A = ℕ} (get_or (replicate n 0) place 0) 0
 zero_at zero place = refl
 zero_at (suc n) zero = refl
 zero_at (suc n) (suc place) = zero_at n place
 
-pub gains_begun : (advert : Advertised) (weights : HostWeights) (n : ℕ) → n ≡ 2304 → HasGains advert weights 2048 (replicate n 0)
-gains_begun advert weights n is = record {
+pub gains_begun : (advert : Advertised) (weights : HostWeights) (kept : List Path) (n : ℕ) → n ≡ 2304 → HasGains advert weights kept 2048 (replicate n 0)
+gains_begun advert weights kept n is = record {
   numbers = record { all = length-replicate n 0 ∙ is; small = λ place below. omega (arith, zero_at n place) };
   gains = λ place from below reached.
-      subst (IsGain advert weights (state_at place)) (sym (zero_at n place)) (record {
+      subst (IsGain advert weights kept (state_at place)) (sym (zero_at n place)) (record {
         gained = ([], tt, refl);
-        greatest = λ steps follow. nothing_follows advert weights (state_at place) (omega (arith, from)) steps follow;
+        greatest = λ steps follow. nothing_follows advert weights kept (state_at place) (omega (arith, from)) steps follow;
       });
 }

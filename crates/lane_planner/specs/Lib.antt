@@ -1,3 +1,4 @@
+pub mod FirstBest
 pub mod Gains
 pub mod Marks
 pub mod Tables

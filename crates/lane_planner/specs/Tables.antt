@@ -1,6 +1,6 @@
 -- The planner's table of gains, by the places of states, and the plan that it reads off. (docs/planning.md, "The
 -- planner")
-use Rattle.std.specs.Prelude.{◌≡◌, ℕ, Bool, ◌+◌, ◌-◌, ◌*◌, ◌/◌, ◌%◌, ◌<◌, ◌≤◌, ◌==◌, ◌&&◌, nat_lt, List, Option, All, AllPairs, Contains, find, length, slice_index}
+use Rattle.std.specs.Prelude.{◌≡◌, ℕ, Bool, ◌+◌, ◌-◌, ◌*◌, ◌/◌, ◌%◌, ◌<◌, ◌≤◌, ◌==◌, ◌&&◌, ◌||◌, ◌⊎◌, nat_lt, List, Option, All, AllPairs, Contains, find, length, slice_index}
 use Rattle.applications.specs.Advertised.{Advertised}
 use Rattle.applications.specs.Weights.{HostWeights}
 use Rattle.plan_certificate.specs.declared.path.Path.{Path}
@@ -9,11 +9,13 @@ use Rattle.plan_certificate.specs.declared.state.State.{State}
 use Rattle.plan_certificate.specs.declared.state.Step.{Step}
 use Rattle.plan_certificate.specs.declared.certificate.Entry.{Entry}
 use Rattle.plan_certificate.specs.Paths.{path_weight}
-use Rattle.plan_certificate.specs.Plans.{IsAdmissible, plan_weight}
+use Rattle.plan_certificate.specs.Plans.{IsAdmissible, Keeps, plan_weight}
+use Rattle.plan_certificate.specs.KeptPaths.{is_among}
 use Rattle.plan_certificate.specs.States.{start, state_at, state_place, fits, path_step, paths_at}
 use Rattle.plan_certificate.specs.ReachedStates.{IsReached}
 use Rattle.plan_certificate.specs.Moves.{is_open, move_step}
 use Rattle.plan_certificate.specs.Certificates.{HasStates, entry_place}
+use Rattle.lane_planner.specs.FirstBest.{IsOfUse, IsSameOrBefore}
 use Rattle.lane_planner.specs.Gains.{IsGain}
 use Rattle.lane_planner.specs.Marks.{IsMarked}
 
@@ -23,45 +25,51 @@ pub record IsTable (table : List ℕ) : Type 0 where
   pub small : (place : ℕ) → place < 2304 → slice_index table place ≤ 4294967295 * (8 - place / 256)
 
 -- the gains of the reached states from a place on
-pub record HasGains (advert : Advertised) (weights : HostWeights) (from : ℕ) (table : List ℕ) : Type 0 where
+pub record HasGains (advert : Advertised) (weights : HostWeights) (kept : List Path) (from : ℕ) (table : List ℕ) : Type 0 where
   pub numbers : IsTable table
-  pub gains : (place : ℕ) → from ≤ place → place < 2304 → IsReached advert weights (state_at place) → IsGain advert weights (state_at place) (slice_index table place)
+  pub gains : (place : ℕ) → from ≤ place → place < 2304 → IsReached advert weights kept (state_at place) → IsGain advert weights kept (state_at place) (slice_index table place)
 
 abbrev pub gain_at : List ℕ → State → ℕ
 gain_at table state = slice_index table (state_place state)
 
--- the most that one of the steps weighs together with what the table has where it leads
+-- the most that one of the steps weighs together with what the table has where it leads; 0 where there is none
 pub record IsMost (table : List ℕ) (steps : List Step) (most : ℕ) : Type 0 where
-  pub attained : (step : Step) × Contains steps step × (step.weight + gain_at table step.end ≡ most)
+  pub attained : (most ≡ 0) ⊎ ((step : Step) × Contains steps step × (step.weight + gain_at table step.end ≡ most))
   pub greatest : All (λ step. step.weight + gain_at table step.end ≤ most) steps
 
 abbrev pub entry_at : List ℕ → ℕ → Entry
 entry_at table place = record { boundary = place / 256; used = place % 256; potential = slice_index table place }
 
--- a path that fits, weighs something, and after which the state's whole gain can still be had
-unfoldable pub keeps_gain : Advertised → HostWeights → List ℕ → State → Path → Bool
-keeps_gain advert weights table state path =
-    fits advert state path
-    && nat_lt 0 (path_weight advert weights path)
+-- a path that fits, weighs something or is kept, and after which the state's whole gain can still be had
+unfoldable pub keeps_gain : Advertised → HostWeights → List Path → List ℕ → State → Path → Bool
+keeps_gain advert weights kept table state path =
+    fits advert kept state path
+    && (nat_lt 0 (path_weight advert weights path) || is_among kept path)
     && path_weight advert weights path + gain_at table (path_step advert weights state path).end == gain_at table state
 
 -- the same of a path's move
-abbrev pub move_keeps_gain : List ℕ → State → Move → Bool
-move_keeps_gain table state move =
+abbrev pub move_keeps_gain : List Path → List ℕ → State → Move → Bool
+move_keeps_gain kept table state move =
     is_open state move
-    && nat_lt 0 move.weight
+    && (nat_lt 0 move.weight || is_among kept move.path)
     && move.weight + gain_at table (move_step state move).end == gain_at table state
 
 -- the first such path, by rising Application and media lane
-unfoldable pub chosen : Advertised → HostWeights → List ℕ → State → Option Path
-chosen advert weights table state = find (keeps_gain advert weights table state) (paths_at advert (state.boundary + 1))
+unfoldable pub chosen : Advertised → HostWeights → List Path → List ℕ → State → Option Path
+chosen advert weights kept table state = find (keeps_gain advert weights kept table state) (paths_at advert (state.boundary + 1))
 
--- a plan by rising host lane, of paths that weigh something, and of the start's whole gain
-pub record IsReadOff (advert : Advertised) (weights : HostWeights) (table : List ℕ) (paths : List Path) : Type 0 where
+-- a plan of so much weight with the kept paths, without others of weight 0
+pub record IsPlanOf (advert : Advertised) (weights : HostWeights) (kept : List Path) (weight : ℕ) (paths : List Path) : Type 0 where
   pub admissible : IsAdmissible advert paths
-  pub weighs : plan_weight advert weights paths ≡ gain_at table start
+  pub keeps : Keeps kept paths
+  pub weighs : plan_weight advert weights paths ≡ weight
+  pub of_use : All (IsOfUse advert weights kept) paths
+
+-- such a plan of the start's whole gain, by rising host lane, that comes before all others
+pub record IsReadOff (advert : Advertised) (weights : HostWeights) (kept : List Path) (table : List ℕ) (paths : List Path) : Type 0 where
+  pub plan : IsPlanOf advert weights kept (gain_at table start) paths
   pub rising : AllPairs (λ path later. path.host < later.host) paths
-  pub weighing : All (λ path. 0 < path_weight advert weights path) paths
+  pub first : (others : List Path) → IsPlanOf advert weights kept (gain_at table start) others → IsSameOrBefore paths others
 
 -- the entries of the marked states before a place, and no others
 pub record AreEntries (marks : List Bool) (table : List ℕ) (upto : ℕ) (entries : List Entry) : Type 0 where

@@ -1,41 +1,47 @@
 // What can still be gained from the states that are reached.
 ghost use Rattle.std.specs.Prelude.{◌≡◌, ◌+◌, ◌≤◌, ◌<◌, ◌-◌, ◌*◌, All};
+ghost use Rattle.plan_certificate.specs.Plans.{AreAllowed};
 ghost use Rattle.plan_certificate.specs.Moves.{LeadsOn, steps_by};
 ghost use Rattle.lane_planner.specs.Marks.{MarksReached};
 ghost use Rattle.lane_planner.specs.Tables.{HasGains, IsMost, IsTable};
 
 use applications::{Advert, Weights};
-use plan_certificate::{HOST_LANES, Move, Moves, STATES, State};
+use plan_certificate::{HOST_LANES, Move, Moves, Path, STATES, State};
 
 /// The gains of the marked states, by their places.
-pub fn gains_of(advert: &Advert, weights: &Weights, marks: &[bool]) -> [u64; STATES]
-    requires { MarksReached advert.now weights.now marks.now }
-    ensures { HasGains advert.now weights.now 0 result }
+pub fn gains_of(advert: &Advert, weights: &Weights, kept: &[Path], marks: &[bool]) -> [u64; STATES]
+    requires kept { AreAllowed advert.now kept.now }
+    requires marks { MarksReached advert.now weights.now kept.now marks.now }
+    ensures { HasGains advert.now weights.now kept.now 0 result }
 {
     let mut table = [0; STATES];
     for boundary in (0..HOST_LANES).rev() {
-        let moves = Moves::at(advert, weights, boundary);
+        let moves = Moves::at(advert, weights, kept, boundary);
         for used in (0..256usize).rev() {
             let place = 256 * usize::from(boundary) + used;
             if marks[place] {
                 let state = State::at(place);
-                table[place] = most(moves.heaviest.as_slice(), &table, &state);
+                let free = moves.may_stay_free;
+                table[place] = most(free, moves.heaviest.as_slice(), &table, &state);
             }
         }
     }
     table
 }
 
-// The most that a step from the state weighs together with what can be gained where it leads.
-fn most(moves: &[Move], table: &[u64], state: &State) -> u64
+// The most that a step from the state weighs together with what can be gained where it leads; 0 where there is none.
+fn most(may_stay_free: bool, moves: &[Move], table: &[u64], state: &State) -> u64
     requires table { IsTable table.now }
     requires open { state.now.boundary < 8 }
     requires lead_on { All (LeadsOn state.now.boundary) moves.now }
-    ensures most { IsMost table.now (steps_by state.now moves.now) result }
+    ensures most { IsMost table.now (steps_by may_stay_free state.now moves.now) result }
     ensures small { result ≤ 4294967295 * (8 - state.now.boundary) }
 {
-    let free = state.free_step().end;
-    let mut most = table[free.place()];
+    let mut most = 0;
+    if may_stay_free {
+        let free = state.free_step().end;
+        most = table[free.place()];
+    }
     for one in moves {
         if one.is_open(state) {
             let through = u64::from(one.weight) + table[one.step(state).end.place()];

@@ -1,9 +1,12 @@
-//! The plan of data paths that weighs most, with a certificate that none weighs more.
+//! The first of the plans of data paths that weigh most, with a certificate that none weighs more.
 #![tactic(auto)]
 
 mod choices;
+mod first;
 mod gains;
+pub mod laws;
 mod planner;
 mod reached;
 
-pub use planner::plan;
+pub use first::first_best;
+pub use planner::{plan, plan_keeping};

@@ -1,12 +1,13 @@
-ghost use Rattle.std.specs.Prelude.{◌≡◌, ◌↔◌, ◌<◌, Contains, length, map};
+ghost use Rattle.std.specs.Prelude.{◌≡◌, ◌↔◌, ◌<◌, [], Contains, length, map};
 ghost use Rattle.std.specs.List.{All, AllPairs};
 ghost use Rattle.plan_certificate.specs.declared.state.State.{State};
 ghost use Rattle.plan_certificate.specs.Paths.{path_weight};
-ghost use Rattle.plan_certificate.specs.Plans.{IsBest};
+ghost use Rattle.plan_certificate.specs.Plans.{IsAdmissible, IsBest};
 ghost use Rattle.plan_certificate.specs.ReachedStates.{IsReached};
 ghost use Rattle.plan_certificate.specs.Certificates.{IsGood, state_of};
 ghost use Rattle.plan_certificate.specs.Verdicts.{verdict};
 ghost use Rattle.plan_certificate.specs.declared.verdict.Verdict.TheVariants as verdicts;
+ghost use Rattle.lane_planner.specs.FirstBest.{IsFirstBest};
 ghost use Rattle.lane_planner.specs.Gains.{IsGain};
 ghost use Rattle.lane_planner.specs.Tables.{AreEntries, HasGains, IsReadOff};
 
@@ -15,37 +16,60 @@ use crate::gains::gains_of;
 use crate::reached::reached;
 use applications::{Advert, Weights};
 use arrayvec::ArrayVec;
-use plan_certificate::{Certificate, Entry, HOST_LANES, Plan, STATES, State, moves_at};
+use plan_certificate::{Certificate, Entry, HOST_LANES, Path, Plan, STATES, State, moves_at};
 
-/// The plan that weighs most, with what can still be gained from each state that steps from the start reach.
+/// The first plan of those that weigh most, with what can still be gained from each state that steps from the start reach.
 pub fn plan(advert: &Advert, weights: &Weights) -> Certificate<STATES>
+    ensures kept { result.kept ≡ [] }
     ensures good { IsGood advert.now weights.now result }
     ensures judged { verdict advert.now weights.now result ≡ verdicts.Good }
-    ensures best { IsBest advert.now weights.now result.paths }
+    ensures best { IsBest advert.now weights.now [] result.paths }
+    ensures first { IsFirstBest advert.now weights.now [] result.paths }
     ensures rising { AllPairs (λ path later. path.host < later.host) result.paths }
     ensures weighing { All (λ path. 0 < path_weight advert.now weights.now path) result.paths }
-    ensures gains { All (λ entry. IsGain advert.now weights.now (state_of entry) entry.potential) result.entries }
-    ensures states { (state : State) → IsReached advert.now weights.now state ↔ Contains (map state_of result.entries) state }
+    ensures gains { All (λ entry. IsGain advert.now weights.now [] (state_of entry) entry.potential) result.entries }
+    ensures states { (state : State) → IsReached advert.now weights.now [] state ↔ Contains (map state_of result.entries) state }
 {
-    let marks = reached(advert, weights);
-    let table = gains_of(advert, weights, &marks);
+    let nothing = Plan {
+        paths: ArrayVec::new(),
+    };
+    plan_keeping(advert, weights, &nothing)
+}
+
+/// As `plan`, of the plans that hold the kept paths.
+pub fn plan_keeping(advert: &Advert, weights: &Weights, kept: &Plan) -> Certificate<STATES>
+    requires { IsAdmissible advert.now kept.now }
+    ensures kept { result.kept ≡ kept.now }
+    ensures good { IsGood advert.now weights.now result }
+    ensures judged { verdict advert.now weights.now result ≡ verdicts.Good }
+    ensures best { IsBest advert.now weights.now kept.now result.paths }
+    ensures first { IsFirstBest advert.now weights.now kept.now result.paths }
+    ensures rising { AllPairs (λ path later. path.host < later.host) result.paths }
+    ensures gains { All (λ entry. IsGain advert.now weights.now kept.now (state_of entry) entry.potential) result.entries }
+    ensures states { (state : State) → IsReached advert.now weights.now kept.now state ↔ Contains (map state_of result.entries) state }
+{
+    let paths = kept.paths.as_slice();
+    let marks = reached(advert, weights, paths);
+    let table = gains_of(advert, weights, paths, &marks);
     Certificate {
         weight: table[0],
-        plan: read_off(advert, weights, &table),
+        kept: copy_of(kept),
+        plan: read_off(advert, weights, paths, &table),
         entries: entries_of(&marks, &table),
     }
 }
 
 // The plan that the gains lead to, from the start upwards.
-fn read_off(advert: &Advert, weights: &Weights, table: &[u64]) -> Plan
-    requires { HasGains advert.now weights.now 0 table.now }
-    ensures { IsReadOff advert.now weights.now table.now result }
+fn read_off(advert: &Advert, weights: &Weights, kept: &[Path], table: &[u64]) -> Plan
+    requires kept { IsAdmissible advert.now kept.now }
+    requires gains { HasGains advert.now weights.now kept.now 0 table.now }
+    ensures { IsReadOff advert.now weights.now kept.now table.now result }
 {
     let mut state = State::start();
     let mut paths = ArrayVec::new();
     while state.boundary < HOST_LANES {
-        let moves = moves_at(advert, weights, state.boundary + 1);
-        match chosen(moves.as_slice(), table, &state) {
+        let moves = moves_at(advert, weights, kept, state.boundary + 1);
+        match chosen(moves.as_slice(), kept, table, &state) {
             Some(one) => {
                 paths.push(one.path);
                 state = one.step(&state).end;
@@ -73,4 +97,12 @@ fn entries_of(marks: &[bool], table: &[u64]) -> ArrayVec<Entry, STATES>
         }
     }
     entries
+}
+
+fn copy_of(plan: &Plan) -> Plan
+    ensures { result ≡ plan.now }
+{
+    Plan {
+        paths: ArrayVec::try_from(plan.paths.as_slice()).unwrap(),
+    }
 }

@@ -1,24 +1,27 @@
 // Which states steps from the start reach.
 ghost use Rattle.std.specs.Prelude.{◌≡◌, ◌≤◌, ◌<◌, ◌+◌, All, length};
+ghost use Rattle.plan_certificate.specs.Plans.{AreAllowed};
 ghost use Rattle.plan_certificate.specs.Moves.{LeadsOn, steps_by};
 ghost use Rattle.lane_planner.specs.Marks.{MarksEnds, MarksReached};
 
 use applications::{Advert, Weights};
-use plan_certificate::{HOST_LANES, Move, Moves, STATES, State};
+use plan_certificate::{HOST_LANES, Move, Moves, Path, STATES, State};
 
 /// Marks, by their places, the states that steps from the start reach.
-pub fn reached(advert: &Advert, weights: &Weights) -> [bool; STATES]
-    ensures { MarksReached advert.now weights.now result }
+pub fn reached(advert: &Advert, weights: &Weights, kept: &[Path]) -> [bool; STATES]
+    requires { AreAllowed advert.now kept.now }
+    ensures { MarksReached advert.now weights.now kept.now result }
 {
     let mut marks = [false; STATES];
     marks[0] = true;
     for boundary in 0..HOST_LANES {
-        let moves = Moves::at(advert, weights, boundary);
+        let moves = Moves::at(advert, weights, kept, boundary);
         for used in 0..256usize {
             let place = 256 * usize::from(boundary) + used;
             if marks[place] {
                 let state = State::at(place);
-                mark_ends(&mut marks, moves.heaviest.as_slice(), &state);
+                let free = moves.may_stay_free;
+                mark_ends(&mut marks, free, moves.heaviest.as_slice(), &state);
             }
         }
     }
@@ -26,15 +29,17 @@ pub fn reached(advert: &Advert, weights: &Weights) -> [bool; STATES]
 }
 
 // Marks where the steps from a state lead.
-fn mark_ends(marks: &mut [bool], moves: &[Move], state: &State)
+fn mark_ends(marks: &mut [bool], may_stay_free: bool, moves: &[Move], state: &State)
     requires all { length marks.old ≡ STATES }
     requires open { state.now.boundary < 8 }
     requires lead_on { All (LeadsOn state.now.boundary) moves.now }
-    ensures { MarksEnds (steps_by state.now moves.now) marks.old marks.new }
+    ensures { MarksEnds (steps_by may_stay_free state.now moves.now) marks.old marks.new }
 {
-    let free = state.free_step().end;
-    let place = free.place();
-    marks[place] = true;
+    if may_stay_free {
+        let free = state.free_step().end;
+        let place = free.place();
+        marks[place] = true;
+    }
     for one in moves {
         if one.is_open(state) {
             let end = one.step(state).end;

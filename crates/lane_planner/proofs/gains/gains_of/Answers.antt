@@ -1,4 +1,4 @@
-use Rattle.std.proofs.Common.{◌≡◌, ℕ, ◌+◌, ◌-◌, ◌*◌, ◌/◌, ◌<◌, List, refl, set, sym, subst, ap, ◌∙◌, arith}
+use Rattle.std.proofs.Common.{Bool, ◌≡◌, ℕ, ◌+◌, ◌-◌, ◌*◌, ◌/◌, ◌<◌, List, refl, set, sym, subst, ap, ◌∙◌, arith}
 use Rattle.std.specs.List.{All}
 use Rattle.plan_certificate.specs.declared.moves.Move.{Move}
 use Rattle.plan_certificate.specs.declared.state.State.{State}
@@ -12,17 +12,17 @@ use Rattle.lane_planner.proofs.TableGains.{gains_begun, gains_more, gains_past}
 use Rattle.lane_planner.proofs.gains.gains_of.Goals as goal
 
 pub loop-boundary-init : goal.loop-boundary-init
-loop-boundary-init c = gains_begun c.args.advert.now c.args.weights.now 2304 refl
+loop-boundary-init c = gains_begun c.args.advert.now c.args.weights.now c.args.kept.now 2304 refl
 
 pub loop-used-init : goal.loop-used-init
 loop-used-init c =
     let same : 256 * c.loop-boundary.boundary ≡ 256 * (c.loop-boundary.boundary - 1) + 256 = omega (arith, c.loop-boundary-test.true) in
-    subst (λ (n : ℕ). HasGains c.args.advert.now c.args.weights.now n c.loop-boundary.table) same c.loop-boundary.invariant
+    subst (λ (n : ℕ). HasGains c.args.advert.now c.args.weights.now c.args.kept.now n c.loop-boundary.table) same c.loop-boundary.invariant
 
 pub loop-boundary-preserved : goal.loop-boundary-preserved
 loop-boundary-preserved c =
     let same : 256 * (c.loop-boundary.boundary - 1) + c.loop-used.used ≡ 256 * (c.loop-boundary.boundary - 1) = omega (arith, c.loop-used-test.false) in
-    subst (λ (n : ℕ). HasGains c.args.advert.now c.args.weights.now n c.loop-used.table) same c.loop-used.invariant
+    subst (λ (n : ℕ). HasGains c.args.advert.now c.args.weights.now c.args.kept.now n c.loop-used.table) same c.loop-used.invariant
 
 pub most-requires-clause-lead_on : goal.most-requires-clause-lead_on
 most-requires-clause-lead_on c =
@@ -36,33 +36,36 @@ pub loop-used-preserved-then-marks-place : goal.loop-used-preserved-then-marks-p
 loop-used-preserved-then-marks-place c =
     let advert = c.args.advert.now in
     let weights = c.args.weights.now in
+    let kept = c.args.kept.now in
     let table = c.loop-used.table in
     let boundary : ℕ = c.loop-boundary.boundary - 1 in
     let place : ℕ = 256 * boundary + (c.loop-used.used - 1) in
     let read : 256 * c.from.result + (c.loop-used.used - 1) ≡ place = omega (arith, c.from.ensures) in
     let next : 256 * boundary + c.loop-used.used ≡ place + 1 = omega (arith, c.loop-used-test.true) in
-    let has : HasGains advert weights (place + 1) table = subst (λ (n : ℕ). HasGains advert weights n table) next c.loop-used.invariant in
+    let has : HasGains advert weights kept (place + 1) table = subst (λ (n : ℕ). HasGains advert weights kept n table) next c.loop-used.invariant in
     let at : place / 256 ≡ boundary = omega (arith, c.loop-used-test.true, c.loop-used.auto.used) in
     let below : place < 2304 = omega (arith, c.loop-used-test.true, c.loop-used.auto.used, c.loop-boundary-test.true, c.loop-boundary.auto.boundary) in
     let marked : IsMarked c.args.marks.now place = subst (IsMarked c.args.marks.now) read c.if-marks-place.true in
     let state : c.at-state.result ≡ state_at place = c.at-state.ensures ∙ ap state_at read in
-    let found = subst (λ (moves : List Move). IsMost table (steps_by (state_at place) moves) c.most.result) c.as_slice.ensures.value (subst (λ (s : State). IsMost table (steps_by s c.as_slice.result.now) c.most.result) state c.most.ensures.most) in
-    let gain = gain_is_most advert weights table place c.most.result boundary c.at-moves.result.all.items c.at-moves.result.heaviest.items at (omega (arith, c.loop-boundary-test.true, c.loop-boundary.auto.boundary)) has ((c.requires.reached place below).0 marked) c.at-moves.ensures.moves found in
-    let more = gains_more advert weights place table c.most.result has below gain (omega (arith, c.most.ensures.small, ap (λ (s : State). s.boundary) state)) in
-    subst (λ (n : ℕ). HasGains advert weights place (set table n c.most.result)) (sym read) more
+    let free : Bool = c.at-moves.result.may_stay_free in
+    let found = subst (λ (moves : List Move). IsMost table (steps_by free (state_at place) moves) c.most.result) c.as_slice.ensures.value (subst (λ (s : State). IsMost table (steps_by free s c.as_slice.result.now) c.most.result) state c.most.ensures.most) in
+    let gain = gain_is_most advert weights kept table place c.most.result boundary free c.at-moves.result.all.items c.at-moves.result.heaviest.items at (omega (arith, c.loop-boundary-test.true, c.loop-boundary.auto.boundary)) has ((c.requires.marks.reached place below).0 marked) c.at-moves.ensures.moves found in
+    let more = gains_more advert weights kept place table c.most.result has below gain (omega (arith, c.most.ensures.small, ap (λ (s : State). s.boundary) state)) in
+    subst (λ (n : ℕ). HasGains advert weights kept place (set table n c.most.result)) (sym read) more
 
 pub loop-used-preserved : goal.loop-used-preserved
 loop-used-preserved c =
     let advert = c.args.advert.now in
     let weights = c.args.weights.now in
+    let kept = c.args.kept.now in
     let table = c.loop-used.table in
     let boundary : ℕ = c.loop-boundary.boundary - 1 in
     let place : ℕ = 256 * boundary + (c.loop-used.used - 1) in
     let read : 256 * c.from.result + (c.loop-used.used - 1) ≡ place = omega (arith, c.from.ensures) in
     let next : 256 * boundary + c.loop-used.used ≡ place + 1 = omega (arith, c.loop-used-test.true) in
     let below : place < 2304 = omega (arith, c.loop-used-test.true, c.loop-used.auto.used, c.loop-boundary-test.true, c.loop-boundary.auto.boundary) in
-    gains_past advert weights place table (subst (λ (n : ℕ). HasGains advert weights n table) next c.loop-used.invariant)
+    gains_past advert weights kept place table (subst (λ (n : ℕ). HasGains advert weights kept n table) next c.loop-used.invariant)
     (λ is.
-    let marked = subst (IsMarked c.args.marks.now) (sym read) ((c.requires.reached place below).1 is) in
+    let marked = subst (IsMarked c.args.marks.now) (sym read) ((c.requires.marks.reached place below).1 is) in
     let not = c.if-marks-place.false in
     cc)

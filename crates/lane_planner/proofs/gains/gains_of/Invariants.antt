@@ -4,8 +4,8 @@ use Rattle.lane_planner.proofs.gains.gains_of.Given as goal
 
 -- the gains from this boundary on
 abbrev pub invariant-loop-boundary : goal.invariant-loop-boundary
-invariant-loop-boundary l = HasGains l.advert l.weights (256 * l.boundary) l.table
+invariant-loop-boundary l = HasGains l.advert l.weights l.kept (256 * l.boundary) l.table
 
 -- and of those before it the last ones
 abbrev pub invariant-loop-used : goal.invariant-loop-used
-invariant-loop-used l = HasGains l.advert l.weights (256 * l.boundary + l.used) l.table
+invariant-loop-used l = HasGains l.advert l.weights l.kept (256 * l.boundary + l.used) l.table

@@ -6,6 +6,6 @@ use Rattle.lane_planner.proofs.gains.most.Given as goal
 -- the most of the steps so far
 abbrev pub invariant-loop-one : goal.invariant-loop-one
 invariant-loop-one l = record {
-  most : IsMost l.table (steps_by l.state (take l.one-index l.moves)) l.most;
+  most : IsMost l.table (steps_by l.may_stay_free l.state (take l.one-index l.moves)) l.most;
   small : l.most ≤ 4294967295 * (8 - l.state.boundary);
 }

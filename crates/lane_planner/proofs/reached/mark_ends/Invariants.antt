@@ -5,4 +5,4 @@ use Rattle.lane_planner.proofs.reached.mark_ends.Given as goal
 
 -- the ends of the free lane's step and of the moves so far
 abbrev pub invariant-loop-one : goal.invariant-loop-one
-invariant-loop-one l = MarksEnds (steps_by l.state (take l.one-index l.moves)) l.fn.marks l.marks
+invariant-loop-one l = MarksEnds (steps_by l.may_stay_free l.state (take l.one-index l.moves)) l.fn.marks l.marks

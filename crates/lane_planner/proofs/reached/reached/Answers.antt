@@ -1,12 +1,12 @@
-use Rattle.std.proofs.Common.{◌≡◌, ℕ, ◌+◌, ◌*◌, ◌<◌, List, refl, sym, subst, ap, ◌∙◌, arith}
+use Rattle.std.proofs.Common.{Bool, ◌≡◌, ℕ, ◌+◌, ◌*◌, ◌<◌, List, refl, sym, subst, ap, ◌∙◌, arith}
 use Rattle.std.specs.List.{All}
 use Rattle.plan_certificate.specs.declared.moves.Move.{Move}
 use Rattle.plan_certificate.specs.declared.state.State.{State}
 use Rattle.plan_certificate.specs.declared.state.Step.{Step}
-use Rattle.plan_certificate.specs.States.{state_at, steps_from}
-use Rattle.plan_certificate.specs.Moves.{LeadsOn, moves_at, steps_by}
+use Rattle.plan_certificate.specs.States.{state_at}
+use Rattle.plan_certificate.specs.Moves.{LeadsOn, steps_by}
 use Rattle.plan_certificate.proofs.HeaviestMoves.{heaviest_lead_on}
-use Rattle.plan_certificate.proofs.MoveSteps.{steps_are}
+use Rattle.plan_certificate.proofs.MoveSteps.{listed_are_steps}
 use Rattle.lane_planner.specs.Marks.{AreMarks, IsMarked, MarksEnds}
 use Rattle.lane_planner.proofs.Marking.{marks_more, marks_past}
 use Rattle.lane_planner.proofs.MarkingEnds.{ends_of_heaviest, marks_ended, marks_of_blank}
@@ -14,7 +14,7 @@ use Rattle.lane_planner.proofs.reached.reached.Goals as goal
 use Rattle.lane_planner.proofs.reached.reached.Goals.{then-marks-place, else-marks-place}
 
 pub loop-boundary-init : goal.loop-boundary-init
-loop-boundary-init c = marks_of_blank c.args.advert.now c.args.weights.now 2304 refl
+loop-boundary-init c = marks_of_blank c.args.advert.now c.args.weights.now c.args.kept.now 2304 refl
 
 pub mark_ends-requires-clause-lead_on : goal.mark_ends-requires-clause-lead_on
 mark_ends-requires-clause-lead_on c =
@@ -28,28 +28,29 @@ pub loop-used-preserved : goal.loop-used-preserved
 loop-used-preserved c =
     let advert = c.args.advert.now in
     let weights = c.args.weights.now in
+    let kept = c.args.kept.now in
     let boundary : ℕ = c.loop-boundary.boundary in
     let place : ℕ = 256 * boundary + c.loop-used.used in
     let read : 256 * c.from.result + c.loop-used.used ≡ place = omega (arith, c.from.ensures) in
     let next : place + 1 ≡ 256 * boundary + (c.loop-used.used + 1) = omega arith in
     let before = c.loop-used.marks in
-    subst (λ (n : ℕ). AreMarks advert weights n c.if-marks-place.marks) next (elim c.if-marks-place.branch [
+    subst (λ (n : ℕ). AreMarks advert weights kept n c.if-marks-place.marks) next (elim c.if-marks-place.branch [
       | then-marks-place w ↦
           let state : State = state_at place in
           let after = w.mark_ends.new.marks in
           let all = c.at-moves.result.all.items in
           let are = c.at-moves.ensures.moves in
           let low : state.boundary ≡ boundary = omega (arith, c.loop-used-test.true) in
-          let listed : all ≡ moves_at advert weights (state.boundary + 1) = are.listed ∙ ap (λ (n : ℕ). moves_at advert weights (n + 1)) (sym low) in
-          let steps : steps_by state all ≡ steps_from advert weights state = ap (steps_by state) listed ∙ sym (steps_are advert weights state (omega (arith, low, c.loop-boundary-test.true))) in
-          let at_state = subst (λ (s : State). MarksEnds (steps_by s w.as_slice.result.now) before after) (w.at-state.ensures ∙ ap state_at read) w.mark_ends.ensures in
-          let of_heaviest = subst (λ (moves : List Move). MarksEnds (steps_by state moves) before after) w.as_slice.ensures.value at_state in
-          let new = subst (λ (ss : List Step). MarksEnds ss before after) steps (ends_of_heaviest state all c.at-moves.result.heaviest.items before after are.heavy of_heaviest) in
+          let free : Bool = c.at-moves.result.may_stay_free in
+          let steps = listed_are_steps advert weights kept state boundary free all c.at-moves.result.heaviest.items low c.loop-boundary-test.true are in
+          let at_state = subst (λ (s : State). MarksEnds (steps_by free s w.as_slice.result.now) before after) (w.at-state.ensures ∙ ap state_at read) w.mark_ends.ensures in
+          let of_heaviest = subst (λ (moves : List Move). MarksEnds (steps_by free state moves) before after) w.as_slice.ensures.value at_state in
+          let new = subst (λ (ss : List Step). MarksEnds ss before after) steps (ends_of_heaviest free state all c.at-moves.result.heaviest.items before after are.heavy of_heaviest) in
           let below : place < 2304 = omega (arith, c.loop-boundary-test.true, c.loop-used-test.true) in
           let marked : IsMarked before place = subst (IsMarked before) read w.if-marks-place.true in
-          subst (AreMarks advert weights (place + 1)) (sym w.marks-is) (marks_more advert weights place before after c.loop-used.invariant below marked new)
+          subst (AreMarks advert weights kept (place + 1)) (sym w.marks-is) (marks_more advert weights kept place before after c.loop-used.invariant below marked new)
       | else-marks-place w ↦
-          subst (AreMarks advert weights (place + 1)) (sym w.marks-is) (marks_past advert weights place before c.loop-used.invariant (λ marked.
+          subst (AreMarks advert weights kept (place + 1)) (sym w.marks-is) (marks_past advert weights kept place before c.loop-used.invariant (λ marked.
           let there = subst (IsMarked before) (sym read) marked in
           let not = w.if-marks-place.false in
           cc))
@@ -58,4 +59,4 @@ loop-used-preserved c =
 pub returns : goal.returns
 returns c =
     let ended : 256 * c.loop-boundary.boundary ≡ 2048 = omega (arith, c.loop-boundary-test.false, c.loop-boundary.auto.boundary-end) in
-    marks_ended c.args.advert.now c.args.weights.now c.loop-boundary.marks (subst (λ (n : ℕ). AreMarks c.args.advert.now c.args.weights.now n c.loop-boundary.marks) ended c.loop-boundary.invariant)
+    marks_ended c.args.advert.now c.args.weights.now c.args.kept.now c.loop-boundary.marks (subst (λ (n : ℕ). AreMarks c.args.advert.now c.args.weights.now c.args.kept.now n c.loop-boundary.marks) ended c.loop-boundary.invariant)

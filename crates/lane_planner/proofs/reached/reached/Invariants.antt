@@ -4,8 +4,8 @@ use Rattle.lane_planner.proofs.reached.reached.Given as goal
 
 -- the states at the boundaries so far are done
 abbrev pub invariant-loop-boundary : goal.invariant-loop-boundary
-invariant-loop-boundary l = AreMarks l.advert l.weights (256 * l.boundary) l.marks
+invariant-loop-boundary l = AreMarks l.advert l.weights l.kept (256 * l.boundary) l.marks
 
 -- and those of this boundary so far
 abbrev pub invariant-loop-used : goal.invariant-loop-used
-invariant-loop-used l = AreMarks l.advert l.weights (256 * l.boundary + l.used) l.marks
+invariant-loop-used l = AreMarks l.advert l.weights l.kept (256 * l.boundary + l.used) l.marks

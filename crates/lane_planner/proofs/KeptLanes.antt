@@ -1,0 +1,112 @@
+-- Lanes of kept paths: none of these stays free, and no other path takes them.
+use Rattle.std.proofs.Common.{◌≡◌, ℕ, ◌+◌, ◌<◌, ◌≤◌, ◌⊎◌, ◌&&◌, ◌||◌, Bool, true, false, not, List, [], ◌∷◌, refl, sym, ap, ◌∙◌, inl, inr, arith}
+use Rattle.std.specs.List.{AllByRecursion, Contains, list_all}
+use Rattle.std.specs.FinSet as set
+use Rattle.std.proofs.lemmas.Bool.{and_parts, cases_Bool}
+use Rattle.std.proofs.lemmas.Bool.Decides.{nat_tests}
+use Rattle.std.proofs.lemmas.List.Elements.{All-contains, All-from_recursion, Contains-append_right}
+use Rattle.field_tables.specs.LaneBytes.{contains-run_of}
+use Rattle.applications.specs.Advertised.{Advertised}
+use Rattle.plan_certificate.specs.declared.path.Path.{Path}
+use Rattle.plan_certificate.specs.Paths.{app_of, host_lanes}
+use Rattle.plan_certificate.specs.Plans.{are_apart, IsAdmissible}
+use Rattle.plan_certificate.specs.KeptPaths.{is_among, is_apart_from, is_eligible, may_stay_free}
+use Rattle.plan_certificate.proofs.KeptPaths.{listed_among, same_or_apart}
+use Rattle.plan_certificate.proofs.LaneRuns.{apart_at}
+use Rattle.plan_certificate.proofs.PathTakenOut.{IsApart, apart_back}
+
+each_passes : {X : Type 0} (test : X → Bool) (xs : List X) → list_all test xs ≡ true → AllByRecursion (λ x. test x ≡ true) xs
+each_passes test [] all = tt
+each_passes test (x ∷ xs) all = let parts = and_parts _ _ all in (parts.0, each_passes test xs parts.1)
+
+passes : {X : Type 0} (test : X → Bool) (xs : List X) (x : X) → list_all test xs ≡ true → Contains xs x → test x ≡ true
+passes test xs x all held = All-contains (λ y. test y ≡ true) xs x (All-from_recursion (λ y. test y ≡ true) xs (each_passes test xs all)) held
+
+-- ---- the lanes of a path
+
+abbrev HasLane : Advertised → Path → ℕ → Type 0
+HasLane advert path lane = set.contains (host_lanes advert path) lane ≡ true
+
+pub has_lane : (advert : Advertised) (path : Path) (lane : ℕ) → path.host ≤ lane → lane < path.host + (app_of advert path).host_lanes → HasLane advert path lane
+has_lane advert path lane from to = contains-run_of path.host (app_of advert path).host_lanes lane ∙ grind (arith, nat_tests, from, to)
+
+pub record LaneWithin (advert : Advertised) (path : Path) (lane : ℕ) : Type 0 where
+  pub from : path.host ≤ lane
+  pub to : lane < path.host + (app_of advert path).host_lanes
+
+pub lane_within : (advert : Advertised) (path : Path) (lane : ℕ) → HasLane advert path lane → LaneWithin advert path lane
+lane_within advert path lane has =
+    let within = sym (contains-run_of path.host (app_of advert path).host_lanes lane) ∙ has in
+    record { from = grind (arith, nat_tests, within); to = grind (arith, nat_tests, within) }
+
+not_both : (advert : Advertised) (path other : Path) (lane : ℕ) → IsApart advert path other → HasLane advert path lane → HasLane advert other lane → ⊥
+unfolding are_apart
+not_both advert path other lane apart has also = apart_at (host_lanes advert path) (host_lanes advert other) (and_parts _ _ apart).0 lane has also
+
+-- ---- lanes that may stay free
+
+pub none_has : (advert : Advertised) (kept : List Path) (lane : ℕ) (path : Path) → may_stay_free advert kept lane ≡ true → Contains kept path → HasLane advert path lane → ⊥
+none_has advert kept lane path free held has =
+    let lacks = passes (λ (p : Path). not (set.contains (host_lanes advert p) lane)) kept path free held in
+    absurd (let wrong = ap not (sym has) ∙ lacks in cc)
+
+-- a kept path that has the lane
+pub record HasIt (advert : Advertised) (kept : List Path) (lane : ℕ) : Type 0 where
+  pub path : Path
+  pub held : Contains kept path
+  pub has : HasLane advert path lane
+
+pub one_has : (advert : Advertised) (kept : List Path) (lane : ℕ) → may_stay_free advert kept lane ≡ false → HasIt advert kept lane
+one_has advert [] lane not_free = absurd (let wrong : true ≡ false = not_free in cc)
+one_has advert (path ∷ kept) lane not_free =
+    elim (cases_Bool (set.contains (host_lanes advert path) lane)) [
+      | inl has ↦ record { path = path; held = (0, omega arith, refl); has = has }
+      | inr lacks ↦
+          let rest = one_has advert kept lane (ap (λ (b : Bool). not b && may_stay_free advert kept lane) (sym lacks) ∙ not_free) in
+          record { path = rest.path; held = Contains-append_right (path ∷ []) kept rest.path rest.held; has = rest.has }
+    ]
+
+-- ---- the paths that may take them
+
+apart_if_not_kept : (advert : Advertised) (kept : List Path) (path : Path) → is_eligible advert kept path ≡ true → is_among kept path ≡ false → is_apart_from advert kept path ≡ true
+apart_if_not_kept advert kept path can not_kept =
+    let either = (and_parts _ _ can).0 in
+    ap (λ (b : Bool). b || is_apart_from advert kept path) (sym not_kept) ∙ either
+
+-- an eligible path is a kept one, or apart from each
+pub kept_or_apart : (advert : Advertised) (kept : List Path) (path other : Path) → is_eligible advert kept path ≡ true → Contains kept other → Contains kept path ⊎ IsApart advert other path
+kept_or_apart advert kept path other can held =
+    elim (cases_Bool (is_among kept path)) [
+      | inl among ↦ inl (listed_among kept path among)
+      | inr not_kept ↦ inr (passes (λ (p : Path). are_apart advert p path) kept other (apart_if_not_kept advert kept path can not_kept) held)
+    ]
+
+-- one that takes a kept path's lane is kept
+pub takes_lane : (advert : Advertised) (kept : List Path) (path other : Path) (lane : ℕ) → is_eligible advert kept path ≡ true → Contains kept other → HasLane advert other lane → HasLane advert path lane → Contains kept path
+takes_lane advert kept path other lane can held has also =
+    elim (kept_or_apart advert kept path other can held) [
+      | inl among ↦ among
+      | inr apart ↦ absurd (not_both advert other path lane apart has also)
+    ]
+
+-- the kept paths are this one or apart from it
+pub same_or_beside : (advert : Advertised) (kept : List Path) (path other : Path) → IsAdmissible advert kept → is_eligible advert kept path ≡ true → Contains kept other → (path ≡ other) ⊎ IsApart advert path other
+same_or_beside advert kept path other plan can held =
+    elim (kept_or_apart advert kept path other can held) [
+      | inl among ↦ same_or_apart advert kept other path plan.apart held among
+      | inr apart ↦ inr (apart_back advert other path apart)
+    ]
+
+-- the lanes of one that isn't kept may stay free
+free_beside : (advert : Advertised) (kept : List Path) (path : Path) (lane : ℕ) → is_apart_from advert kept path ≡ true → HasLane advert path lane → may_stay_free advert kept lane ≡ true
+free_beside advert [] path lane apart has = refl
+free_beside advert (one ∷ kept) path lane apart has =
+    let parts = and_parts _ _ apart in
+    let rest = free_beside advert kept path lane parts.1 has in
+    elim (cases_Bool (set.contains (host_lanes advert one) lane)) [
+      | inl both ↦ absurd (not_both advert one path lane parts.0 both has)
+      | inr lacks ↦ (λ i. not (lacks i) && rest i)
+    ]
+
+pub lane_of_other : (advert : Advertised) (kept : List Path) (path : Path) (lane : ℕ) → is_eligible advert kept path ≡ true → is_among kept path ≡ false → HasLane advert path lane → may_stay_free advert kept lane ≡ true
+lane_of_other advert kept path lane can not_kept has = free_beside advert kept path lane (apart_if_not_kept advert kept path can not_kept) has

@@ -1,0 +1,97 @@
+-- The kept paths, while a plan is read off: each has been taken or may still come, and in the end all have been taken.
+use Rattle.std.proofs.Common.{◌≡◌, ℕ, ◌+◌, ◌≤◌, ◌⊎◌, true, List, [], ◌∷◌, ◌++◌, subst, inl, inr, arith}
+use Rattle.std.specs.List.{All, AllByRecursion, Contains}
+use Rattle.std.proofs.lemmas.Bool.{cases_Bool}
+use Rattle.std.proofs.lemmas.List.Elements.{All-contains, All-from_recursion, Contains-append_left, Contains-push}
+use Rattle.applications.specs.Advertised.{Advertised}
+use Rattle.applications.specs.Weights.{HostWeights}
+use Rattle.plan_certificate.specs.declared.path.Path.{Path}
+use Rattle.plan_certificate.specs.declared.state.State.{State}
+use Rattle.plan_certificate.specs.Paths.{media_lanes, is_allowed}
+use Rattle.plan_certificate.specs.Plans.{IsAdmissible, Keeps}
+use Rattle.plan_certificate.specs.KeptPaths.{may_stay_free}
+use Rattle.plan_certificate.specs.States.{start, free_step, path_step}
+use Rattle.plan_certificate.proofs.Heaviest.{IsLater, after_path, allowed, lanes_later}
+use Rattle.plan_certificate.proofs.KeptPaths.{plan_eligible}
+use Rattle.plan_certificate.proofs.LaneRuns.{disjoint_none}
+use Rattle.plan_certificate.proofs.Lists.{each_contained, each_pair, map_each}
+use Rattle.lane_planner.specs.Tables.{gain_at}
+use Rattle.lane_planner.proofs.FirstPlans.{KnowsGains}
+use Rattle.lane_planner.proofs.GainLaws.{NoneKeeps, kept_keeps}
+use Rattle.lane_planner.proofs.KeptLanes.{has_lane, lane_within, none_has, one_has, same_or_beside}
+use Rattle.lane_planner.proofs.LaterPaths.{IsEarlier}
+
+abbrev pub IsTakenOrLater : Advertised → List Path → State → List Path → Path → Type 0
+IsTakenOrLater advert kept state paths path = Contains paths path ⊎ IsLater advert kept state path
+
+abbrev pub AreTakenOrLater : Advertised → List Path → State → List Path → Type 0
+AreTakenOrLater advert kept state paths = AllByRecursion (IsTakenOrLater advert kept state paths) kept
+
+pub later_at_start : (advert : Advertised) (kept : List Path) → IsAdmissible advert kept → AreTakenOrLater advert kept start []
+later_at_start advert kept plan =
+    map_each (Contains kept) (IsTakenOrLater advert kept start []) kept
+    (λ path held.
+    let can = All-contains (λ (p : Path). is_allowed advert p ≡ true) kept path plan.allowed held in
+    inr (record {
+      can = plan_eligible advert kept kept plan (each_contained kept) path held can;
+      past = (allowed advert path can).host_from;
+      unused = disjoint_none (media_lanes advert path);
+    }))
+    (each_contained kept)
+
+-- ---- the lane stays free
+
+later_after_free : (advert : Advertised) (kept : List Path) (state : State) (path : Path) → may_stay_free advert kept (state.boundary + 1) ≡ true → Contains kept path → IsLater advert kept state path → IsLater advert kept (free_step state).end path
+later_after_free advert kept state path may held later =
+    let lane : ℕ = state.boundary + 1 in
+    let lanes = lanes_later advert kept state path later in
+    let elsewhere : path.host ≡ lane → ⊥ = λ begins. none_has advert kept lane path may held (has_lane advert path lane (omega (arith, begins)) (omega (arith, begins, lanes.host_some))) in
+    record { can = later.can; past = omega (arith, later.past, elsewhere); unused = later.unused }
+
+pub taken_after_free : (advert : Advertised) (kept : List Path) (state : State) (paths : List Path) → may_stay_free advert kept (state.boundary + 1) ≡ true → AreTakenOrLater advert kept state paths → AreTakenOrLater advert kept (free_step state).end paths
+taken_after_free advert kept state paths may are =
+    each_pair (Contains kept) (IsTakenOrLater advert kept state paths) (IsTakenOrLater advert kept (free_step state).end paths) kept
+    (λ path held either. elim (either) [
+      | inl taken ↦ inl taken
+      | inr later ↦ inr (later_after_free advert kept state path may held later)
+    ]) (each_contained kept) are
+
+-- where no path keeps the gain, the lane may: a kept path that begins there would
+pub lane_may_stay_free : (advert : Advertised) (weights : HostWeights) (kept : List Path) (table : List ℕ) (state : State) (paths : List Path) → KnowsGains advert weights kept table state → All (IsEarlier advert weights kept state) paths → AreTakenOrLater advert kept state paths → NoneKeeps advert weights kept (gain_at table) state
+    → may_stay_free advert kept (state.boundary + 1) ≡ true
+lane_may_stay_free advert weights kept table state paths gains earlier are none =
+    let lane : ℕ = state.boundary + 1 in
+    elim (cases_Bool (may_stay_free advert kept lane)) [
+      | inl may ↦ may
+      | inr not_free ↦
+          let one = one_has advert kept lane not_free in
+          let within = lane_within advert one.path lane one.has in
+          elim (All-contains (IsTakenOrLater advert kept state paths) kept one.path (All-from_recursion (IsTakenOrLater advert kept state paths) kept are) one.held) [
+            | inl taken ↦ absurd (omega (arith, within.to, (All-contains (IsEarlier advert weights kept state) paths one.path earlier taken).before))
+            | inr later ↦ absurd (kept_keeps advert weights kept (gain_at table) state one.path gains.below gains.here gains.after none one.held later (omega (arith, later.past, within.from)))
+          ]
+    ]
+
+-- ---- a path is taken
+
+pub taken_after_path : (advert : Advertised) (weights : HostWeights) (kept : List Path) (state : State) (paths : List Path) (path : Path) → IsAdmissible advert kept → IsLater advert kept state path → path.host ≡ state.boundary + 1 → AreTakenOrLater advert kept state paths
+    → AreTakenOrLater advert kept (path_step advert weights state path).end (paths ++ path ∷ [])
+taken_after_path advert weights kept state paths path plan is_later begins are =
+    each_pair (Contains kept) (IsTakenOrLater advert kept state paths) (IsTakenOrLater advert kept (path_step advert weights state path).end (paths ++ path ∷ [])) kept
+    (λ other held either. elim (either) [
+      | inl taken ↦ inl (Contains-append_left paths (path ∷ []) other taken)
+      | inr later ↦ elim (same_or_beside advert kept path other plan is_later.can held) [
+        | inl same ↦ inl (subst (Contains (paths ++ path ∷ [])) same (Contains-push paths path))
+        | inr apart ↦ inr (after_path advert weights kept state path other is_later begins later apart)
+      ]
+    ]) (each_contained kept) are
+
+-- ---- at the end
+
+pub all_taken : (advert : Advertised) (kept : List Path) (state : State) (paths : List Path) → 8 ≤ state.boundary → AreTakenOrLater advert kept state paths → Keeps kept paths
+all_taken advert kept state paths ended are =
+    map_each (IsTakenOrLater advert kept state paths) (Contains paths) kept
+    (λ path either. elim (either) [
+      | inl taken ↦ taken
+      | inr later ↦ let lanes = lanes_later advert kept state path later in absurd (omega (arith, later.past, lanes.host_to, lanes.host_some, ended))
+    ]) are

@@ -1,0 +1,97 @@
+use Rattle.std.proofs.Common.{◌≡◌, ℕ, List, get_or, sym, subst, ap, ◌∙◌, arith}
+use Rattle.plan_certificate.specs.declared.path.Path.{Path}
+use Rattle.plan_certificate.specs.declared.certificate.Entry.{Entry}
+use Rattle.plan_certificate.specs.Plans.{AreAllowed, IsAdmissible, IsBest}
+use Rattle.plan_certificate.specs.Certificates.{IsBound}
+use Rattle.plan_certificate.specs.States.{start}
+use Rattle.plan_certificate.proofs.GoodVerdicts.{good_verdict}
+use Rattle.plan_certificate.proofs.Heaviest.{good_is_best}
+use Rattle.lane_planner.specs.Marks.{MarksReached}
+use Rattle.lane_planner.specs.Tables.{HasGains, IsReadOff, gain_at}
+use Rattle.lane_planner.proofs.Places.{start_place}
+use Rattle.lane_planner.proofs.ReachedEntries.{bound_at, each_covers, each_gain, states_are}
+use Rattle.lane_planner.proofs.ReachedStates.{start_reached}
+use Rattle.lane_planner.proofs.planner.plan_keeping.Goals as goal
+
+pub reached-marks-requires : goal.reached-marks-requires
+reached-marks-requires c =
+    let same : c.as_slice-paths.result.now ≡ c.args.kept.now = (let read = c.as_slice-paths.ensures.value in let seen = c.kept.view_is in cc) in
+    subst (AreAllowed c.args.advert.now) (sym same) c.requires.allowed
+
+pub gains_of-table-requires-clause-kept : goal.gains_of-table-requires-clause-kept
+gains_of-table-requires-clause-kept c =
+    let same : c.as_slice-paths.result.now ≡ c.args.kept.now = (let read = c.as_slice-paths.ensures.value in let seen = c.kept.view_is in cc) in
+    subst (AreAllowed c.args.advert.now) (sym same) c.requires.allowed
+
+pub read_off-requires-clause-kept : goal.read_off-requires-clause-kept
+read_off-requires-clause-kept c =
+    let same : c.as_slice-paths.result.now ≡ c.args.kept.now = (let read = c.as_slice-paths.ensures.value in let seen = c.kept.view_is in cc) in
+    subst (IsAdmissible c.args.advert.now) (sym same) c.requires
+
+pub returns-clause-good : goal.returns-clause-good
+returns-clause-good c =
+    let advert = c.args.advert.now in
+    let weights = c.args.weights.now in
+    let kept : List Path = c.copy_of.result in
+    let marks = c.reached-marks.result in
+    let table = c.gains_of-table.result in
+    let entries : List Entry = c.entries_of.result.items in
+    let same : c.as_slice-paths.result.now ≡ kept = (let read = c.as_slice-paths.ensures.value in let seen = c.kept.view_is in let copied = c.copy_of.ensures in cc) in
+    let reached = subst (λ (paths : List Path). MarksReached advert weights paths marks) same c.reached-marks.ensures in
+    let has = subst (λ (paths : List Path). HasGains advert weights paths 0 table) same c.gains_of-table.ensures in
+    let off = subst (λ (paths : List Path). IsReadOff advert weights paths table c.read_off.result) same c.read_off.ensures in
+    let weight : get_or table 0 0 ≡ gain_at table start = ap (λ (n : ℕ). get_or table n 0) (sym start_place) in
+    record {
+      kept = subst (IsAdmissible advert) (sym c.copy_of.ensures) c.requires;
+      admissible = off.plan.admissible;
+      keeps = off.plan.keeps;
+      weighs = weight ∙ sym off.plan.weighs;
+      closed = each_covers advert weights kept marks table entries reached has c.entries_of.ensures;
+      begun = subst (IsBound entries start) (sym weight) (bound_at advert weights kept marks table entries reached has c.entries_of.ensures start (start_reached advert weights kept));
+    }
+
+pub returns-clause-judged : goal.returns-clause-judged
+returns-clause-judged c = (good_verdict c.args.advert.now c.args.weights.now _ c.entries_of.ensures.states).1 (returns-clause-good c)
+
+pub returns-clause-best : goal.returns-clause-best
+returns-clause-best c =
+    subst (λ (paths : List Path). IsBest c.args.advert.now c.args.weights.now paths c.read_off.result) c.copy_of.ensures (good_is_best c.args.advert.now c.args.weights.now _ (returns-clause-good c))
+
+pub returns-clause-first : goal.returns-clause-first
+returns-clause-first c =
+    let advert = c.args.advert.now in
+    let weights = c.args.weights.now in
+    let same : c.as_slice-paths.result.now ≡ c.args.kept.now = (let read = c.as_slice-paths.ensures.value in let seen = c.kept.view_is in cc) in
+    let off = subst (λ (paths : List Path). IsReadOff advert weights paths c.gains_of-table.result c.read_off.result) same c.read_off.ensures in
+    let best = returns-clause-best c in
+    record {
+      candidate = record { best = best; of_use = off.plan.of_use };
+      first = λ others other.
+          let upper = best.heaviest others other.best.admissible other.best.keeps in
+          let lower = other.best.heaviest c.read_off.result best.admissible best.keeps in
+          off.first others (record { admissible = other.best.admissible; keeps = other.best.keeps; weighs = omega (arith, upper, lower, off.plan.weighs); of_use = other.of_use });
+    }
+
+pub returns-clause-gains : goal.returns-clause-gains
+returns-clause-gains c =
+    let advert = c.args.advert.now in
+    let weights = c.args.weights.now in
+    let kept : List Path = c.args.kept.now in
+    let marks = c.reached-marks.result in
+    let table = c.gains_of-table.result in
+    let same : c.as_slice-paths.result.now ≡ kept = (let read = c.as_slice-paths.ensures.value in let seen = c.kept.view_is in cc) in
+    let reached = subst (λ (paths : List Path). MarksReached advert weights paths marks) same c.reached-marks.ensures in
+    let has = subst (λ (paths : List Path). HasGains advert weights paths 0 table) same c.gains_of-table.ensures in
+    each_gain advert weights kept marks table c.entries_of.result.items reached has c.entries_of.ensures
+
+pub returns-clause-states : goal.returns-clause-states
+returns-clause-states c =
+    let advert = c.args.advert.now in
+    let weights = c.args.weights.now in
+    let kept : List Path = c.args.kept.now in
+    let marks = c.reached-marks.result in
+    let table = c.gains_of-table.result in
+    let same : c.as_slice-paths.result.now ≡ kept = (let read = c.as_slice-paths.ensures.value in let seen = c.kept.view_is in cc) in
+    let reached = subst (λ (paths : List Path). MarksReached advert weights paths marks) same c.reached-marks.ensures in
+    let has = subst (λ (paths : List Path). HasGains advert weights paths 0 table) same c.gains_of-table.ensures in
+    states_are advert weights kept marks table c.entries_of.result.items reached has c.entries_of.ensures

@@ -1,0 +1,42 @@
+ghost use Rattle.std.specs.Prelude.{◌↔◌, All, Contains, IsTrue};
+ghost use Rattle.plan_certificate.specs.Certificates.{IsGood};
+ghost use Rattle.lane_planner.specs.FirstBest.{HaveSamePaths, IsFirstBest};
+
+use crate::planner::plan_keeping;
+use applications::{Advert, Weights};
+use plan_certificate::{Certificate, Path};
+
+/// Whether the plan of a good certificate has the paths of the one that `plan_keeping` gives for what it keeps, in whatever
+/// order.
+pub fn first_best<const STATES: usize>(
+    advert: &Advert,
+    weights: &Weights,
+    certificate: &Certificate<STATES>,
+) -> bool
+    requires { IsGood advert.now weights.now certificate.now }
+    ensures { IsTrue result ↔ IsFirstBest advert.now weights.now certificate.now.kept certificate.now.paths }
+{
+    let first = plan_keeping(advert, weights, &certificate.kept);
+    have_same_paths(
+        certificate.plan.paths.as_slice(),
+        first.plan.paths.as_slice(),
+    )
+}
+
+fn have_same_paths(paths: &[Path], others: &[Path]) -> bool
+    ensures { IsTrue result ↔ HaveSamePaths paths.now others.now }
+{
+    has_all(paths, others) && has_all(others, paths)
+}
+
+fn has_all(paths: &[Path], others: &[Path]) -> bool
+    ensures { IsTrue result ↔ All (Contains paths.now) others.now }
+{
+    others.iter().all(|other| has(paths, other))
+}
+
+fn has(paths: &[Path], path: &Path) -> bool
+    ensures { IsTrue result ↔ Contains paths.now path.now }
+{
+    paths.contains(path)
+}

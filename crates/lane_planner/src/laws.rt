@@ -1,0 +1,19 @@
+//! What holds of first best plans, over all advertisements and weights.
+ghost use Rattle.std.specs.Prelude.{List};
+ghost use Rattle.applications.specs.Advertised.{Advertised};
+ghost use Rattle.applications.specs.Weights.{HostWeights};
+ghost use Rattle.plan_certificate.specs.declared.path.Path.{Path};
+ghost use Rattle.lane_planner.specs.FirstBest.{ComesBefore, HaveSamePaths, IsFirstBest};
+
+/// There is one first best plan at most, but for the order of its paths. That there is one, `plan_keeping` shows by
+/// giving it.
+pub fn one_first_best()
+    ensures { (advert : Advertised) (weights : HostWeights) (kept paths others : List Path)
+        → IsFirstBest advert weights kept paths → IsFirstBest advert weights kept others → HaveSamePaths paths others }
+{}
+
+/// Of two plans one at most comes before the other, and none that has the same paths.
+pub fn one_comes_before()
+    ensures one { (paths others : List Path) → ComesBefore paths others → ComesBefore others paths → ⊥ }
+    ensures other { (paths others : List Path) → ComesBefore paths others → HaveSamePaths paths others → ⊥ }
+{}
