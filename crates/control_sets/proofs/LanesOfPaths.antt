@@ -24,7 +24,7 @@ pub implied : (a b : Bool) → (not a || b) ≡ true → a ≡ true → b ≡ tr
 implied true b e h = e
 implied false b e h = cc
 
-same_control : (control other : ControlByte) → are_same control other ≡ true → control ≡ other
+pub same_control : (control other : ControlByte) → are_same control other ≡ true → control ≡ other
 same_control control other same =
     let parts = and_parts (nat_eq control.app_sel_code other.app_sel_code) (nat_eq control.data_path_id other.data_path_id) same in
     let code = eqb-true control.app_sel_code other.app_sel_code parts.0 in
@@ -55,7 +55,7 @@ reached bytes lane none within used =
           sym (same_control (control_at bytes lane) (control_at bytes other) (ap (agree bytes lane) (sym at) ∙ passes));
     }
 
-begun_parts : (bytes : List ℕ) (host : ℕ) → begins bytes host ≡ true → (is_used (control_at bytes host) ≡ true) × (first_lane (control_at bytes host) ≡ host)
+pub begun_parts : (bytes : List ℕ) (host : ℕ) → begins bytes host ≡ true → (is_used (control_at bytes host) ≡ true) × (first_lane (control_at bytes host) ≡ host)
 begun_parts bytes host begun =
     let parts = and_parts (is_used (control_at bytes host)) (nat_eq (first_lane (control_at bytes host)) host) begun in
     (parts.0, eqb-true (first_lane (control_at bytes host)) host parts.1)

@@ -4,7 +4,7 @@ use Rattle.std.proofs.lemmas.Bool.{cases_Bool, or_cases, or_left}
 use Rattle.std.specs.List.{list_all}
 use Rattle.field_tables.specs.LaneSets.{Lanes, byte_of}
 use Rattle.module_states.specs.declared.state.ModuleState.{ModuleState as State}
-use Rattle.module_states.specs.declared.state.ModuleState.TheVariants.{LowPwr, PwrUp, Ready, PwrDn, Fault}
+use Rattle.module_states.specs.declared.state.ModuleState.TheVariants.{Ready}
 use Rattle.module_states.specs.Codes.{state_at as module_state_at}
 use Rattle.bus_model.specs.declared.operation.Step.{Step}
 use Rattle.control_sets.specs.declared.fault.ProvisionFault.{ProvisionFault}
@@ -38,11 +38,8 @@ unfolding judged
 module_decides bytes e = by (module_code bytes) (module_state_at (module_code bytes)) e where
   by : (code : ℕ) (found : Option State) → met_in code found ≡ NotYet → ⊥
   by code None e = cc
-  by code (Some LowPwr) e = cc
-  by code (Some PwrUp) e = cc
   by code (Some Ready) e = cc
-  by code (Some PwrDn) e = cc
-  by code (Some Fault) e = cc
+  by code (Some state) e = cc
 
 pub bytes_decide : (fault : ℕ → ProvisionFault) (found : Option ℕ) → met_unless fault found ≡ NotYet → ⊥
 bytes_decide fault None e = cc

@@ -2,7 +2,7 @@
 use Rattle.std.proofs.Common.{◌≡◌, ℕ, Bool, true, false, List, Option, Some, None, length, refl, sym, ap, ◌∙◌}
 use Rattle.field_tables.specs.LaneSets.{Lanes, every_lane}
 use Rattle.module_states.specs.declared.state.ModuleState.{ModuleState as State}
-use Rattle.module_states.specs.declared.state.ModuleState.TheVariants.{LowPwr, PwrUp, Ready, PwrDn, Fault}
+use Rattle.module_states.specs.declared.state.ModuleState.TheVariants.{Ready}
 use Rattle.module_states.specs.Codes.{state_at as module_state_at}
 use Rattle.datapath_states.specs.declared.state.PathState.TheVariants.{Activated, Deactivated}
 use Rattle.datapath_states.specs.declared.status.ConfigStatus.TheVariants.{Success}
@@ -70,10 +70,7 @@ ready_shows_none bytes ready _ s = s
 told_module : (bytes : List ℕ) (found : Option State) → module_state_at (module_code bytes) ≡ found → Told FindReady bytes (met_in (module_code bytes) found)
 told_module bytes None e = (λ ready. let h : None ≡ Some Ready = sym e ∙ ready in cc, (refl, e))
 told_module bytes (Some Ready) e = (e, ready_shows_none bytes e)
-told_module bytes (Some LowPwr) e = (λ ready. let h : Some LowPwr ≡ Some Ready = sym e ∙ ready in cc, (refl, LowPwr, e, λ h. cc))
-told_module bytes (Some PwrUp) e = (λ ready. let h : Some PwrUp ≡ Some Ready = sym e ∙ ready in cc, (refl, PwrUp, e, λ h. cc))
-told_module bytes (Some PwrDn) e = (λ ready. let h : Some PwrDn ≡ Some Ready = sym e ∙ ready in cc, (refl, PwrDn, e, λ h. cc))
-told_module bytes (Some Fault) e = (λ ready. let h : Some Fault ≡ Some Ready = sym e ∙ ready in cc, (refl, Fault, e, λ h. cc))
+told_module bytes (Some state) e = (λ ready. let h : Some state ≡ Some Ready = sym e ∙ ready in cc, (refl, state, e, λ h. cc))
 
 -- ---- bytes that are compared
 

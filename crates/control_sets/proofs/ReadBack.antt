@@ -1,7 +1,6 @@
 -- The control bytes of a plan are host paths.
-use Rattle.std.proofs.Common.{◌≡◌, ℕ, zero, suc, ◌+◌, ◌-◌, ◌<◌, ◌≤◌, ◌&&◌, ◌||◌, Bool, true, List, None, not, refl, sym, subst, ap, ◌∙◌, inl, inr, nat_le, arith}
-use Rattle.std.proofs.lemmas.Bool.{and_from, eq-eqb, le-leb, or_right}
-use Rattle.std.specs.List.{list_all, range_with_len}
+use Rattle.std.proofs.Common.{◌≡◌, ℕ, ◌+◌, ◌-◌, ◌≤◌, ◌&&◌, ◌||◌, true, List, None, not, sym, subst, ap, ◌∙◌, inl, inr, nat_le, arith}
+use Rattle.std.proofs.lemmas.Bool.{and_from, le-leb, or_right}
 use Rattle.applications.specs.Advertised.{Advertised}
 use Rattle.plan_certificate.specs.declared.path.Path.{Path}
 use Rattle.control_sets.specs.declared.control_byte.ControlByte.{ControlByte}

@@ -10,6 +10,7 @@ pub mod Procedures
 pub mod Selections
 pub mod Asking
 pub mod Progress
+pub mod SavedNumbers
 pub mod Answers
 pub mod FaultWords
 pub mod OutcomeSteps
@@ -20,3 +21,4 @@ pub mod OutcomeOfProvisioning
 pub mod OutcomeOfActivation
 pub mod OutcomeSuccess
 pub mod OutcomeExamples
+pub mod OtherLanes

@@ -1,5 +1,6 @@
 //! What holds of control bytes, over all plans. Each function is a theorem: its contract says it, and its body is empty.
 ghost use Rattle.std.specs.Prelude.{◌≡◌, ◌≢◌, ℕ, ◌<◌, ◌≤◌, List, None, All, Any, IsTrue, length, ◌+◌, [], ◌∷◌, Ok, Err, false};
+ghost use Rattle.std.specs.List.{AllByRecursion};
 ghost use Rattle.applications.specs.Advertised.{Advertised, InOrder};
 ghost use Rattle.plan_certificate.specs.declared.path.Path.{Path};
 ghost use Rattle.plan_certificate.specs.Plans.{IsAdmissible};
@@ -24,6 +25,7 @@ ghost use Rattle.control_sets.specs.OutcomeOfActivation.{IsActivation, release};
 ghost use Rattle.control_sets.specs.OutcomeCodes.{IsOf, IsReservedPathState};
 ghost use Rattle.datapath_states.specs.Lanes.{code_in};
 ghost use Rattle.control_sets.specs.OutcomeSuccess.{ReadsActive};
+ghost use Rattle.control_sets.specs.OtherLanes.{LeavesOthers};
 
 use applications::MAX_APPS;
 
@@ -50,6 +52,13 @@ pub fn plans_are_read_back()
 pub fn a_success_was_read()
     ensures { (control : List ℕ) (lanes : Lanes) (made room : ℕ) (history : History) (steps : ℕ) →
         IsProvisioning control lanes (made ≡ room) history (Ok steps) → ReadsActive control history }
+{}
+
+/// No store of provisioning, accepted or refused, sets the DPDeinit bit or the ApplyDPInit bit of a lane that it leaves
+/// alone.
+pub fn other_lanes_are_left()
+    ensures { (control : List ℕ) (lanes : Lanes) (made room : ℕ) (history : History) (answer : Answer) →
+        IsProvisioning control lanes (made ≡ room) history answer → AllByRecursion (LeavesOthers lanes) history }
 {}
 
 /// Procedures that were told their replies, without a bus, have the outcomes of provisioning and activation.

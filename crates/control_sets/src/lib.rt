@@ -12,5 +12,8 @@ mod procedures;
 pub use control_byte::ControlByte;
 pub use fault::{ControlFault, ProvisionFault};
 pub use host_path::{HostPath, agree, control_at, paths_of};
-pub use plan_bytes::bytes_of;
-pub use procedures::{Activated, MAX_STEPS, Next, Procedure, Provisioned, activate, provision};
+pub use plan_bytes::{bytes_of, lanes_of, lanes_outside};
+pub use procedures::{
+    Activated, MAX_STEPS, Next, Procedure, Provisioned, SavedFault, SavedProcedure, activate,
+    provision, provision_keeping,
+};

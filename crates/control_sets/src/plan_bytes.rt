@@ -1,8 +1,8 @@
 ghost use Rattle.std.specs.Prelude.{◌≡◌, ◌≤◌, ◌<◌, true};
 ghost use Rattle.plan_certificate.specs.Paths.{is_allowed};
-ghost use Rattle.plan_certificate.specs.Plans.{IsAdmissible};
+ghost use Rattle.plan_certificate.specs.Plans.{AreAllowed, IsAdmissible};
 ghost use Rattle.control_sets.specs.ControlBytes.{control_byte, control_bytes, control_in};
-ghost use Rattle.control_sets.specs.PlanLanes.{plan_lanes};
+ghost use Rattle.control_sets.specs.PlanLanes.{lanes_outside, plan_lanes};
 
 use crate::control_byte::ControlByte;
 use applications::Advert;
@@ -23,7 +23,7 @@ pub fn bytes_of(advert: &Advert, plan: &Plan) -> [u8; 8]
 
 /// The host lanes that the paths of a plan take.
 pub fn lanes_of(advert: &Advert, plan: &Plan) -> LaneSet
-    requires { IsAdmissible advert.now plan.now }
+    requires { AreAllowed advert.now plan.now }
     ensures { result ≡ plan_lanes advert.now plan.now }
 {
     let mut lanes = LaneSet::empty();
@@ -31,6 +31,14 @@ pub fn lanes_of(advert: &Advert, plan: &Plan) -> LaneSet
         lanes = lanes.union(path.host_lanes(advert));
     }
     lanes
+}
+
+/// The host lanes that no path of a plan takes.
+pub fn lanes_outside(advert: &Advert, plan: &Plan) -> LaneSet
+    requires { AreAllowed advert.now plan.now }
+    ensures { result ≡ lanes_outside advert.now plan.now }
+{
+    LaneSet::from(!lanes_of(advert, plan).byte())
 }
 
 fn control_byte(advert: &Advert, plan: &Plan, lane: u8) -> u8

@@ -5,10 +5,12 @@ mod next;
 mod procedure;
 mod registers;
 mod runner;
+mod saved_fault;
 mod session;
 mod task;
 
 pub use next::Next;
-pub use procedure::Procedure;
+pub use procedure::{Procedure, SavedProcedure};
 pub use registers::MAX_STEPS;
-pub use runner::{Activated, Provisioned, activate, provision};
+pub use runner::{Activated, Provisioned, activate, provision, provision_keeping};
+pub use saved_fault::SavedFault;

@@ -2,6 +2,8 @@ ghost use Rattle.std.specs.Prelude.{◌≡◌, ◌↔◌, slice_get, IsTrue};
 ghost use Rattle.bus_model.specs.Operations.{Answers, IsWellShaped};
 ghost use Rattle.control_sets.specs.Tasks.{provisioning, activation};
 
+mod saved;
+
 use crate::fault::ProvisionFault;
 use crate::procedures::judgement::Judgement;
 use crate::procedures::next::Next;
@@ -10,6 +12,7 @@ use crate::procedures::task::Task;
 use bus_model::{Op, Reply};
 use field_tables::LaneSet;
 use paged_memory::Selected;
+pub use saved::SavedProcedure;
 
 /// What a procedure brings about.
 #[derive(Clone, Copy, Debug, PartialEq, Eq)]

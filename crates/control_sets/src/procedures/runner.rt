@@ -1,8 +1,8 @@
 ghost use Rattle.std.specs.Prelude.{◌≡◌, [], List};
-ghost use Rattle.plan_certificate.specs.Plans.{IsAdmissible};
+ghost use Rattle.plan_certificate.specs.Plans.{IsAdmissible, Keeps};
 ghost use Rattle.field_tables.specs.LaneSets.{every_lane};
 ghost use Rattle.control_sets.specs.ControlBytes.{control_bytes};
-ghost use Rattle.control_sets.specs.PlanLanes.{plan_lanes};
+ghost use Rattle.control_sets.specs.PlanLanes.{lanes_outside, plan_lanes};
 ghost use Rattle.control_sets.specs.Procedures.{IsOutcome, MakesHistory};
 ghost use Rattle.control_sets.specs.Progress.{IsAt};
 ghost use Rattle.control_sets.specs.Answers.{activated_steps, provisioned_steps};
@@ -12,12 +12,12 @@ ghost use Rattle.bus_model.specs.Runs.{IsFull};
 ghost use Rattle.control_sets.specs.declared.procedures.task.Task.{Task};
 
 use crate::fault::ProvisionFault;
-use crate::plan_bytes::{bytes_of, lanes_of};
+use crate::plan_bytes::{bytes_of, lanes_of, lanes_outside};
 use crate::procedures::next::Next;
 use crate::procedures::procedure::Procedure;
 use applications::Advert;
+use arrayvec::ArrayVec;
 use bus_model::Bus;
-use field_tables::LaneSet;
 use plan_certificate::Plan;
 
 /// A plan was provisioned.
@@ -45,7 +45,29 @@ pub fn provision<B: Bus>(
         MakesHistory B.rules (B.seen bus.old) (B.seen bus.new) (λ history.
         IsProvisioning control every_lane (IsFull (B.seen bus.new)) history (provisioned_steps result)) }
 {
-    let procedure = Procedure::provisioning(bytes_of(advert, plan), LaneSet::run(1, 8));
+    let none = Plan {
+        paths: ArrayVec::new(),
+    };
+    provision_keeping(bus, advert, plan, &none)
+}
+
+/// Makes the control bytes of a plan active, and lets alone the data paths of the plan that are kept: no lane of theirs is
+/// taken down or applied, and what is told of their states and statuses isn't looked at. Their control bytes are staged,
+/// read back and compared like all others, so a kept path that isn't active ends the call in `ActiveDiffers`.
+pub fn provision_keeping<B: Bus>(
+    bus: &mut B,
+    advert: &Advert,
+    plan: &Plan,
+    kept: &Plan,
+) -> Result<Provisioned, ProvisionFault>
+    requires admissible { IsAdmissible advert.now plan.now }
+    requires kept { Keeps kept.now plan.now }
+    ensures { let control = control_bytes advert.now plan.now in
+        let lanes = lanes_outside advert.now kept.now in
+        MakesHistory B.rules (B.seen bus.old) (B.seen bus.new) (λ history.
+        IsProvisioning control lanes (IsFull (B.seen bus.new)) history (provisioned_steps result)) }
+{
+    let procedure = Procedure::provisioning(bytes_of(advert, plan), lanes_outside(advert, kept));
     match carry_out(bus, procedure) {
         Ok(steps) => Ok(Provisioned { steps }),
         Err(fault) => Err(fault),

@@ -3,7 +3,7 @@ use Rattle.std.proofs.lemmas.List.{take_all}
 use Rattle.std.specs.FinSet as set
 use Rattle.field_tables.specs.LaneSets.{Lanes}
 use Rattle.plan_certificate.specs.declared.path.Path.{Path}
-use Rattle.plan_certificate.specs.Plans.{IsAdmissible}
+use Rattle.plan_certificate.specs.Plans.{AreAllowed}
 use Rattle.control_sets.specs.PlanLanes.{plan_lanes}
 use Rattle.control_sets.proofs.PlanLaneLaws.{AreLanesOf, lanes_are, none_taken, one_more}
 use Rattle.control_sets.proofs.plan_bytes.lanes_of.Goals as goal
@@ -23,6 +23,6 @@ returns c =
     let paths = c.as_slice-path-items.result.now in
     let all = take_all c.loop-path.path-index paths c.loop-path-test.false in
     let is : paths ≡ c.args.plan.now = c.as_slice-path-items.ensures.value ∙ c.plan.view_is in
-    lanes_are c.args.advert.now paths c.loop-path.lanes (subst (IsAdmissible c.args.advert.now) (sym is) c.requires)
+    lanes_are c.args.advert.now paths c.loop-path.lanes (subst (AreAllowed c.args.advert.now) (sym is) c.requires)
     (subst (λ (some : List Path). AreLanesOf c.args.advert.now some c.loop-path.lanes) all c.loop-path.invariant)
     ∙ ap (plan_lanes c.args.advert.now) is

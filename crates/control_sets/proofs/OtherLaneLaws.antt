@@ -1,0 +1,52 @@
+-- Provisioning stores no bit of a lane that it leaves alone.
+use Rattle.std.proofs.Common.{◌≡◌, ◌⊎◌, inl, inr, ℕ, Some, None, List, [], ◌∷◌, refl, sym, ap, ◌∙◌}
+use Rattle.std.specs.FinSet as set
+use Rattle.std.specs.List.{AllByRecursion}
+use Rattle.bus_model.specs.declared.operation.Op.{Op}
+use Rattle.bus_model.specs.declared.operation.Step.{Step}
+use Rattle.field_tables.specs.LaneSets.{Lanes, byte_of, lanes_in}
+use Rattle.control_sets.specs.OtherLanes.{LeavesOthers, byte_for}
+use Rattle.control_sets.specs.OutcomeOfProvisioning.{IsProvisioningStep}
+use Rattle.control_sets.specs.OutcomeOperations.{apply, control_page, read_active, read_module_state, read_path_states, read_staged, read_statuses, set_deinit, stage, status_page}
+use Rattle.control_sets.specs.Pages.{EachStep, History, read_selection, selection}
+use Rattle.control_sets.proofs.LaneBits.{in_byte_of}
+
+abbrev Sets : ℕ → Op → Type 0
+Sets bits op = (byte_for 128 op ≡ Some bits) ⊎ (byte_for 143 op ≡ Some bits)
+
+-- an operation that has no byte for either address
+stores_none : (op other : Op) (bits : ℕ) → op ≡ other → byte_for 128 other ≡ None → byte_for 143 other ≡ None → Sets bits op → ⊥
+stores_none op other bits is first second (inl sets) = let some : None ≡ Some bits = sym first ∙ ap (byte_for 128) (sym is) ∙ sets in cc
+stores_none op other bits is first second (inr sets) = let some : None ≡ Some bits = sym second ∙ ap (byte_for 143) (sym is) ∙ sets in cc
+
+-- the bits that are stored, and no others
+mask_alone : (op : Op) (bits mask : ℕ) → (op ≡ set_deinit mask) ⊎ (op ≡ apply mask) → Sets bits op → bits ≡ mask
+mask_alone op bits mask (inl deinit) (inl sets) = let same : Some mask ≡ Some bits = ap (byte_for 128) (sym deinit) ∙ sets in cc
+mask_alone op bits mask (inl deinit) (inr sets) = let none : None ≡ Some bits = ap (byte_for 143) (sym deinit) ∙ sets in cc
+mask_alone op bits mask (inr applies) (inl sets) = let none : None ≡ Some bits = ap (byte_for 128) (sym applies) ∙ sets in cc
+mask_alone op bits mask (inr applies) (inr sets) = let same : Some mask ≡ Some bits = ap (byte_for 143) (sym applies) ∙ sets in cc
+
+module _ (control : List ℕ) (lanes : Lanes) where
+  mask_of : (step : Step) (before : History) (bits : ℕ) → IsProvisioningStep control lanes step before → Sets bits step.op → bits ≡ byte_of lanes
+  mask_of step before bits (inl (inl is)) sets = absurd (stores_none step.op read_module_state bits is refl refl sets)
+  mask_of step before bits (inl (inr (inl is))) sets = absurd (stores_none step.op read_selection bits is refl refl sets)
+  mask_of step before bits (inl (inr (inr (inl is)))) sets = absurd (stores_none step.op (selection control_page) bits is refl refl sets)
+  mask_of step before bits (inl (inr (inr (inr (inl is))))) sets = absurd (stores_none step.op (selection status_page) bits is refl refl sets)
+  mask_of step before bits (inl (inr (inr (inr (inr none))))) sets = absurd none
+  mask_of step before bits (inr (inl (inl is, confirmed))) sets = absurd (stores_none step.op read_path_states bits is refl refl sets)
+  mask_of step before bits (inr (inl (inr (inl is), confirmed))) sets = absurd (stores_none step.op read_statuses bits is refl refl sets)
+  mask_of step before bits (inr (inl (inr (inr (inl is)), confirmed))) sets = absurd (stores_none step.op read_active bits is refl refl sets)
+  mask_of step before bits (inr (inl (inr (inr (inr none)), confirmed))) sets = absurd none
+  mask_of step before bits (inr (inr (inl is, confirmed))) sets = mask_alone step.op bits (byte_of lanes) (inl is) sets
+  mask_of step before bits (inr (inr (inr (inl is), confirmed))) sets = absurd (stores_none step.op (stage control) bits is refl refl sets)
+  mask_of step before bits (inr (inr (inr (inr (inl is)), confirmed))) sets = absurd (stores_none step.op read_staged bits is refl refl sets)
+  mask_of step before bits (inr (inr (inr (inr (inr (inl is))), confirmed))) sets = mask_alone step.op bits (byte_of lanes) (inr is) sets
+  mask_of step before bits (inr (inr (inr (inr (inr (inr none))), confirmed))) sets = absurd none
+
+  leaves : (step : Step) (before : History) → IsProvisioningStep control lanes step before → LeavesOthers lanes step
+  leaves step before shaped bits lane sets within outside =
+      ap (λ (byte : ℕ). set.contains (lanes_in byte) lane) (mask_of step before bits shaped sets) ∙ in_byte_of lanes lane within ∙ outside
+
+  pub others_left : (history : History) → EachStep (IsProvisioningStep control lanes) history → AllByRecursion (LeavesOthers lanes) history
+  others_left [] shape = tt
+  others_left (step ∷ before) shape = (leaves step before shape.0, others_left before shape.1)

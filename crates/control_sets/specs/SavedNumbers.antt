@@ -1,0 +1,84 @@
+-- A procedure as plain numbers: which numbers are a procedure's, and of which. (docs/firmware.md, "The procedure's numbers")
+use Rattle.std.specs.Prelude.{ℕ, ◌==◌, List, Option, Some, None, if◌then◌else◌}
+use Rattle.std.specs.Option.{option_map}
+use Rattle.field_tables.specs.LaneSets.{lanes_in}
+use Rattle.bus_model.specs.declared.bus.BusFault.{BusFault}
+use Rattle.bus_model.specs.declared.bus.BusFault.TheVariants.{TraceFull, BadShape}
+use Rattle.paged_memory.specs.declared.paging.Selected.{Selected}
+use Rattle.paged_memory.specs.declared.paging.Selected.TheVariants.{Unknown, Open, Page}
+use Rattle.control_sets.specs.declared.fault.ProvisionFault.{ProvisionFault}
+use Rattle.control_sets.specs.declared.fault.ProvisionFault.TheVariants.{Rejected, StagedDiffers, ActiveDiffers, GaveUp, Bus, ModuleState, Reserved}
+use Rattle.control_sets.specs.declared.procedures.procedure.saved.SavedProcedure.{SavedProcedure}
+use Rattle.control_sets.specs.declared.procedures.saved_fault.SavedFault.{SavedFault}
+use Rattle.control_sets.specs.declared.procedures.procedure.Work.{Work}
+use Rattle.control_sets.specs.declared.procedures.procedure.Work.TheVariants.{Provisioning, Activation}
+use Rattle.control_sets.specs.declared.procedures.procedure.Procedure.{Procedure}
+
+-- 0 for provisioning, 1 for activation
+abbrev pub work_numbered : ℕ → List ℕ → ℕ → Option Work
+work_numbered number control lanes =
+    if number == 0 then Some (Provisioning control (lanes_in lanes))
+    else (if number == 1 then Some (Activation control (lanes_in lanes))
+    else None)
+
+-- 0 where nothing is known, 1 where a read back is awaited, 2 where the page was read back
+abbrev pub selected_numbered : ℕ → ℕ → Option Selected
+selected_numbered number page =
+    if number == 0 then Some Unknown
+    else (if number == 1 then Some Open
+    else (if number == 2 then Some (Page page)
+    else None))
+
+-- by the number in its code: 1 for BU1
+abbrev pub bus_fault_numbered : ℕ → Option BusFault
+bus_fault_numbered number =
+    if number == 1 then Some TraceFull
+    else (if number == 2 then Some BadShape
+    else None)
+
+-- by the number in its code, as 1 for PV1, and its values
+abbrev pub fault_numbered : SavedFault → Option ProvisionFault
+fault_numbered saved =
+    if saved.code == 1 then Some (Rejected saved.first saved.second)
+    else (if saved.code == 2 then Some (StagedDiffers saved.first)
+    else (if saved.code == 3 then Some (ActiveDiffers saved.first)
+    else (if saved.code == 4 then Some GaveUp
+    else (if saved.code == 5 then option_map Bus (bus_fault_numbered saved.first)
+    else (if saved.code == 6 then Some (ModuleState saved.first)
+    else (if saved.code == 7 then Some (Reserved saved.first)
+    else None))))))
+
+-- whether there is a fault, and which; none where the numbers are no fault's
+abbrev pub fault_in : SavedFault → Option (Option ProvisionFault)
+fault_in saved = if saved.code == 0 then Some None else option_map Some (fault_numbered saved)
+
+abbrev pub numbers : ℕ → ℕ → ℕ → SavedFault
+numbers code first second = record { code = code; first = first; second = second }
+
+abbrev pub bus_fault_number : BusFault → ℕ
+bus_fault_number TraceFull = 1
+bus_fault_number BadShape = 2
+
+abbrev pub numbers_of : ProvisionFault → SavedFault
+numbers_of (Rejected lane status) = numbers 1 lane status
+numbers_of (StagedDiffers lane) = numbers 2 lane 0
+numbers_of (ActiveDiffers lane) = numbers 3 lane 0
+numbers_of GaveUp = numbers 4 0 0
+numbers_of (Bus fault) = numbers 5 (bus_fault_number fault) 0
+numbers_of (ModuleState code) = numbers 6 code 0
+numbers_of (Reserved code) = numbers 7 code 0
+
+-- all 0 where there is no fault
+abbrev pub saved_fault : Option ProvisionFault → SavedFault
+saved_fault None = numbers 0 0 0
+saved_fault (Some fault) = numbers_of fault
+
+abbrev pub procedure_of : SavedProcedure → Option Work → Option Selected → Option (Option ProvisionFault) → Option Procedure
+procedure_of saved (Some work) (Some selected) (Some fault) =
+    Some (record { work = work; met = saved.met; session = record { steps = saved.steps; selection = selected }; fault = fault })
+procedure_of saved work selected fault = None
+
+-- the procedure that has these numbers; none where what it does, knows of the selection or has for a fault is no such
+unfoldable pub restored : SavedProcedure → Option Procedure
+restored saved =
+    procedure_of saved (work_numbered saved.work saved.control saved.lanes) (selected_numbered saved.selection saved.page) (fault_in saved.fault)

@@ -1,0 +1,108 @@
+ghost use Rattle.std.specs.Prelude.{◌≡◌, Some};
+ghost use Rattle.control_sets.specs.SavedNumbers.{restored, selected_numbered, work_numbered};
+
+use super::{Procedure, Work};
+use crate::procedures::saved_fault::SavedFault;
+use crate::procedures::session::Session;
+use field_tables::LaneSet;
+use paged_memory::Selected;
+
+/// A procedure as plain numbers, for a caller that keeps it in memory of another language.
+#[repr(C)]
+#[derive(Clone, Copy, Debug, PartialEq, Eq)]
+pub struct SavedProcedure {
+    /// How many tasks were met.
+    pub met: usize,
+    /// How many steps were told.
+    pub steps: u16,
+    /// 0 for provisioning, 1 for activation.
+    pub work: u8,
+    /// Bit i-1 is 1 for lane i.
+    pub lanes: u8,
+    /// The control bytes of host lanes 1 to 8.
+    pub control: [u8; 8],
+    /// Of the page selection 0 where nothing is known, 1 where it was stored to, 2 where a page was read back.
+    pub selection: u8,
+    /// The page that was read back, or 0.
+    pub page: u8,
+    pub fault: SavedFault,
+}
+
+impl SavedProcedure {
+    fn work(&self) -> Option<Work>
+        ensures { result ≡ work_numbered self.now.work self.now.control self.now.lanes }
+    {
+        let (control, lanes) = (self.control, LaneSet::from(self.lanes));
+        match self.work {
+            0 => Some(Work::Provisioning { control, lanes }),
+            1 => Some(Work::Activation { control, lanes }),
+            _ => None,
+        }
+    }
+
+    fn selected(&self) -> Option<Selected>
+        ensures { result ≡ selected_numbered self.now.selection self.now.page }
+    {
+        match self.selection {
+            0 => Some(Selected::Unknown),
+            1 => Some(Selected::Open),
+            2 => Some(Selected::Page(self.page)),
+            _ => None,
+        }
+    }
+}
+
+impl Procedure {
+    /// Its numbers.
+    pub fn save(&self) -> SavedProcedure
+        ensures { restored result ≡ Some self.now }
+    {
+        let (work, control, lanes) = numbers_of_work(&self.work);
+        let (selection, page) = numbers_of_selected(self.session.selection);
+        SavedProcedure {
+            met: self.met,
+            steps: self.session.steps,
+            work,
+            lanes,
+            control,
+            selection,
+            page,
+            fault: SavedFault::of(self.fault),
+        }
+    }
+
+    /// The procedure that has these numbers, where one has.
+    #[tactic(auto, unfolding(crate::specs::SavedNumbers::restored))]
+    pub fn restore(saved: &SavedProcedure) -> Option<Procedure>
+        ensures { result ≡ restored saved.now }
+    {
+        Some(Procedure {
+            work: saved.work()?,
+            met: saved.met,
+            session: Session {
+                steps: saved.steps,
+                selection: saved.selected()?,
+            },
+            fault: saved.fault.fault()?,
+        })
+    }
+}
+
+fn numbers_of_work(work: &Work) -> (u8, [u8; 8], u8)
+    ensures { work_numbered result.0 result.1 result.2 ≡ Some work.now }
+{
+    match work {
+        Work::Provisioning { control, lanes } => (0, *control, lanes.byte()),
+        Work::Activation { control, lanes } => (1, *control, lanes.byte()),
+    }
+}
+
+fn numbers_of_selected(selected: Selected) -> (u8, u8)
+    ensures { selected_numbered result.0 result.1 ≡ Some selected }
+{
+    match selected {
+        Selected::Unknown => (0, 0),
+        Selected::Open => (1, 0),
+        Selected::Page(page) => (2, page),
+    }
+}
