@@ -12,7 +12,7 @@ use Rattle.control_sets.specs.OutcomeOfActivation.{IsActivationStep}
 use Rattle.sim_module.specs.declared.module.SimModule.{SimModule}
 use Rattle.sim_module.specs.ActiveSets.{ActivationLeavesActive, IsAtRest}
 use Rattle.sim_module.specs.Modules.{conduct}
-use Rattle.sim_module.proofs.Histories.{after_reverse, steps_keep}
+use Rattle.bus_model.proofs.Histories.{after_reverse, steps_keep}
 use Rattle.sim_module.proofs.RestingModule.{AsksNoApply, rest_by, rest_kept}
 
 by_op : (op other : Op) → op ≡ other → AsksNoApply other → AsksNoApply op

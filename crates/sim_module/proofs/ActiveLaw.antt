@@ -1,23 +1,32 @@
 -- After steps that end as a success of provisioning does, what was read of the Active Control Set is active. Steps stand
 -- with the newest first.
-use Rattle.std.proofs.Common.{◌≡◌, ℕ, Some, List, [], ◌∷◌, ◌++◌, reverse, sym, subst, ◌∙◌}
+use Rattle.std.proofs.Common.{◌≡◌, ◌⊎◌, inl, inr, ℕ, true, Some, List, [], ◌∷◌, ◌++◌, reverse, ap, sym, subst, ◌∙◌, arith}
 use Rattle.std.specs.List.{AllByRecursion}
 use Rattle.bus_model.specs.declared.device.Dev.TheVariants.{A0}
+use Rattle.bus_model.specs.declared.operation.Op.{Op}
+use Rattle.bus_model.specs.declared.operation.Op.TheVariants.{Fetch, Store}
 use Rattle.bus_model.specs.declared.operation.Step.{Step}
 use Rattle.bus_model.specs.declared.script.Directive.{Directive}
 use Rattle.bus_model.specs.Keeping.{IsKeptBy}
-use Rattle.bus_model.specs.Operations.{fetch_step}
+use Rattle.bus_model.specs.Operations.{fetch_step, store_step}
 use Rattle.bus_model.specs.Runs.{Ran, Seen}
 use Rattle.bus_model.specs.ScriptedBus.{script_rules, settled}
-use Rattle.bus_model.proofs.ScriptRuns.{fetched_at}
+use Rattle.bus_model.proofs.ScriptRuns.{all_allow, fetched_at, step_keeps, stored_at}
 use Rattle.sim_module.specs.declared.module.SimModule.{SimModule}
 use Rattle.sim_module.specs.Lanes.{active_bytes}
-use Rattle.sim_module.specs.ActiveSets.{IsAtRest}
+use Rattle.sim_module.specs.ActiveSets.{HasNoApply, IsAtRest}
 use Rattle.sim_module.specs.Modules.{conduct}
 use Rattle.sim_module.specs.Soundness.{IsSound}
-use Rattle.control_sets.specs.OutcomeOperations.{Confirms, CoversSelection}
-use Rattle.sim_module.proofs.Histories.{MayEach, after, after_append, after_reverse, found_keeps, may_each, may_older, steps_keep}
+use Rattle.field_tables.specs.LaneSets.{Lanes, byte_of}
+use Rattle.control_sets.specs.OutcomeCodes.{IsOf}
+use Rattle.control_sets.specs.OutcomeOfProvisioning.{IsProvisioningStep}
+use Rattle.control_sets.specs.OutcomeOperations.{Confirms, CoversSelection, apply}
+use Rattle.control_sets.specs.OutcomeSteps.{IsAccepted, Stands}
+use Rattle.control_sets.specs.Pages.{EachStep}
+use Rattle.bus_model.proofs.Histories.{AnyPin, MayEach, after, after_append, after_reverse, found_keeps, may_each, may_older, steps_keep}
 use Rattle.sim_module.proofs.SoundModule.{sound_always}
+use Rattle.sim_module.proofs.HeldLanes.{HoldsOnly, held_begins, held_from_start, held_kept, held_survives}
+use Rattle.sim_module.proofs.ProvisioningKeeps.{by_step}
 use Rattle.sim_module.proofs.IdleModule.{MapsNoControls, IsIdle, Shows, idle_by, idle_fetched, idle_kept, shows_by, shows_fetched, shows_kept}
 use Rattle.sim_module.proofs.ReadBytes.{SaySuccess, confirmed, idle_after_success, read_active}
 
@@ -25,17 +34,24 @@ use Rattle.sim_module.proofs.ReadBytes.{SaySuccess, confirmed, idle_after_succes
 abbrev pub read : ℕ → ℕ → List ℕ → Step
 read offset count bytes = fetch_step A0 offset count (Some (record { items = bytes }))
 
--- the last step reads the control bytes from the Active Control Set; before that all statuses were read as ConfigSuccess, both
--- on a confirmed page 11h, and in between page 10h was not selected
-pub record EndsApplied (control : List ℕ) (steps : List Step) : Type 0 where
+-- the last step reads the control bytes from the Active Control Set; before that the statuses of the lanes were read as
+-- ConfigSuccess, both on a confirmed page 11h, and in between page 10h was not selected; and before that an apply to the lanes
+-- was accepted
+pub record EndsApplied (control : List ℕ) (lanes : Lanes) (steps : List Step) : Type 0 where
   pub between : List Step
   pub statuses : List ℕ
   pub before : List Step
   pub split : steps ≡ read 206 8 control ∷ (between ++ read 202 4 statuses ∷ before)
-  pub success : SaySuccess statuses
+  pub success : SaySuccess lanes statuses
   pub shown : Confirms 0x11 before
   pub still_shown : Confirms 0x11 (between ++ read 202 4 statuses ∷ before)
   pub no_controls : AllByRecursion (λ step. MapsNoControls step.op) between
+  pub shape : EachStep (IsProvisioningStep control lanes) before
+  pub applied : Stands (IsAccepted (apply (byte_of lanes))) before
+
+-- some lane is applied, or no apply is in progress
+abbrev pub LeavesNone : Lanes → SimModule → Type 0
+LeavesNone lanes sim = ((lane : ℕ) × IsOf lanes lane) ⊎ HasNoApply sim
 
 each_step : (P Q : Step → Type 0) → ((step : Step) → P step → Q step) → (steps : List Step) → AllByRecursion P steps → AllByRecursion Q steps
 each_step P Q so [] all = tt
@@ -79,8 +95,47 @@ shows_after number state steps confirms may =
     subst (λ (ss : List Step). Shows number (left state ss).1) (sym confirms.split)
     (subst (λ (s : State). Shows number s.1) (sym (after_append (script_rules conduct) state since (step ∷ before))) last)
 
-active_after : (state : State) (steps : List Step) (control : List ℕ) → IsSound state.1 → May state steps → EndsApplied control steps → IsAtRest control (left state steps).1
-active_after state steps control sound may ends =
+abbrev pub offset_of : Op → ℕ
+offset_of (Fetch dev offset count) = offset
+offset_of (Store dev offset bytes) = offset
+
+-- an apply is asked for on page 10h
+applied_on : (control : List ℕ) (lanes : Lanes) (step : Step) (before : List Step) → step.op ≡ apply (byte_of lanes) → IsProvisioningStep control lanes step before → Confirms 0x10 before
+applied_on control lanes step before is (inl (inl other)) = let far : 143 ≡ 3 = ap offset_of (sym is ∙ other) in absurd (omega (arith, far))
+applied_on control lanes step before is (inl (inr (inl other))) = let far : 143 ≡ 126 = ap offset_of (sym is ∙ other) in absurd (omega (arith, far))
+applied_on control lanes step before is (inl (inr (inr (inl other)))) = let far : 143 ≡ 126 = ap offset_of (sym is ∙ other) in absurd (omega (arith, far))
+applied_on control lanes step before is (inl (inr (inr (inr (inl other))))) = let far : 143 ≡ 126 = ap offset_of (sym is ∙ other) in absurd (omega (arith, far))
+applied_on control lanes step before is (inl (inr (inr (inr (inr none))))) = absurd none
+applied_on control lanes step before is (inr (inl (inl other, confirmed))) = let far : 143 ≡ 128 = ap offset_of (sym is ∙ other) in absurd (omega (arith, far))
+applied_on control lanes step before is (inr (inl (inr (inl other), confirmed))) = let far : 143 ≡ 202 = ap offset_of (sym is ∙ other) in absurd (omega (arith, far))
+applied_on control lanes step before is (inr (inl (inr (inr (inl other)), confirmed))) = let far : 143 ≡ 206 = ap offset_of (sym is ∙ other) in absurd (omega (arith, far))
+applied_on control lanes step before is (inr (inl (inr (inr (inr none)), confirmed))) = absurd none
+applied_on control lanes step before is (inr (inr controls)) = controls.1
+
+held_after : (control : List ℕ) (lanes : Lanes) (lane : ℕ) (state : State) (steps : List Step) → IsOf lanes lane → EachStep (IsProvisioningStep control lanes) steps → May state steps →
+    Stands (IsAccepted (apply (byte_of lanes))) steps → HoldsOnly lanes (left state steps).1
+held_after control lanes lane state [] of_lanes shape may stands = absurd stands
+held_after control lanes lane state (step ∷ before) of_lanes shape may (inl accepted) =
+    let there = left state before in
+    let made : Step = store_step A0 143 (byte_of lanes ∷ []) true in
+    let is : step ≡ made = λ i. record { op = accepted.0 i; reply = accepted.1 i } in
+    let answer = stored_at conduct A0 143 (byte_of lanes ∷ []) there (subst ((script_rules conduct).may there) is may.0) in
+    let shows : Shows 0x10 (found there) = found_keeps conduct (Shows 0x10) (shows_kept 0x10) there (shows_after 0x10 state before (applied_on control lanes step before accepted.0 shape.0) may.1) in
+    let held = (held_kept lanes).tick _ (held_begins lanes (found there) lane of_lanes shows answer.answer) in
+    subst (λ (s : Step). HoldsOnly lanes ((script_rules conduct).after there s).1) (sym is) (subst (HoldsOnly lanes) (sym answer.left) held)
+held_after control lanes lane state (step ∷ before) of_lanes shape may (inr stands) =
+    step_keeps conduct AnyPin (HoldsOnly lanes) (held_kept lanes) step.op (by_step control lanes (HoldsOnly lanes) (held_survives lanes) step before shape.0) (left state before)
+    (all_allow (left state before).0) (held_after control lanes lane state before of_lanes shape.1 may.1 stands)
+
+-- so it holds no other lanes
+held_before : (control : List ℕ) (lanes : Lanes) (state : State) (steps : List Step) → LeavesNone lanes state.1 → EachStep (IsProvisioningStep control lanes) steps → May state steps →
+    Stands (IsAccepted (apply (byte_of lanes))) steps → HoldsOnly lanes (left state steps).1
+held_before control lanes state steps (inl (lane, of_lanes)) shape may stands = held_after control lanes lane state steps of_lanes shape may stands
+held_before control lanes state steps (inr none) shape may stands = held_from_start lanes control state steps shape none
+
+active_after : (state : State) (steps : List Step) (control : List ℕ) (lanes : Lanes) → IsSound state.1 → LeavesNone lanes state.1 → May state steps → EndsApplied control lanes steps →
+    IsAtRest control (left state steps).1
+active_after state steps control lanes sound leaves may ends =
     let last = read 206 8 control in
     let statuses = read 202 4 ends.statuses in
     let older = ends.between ++ statuses ∷ ends.before in
@@ -91,7 +146,8 @@ active_after state steps control sound may ends =
     let shows : Shows 0x11 (found there) = found_keeps conduct (Shows 0x11) (shows_kept 0x11) there (shows_after 0x11 state ends.before ends.shown first.1) in
     let still : IsSound (found there) = found_keeps conduct IsSound sound_always.time there (sound_after state ends.before sound) in
     let active = active_bytes (found there) in
-    let idle : IsIdle active (found there) = idle_after_success (found there) ends.statuses still shows answer.answer ends.success in
+    let held : HoldsOnly lanes (found there) = found_keeps conduct (HoldsOnly lanes) (held_kept lanes) there (held_before control lanes state ends.before leaves ends.shape first.1 ends.applied) in
+    let idle : IsIdle active (found there) = idle_after_success (found there) lanes ends.statuses still shows held answer.answer ends.success in
     let idle_next : IsIdle active (left state (statuses ∷ ends.before)).1 = subst (IsIdle active) (sym answer.left) ((idle_kept active).tick _ (idle_fetched active (found there) A0 202 4 idle)) in
     let idle_on : IsIdle active (left (left state (statuses ∷ ends.before)) ends.between).1 =
     steps_keep conduct (IsIdle active) (idle_kept active) ends.between
@@ -105,8 +161,8 @@ active_after state steps control sound may ends =
     let rest : IsAtRest control (left state (last ∷ older)).1 = subst (λ (bytes : List ℕ). IsAtRest bytes (left state (last ∷ older)).1) (sym idle_found.rest.active ∙ is_control) end.rest in
     subst (λ (ss : List Step). IsAtRest control (left state ss).1) (sym ends.split) rest
 
-pub active_is_read : (old new : Seen State) (steps : List Step) (control : List ℕ) → IsSound old.state.1 → Ran (script_rules conduct) old new (reverse steps) → EndsApplied control steps →
-    IsAtRest control new.state.1
-active_is_read old new steps control sound ran ends =
+pub active_is_read : (old new : Seen State) (steps : List Step) (control : List ℕ) (lanes : Lanes) → IsSound old.state.1 → LeavesNone lanes old.state.1 → Ran (script_rules conduct) old new (reverse steps) →
+    EndsApplied control lanes steps → IsAtRest control new.state.1
+active_is_read old new steps control lanes sound leaves ran ends =
     subst (λ (s : State). IsAtRest control s.1) (sym (ran.state ∙ after_reverse (script_rules conduct) old.state steps))
-    (active_after old.state steps control sound (may_each (script_rules conduct) old.state steps ran.allowed) ends)
+    (active_after old.state steps control lanes sound leaves (may_each (script_rules conduct) old.state steps ran.allowed) ends)

@@ -1,8 +1,7 @@
 -- Lanes one by one, and lists that are made so.
-use Rattle.std.proofs.Common.{◌≡◌, ℕ, zero, suc, ◌+◌, ◌<◌, List, get_or, length, map, sym, ◌∙◌, arith}
+use Rattle.std.proofs.Common.{◌≡◌, ℕ, ◌+◌, ◌<◌, List, get_or, length, map, sym, ◌∙◌, arith}
 use Rattle.std.specs.List.{range_with_len}
 use Rattle.std.proofs.lemmas.List.{ext_get_or}
-use Rattle.control_sets.specs.HostPaths.{IsLane}
 use Rattle.std.proofs.lemmas.List.FromFn.{get_or-map-range_with_len, length-map-range_with_len}
 
 pub each_lane : {X : Type 0} (d : X) (f : ℕ → X) (xs : List X) → length xs ≡ 8 → ((k : ℕ) → k < length xs → get_or xs k d ≡ f (k + 1)) → xs ≡ map f (range_with_len 1 8)
@@ -14,16 +13,3 @@ pub each_of : {X : Type 0} (d : X) (count : ℕ) (f : ℕ → X) (xs : List X) �
 each_of d count f xs len each =
     ext_get_or d xs (map f (range_with_len 0 count)) (len ∙ sym (length-map-range_with_len f 0 count))
     (λ k below. each k below ∙ sym (get_or-map-range_with_len f 0 count k k d (omega (arith, below, len)) (omega arith)))
-
--- of eight lanes, each
-pub each_of_eight : (P : ℕ → Type 0) → P 1 → P 2 → P 3 → P 4 → P 5 → P 6 → P 7 → P 8 → (lane : ℕ) → IsLane lane → P lane
-each_of_eight P a b c d e f g h zero within = absurd (omega (arith, within.0))
-each_of_eight P a b c d e f g h (suc zero) within = a
-each_of_eight P a b c d e f g h (suc (suc zero)) within = b
-each_of_eight P a b c d e f g h (suc (suc (suc zero))) within = c
-each_of_eight P a b c d e f g h (suc (suc (suc (suc zero)))) within = d
-each_of_eight P a b c d e f g h (suc (suc (suc (suc (suc zero))))) within = e
-each_of_eight P a b c d e f g h (suc (suc (suc (suc (suc (suc zero)))))) within = f
-each_of_eight P a b c d e f g h (suc (suc (suc (suc (suc (suc (suc zero))))))) within = g
-each_of_eight P a b c d e f g h (suc (suc (suc (suc (suc (suc (suc (suc zero)))))))) within = h
-each_of_eight P a b c d e f g h (suc (suc (suc (suc (suc (suc (suc (suc (suc n))))))))) within = absurd (omega (arith, within.1))

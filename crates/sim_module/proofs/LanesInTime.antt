@@ -11,7 +11,7 @@ use Rattle.sim_module.specs.declared.module.SimModule.{SimModule}
 use Rattle.sim_module.specs.Lanes.{active_bytes, all_lanes, lane_at, no_lane}
 use Rattle.sim_module.specs.Down.{has_low_power, holds_down, is_down, is_path_down, is_ready}
 use Rattle.sim_module.specs.Soundness.{HoldsItsPath, LanesStayUp}
-use Rattle.sim_module.proofs.EachLane.{each_of_eight}
+use Rattle.control_sets.proofs.EightLanes.{each_of_eight}
 use Rattle.sim_module.specs.Ticks.{applied_by, applied_lane, is_last, moved_lane, next_path_state, ticked, ticked_lane}
 
 -- ---- lanes that are made one by one
@@ -34,7 +34,7 @@ settled_lane sim lane none = settled (is_last sim.apply_left) (moved_lane sim.de
 
 -- ---- down
 
-any_in : (test : ℕ → Bool) (lane : ℕ) → IsLane lane → test lane ≡ true → list_any test all_lanes ≡ true
+pub any_in : (test : ℕ → Bool) (lane : ℕ) → IsLane lane → test lane ≡ true → list_any test all_lanes ≡ true
 any_in test lane within passes = each_of_eight (λ n. test n ≡ true → list_any test all_lanes ≡ true)
     (λ t. grind (arith, t)) (λ t. grind (arith, t)) (λ t. grind (arith, t)) (λ t. grind (arith, t)) (λ t. grind (arith, t)) (λ t. grind (arith, t)) (λ t. grind (arith, t)) (λ t. grind (arith, t)) lane within passes
 

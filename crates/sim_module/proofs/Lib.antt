@@ -2,9 +2,14 @@ pub mod EachLane
 pub mod LaneTests
 pub mod LanesInTime
 pub mod SoundModule
-pub mod Histories
 pub mod RestingModule
 pub mod IdleModule
+pub mod ProvisioningKeeps
+pub mod KeptLanes
+pub mod KeptApplies
+pub mod KeptStores
+pub mod KeptPaths
+pub mod HeldLanes
 pub mod ReadBytes
 pub mod ActiveLaw
 pub mod Provisioned

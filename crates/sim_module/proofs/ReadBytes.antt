@@ -1,12 +1,15 @@
 -- What the fetches of provisioning tell of the module that answers them.
-use Rattle.std.proofs.Common.{◌≡◌, ◌≢◌, ℕ, ◌+◌, ◌-◌, ◌*◌, ◌/◌, ◌%◌, lit<, ◌<◌, ◌≤◌, Bool, true, false, Option, Some, None, is_some, IsTrue, List, [], ◌∷◌, length, get_or, map, slice_index, refl, ap, sym, ◌∙◌, ◌==◌, ◌&&◌, if◌then◌else◌, nat_lt, arith}
+use Rattle.std.proofs.Common.{◌≡◌, ◌≢◌, ℕ, ◌+◌, ◌-◌, ◌*◌, ◌/◌, ◌%◌, ◌<◌, ◌≤◌, Bool, true, false, Option, Some, None, is_some, IsTrue, List, [], ◌∷◌, length, get_or, map, slice_index, refl, ap, sym, ◌∙◌, ◌==◌, ◌&&◌, if◌then◌else◌, nat_lt, arith}
 use Rattle.std.specs.List.{range_with_len}
 use Rattle.std.specs.FinMap as finmap
+use Rattle.std.specs.FinSet as set
 use Rattle.std.proofs.lemmas.Bool.Decides.{nat_tests}
 use Rattle.std.proofs.lemmas.List.{get_or-map, length-map}
 use Rattle.bus_model.specs.declared.device.Dev.TheVariants.{A0}
 use Rattle.paged_memory.specs.Images.{place_in_half}
+use Rattle.field_tables.specs.LaneSets.{Lanes}
 use Rattle.control_sets.specs.HostPaths.{IsLane}
+use Rattle.control_sets.specs.OutcomeCodes.{IsOf}
 use Rattle.datapath_states.specs.StatusCodes.{status_code_of}
 use Rattle.sim_module.specs.declared.lane.Lane.{Lane}
 use Rattle.sim_module.specs.declared.module.SimModule.{SimModule}
@@ -14,14 +17,16 @@ use Rattle.sim_module.specs.Lanes.{active_bytes, is_in_progress, lane_at, no_lan
 use Rattle.paged_memory.specs.Selections.{shown_key}
 use Rattle.sim_module.specs.ShownBytes.{configuration_bytes, fetched, fetched_from, first_shown, is_mapped, lower_bytes, shown_byte, status_bytes, status_code}
 use Rattle.sim_module.specs.Soundness.{IsSound}
-use Rattle.sim_module.proofs.EachLane.{each_lane, each_of_eight}
+use Rattle.control_sets.proofs.EightLanes.{each_of_eight}
+use Rattle.sim_module.proofs.EachLane.{each_lane}
 use Rattle.datapath_states.specs.Lanes.{code_in}
 use Rattle.datapath_states.proofs.LaneNibbles.{lower_half, upper_half}
 use Rattle.sim_module.proofs.IdleModule.{IsIdle, Shows}
+use Rattle.sim_module.proofs.HeldLanes.{HoldsOnly}
 
--- four bytes of statuses say ConfigSuccess for each lane
-abbrev pub SaySuccess : List ℕ → Type 0
-SaySuccess bytes = (lane : ℕ) → IsLane lane → code_in bytes lane ≡ 1
+-- four bytes of statuses say ConfigSuccess for each of these lanes
+abbrev pub SaySuccess : Lanes → List ℕ → Type 0
+SaySuccess lanes bytes = (lane : ℕ) → IsOf lanes lane → code_in bytes lane ≡ 1
 
 -- an answered fetch read a half of the image
 pub record Reads (sim : SimModule) (address count : ℕ) (bytes : List ℕ) : Type 0 where
@@ -102,37 +107,42 @@ even_one code other one = let not_it : other ≢ 12 = (λ same. (let four : othe
 pair_byte_fits : (code other : ℕ) → code % 16 + 16 * (other % 16) < 256
 pair_byte_fits code other = omega arith
 
--- after eight statuses ConfigSuccess no lane is in progress
-read_statuses : (sim : SimModule) (bytes : List ℕ) → Shows 0x11 sim → (fetched sim A0 202 4).0 ≡ Some bytes → SaySuccess bytes → (lane : ℕ) → IsLane lane → is_in_progress (lane_at sim lane) ≡ false
-read_statuses sim bytes shows answered success =
+-- a lane of which the status ConfigSuccess is read isn't in progress
+read_status : (sim : SimModule) (bytes : List ℕ) → Shows 0x11 sim → (fetched sim A0 202 4).0 ≡ Some bytes → (lane : ℕ) → IsLane lane → code_in bytes lane ≡ 1 → is_in_progress (lane_at sim lane) ≡ false
+read_status sim bytes shows answered lane within success =
     let answer = reads sim 202 4 bytes answered in
     let code : ℕ → ℕ = status_code sim in
     let whole : ℕ → ℕ = λ lane. status_code_of (lane_at sim lane).status in
     let shown : List ℕ = (code 1 + 16 * code 2) ∷ (code 3 + 16 * code 4) ∷ (code 5 + 16 * code 6) ∷ (code 7 + 16 * code 8) ∷ [] in
     let same : bytes ≡ shown = sym answer.bytes_are ∙ shown_statuses sim answer.page shows in
-    let told : (lane : ℕ) → IsLane lane → code_in shown lane ≡ 1 = λ lane within. ap (λ (bs : List ℕ). code_in bs lane) (sym same) ∙ success lane within in
-    let is : (n : ℕ) → n < 8 → IsLane (n + 1) = λ n below. (omega arith, omega (arith, below)) in
-    each_of_eight (λ lane. is_in_progress (lane_at sim lane) ≡ false)
-    (odd_one (whole 1) (whole 2) (sym (lower_half shown 0 refl) ∙ told 1 (is 0 (lit< tt))))
-    (even_one (whole 1) (whole 2) (sym (upper_half shown 1 refl (pair_byte_fits (whole 1) (whole 2))) ∙ told 2 (is 1 (lit< tt))))
-    (odd_one (whole 3) (whole 4) (sym (lower_half shown 2 refl) ∙ told 3 (is 2 (lit< tt))))
-    (even_one (whole 3) (whole 4) (sym (upper_half shown 3 refl (pair_byte_fits (whole 3) (whole 4))) ∙ told 4 (is 3 (lit< tt))))
-    (odd_one (whole 5) (whole 6) (sym (lower_half shown 4 refl) ∙ told 5 (is 4 (lit< tt))))
-    (even_one (whole 5) (whole 6) (sym (upper_half shown 5 refl (pair_byte_fits (whole 5) (whole 6))) ∙ told 6 (is 5 (lit< tt))))
-    (odd_one (whole 7) (whole 8) (sym (lower_half shown 6 refl) ∙ told 7 (is 6 (lit< tt))))
-    (even_one (whole 7) (whole 8) (sym (upper_half shown 7 refl (pair_byte_fits (whole 7) (whole 8))) ∙ told 8 (is 7 (lit< tt))))
+    each_of_eight (λ lane. code_in shown lane ≡ 1 → is_in_progress (lane_at sim lane) ≡ false)
+    (λ one. odd_one (whole 1) (whole 2) (sym (lower_half shown 0 refl) ∙ one))
+    (λ one. even_one (whole 1) (whole 2) (sym (upper_half shown 1 refl (pair_byte_fits (whole 1) (whole 2))) ∙ one))
+    (λ one. odd_one (whole 3) (whole 4) (sym (lower_half shown 2 refl) ∙ one))
+    (λ one. even_one (whole 3) (whole 4) (sym (upper_half shown 3 refl (pair_byte_fits (whole 3) (whole 4))) ∙ one))
+    (λ one. odd_one (whole 5) (whole 6) (sym (lower_half shown 4 refl) ∙ one))
+    (λ one. even_one (whole 5) (whole 6) (sym (upper_half shown 5 refl (pair_byte_fits (whole 5) (whole 6))) ∙ one))
+    (λ one. odd_one (whole 7) (whole 8) (sym (lower_half shown 6 refl) ∙ one))
+    (λ one. even_one (whole 7) (whole 8) (sym (upper_half shown 7 refl (pair_byte_fits (whole 7) (whole 8))) ∙ one))
+    lane within (ap (λ (bs : List ℕ). code_in bs lane) (sym same) ∙ success)
 
 none_kept : (kept : Option ℕ) (progress : Bool) → progress ≡ false → (IsTrue (is_some kept) → IsTrue progress) → kept ≡ None
 none_kept None progress off tells = refl
 none_kept (Some byte) progress off tells = let on : progress ≡ true = tells refl in cc
 
+none_held : (sim : SimModule) (lanes : Lanes) (bytes : List ℕ) → IsSound sim → Shows 0x11 sim → HoldsOnly lanes sim → (fetched sim A0 202 4).0 ≡ Some bytes → SaySuccess lanes bytes →
+    (lane : ℕ) → IsLane lane → (inside : Bool) → set.contains lanes lane ≡ inside → (lane_at sim lane).kept ≡ None
+none_held sim lanes bytes sound shows held answered success lane within true is =
+    none_kept (lane_at sim lane).kept (is_in_progress (lane_at sim lane)) (read_status sim bytes shows answered lane within (success lane (within, is))) (sound.progress lane)
+none_held sim lanes bytes sound shows held answered success lane within false is = held lane within is
+
 -- so the module is idle, with what is active
-pub idle_after_success : (sim : SimModule) (bytes : List ℕ) → IsSound sim → Shows 0x11 sim → (fetched sim A0 202 4).0 ≡ Some bytes → SaySuccess bytes → IsIdle (active_bytes sim) sim
-idle_after_success sim bytes sound shows answered success = record {
+pub idle_after_success : (sim : SimModule) (lanes : Lanes) (bytes : List ℕ) → IsSound sim → Shows 0x11 sim → HoldsOnly lanes sim → (fetched sim A0 202 4).0 ≡ Some bytes → SaySuccess lanes bytes → IsIdle (active_bytes sim) sim
+idle_after_success sim lanes bytes sound shows held answered success = record {
   off = not_mapped sim shows;
   rest = record {
     eight = sound.eight;
-    none = λ lane within. none_kept (lane_at sim lane).kept (is_in_progress (lane_at sim lane)) (read_statuses sim bytes shows answered success lane within) (sound.progress lane);
+    none = λ lane within. none_held sim lanes bytes sound shows held answered success lane within (set.contains lanes lane) refl;
     active = refl;
   };
 }

@@ -19,7 +19,7 @@ use Rattle.sim_module.specs.Registers.{is_from}
 use Rattle.sim_module.specs.ShownBytes.{cleared, is_mapped}
 use Rattle.sim_module.specs.Stores.{stored_byte, stored_bytes, stored_high, stored_low}
 use Rattle.sim_module.specs.Ticks.{pinned, ticked, ticked_lane}
-use Rattle.sim_module.proofs.Histories.{AnyPin}
+use Rattle.bus_model.proofs.Histories.{AnyPin}
 use Rattle.sim_module.proofs.LanesInTime.{made_lane, settled_lane}
 use Rattle.sim_module.proofs.SoundModule.{either, fetched_keeps, kept_by_other, stored_keeps}
 

@@ -14,19 +14,27 @@ use Rattle.sim_module.specs.Lanes.{active_bytes, lane_at}
 use Rattle.sim_module.specs.Modules.{conduct}
 use Rattle.sim_module.specs.Soundness.{IsSound}
 
+-- no apply is in progress
+abbrev pub HasNoApply : SimModule → Type 0
+HasNoApply sim = (lane : ℕ) → IsLane lane → (lane_at sim lane).kept ≡ None
+
 -- there are eight lanes, these control bytes are active, and no apply is in progress that would change them
 pub record IsAtRest (control : List ℕ) (sim : SimModule) : Type 0 where
   pub eight : length sim.lanes ≡ 8
-  pub none : (lane : ℕ) → IsLane lane → (lane_at sim lane).kept ≡ None
+  pub none : HasNoApply sim
   pub active : active_bytes sim ≡ control
 
--- whatever a script refuses or cuts: where the steps on its bus over a sound module are a success of provisioning control
--- bytes on all lanes, these are active afterwards, and stay so
-abbrev pub ActiveIsPlanned : Type 0
-ActiveIsPlanned =
-    (old new : Seen (List Directive × SimModule)) (history : History) (control : List ℕ) (steps : ℕ) → IsSound old.state.1
-    → Ran (script_rules conduct) old new (reverse history) → IsProvisioning control every_lane (IsFull new) history (Ok steps)
+-- whatever a script refuses or cuts: where the steps on its bus, over a module that begins so, are a success of provisioning
+-- control bytes on these lanes, the bytes are active afterwards, and stay so
+abbrev pub ActiveIsPlannedOn : Lanes → (SimModule → Type 0) → Type 0
+ActiveIsPlannedOn lanes Begins =
+    (old new : Seen (List Directive × SimModule)) (history : History) (control : List ℕ) (steps : ℕ) → Begins old.state.1
+    → Ran (script_rules conduct) old new (reverse history) → IsProvisioning control lanes (IsFull new) history (Ok steps)
     → IsAtRest control new.state.1
+
+-- on all lanes, over a sound module
+abbrev pub ActiveIsPlanned : Type 0
+ActiveIsPlanned = ActiveIsPlannedOn every_lane IsSound
 
 -- whatever a script refuses or cuts: where no apply is in progress, the steps of activation leave active what was, whatever
 -- they activate and answer

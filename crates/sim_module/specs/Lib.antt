@@ -9,4 +9,5 @@ pub mod Stores
 pub mod Modules
 pub mod Soundness
 pub mod ActiveSets
+pub mod KeptPaths
 pub mod FaultWords

@@ -1,9 +1,13 @@
 //! What holds of a module, over the definitions of its events alone.
+ghost use Rattle.std.specs.Prelude.{ℕ};
 ghost use Rattle.paged_memory.specs.Images.{Memory};
+ghost use Rattle.field_tables.specs.LaneSets.{Lanes};
+ghost use Rattle.control_sets.specs.OutcomeCodes.{IsOf};
 ghost use Rattle.sim_module.specs.declared.delays.Delays.{Delays};
 ghost use Rattle.sim_module.specs.Soundness.{HoldsItsPath, IsAlwaysKept, IsSound, LanesStayUp};
 ghost use Rattle.sim_module.specs.Starts.{start};
-ghost use Rattle.sim_module.specs.ActiveSets.{ActivationLeavesActive, ActiveIsPlanned};
+ghost use Rattle.sim_module.specs.ActiveSets.{ActivationLeavesActive, ActiveIsPlanned, ActiveIsPlannedOn, HasNoApply};
+ghost use Rattle.sim_module.specs.KeptPaths.{KeptPathsStayUp};
 
 /// A new module has eight lanes, and no apply of it is in progress.
 pub fn a_new_module_is_sound()
@@ -26,13 +30,23 @@ pub fn a_lane_that_is_not_down_stays_up()
 {}
 
 /// Over a scripted bus, whatever the script refuses or cuts short: after a success of provisioning the control bytes are
-/// active, and no apply is in progress that would change them.
+/// active, and no apply is in progress that would change them. Where no lane is applied, as all are kept, an apply that was
+/// in progress before could still change them.
 pub fn what_is_provisioned_is_active()
-    ensures { ActiveIsPlanned }
+    ensures all_lanes { ActiveIsPlanned }
+    ensures some_lane { (lanes : Lanes) (lane : ℕ) → IsOf lanes lane → ActiveIsPlannedOn lanes IsSound }
+    ensures no_apply { (lanes : Lanes) → ActiveIsPlannedOn lanes (λ sim. IsSound sim × HasNoApply sim) }
 {}
 
 /// Over a scripted bus, whatever the script refuses or cuts short: activation leaves active what was, whatever it answers,
 /// where no apply is in progress.
 pub fn activation_leaves_what_is_active()
     ensures { ActivationLeavesActive }
+{}
+
+/// Over a scripted bus whose script sets the pin no more, whatever it refuses or cuts short: where no apply is in progress
+/// and the kept paths are active, provisioning of the other lanes leaves each lane of a kept path that was DPActivated and
+/// not down as it was, with its active byte, whatever it stages and answers.
+pub fn kept_paths_stay_up()
+    ensures { KeptPathsStayUp }
 {}

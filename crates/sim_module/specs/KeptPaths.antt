@@ -1,0 +1,44 @@
+-- What a module's lanes keep while others are provisioned. (docs/module.md, "Kept paths")
+use Rattle.std.specs.Prelude.{◌≡◌, ℕ, Bool, true, false, List, None, All, Contains, reverse}
+use Rattle.std.specs.List.{AllByRecursion}
+use Rattle.bus_model.specs.declared.script.Directive.{Directive}
+use Rattle.bus_model.specs.Keeping.{AllowsPins}
+use Rattle.bus_model.specs.Runs.{IsFull, Ran, Seen}
+use Rattle.bus_model.specs.ScriptedBus.{script_rules}
+use Rattle.datapath_states.specs.declared.state.PathState.TheVariants.{Activated}
+use Rattle.applications.specs.Advertised.{Advertised}
+use Rattle.plan_certificate.specs.declared.path.Path.{Path}
+use Rattle.control_sets.specs.HostPaths.{IsLane, host_paths, wrong_lane}
+use Rattle.control_sets.specs.OutcomeAnswers.{Answer}
+use Rattle.control_sets.specs.OutcomeOfProvisioning.{IsProvisioning}
+use Rattle.control_sets.specs.Pages.{History}
+use Rattle.control_sets.specs.PlanLanes.{is_taken, lanes_outside}
+use Rattle.control_sets.specs.PlanPaths.{host_path_of}
+use Rattle.sim_module.specs.declared.module.SimModule.{SimModule}
+use Rattle.sim_module.specs.ActiveSets.{IsAtRest}
+use Rattle.sim_module.specs.Down.{is_down}
+use Rattle.sim_module.specs.Lanes.{lane_at}
+use Rattle.sim_module.specs.Modules.{conduct}
+
+-- the pin isn't set, neither on nor off
+abbrev pub NoPin : Bool → Type 0
+NoPin on = ⊥
+
+-- the active bytes are host paths, and the path is one of them
+abbrev pub IsActivePath : Advertised → List ℕ → Path → Type 0
+IsActivePath advert active path = (wrong_lane active ≡ None) × Contains (host_paths active) (host_path_of advert path)
+
+-- the lane is DPActivated and not down, and this is its active byte
+pub record IsUp (lane byte : ℕ) (sim : SimModule) : Type 0 where
+  pub path : (lane_at sim lane).path ≡ Activated
+  pub up : is_down sim lane ≡ false
+  pub active : (lane_at sim lane).active ≡ byte
+
+-- whatever a script without settings of the pin refuses or cuts: where no apply is in progress and the kept paths are active,
+-- the steps of provisioning on all other lanes leave each lane of theirs up that was, whatever they stage and answer
+abbrev pub KeptPathsStayUp : Type 0
+KeptPathsStayUp =
+    (old new : Seen (List Directive × SimModule)) (history : History) (advert : Advertised) (kept : List Path) (control active : List ℕ) (answer : Answer)
+    → AllByRecursion (AllowsPins NoPin) old.state.0 → IsAtRest active old.state.1 → All (IsActivePath advert active) kept
+    → Ran (script_rules conduct) old new (reverse history) → IsProvisioning control (lanes_outside advert kept) (IsFull new) history answer
+    → (lane byte : ℕ) → IsLane lane → is_taken advert kept lane ≡ true → IsUp lane byte old.state.1 → IsUp lane byte new.state.1
