@@ -7,3 +7,10 @@ pub mod FetchSteps
 pub mod FetchUnderWay
 pub mod FetchTurns
 pub mod FetchTold
+pub mod FetchedHalves
+pub mod SameFamilies
+pub mod SameInventories
+pub mod SameApps
+pub mod SameMonitors
+pub mod SameFlags
+pub mod FetchedReports

@@ -43,15 +43,19 @@ vendor_lines memory =
     maker_lines (text memory texts.CVendor) (all_numbers memory fields.COui) (text memory texts.CPart)
     (text memory texts.CPartRevision) (text memory texts.CSerial) (text memory texts.CDate)
 
-unfoldable pub build_lines : Memory → List (List ℕ)
-build_lines memory =
+unfoldable pub power_lines : Memory → List (List ℕ)
+power_lines memory =
     line (codes "power-class") (decimal (number memory fields.CPowerClass + 1))
     ∷ line (codes "max-power") (measure (max_power_of memory) (codes "W"))
     ∷ line (codes "length") (measure (length_of memory) (codes "m"))
-    ∷ line (codes "connector") (byte_code (number memory fields.CConnector))
+    ∷ []
+
+unfoldable pub build_lines : Memory → List (List ℕ)
+build_lines memory =
+    line (codes "connector") (byte_code (number memory fields.CConnector))
     ∷ line (codes "technology") (byte_code (number memory fields.CTechnology))
     ∷ line (codes "sum-00h") (sum_word (is_sum_right memory sums.CSum00))
     ∷ []
 
 abbrev pub inventory_lines : Memory → List (List ℕ)
-inventory_lines memory = kind_lines memory ++ vendor_lines memory ++ build_lines memory
+inventory_lines memory = kind_lines memory ++ vendor_lines memory ++ power_lines memory ++ build_lines memory

@@ -13,7 +13,7 @@ use Rattle.paged_memory.specs.declared.paging.Paging.{Paging}
 use Rattle.paged_memory.specs.Images.{Memory}
 use Rattle.paged_memory.specs.Paging.{EachStep, History, confirms, reads_back, selection}
 use Rattle.reports.specs.declared.fault.ReportFault.{ReportFault}
-use Rattle.reports.specs.declared.fault.ReportFault.TheVariants.{Memory as NoMemory, Absent, Unknown, Revision, Sff, Advert, Bus, GaveUp}
+use Rattle.reports.specs.declared.fault.ReportFault.TheVariants.{Bus, GaveUp}
 use Rattle.reports.specs.declared.fetching.region.Region.{Region}
 use Rattle.reports.specs.declared.fetching.region.Region.TheVariants.{Lower, FirstPage, Page}
 use Rattle.reports.specs.Regions.{key_of, operation, paging_of, regions_of}
@@ -76,12 +76,8 @@ abbrev pub IsAnswered : Type 0 → History → Result Memory ReportFault → Typ
 IsAnswered full history (Ok image) = IsImageOf history image
 IsAnswered full history (Err GaveUp) = (length history ≡ 4096) × IsUnfinished history
 IsAnswered full history (Err (Bus fault)) = (fault ≡ TraceFull) × full × (length history < 4096) × IsUnfinished history
-IsAnswered full history (Err NoMemory) = ⊥
-IsAnswered full history (Err (Absent key)) = ⊥
-IsAnswered full history (Err (Unknown identifier)) = ⊥
-IsAnswered full history (Err (Revision revision)) = ⊥
-IsAnswered full history (Err (Sff fault)) = ⊥
-IsAnswered full history (Err (Advert fault)) = ⊥
+-- the faults of reports don't come
+IsAnswered full history (Err fault) = ⊥
 
 -- these steps and this answer are the reading of an image; full says that the bus's list is full after them
 pub record IsFetching (full : Type 0) (history : History) (answer : Result Memory ReportFault) : Type 0 where

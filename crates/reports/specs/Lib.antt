@@ -23,3 +23,4 @@ pub mod Trace
 pub mod Regions
 pub mod ImageReading
 pub mod FetchedImages
+pub mod SameReports

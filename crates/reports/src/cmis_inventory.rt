@@ -3,7 +3,7 @@ ghost use Rattle.std.specs.Int.{w64};
 ghost use Rattle.text_lines.specs.Lines.{text_of};
 ghost use Rattle.reports.specs.Families.{absent_page};
 ghost use Rattle.reports.specs.Lines.{Reports};
-ghost use Rattle.reports.specs.CmisInventory.{inventory_pages, inventory_lines, kind_lines, vendor_lines, build_lines, memory_word, max_power_of, length_of};
+ghost use Rattle.reports.specs.CmisInventory.{inventory_pages, inventory_lines, kind_lines, vendor_lines, power_lines, build_lines, memory_word, max_power_of, length_of};
 
 use crate::family::{absent_page, is_flat};
 use crate::fault::ReportFault;
@@ -24,6 +24,7 @@ pub fn inventory(alloc: Global, image: &Image) -> Result<Vec<u8>, ReportFault>
     let mut report = Report::new(alloc);
     push_kind(&mut report, image)?;
     push_vendor(&mut report, image)?;
+    push_power(&mut report, image)?;
     push_build(&mut report, image)?;
     Ok(report.into_bytes())
 }
@@ -55,17 +56,24 @@ fn push_vendor(report: &mut Report, image: &Image) -> Result<(), AllocError>
     )
 }
 
-// How the module is built.
-#[tactic(auto, unfolding(crate::specs::CmisInventory::build_lines))]
-fn push_build(report: &mut Report, image: &Image) -> Result<(), AllocError>
-    ensures { OnOk result (report.new ≡ report.old ++ text_of (build_lines image.now)) }
+// What power it takes, and how long it is.
+#[tactic(auto, unfolding(crate::specs::CmisInventory::power_lines))]
+fn push_power(report: &mut Report, image: &Image) -> Result<(), AllocError>
+    ensures { OnOk result (report.new ≡ report.old ++ text_of (power_lines image.now)) }
 {
     report.line(
         "power-class",
         u16::from(number(image, Field::CPowerClass)) + 1,
     )?;
     report.line("max-power", Measure(max_power(image), "W"))?;
-    report.line("length", Measure(length(image), "m"))?;
+    report.line("length", Measure(length(image), "m"))
+}
+
+// How the module is built.
+#[tactic(auto, unfolding(crate::specs::CmisInventory::build_lines))]
+fn push_build(report: &mut Report, image: &Image) -> Result<(), AllocError>
+    ensures { OnOk result (report.new ≡ report.old ++ text_of (build_lines image.now)) }
+{
     report.line("connector", Code(number(image, Field::CConnector)))?;
     report.line("technology", Code(number(image, Field::CTechnology)))?;
     report.line("sum-00h", sum_word(is_sum_right(image, Sum::CSum00)))

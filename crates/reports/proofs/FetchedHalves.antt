@@ -1,0 +1,280 @@
+-- What is read of an image over a scripted bus with a window of it behind: the halves agree with the image's.
+use Rattle.std.proofs.Common.{◌≡◌, inl, inr, ℕ, ◌<◌, ◌==◌, ◌||◌, ◌&&◌, Bool, true, false, List, [], ◌∷◌, take, Option, Some, None, Ok, reverse, refl, sym, ap, subst, ◌∙◌, if◌then◌else◌, arith}
+use Rattle.std.proofs.lemmas.Bool.{cases_Bool, or_cases, or_parts}
+use Rattle.std.proofs.lemmas.Bool.Decides.{nat_tests}
+use Rattle.std.specs.Prelude.{IsTrue, MatchOption, is_some, not, option_map, pos, slice_index, unsigned_abs, unwrap_or}
+use Rattle.std.specs.FinMap as map
+use Rattle.std.specs.List.{AllByRecursion}
+use Rattle.bus_model.specs.declared.device.Dev.{Dev}
+use Rattle.bus_model.specs.declared.device.Dev.TheVariants.{A0, A2}
+use Rattle.bus_model.specs.declared.operation.Op.{Op}
+use Rattle.bus_model.specs.declared.operation.Op.TheVariants.{Fetch, Store}
+use Rattle.bus_model.specs.declared.operation.Reply.TheVariants.{Bytes, Done}
+use Rattle.bus_model.specs.declared.operation.Step.{Step}
+use Rattle.bus_model.specs.declared.script.Directive.{Directive}
+use Rattle.bus_model.specs.Keeping.{IsKeptBy}
+use Rattle.bus_model.specs.Runs.{IsFull, Ran, Seen}
+use Rattle.bus_model.specs.ScriptedBus.{script_rules, transacted}
+use Rattle.bus_model.proofs.Histories.{AnyPin, found_keeps, may_each}
+use Rattle.bus_model.proofs.ScriptRuns.{all_allow, fetched_at, step_keeps}
+use Rattle.paged_memory.specs.declared.paging.Paging.{Paging}
+use Rattle.paged_memory.specs.declared.paging.Paging.TheVariants.{BankAndPage, PageAlone}
+use Rattle.paged_memory.specs.declared.selection.Selecting.TheVariants as selecting
+use Rattle.paged_memory.specs.Images.{Memory}
+use Rattle.paged_memory.specs.ImageText.{IsImage}
+use Rattle.paged_memory.specs.Keys.{lower_key, upper_key}
+use Rattle.paged_memory.specs.Paging.{History, reads_back, selection}
+use Rattle.paged_memory.specs.Selections.{selecting_by, selecting_on}
+use Rattle.paged_memory.specs.Windows.{Windowed, fetched, started, window_conduct}
+use Rattle.paged_memory.proofs.WindowHistories.{IsOf, IsOfBank, IsSound, May, Shows, State, found, left, of_after, selecting_of, shows_confirmed, shows_fetch, shows_read_back, shows_selected, sound_after}
+use Rattle.paged_memory.proofs.WindowReads.{before_selection, half_page, reads_lower, reads_page}
+use Rattle.paged_memory.proofs.WindowRuns.{always}
+use Rattle.field_tables.specs.declared.field.Field.TheVariants.{CIdentifier, QFlatMemory}
+use Rattle.field_tables.specs.FieldValues.{value_in}
+use Rattle.field_tables.specs.Halves.{byte_in, is_absent}
+use Rattle.field_tables.specs.Readings.{bit, reading_at}
+use Rattle.field_tables.proofs.PlaceNumbers.{number-bits_up}
+use Rattle.field_tables.proofs.SameValues.{Agree, same_absent, same_number}
+use Rattle.applications.specs.Refusals.{is_cmis}
+use Rattle.sff8472_map.specs.Refusals.{is_sfp}
+use Rattle.sff8636_map.specs.Refusals.{is_qsfp}
+use Rattle.reports.specs.Families.{identifier, is_flat}
+use Rattle.reports.specs.FetchedImages.{IsFetch, IsFetching, IsImageOf, IsLeftOut, IsRead, IsSettled, IsShown, SomeStep, StoresNothing, WasSelected}
+use Rattle.reports.specs.Regions.{cmis_regions, has_diagnostics, key_of, operation, paging_of, qsfp_regions, regions_of}
+use Rattle.reports.specs.declared.fetching.region.Region.{Region}
+use Rattle.reports.specs.declared.fetching.region.Region.TheVariants.{Lower, FirstPage, Page}
+use Rattle.reports.proofs.RegionLaws.{begins_lower, contradicts}
+
+-- ---- what a fetch of a half was answered by
+
+abbrev offset_of : Region → ℕ
+offset_of (Lower dev) = 0
+offset_of FirstPage = 128
+offset_of (Page page) = 128
+
+abbrev device_of : Region → Dev
+device_of (Lower dev) = dev
+device_of FirstPage = A0
+device_of (Page page) = A0
+
+is_fetch : (region : Region) → operation region ≡ Fetch (device_of region) (offset_of region) 128
+is_fetch (Lower dev) = refl
+is_fetch FirstPage = refl
+is_fetch (Page page) = refl
+
+-- before the steps the half was shown, and it was answered with these bytes
+record WasRead (paging : Paging) (region : Region) (bytes : List ℕ) (state : State) : Type 0 where
+  before : History
+  may : May state before
+  shown : IsShown paging region before
+  answer : (fetched (found (left state before)) (device_of region) (offset_of region) 128).0 ≡ Some bytes
+
+was_read : (paging : Paging) (region : Region) (bytes : List ℕ) (state : State) (history : History) → May state history → IsRead paging region bytes history → WasRead paging region bytes state
+was_read paging region bytes state [] may read = absurd read
+was_read paging region bytes state (step ∷ before) may (inl now) =
+    let there = left state before in
+    let gives = now.0 in
+    let reply : Bytes (record { items = bytes }) ≡ (transacted window_conduct (Fetch (device_of region) (offset_of region) 128) there).0 =
+    sym gives.1 ∙ may.0 ∙ ap (λ (op : Op). (transacted window_conduct op there).0) (gives.0 ∙ is_fetch region) in
+    record { before = before; may = may.1; shown = now.1; answer = (fetched_at window_conduct (device_of region) (offset_of region) 128 (record { items = bytes }) there reply).answer }
+was_read paging region bytes state (step ∷ before) may (inr earlier) = was_read paging region bytes state before may.1 earlier
+
+-- ---- which page is shown
+
+fetch_keeps : (memory : Memory) (page : ℕ) (op : Op) → IsFetch op → IsKeptBy window_conduct (Shows memory page) op
+fetch_keeps memory page (Fetch dev address count) fetch = shows_fetch memory page dev address count
+fetch_keeps memory page (Store dev address bytes) fetch = absurd fetch
+
+-- a fetch leaves a page shown
+shows_next : (memory : Memory) (page : ℕ) (there : State) (step : Step) → IsFetch step.op → Shows memory page there.1 → Shows memory page ((script_rules window_conduct).after there step).1
+shows_next memory page there step fetch shows =
+    step_keeps window_conduct AnyPin (Shows memory page) (always (Shows memory page)) step.op (fetch_keeps memory page step.op fetch) there (all_allow there.0) shows
+
+shows_first : (memory : Memory) (state : State) (history : History) → StoresNothing history → Shows memory 0 state.1 → Shows memory 0 (left state history).1
+shows_first memory state [] nothing shows = shows
+shows_first memory state (step ∷ before) nothing shows = shows_next memory 0 (left state before) step nothing.0 (shows_first memory state before nothing.1 shows)
+
+shows_chosen : (memory : Memory) (paging : Paging) → selecting_on memory A0 ≡ selecting_of paging → (page : ℕ) (state : State) (history : History) → map.contains_key memory (upper_key A0 0 page) ≡ true → IsOf memory state.1 →
+    May state history → WasSelected paging page history → Shows memory page (left state history).1
+shows_chosen memory paging by page state [] has of may selected = absurd selected
+shows_chosen memory paging by page state (step ∷ before) has of may (inl accepted) =
+    let there = left state before in
+    let done : Done ≡ (transacted window_conduct (selection paging page) there).0 = sym accepted.1 ∙ may.0 ∙ ap (λ (op : Op). (transacted window_conduct op there).0) accepted.0 in
+    subst (λ (op : Op). Shows memory page (transacted window_conduct op there).1.1) (sym accepted.0) (shows_selected memory paging by page there has done (of_after memory state before of))
+shows_chosen memory paging by page state (step ∷ before) has of may (inr (fetch, earlier)) =
+    shows_next memory page (left state before) step fetch (shows_chosen memory paging by page state before has of may.1 earlier)
+
+-- ---- the halves agree
+
+-- pages are selected as the memory has it
+abbrev SelectsBy : Memory → Paging → Region → Type 0
+SelectsBy memory paging (Lower dev) = Unit {0}
+SelectsBy memory paging FirstPage = Unit {0}
+SelectsBy memory paging (Page page) = selecting_on memory A0 ≡ selecting_of paging
+
+no_half : (b : Bool) (half : Option (List ℕ)) → is_some half ≡ b → (b ≡ true → ⊥) → half ≡ None
+no_half b None e none = refl
+no_half b (Some bytes) e none = absurd (none (sym e))
+
+-- the memory of the window behind the bus, and what is kept of its halves
+module _ (memory copy : Memory) (paging : Paging) (state : State) (image : IsImage memory) (start : state.1 ≡ started memory) where
+  of_start : IsOf memory state.1
+  of_start = ap (λ (window : Windowed). window.memory) start
+
+  shows_start : Shows memory 0 state.1
+  shows_start = record { memory_is = of_start; bank = ap (λ (window : Windowed). window.selection.bank) start; number = ap (λ (window : Windowed). window.selection.page) start }
+
+  sound_start : IsSound memory paging state.1
+  sound_start = record { memory_is = of_start; bank = bank_of paging } where
+    bank_of : (p : Paging) → IsOfBank p state.1.selection
+    bank_of BankAndPage = tt
+    bank_of PageAlone = ap (λ (window : Windowed). window.selection.bank) start
+
+  same_page : (page : ℕ) (there : State) (bytes : List ℕ) → Shows memory page there.1 → (fetched (found there) A0 128 128).0 ≡ Some bytes → map.get copy (upper_key A0 0 page) ≡ Some bytes →
+      Agree copy memory (upper_key A0 0 page)
+  same_page page there bytes shows answer held =
+      let now = found_keeps window_conduct (Shows memory page) (always (Shows memory page)) there shows in
+      ap (option_map (take 128)) (held ∙ sym (reads_page memory page (found there) bytes image now answer))
+
+  same_lower : (dev : Dev) (there : State) (bytes : List ℕ) → IsOf memory there.1 → (fetched (found there) dev 0 128).0 ≡ Some bytes → map.get copy (lower_key dev) ≡ Some bytes → Agree copy memory (lower_key dev)
+  same_lower dev there bytes of answer held =
+      let now = found_keeps window_conduct (IsOf memory) (always (IsOf memory)) there of in
+      let read = reads_lower memory dev (found there) bytes image now answer in
+      let n = before_selection dev in
+      ap (option_map (take n)) held ∙ ap (λ (xs : List ℕ). Some xs) read.same ∙ sym (ap (option_map (take n)) read.has)
+
+  agrees_read : (region : Region) (bytes : List ℕ) → SelectsBy memory paging region → WasRead paging region bytes state → map.get copy (key_of region) ≡ Some bytes → Agree copy memory (key_of region)
+  agrees_read (Lower dev) bytes by read held = same_lower dev (left state read.before) bytes (of_after memory state read.before of_start) read.answer held
+  agrees_read FirstPage bytes by read held = same_page 0 (left state read.before) bytes (shows_first memory state read.before read.shown shows_start) read.answer held
+  agrees_read (Page page) bytes by read held = same_page page (left state read.before) bytes (shows_confirmed memory paging by page state read.before sound_start read.may read.shown) read.answer held
+
+  lacks_step : (page : ℕ) → selecting_on memory A0 ≡ selecting_of paging → 0 < page → (step : Step) (before : History) → May state (step ∷ before) → IsTrue (reads_back paging 0 step) → WasSelected paging page before →
+      map.contains_key memory (upper_key A0 0 page) ≡ true → ⊥
+  lacks_step page by above step before may reads selected has =
+      let there = left state before in
+      let zeroth = (shows_read_back memory paging by 0 there step reads may.0 (sound_after memory paging by state before sound_start)).0 in
+      let chosen = found_keeps window_conduct (Shows memory page) (always (Shows memory page)) there (shows_chosen memory paging by page state before has of_start may.1 selected) in
+      omega (arith, above, zeroth.number, chosen.number)
+
+  lacks : (page : ℕ) → selecting_on memory A0 ≡ selecting_of paging → 0 < page → (history : History) → May state history →
+      SomeStep (λ step before. IsTrue (reads_back paging 0 step) × WasSelected paging page before) history → map.contains_key memory (upper_key A0 0 page) ≡ true → ⊥
+  lacks page by above [] may out = absurd out
+  lacks page by above (step ∷ before) may (inl now) = lacks_step page by above step before may now.0 now.1
+  lacks page by above (step ∷ before) may (inr earlier) = lacks page by above before may.1 earlier
+
+  agrees_out : (region : Region) (history : History) → SelectsBy memory paging region → May state history → IsLeftOut paging region history → map.get copy (key_of region) ≡ None → Agree copy memory (key_of region)
+  agrees_out (Lower dev) history by may out held = absurd out
+  agrees_out FirstPage history by may out held = absurd out
+  agrees_out (Page page) history by may out held =
+      let key = upper_key A0 0 page in
+      let none : map.get memory key ≡ None = no_half (map.contains_key memory key) (map.get memory key) refl (lacks page by out.0 history may out.1) in
+      ap (option_map (take 128)) (held ∙ sym none)
+
+  agrees_by : (region : Region) (history : History) (half : Option (List ℕ)) → SelectsBy memory paging region → May state history → map.get copy (key_of region) ≡ half →
+      MatchOption half (IsLeftOut paging region history) (λ bytes. IsRead paging region bytes history) → Agree copy memory (key_of region)
+  agrees_by region history None by may held out = agrees_out region history by may out held
+  agrees_by region history (Some bytes) by may held read = agrees_read region bytes by (was_read paging region bytes state history may read) held
+
+-- ---- how its pages are selected
+
+value_of_byte : (bytes : List ℕ) → slice_index bytes 0 < 256 → unsigned_abs (value_in bytes CIdentifier 1) ≡ slice_index bytes 0
+unfolding value_in
+value_of_byte bytes small = number-bits_up (byte_in bytes) 0 0 8 ∙ omega (arith, small)
+
+identifier_is : (memory : Memory) (half : List ℕ) → IsImage memory → map.get memory (lower_key A0) ≡ Some half → identifier memory ≡ slice_index half 0
+unfolding reading_at
+identifier_is memory half image has =
+    let page = half_page memory (lower_key A0) half image has in
+    ap (λ (bytes : Option (List ℕ)). unsigned_abs (unwrap_or (option_map (λ bytes. value_in bytes CIdentifier 1) bytes) (pos 0))) has ∙ value_of_byte half (page.bytes 0)
+
+no_sfp : (id : ℕ) → is_cmis id ≡ true → (id == 0x03) ≡ false
+no_sfp id cmis = grind (arith, nat_tests)
+
+-- how a module is asked to select pages that is asked for more than its lower halves
+selecting_right : (id : ℕ) → (is_cmis id || is_qsfp id) ≡ true → selecting_by id ≡ selecting_of (if is_qsfp id then PageAlone else BankAndPage)
+selecting_right id paged =
+    elim (cases_Bool (is_qsfp id)) [
+      | inl alone ↦
+          let left : selecting_by id ≡ selecting.PageAlone = (λ i. if alone i then selecting.PageAlone else if id == 0x03 then selecting.Nothing else selecting.BankAndPage) in
+          let right : selecting_of (if is_qsfp id then PageAlone else BankAndPage) ≡ selecting.PageAlone = (λ i. selecting_of (if alone i then PageAlone else BankAndPage)) in
+          left ∙ sym right
+      | inr other ↦
+          let cmis : is_cmis id ≡ true = elim (or_cases (is_cmis id) (is_qsfp id) paged) [ inl is ↦ is | inr alone ↦ absurd (contradicts alone other) ] in
+          let none = no_sfp id cmis in
+          let left : selecting_by id ≡ selecting.BankAndPage = (λ i. if other i then selecting.PageAlone else if none i then selecting.Nothing else selecting.BankAndPage) in
+          let right : selecting_of (if is_qsfp id then PageAlone else BankAndPage) ≡ selecting.BankAndPage = (λ i. selecting_of (if other i then PageAlone else BankAndPage)) in
+          left ∙ sym right
+    ]
+
+selecting_is : (memory : Memory) (half : List ℕ) → map.get memory (lower_key A0) ≡ Some half → selecting_on memory A0 ≡ selecting_by (slice_index half 0)
+selecting_is memory half has = ap (λ (bytes : Option (List ℕ)). unwrap_or (option_map selecting_by (option_map (λ bytes. slice_index bytes 0) bytes)) selecting.BankAndPage) has
+
+-- ---- all of them
+
+-- the halves that are asked for agree, and the lower half is there
+pub record HalvesAgree (copy memory : Memory) : Type 0 where
+  pub agree : AllByRecursion (λ region. Agree copy memory (key_of region)) (regions_of copy)
+  pub present : is_absent copy (lower_key A0) ≡ false
+
+present_by : (half : Option (List ℕ)) (L : Type 0) (R : List ℕ → Type 0) → MatchOption half L R → (L → ⊥) → is_some half ≡ true
+present_by None L R settled out = absurd (out settled)
+present_by (Some bytes) L R settled out = refl
+
+half_of : (half : Option (List ℕ)) → not (is_some half) ≡ false → (bytes : List ℕ) × (half ≡ Some bytes)
+half_of None e = absurd cc
+half_of (Some bytes) e = (bytes, refl)
+
+-- the lower halves of those that are asked for no page
+abbrev lowers : Bool → List Region
+lowers diagnosed = if diagnosed then Lower A0 ∷ Lower A2 ∷ [] else Lower A0 ∷ []
+
+lowers_alone : (copy : Memory) → (is_cmis (identifier copy) || is_qsfp (identifier copy)) ≡ false → regions_of copy ≡ lowers (is_sfp (identifier copy) && has_diagnostics copy)
+lowers_alone copy other =
+    let both = or_parts (is_cmis (identifier copy)) (is_qsfp (identifier copy)) other in
+    λ i. if both.0 i then cmis_regions (is_flat copy) else if both.1 i then qsfp_regions (bit copy QFlatMemory) else lowers (is_sfp (identifier copy) && has_diagnostics copy)
+
+module _ (memory copy : Memory) (state : State) (history : History) (image : IsImage memory) (start : state.1 ≡ started memory) (may : May state history) where
+  agrees_settled : (region : Region) → SelectsBy memory (paging_of copy) region → IsSettled history copy region → Agree copy memory (key_of region)
+  agrees_settled region by settled =
+      agrees_by memory copy (paging_of copy) state image start region history (map.get copy (key_of region)) by may refl settled
+
+  agree_all : (regions : List Region) → ((region : Region) → SelectsBy memory (paging_of copy) region) → AllByRecursion (IsSettled history copy) regions → AllByRecursion (λ region. Agree copy memory (key_of region)) regions
+  agree_all [] by settled = tt
+  agree_all (region ∷ regions) by settled = (agrees_settled region (by region) settled.0, agree_all regions by settled.1)
+
+  agree_lowers : (diagnosed : Bool) → AllByRecursion (IsSettled history copy) (lowers diagnosed) → AllByRecursion (λ region. Agree copy memory (key_of region)) (lowers diagnosed)
+  agree_lowers true settled = (agrees_settled (Lower A0) tt settled.0, (agrees_settled (Lower A2) tt settled.1.0, tt))
+  agree_lowers false settled = (agrees_settled (Lower A0) tt settled.0, tt)
+
+  selects_all : selecting_on memory A0 ≡ selecting_of (paging_of copy) → (region : Region) → SelectsBy memory (paging_of copy) region
+  selects_all by (Lower dev) = tt
+  selects_all by FirstPage = tt
+  selects_all by (Page page) = by
+
+  same_selecting : Agree copy memory (lower_key A0) → is_absent memory (lower_key A0) ≡ false → (is_cmis (identifier copy) || is_qsfp (identifier copy)) ≡ true → selecting_on memory A0 ≡ selecting_of (paging_of copy)
+  same_selecting low there paged =
+      let (half, has) = half_of (map.get memory (lower_key A0)) there in
+      let id : identifier copy ≡ slice_index half 0 = same_number copy memory CIdentifier low refl refl ∙ identifier_is memory half image has in
+      selecting_is memory half has ∙ ap selecting_by (sym id) ∙ selecting_right (identifier copy) paged
+
+  halves_agree : IsImageOf history copy → HalvesAgree copy memory
+  halves_agree is =
+      let each = is.each in
+      let first : IsSettled history copy (Lower A0) = (subst (AllByRecursion (IsSettled history copy)) (begins_lower copy) each).0 in
+      let low : Agree copy memory (lower_key A0) = agrees_settled (Lower A0) tt first in
+      let present : is_absent copy (lower_key A0) ≡ false = ap not (present_by (map.get copy (lower_key A0)) ⊥ (λ bytes. IsRead (paging_of copy) (Lower A0) bytes history) first (λ none. none)) in
+      let there : is_absent memory (lower_key A0) ≡ false = sym (same_absent copy memory (lower_key A0) low) ∙ present in
+      let all : AllByRecursion (λ region. Agree copy memory (key_of region)) (regions_of copy) =
+      elim (cases_Bool (is_cmis (identifier copy) || is_qsfp (identifier copy))) [
+        | inl paged ↦ agree_all (regions_of copy) (selects_all (same_selecting low there paged)) each
+        | inr other ↦
+            let regions = lowers_alone copy other in
+            subst (AllByRecursion (λ region. Agree copy memory (key_of region))) (sym regions) (agree_lowers (is_sfp (identifier copy) && has_diagnostics copy) (subst (AllByRecursion (IsSettled history copy)) regions each))
+      ] in
+      record { agree = all; present = present }
+
+-- what is read over a scripted bus
+pub fetched_agree : (old new : Seen (List Directive × Windowed)) (history : History) (memory copy : Memory) → IsImage memory → old.state.1 ≡ started memory → Ran (script_rules window_conduct) old new (reverse history) →
+    IsFetching (IsFull new) history (Ok copy) → HalvesAgree copy memory
+fetched_agree old new history memory copy image start ran fetching =
+    halves_agree memory copy old.state history image start (may_each (script_rules window_conduct) old.state history ran.allowed) fetching.answered

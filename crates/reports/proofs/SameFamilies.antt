@@ -1,0 +1,209 @@
+-- Memories that agree in the halves that are read of a module are of the same family, and are refused for the same reasons.
+use Rattle.std.proofs.Common.{◌≡◌, inl, inr, ℕ, ◌==◌, ◌&&◌, ◌||◌, Bool, true, false, List, [], ◌∷◌, ◌++◌, map, Option, Some, None, refl, sym, ap, subst, ◌∙◌, if◌then◌else◌, arith}
+use Rattle.std.proofs.lemmas.Bool.{cases_Bool, not-false}
+use Rattle.std.proofs.lemmas.Bool.Decides.{nat_tests}
+use Rattle.std.proofs.lemmas.List.Folds.{find-append}
+use Rattle.std.specs.Prelude.{find, not, option_map}
+use Rattle.std.specs.List.{AllByRecursion}
+use Rattle.std.specs.Option.{option_or}
+use Rattle.bus_model.specs.declared.device.Dev.TheVariants.{A0, A2}
+use Rattle.paged_memory.specs.Images.{Memory}
+use Rattle.paged_memory.specs.Keys.{lower_key, upper_key}
+use Rattle.field_tables.specs.declared.field.Field.TheVariants.{CFlatMemory, CIdentifier, CRevision, QFlatMemory}
+use Rattle.field_tables.specs.declared.sff_fault.SffFault.{SffFault}
+use Rattle.field_tables.specs.FirstFault.{first_fault}
+use Rattle.field_tables.specs.Halves.{is_absent}
+use Rattle.field_tables.specs.Readings.{bit, number}
+use Rattle.field_tables.proofs.SameValues.{Agree, same_absent, same_number}
+use Rattle.applications.specs.Refusals.{is_cmis, is_read_revision}
+use Rattle.sff8472_map.specs.Refusals.{is_sfp}
+use Rattle.sff8636_map.specs.Refusals.{is_qsfp}
+use Rattle.reports.specs.declared.family.Family.{Family}
+use Rattle.reports.specs.declared.family.Family.TheVariants.{Cmis, Sff8636, Sff8472}
+use Rattle.reports.specs.declared.fault.ReportFault.{ReportFault}
+use Rattle.reports.specs.declared.fault.ReportFault.TheVariants.{Absent, Unknown, Revision, Sff}
+use Rattle.reports.specs.Families.{absent_page, family_of, identifier, is_flat, is_known, module_fault, module_faults, of_sff, unless_flat}
+use Rattle.reports.specs.Regions.{has_diagnostics}
+use Rattle.reports.specs.SameReports.{IsSame}
+use Rattle.reports.proofs.RegionLaws.{contradicts}
+
+-- ---- reasons in order
+
+-- no reason applies where there is no fault
+pub none_applies : {F : Type 0} (faults : List (Bool × F)) → first_fault faults ≡ None → AllByRecursion (λ fault. fault.0 ≡ false) faults
+none_applies [] e = tt
+none_applies ((true, fault) ∷ faults) e = absurd cc
+none_applies ((false, fault) ∷ faults) e = (refl, none_applies faults e)
+
+map_or : {A B : Type 0} (f : A → B) (x y : Option A) → option_map f (option_or x y) ≡ option_or (option_map f x) (option_map f y)
+map_or f None y = refl
+map_or f (Some x) y = refl
+
+-- earlier reasons come first
+pub first_of_both : {F : Type 0} (faults later : List (Bool × F)) → first_fault (faults ++ later) ≡ option_or (first_fault faults) (first_fault later)
+first_of_both {F = F} faults later =
+    ap (option_map (λ (fault : Bool × F). fault.1)) (find-append (λ (fault : Bool × F). fault.0) faults later)
+    ∙ map_or (λ (fault : Bool × F). fault.1) (find (λ (fault : Bool × F). fault.0) faults) (find (λ (fault : Bool × F). fault.0) later)
+
+-- what comes later counts where there was nothing before
+pub same_later : {F : Type 0} (x y u v : Option F) → x ≡ y → (x ≡ None → u ≡ v) → option_or x u ≡ option_or y v
+same_later {F = F} x y u v e same = by_first x same ∙ ap (λ first. option_or first v) e where
+  by_first : (first : Option F) → (first ≡ None → u ≡ v) → option_or first u ≡ option_or first v
+  by_first None later = later refl
+  by_first (Some fault) later = refl
+
+pub none_before : {F : Type 0} (x y : Option F) → option_or x y ≡ None → (x ≡ None) × (y ≡ None)
+none_before None y e = (refl, e)
+none_before (Some fault) y e = absurd cc
+
+pub none_mapped : {A B : Type 0} (f : A → B) (x : Option A) → option_map f x ≡ None → x ≡ None
+none_mapped f None e = refl
+none_mapped f (Some x) e = absurd cc
+
+pub no_sff : (fault : Option SffFault) → of_sff fault ≡ None → fault ≡ None
+no_sff fault e = none_mapped (λ (f : SffFault). Sff f) fault e
+
+pub same_if : {A : Type 0} (f x y : Bool) (u v w : A) → x ≡ f → y ≡ f → (f ≡ false → v ≡ w) → (if x then u else v) ≡ (if y then u else w)
+same_if true x y u v w p q same = (λ i. if p i then u else v) ∙ sym (λ i. if q i then u else w)
+same_if false x y u v w p q same = (λ i. if p i then u else v) ∙ same refl ∙ sym (λ i. if q i then u else w)
+
+-- ---- the halves of a family
+
+-- of a CMIS module
+pub record CmisAgree (a b : Memory) : Type 0 where
+  pub low : Agree a b (lower_key A0)
+  pub first : Agree a b (upper_key A0 0 0x00)
+  pub paged : is_flat a ≡ false → Agree a b (upper_key A0 0 0x01) × (Agree a b (upper_key A0 0 0x02) × Agree a b (upper_key A0 0 0x11))
+
+-- of a module of SFF-8636
+pub record QsfpAgree (a b : Memory) : Type 0 where
+  pub low : Agree a b (lower_key A0)
+  pub first : Agree a b (upper_key A0 0 0x00)
+  pub paged : bit a QFlatMemory ≡ false → Agree a b (upper_key A0 0 0x03)
+
+-- of a module of SFF-8472
+pub record SfpAgree (a b : Memory) : Type 0 where
+  pub low : Agree a b (lower_key A0)
+  pub diagnostics : has_diagnostics a ≡ true → Agree a b (lower_key A2)
+
+-- the halves agree that are asked for of a module by its family
+pub record FamilyAgrees (a b : Memory) : Type 0 where
+  pub low : Agree a b (lower_key A0)
+  pub cmis : is_cmis (identifier a) ≡ true → CmisAgree a b
+  pub qsfp : is_cmis (identifier a) ≡ false → is_qsfp (identifier a) ≡ true → QsfpAgree a b
+  pub sfp : is_cmis (identifier a) ≡ false → is_qsfp (identifier a) ≡ false → is_sfp (identifier a) ≡ true → SfpAgree a b
+
+-- ---- by the lower half
+
+module _ (a b : Memory) (low : Agree a b (lower_key A0)) where
+  pub same_identifier : identifier a ≡ identifier b
+  same_identifier = same_number a b CIdentifier low refl refl
+
+  pub same_revision : number a CRevision ≡ number b CRevision
+  same_revision = same_number a b CRevision low refl refl
+
+  pub same_flat : is_flat a ≡ is_flat b
+  same_flat = ap (λ (n : ℕ). n == 1) (same_number a b CFlatMemory low refl refl)
+
+  pub same_qsfp_flat : bit a QFlatMemory ≡ bit b QFlatMemory
+  same_qsfp_flat = ap (λ (n : ℕ). n == 1) (same_number a b QFlatMemory low refl refl)
+
+  pub same_lower : is_absent a (lower_key A0) ≡ is_absent b (lower_key A0)
+  same_lower = same_absent a b (lower_key A0) low
+
+  pub same_module_fault : module_fault a ≡ module_fault b
+  unfolding module_fault
+  same_module_fault = λ i. first_fault (
+      (same_lower i, Absent (lower_key A0))
+      ∷ (not (is_known (same_identifier i)), Unknown (same_identifier i))
+      ∷ (is_cmis (same_identifier i) && not (is_read_revision (same_revision i)), Revision (same_revision i))
+      ∷ [])
+
+  pub same_family : family_of a ≡ family_of b
+  unfolding family_of
+  same_family = λ i. if is_qsfp (same_identifier i) then Sff8636 else if is_sfp (same_identifier i) then Sff8472 else Cmis
+
+-- ---- pages
+
+abbrev absence : Memory → ℕ → Bool × ReportFault
+absence memory page = (is_absent memory (upper_key A0 0 page), Absent (upper_key A0 0 page))
+
+same_absences : (a b : Memory) (pages : List ℕ) → AllByRecursion (λ page. Agree a b (upper_key A0 0 page)) pages → map (absence a) pages ≡ map (absence b) pages
+same_absences a b [] all = refl
+same_absences a b (page ∷ pages) all =
+    let here = same_absent a b (upper_key A0 0 page) all.0 in
+    let later = same_absences a b pages all.1 in
+    λ i. (here i, Absent (upper_key A0 0 page)) ∷ later i
+
+pub same_pages : (a b : Memory) (pages : List ℕ) → AllByRecursion (λ page. Agree a b (upper_key A0 0 page)) pages → absent_page pages a ≡ absent_page pages b
+unfolding absent_page
+same_pages a b pages agree = ap first_fault (same_absences a b pages agree)
+
+none_needed : (a : Memory) (pages : List ℕ) → is_flat a ≡ true → absent_page (unless_flat a pages) a ≡ None
+unfolding absent_page
+none_needed a pages flat = ap (λ (f : Bool). absent_page (if f then [] else pages) a) flat
+
+some_needed : (a : Memory) (pages : List ℕ) → is_flat a ≡ false → absent_page (unless_flat a pages) a ≡ absent_page pages a
+some_needed a pages paged = ap (λ (f : Bool). absent_page (if f then [] else pages) a) paged
+
+pub same_unless_flat : (a b : Memory) (pages : List ℕ) → is_flat a ≡ is_flat b → (is_flat a ≡ false → AllByRecursion (λ page. Agree a b (upper_key A0 0 page)) pages) →
+    absent_page (unless_flat a pages) a ≡ absent_page (unless_flat b pages) b
+same_unless_flat a b pages same agree =
+    elim (cases_Bool (is_flat a)) [
+      | inl flat ↦ none_needed a pages flat ∙ sym (none_needed b pages (sym same ∙ flat))
+      | inr paged ↦ some_needed a pages paged ∙ same_pages a b pages (agree paged) ∙ sym (some_needed b pages (sym same ∙ paged))
+    ]
+
+-- ---- by family
+
+cmis_id : (id : ℕ) → is_cmis id ≡ true → (is_qsfp id ≡ false) × (is_sfp id ≡ false)
+cmis_id id cmis = (grind (arith, nat_tests), grind (arith, nat_tests))
+
+-- where no module fault applies the identifier is known
+pub is_one_of : (a : Memory) → module_fault a ≡ None → is_known (identifier a) ≡ true
+unfolding module_fault
+is_one_of a none = not-false (is_known (identifier a)) (none_applies (module_faults a) none).1.0
+
+is_in : (a : Memory) (family : Family) (P : Family → Type 0) → family_of a ≡ family → P family → P (family_of a)
+is_in a family P is holds = subst P (sym is) holds
+
+of_qsfp : (a : Memory) → is_qsfp (identifier a) ≡ true → family_of a ≡ Sff8636
+unfolding family_of
+of_qsfp a qsfp = λ i. if qsfp i then Sff8636 else if is_sfp (identifier a) then Sff8472 else Cmis
+
+of_sfp : (a : Memory) → is_qsfp (identifier a) ≡ false → is_sfp (identifier a) ≡ true → family_of a ≡ Sff8472
+unfolding family_of
+of_sfp a qsfp sfp = λ i. if qsfp i then Sff8636 else if sfp i then Sff8472 else Cmis
+
+of_cmis : (a : Memory) → is_qsfp (identifier a) ≡ false → is_sfp (identifier a) ≡ false → family_of a ≡ Cmis
+unfolding family_of
+of_cmis a qsfp sfp = λ i. if qsfp i then Sff8636 else if sfp i then Sff8472 else Cmis
+
+-- what holds in each family holds in the module's
+in_family : (P : Family → Type 0) (a b : Memory) → FamilyAgrees a b → (CmisAgree a b → P Cmis) → (QsfpAgree a b → P Sff8636) → (SfpAgree a b → P Sff8472) → is_known (identifier a) ≡ true → P (family_of a)
+in_family P a b agrees cmis qsfp sfp known =
+    let id = identifier a in
+    elim (cases_Bool (is_cmis id)) [
+      | inl is ↦ is_in a Cmis P (of_cmis a (cmis_id id is).0 (cmis_id id is).1) (cmis (agrees.cmis is))
+      | inr other ↦ elim (cases_Bool (is_qsfp id)) [
+        | inl is ↦ is_in a Sff8636 P (of_qsfp a is) (qsfp (agrees.qsfp other is))
+        | inr neither ↦ elim (cases_Bool (is_sfp id)) [
+          | inl is ↦ is_in a Sff8472 P (of_sfp a neither is) (sfp (agrees.sfp other neither is))
+          | inr none ↦ absurd (contradicts known (λ i. other i || neither i || none i))
+        ]
+      ]
+    ]
+
+-- a report that is the same in each family is the same
+pub by_family : (fault_in : Family → Memory → Option ReportFault) (lines_in : Family → Memory → List (List ℕ)) (a b : Memory) → FamilyAgrees a b →
+    (CmisAgree a b → IsSame (fault_in Cmis) (lines_in Cmis) a b) → (QsfpAgree a b → IsSame (fault_in Sff8636) (lines_in Sff8636) a b) → (SfpAgree a b → IsSame (fault_in Sff8472) (lines_in Sff8472) a b) →
+    IsSame (λ m. option_or (module_fault m) (fault_in (family_of m) m)) (λ m. lines_in (family_of m) m) a b
+by_family fault_in lines_in a b agrees cmis qsfp sfp = record {
+  fault = same_later (module_fault a) (module_fault b) (fault_in (family_of a) a) (fault_in (family_of b) b) (same_module_fault a b agrees.low)
+      (λ none. (same none).fault ∙ ap (λ (family : Family). fault_in family b) (same_family a b agrees.low));
+  lines = λ e.
+      let none = none_before (module_fault a) (fault_in (family_of a) a) e in
+      (same none.0).lines none.1 ∙ ap (λ (family : Family). lines_in family b) (same_family a b agrees.low);
+} where
+  same : module_fault a ≡ None → IsSame (fault_in (family_of a)) (lines_in (family_of a)) a b
+  same none = in_family (λ (family : Family). IsSame (fault_in family) (lines_in family) a b) a b agrees cmis qsfp sfp (is_one_of a none)

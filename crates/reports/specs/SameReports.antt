@@ -1,0 +1,37 @@
+-- When two memories have the same reports, and that what is read of an image over a scripted bus has the image's.
+-- (docs/bus.md, "Reading an image"; docs/formats.md, "inventory", "apps", "monitors" and "flags")
+use Rattle.std.specs.Prelude.{◌≡◌, ℕ, List, Option, None, Ok, reverse}
+use Rattle.bus_model.specs.declared.script.Directive.{Directive}
+use Rattle.bus_model.specs.Runs.{IsFull, Ran, Seen}
+use Rattle.bus_model.specs.ScriptedBus.{script_rules}
+use Rattle.paged_memory.specs.Images.{Memory}
+use Rattle.paged_memory.specs.ImageText.{IsImage}
+use Rattle.paged_memory.specs.Paging.{History}
+use Rattle.paged_memory.specs.Windows.{Windowed, started, window_conduct}
+use Rattle.applications.specs.Advertised.{advertised_by}
+use Rattle.reports.specs.declared.fault.ReportFault.{ReportFault}
+use Rattle.reports.specs.Apps.{apps_fault, apps_lines}
+use Rattle.reports.specs.FetchedImages.{IsFetching}
+use Rattle.reports.specs.Inventory.{inventory_fault, inventory_lines}
+use Rattle.reports.specs.Measured.{monitors_fault, monitors_lines}
+use Rattle.reports.specs.Warned.{flags_fault, flags_lines}
+
+-- of both memories the report has the same fault, and where there is none the same lines
+pub record IsSame (fault_of : Memory → Option ReportFault) (lines_of : Memory → List (List ℕ)) (memory other : Memory) : Type 0 where
+  pub fault : fault_of memory ≡ fault_of other
+  pub lines : fault_of memory ≡ None → lines_of memory ≡ lines_of other
+
+-- so have the four reports of modules
+pub record ReportsSame (memory other : Memory) : Type 0 where
+  pub inventory : IsSame inventory_fault inventory_lines memory other
+  pub apps : IsSame apps_fault (λ (m : Memory). apps_lines (advertised_by m)) memory other
+  pub monitors : IsSame monitors_fault monitors_lines memory other
+  pub flags : IsSame flags_fault flags_lines memory other
+
+-- whatever a script refuses: where the steps on its bus over a new window of an image are the reading of an image, the
+-- reports of what was read are those of the window's image
+abbrev pub FetchedReportsSame : Type 0
+FetchedReportsSame =
+    (old new : Seen (List Directive × Windowed)) (history : History) (memory fetched : Memory) → IsImage memory → old.state.1 ≡ started memory
+    → Ran (script_rules window_conduct) old new (reverse history) → IsFetching (IsFull new) history (Ok fetched)
+    → ReportsSame fetched memory
