@@ -1,10 +1,14 @@
 mod AdvertAnswers
+mod BusReadings
 mod CommandLineLemmas
 mod FoldLemmas
+mod GoodTexts
 mod KnownParts
 mod OwnAnswers
 mod PartCuts
+mod PlanAnswers
 mod ProcedureAnswers
+mod SameOverBus
 mod ReportAnswers
 mod TextBehind
 mod CheckedPlans

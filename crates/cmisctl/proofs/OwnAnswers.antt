@@ -1,5 +1,5 @@
 -- What a command answers to its parts is among its answers to the input.
-use Rattle.std.proofs.Common.{◌≡◌, ℕ, ◌≤◌, List, [], ◌∷◌, length, Option, Some, None, IfSome, Ok, Err}
+use Rattle.std.proofs.Common.{◌≡◌, ℕ, ◌≤◌, Bool, List, [], ◌∷◌, length, Option, Some, None, IfSome, Ok, Err}
 use Rattle.applications.specs.WeightFaults.{IsAnswer}
 use Rattle.applications.specs.declared.weights.fault.WeightsFault.{WeightsFault}
 use Rattle.applications.specs.declared.weights.fault.WeightsFault.TheVariants as weights
@@ -7,7 +7,6 @@ use Rattle.cmisctl.specs.CheckCommand.{IsCheckAnswer}
 use Rattle.cmisctl.specs.Faults.{fault_of_weights}
 use Rattle.cmisctl.specs.Limits.{input_limit}
 use Rattle.cmisctl.specs.Parts.{parts_of}
-use Rattle.cmisctl.specs.PlanCommand.{IsPlanAnswer}
 use Rattle.cmisctl.specs.PlanningInputs.{Advertises}
 use Rattle.cmisctl.specs.Runs.{Answer, IsAnswerTo, IsOwnAnswer}
 use Rattle.cmisctl.specs.declared.fault.Fault.TheVariants as fault
@@ -32,11 +31,7 @@ pub if_known : {T : Type 0} (o : Option T) (P Q : T → Type 0) → ((x : T) →
 if_known None P Q k h = tt
 if_known (Some x) P Q k h = k x h
 
-pub plan_weights_refused : (image text : List ℕ) (f : WeightsFault) → Advertises image → IsAnswer text (Err f) → IsOwnAnswer IsPlanAnswer (image ∷ text ∷ []) (Err (fault_of_weights f))
-plan_weights_refused image text weights.Memory told is = tt
-plan_weights_refused image text f told is = (told, (λ same. absurd cc, is))
-
-pub check_weights_refused : (image text certificate : List ℕ) (f : WeightsFault) → Advertises image → IsAnswer text (Err f)
-    → IsOwnAnswer IsCheckAnswer (image ∷ text ∷ certificate ∷ []) (Err (fault_of_weights f))
-check_weights_refused image text certificate weights.Memory told is = tt
-check_weights_refused image text certificate f told is = (told, (λ same. absurd cc, is))
+pub check_weights_refused : (first : Bool) (image text certificate : List ℕ) (f : WeightsFault) → Advertises image → IsAnswer text (Err f)
+    → IsOwnAnswer (IsCheckAnswer first) (image ∷ text ∷ certificate ∷ []) (Err (fault_of_weights f))
+check_weights_refused first image text certificate weights.Memory told is = tt
+check_weights_refused first image text certificate f told is = (told, (λ same. absurd cc, is))

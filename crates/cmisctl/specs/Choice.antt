@@ -18,19 +18,28 @@ pub record Entry : Type 0 where
   pub command : CommandName
   pub flags : List Text
 
+abbrev pub bus : Text
+bus = codes "bus"
+
 abbrev pub activate : Text
 activate = codes "activate"
 
+abbrev pub keep : Text
+keep = codes "keep"
+
+abbrev pub first : Text
+first = codes "first"
+
 unfoldable pub commands : List Entry
 commands =
-    record { name = codes "inventory"; command = Inventory; flags = [] }
-    ∷ record { name = codes "apps"; command = Apps; flags = [] }
-    ∷ record { name = codes "monitors"; command = Monitors; flags = [] }
-    ∷ record { name = codes "flags"; command = Flags; flags = [] }
-    ∷ record { name = codes "plan"; command = Plan; flags = [] }
-    ∷ record { name = codes "check"; command = Check; flags = [] }
-    ∷ record { name = codes "provision"; command = Provision; flags = activate ∷ [] }
-    ∷ record { name = codes "trace"; command = Trace; flags = activate ∷ [] }
+    record { name = codes "inventory"; command = Inventory; flags = bus ∷ [] }
+    ∷ record { name = codes "apps"; command = Apps; flags = bus ∷ [] }
+    ∷ record { name = codes "monitors"; command = Monitors; flags = bus ∷ [] }
+    ∷ record { name = codes "flags"; command = Flags; flags = bus ∷ [] }
+    ∷ record { name = codes "plan"; command = Plan; flags = keep ∷ [] }
+    ∷ record { name = codes "check"; command = Check; flags = first ∷ [] }
+    ∷ record { name = codes "provision"; command = Provision; flags = activate ∷ keep ∷ [] }
+    ∷ record { name = codes "trace"; command = Trace; flags = activate ∷ keep ∷ [] }
     ∷ []
 
 -- `--name`, without a value and at most once
@@ -70,7 +79,10 @@ is_given flag rows = option_map_or (λ value. bytes_eq value (codes "true")) (fi
 abbrev pub choice_in : Option (Text × List Row) → Option Choice
 choice_in = option_and_then (λ found. option_map (λ entry. record {
   name = entry.command;
+  bus = is_given bus found.1;
   activate = is_given activate found.1;
+  keep = is_given keep found.1;
+  first = is_given first found.1;
 }) (entry_named found.0))
 
 -- the choice that the words make

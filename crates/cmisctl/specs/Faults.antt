@@ -8,14 +8,14 @@ use Rattle.bus_model.specs.FaultWords.{script_fault_words}
 use Rattle.applications.specs.FaultWords.{advert_fault_words, weights_fault_words}
 use Rattle.applications.specs.declared.weights.fault.WeightsFault.{WeightsFault}
 use Rattle.applications.specs.declared.weights.fault.WeightsFault.TheVariants as weights
-use Rattle.plan_certificate.specs.FaultWords.{certificate_fault_words, reason_words}
+use Rattle.plan_certificate.specs.FaultWords.{certificate_fault_words, kept_fault_words, reason_words}
 use Rattle.control_sets.specs.FaultWords.{provision_fault_words}
 use Rattle.sim_module.specs.FaultWords.{sim_fault_words}
 use Rattle.reports.specs.FaultWords.{report_fault_words}
 use Rattle.reports.specs.declared.fault.ReportFault.{ReportFault}
 use Rattle.reports.specs.declared.fault.ReportFault.TheVariants as report
 use Rattle.cmisctl.specs.declared.fault.Fault.{Fault}
-use Rattle.cmisctl.specs.declared.fault.Fault.TheVariants.{Memory, Io, TooLong, Parts, Image, Report, Advert, Weights, Certificate, Bad, Script, Module, Provision}
+use Rattle.cmisctl.specs.declared.fault.Fault.TheVariants.{Memory, Io, TooLong, Parts, Image, Report, Advert, Weights, Kept, Certificate, Bad, Script, Module, Provision}
 use Rattle.cmisctl.specs.declared.status.Status.{Status}
 use Rattle.cmisctl.specs.declared.status.Status.TheVariants as status
 
@@ -29,6 +29,7 @@ fault_words (Image f) = image_fault_words f
 fault_words (Report f) = report_fault_words f
 fault_words (Advert f) = advert_fault_words f
 fault_words (Weights f) = weights_fault_words f
+fault_words (Kept f) = kept_fault_words f
 fault_words (Certificate f) = certificate_fault_words f
 fault_words (Bad reason n) = reason_words reason ++ decimal n ∷ []
 fault_words (Script f) = script_fault_words f

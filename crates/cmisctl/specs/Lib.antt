@@ -13,7 +13,9 @@ pub mod PartsLeft
 pub mod Faults
 pub mod Runs
 pub mod PartFaults
+pub mod OverBus
 pub mod ReportCommands
+pub mod KeptParts
 pub mod PlanningInputs
 pub mod GivenPlan
 pub mod PlanCommand
@@ -22,3 +24,4 @@ pub mod ProvisionCommand
 pub mod Sessions
 pub mod Program
 pub mod PlanThenCheck
+pub mod SameOverBus

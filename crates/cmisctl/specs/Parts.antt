@@ -14,4 +14,4 @@ parts_of input = map concat (slice_split is_separator_line (ended_lines input))
 
 -- the most parts that a command takes
 abbrev pub most_parts : ℕ
-most_parts = 3
+most_parts = 4

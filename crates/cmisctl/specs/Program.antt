@@ -13,6 +13,7 @@ use Rattle.cmisctl.specs.Choice.{choice_of, faults_of, program}
 use Rattle.cmisctl.specs.ChoiceFault.{IsFaultAmong, status_of_fault}
 use Rattle.cmisctl.specs.CheckCommand.{IsCheckAnswer}
 use Rattle.cmisctl.specs.Faults.{fault_line}
+use Rattle.cmisctl.specs.KeptParts.{count_with}
 use Rattle.cmisctl.specs.PlanCommand.{IsPlanAnswer}
 use Rattle.cmisctl.specs.ProvisionCommand.{IsProvisionAnswer, IsTraceAnswer}
 use Rattle.cmisctl.specs.ReportCommands.{IsInventoryAnswer, IsAppsAnswer, IsMonitorsAnswer, IsFlagsAnswer}
@@ -31,14 +32,14 @@ use Rattle.cmisctl.specs.declared.status.Status.TheVariants as status
 
 -- what each command answers to an input, with the flags that are given
 abbrev pub IsAnswerBy : CommandName → Choice → List ℕ → Answer → Type 0
-IsAnswerBy Inventory given = IsAnswerTo 1 IsInventoryAnswer
-IsAnswerBy Apps given = IsAnswerTo 1 IsAppsAnswer
-IsAnswerBy Monitors given = IsAnswerTo 1 IsMonitorsAnswer
-IsAnswerBy Flags given = IsAnswerTo 1 IsFlagsAnswer
-IsAnswerBy Plan given = IsAnswerTo 2 IsPlanAnswer
-IsAnswerBy Check given = IsAnswerTo 3 IsCheckAnswer
-IsAnswerBy Provision given = IsAnswerTo 3 (IsProvisionAnswer given.activate)
-IsAnswerBy Trace given = IsAnswerTo 3 (IsTraceAnswer given.activate)
+IsAnswerBy Inventory given = IsAnswerTo 1 (IsInventoryAnswer given.bus)
+IsAnswerBy Apps given = IsAnswerTo 1 (IsAppsAnswer given.bus)
+IsAnswerBy Monitors given = IsAnswerTo 1 (IsMonitorsAnswer given.bus)
+IsAnswerBy Flags given = IsAnswerTo 1 (IsFlagsAnswer given.bus)
+IsAnswerBy Plan given = IsAnswerTo (count_with given.keep 2) (IsPlanAnswer given.keep)
+IsAnswerBy Check given = IsAnswerTo 3 (IsCheckAnswer given.first)
+IsAnswerBy Provision given = IsAnswerTo (count_with given.keep 3) (IsProvisionAnswer given.activate given.keep)
+IsAnswerBy Trace given = IsAnswerTo (count_with given.keep 3) (IsTraceAnswer given.activate given.keep)
 
 abbrev pub IsAnswerOf : Choice → List ℕ → Answer → Type 0
 IsAnswerOf choice = IsAnswerBy choice.name choice

@@ -1,5 +1,5 @@
 -- What the commands `provision` and `trace` answer to their parts: the plan that is given is provisioned on a simulated
--- module of the image, over a bus that does as the script says, and activated where that is asked for.
+-- module of the image, but for its kept paths, over a bus that does as the script says, and activated where that is asked for.
 -- (docs/formats.md, "Input", "provision" and "trace")
 use Rattle.std.specs.Prelude.{◌≡◌, ℕ, Bool, true, false, List, [], ◌∷◌, ◌++◌, codes, map, Option, Some, None, Result, Ok, Err, IfOk}
 use Rattle.std.specs.Fmt.{decimal}
@@ -13,14 +13,11 @@ use Rattle.bus_model.specs.ScriptText.{IsTextOf}
 use Rattle.bus_model.specs.declared.operation.Step.{Step}
 use Rattle.bus_model.specs.declared.script.Directive.{Directive}
 use Rattle.paged_memory.specs.Images.{Memory}
-use Rattle.field_tables.specs.LaneSets.{every_lane}
 use Rattle.applications.specs.Advertised.{Advertised}
-use Rattle.applications.specs.Weights.{HostWeights}
-use Rattle.applications.specs.WeightFaults.{IsAnswer}
 use Rattle.plan_certificate.specs.Certificates.{Claim}
 use Rattle.plan_certificate.specs.declared.path.Path.{Path}
 use Rattle.control_sets.specs.ControlBytes.{control_bytes}
-use Rattle.control_sets.specs.PlanLanes.{plan_lanes}
+use Rattle.control_sets.specs.PlanLanes.{lanes_outside, plan_lanes}
 use Rattle.control_sets.specs.OutcomeOfActivation.{IsActivation}
 use Rattle.control_sets.specs.OutcomeOfProvisioning.{IsProvisioning}
 use Rattle.control_sets.specs.Procedures.{MakesHistory}
@@ -33,7 +30,8 @@ use Rattle.sim_module.specs.declared.fault.SimFault.{SimFault}
 use Rattle.sim_module.specs.declared.module.SimModule.{SimModule}
 use Rattle.reports.specs.Trace.{trace_lines}
 use Rattle.cmisctl.specs.GivenPlan.{IsGiven}
-use Rattle.cmisctl.specs.PlanningInputs.{Advertises, IsAdvertRefusal, IsAdvertText, IsWeightsRefusal}
+use Rattle.cmisctl.specs.KeptParts.{with_kept}
+use Rattle.cmisctl.specs.PlanningInputs.{Advertises, ArePlanningInputs, IsAdvertRefusal, IsKeptRefusal, IsWeightsRefusal}
 use Rattle.cmisctl.specs.Runs.{Answer}
 use Rattle.cmisctl.specs.declared.fault.Fault.{Fault}
 use Rattle.cmisctl.specs.declared.fault.Fault.TheVariants as fault
@@ -54,10 +52,11 @@ bus_at_start memory script = record { steps = []; room = 8192; state = (script, 
 abbrev pub Ended : Type 0
 Ended = Result ℕ ProvisionFault
 
--- to provision these paths makes one of the other and ends so
-abbrev pub Provisions : Advertised → List Path → ModuleBus → ModuleBus → Ended → Type 0
-Provisions advert paths before after ended =
-    MakesHistory (script_rules conduct) before after (λ history. IsProvisioning (control_bytes advert paths) every_lane (IsFull after) history ended)
+-- to provision these paths, on the lanes outside the kept ones, makes one of the other and ends so
+abbrev pub Provisions : Advertised → List Path → List Path → ModuleBus → ModuleBus → Ended → Type 0
+Provisions advert paths kept before after ended =
+    MakesHistory (script_rules conduct) before after
+    (λ history. IsProvisioning (control_bytes advert paths) (lanes_outside advert kept) (IsFull after) history ended)
 
 abbrev pub Activates : Advertised → List Path → ModuleBus → ModuleBus → Ended → Type 0
 Activates advert paths before after ended =
@@ -73,9 +72,9 @@ GoesOn activate advert paths provisioned before after activated = ⊥
 
 -- both procedures, as far as they are made; after a success of the first the control bytes are active, and still so at the
 -- end, whatever comes of the second
-pub record CarriesOut (activate : Bool) (advert : Advertised) (paths : List Path) (before after : ModuleBus) (provisioned : Ended) (activated : Option Ended) : Type 0 where
+pub record CarriesOut (activate : Bool) (advert : Advertised) (paths kept : List Path) (before after : ModuleBus) (provisioned : Ended) (activated : Option Ended) : Type 0 where
   pub between : ModuleBus
-  pub provisions : Provisions advert paths before between provisioned
+  pub provisions : Provisions advert paths kept before between provisioned
   pub active : IfOk provisioned (λ steps. active_bytes between.state.1 ≡ control_bytes advert paths)
   pub goes_on : GoesOn activate advert paths provisioned between after activated
   pub still_active : IfOk provisioned (λ steps. active_bytes after.state.1 ≡ control_bytes advert paths)
@@ -115,51 +114,53 @@ abbrev pub told_text : Bool → ModuleBus → Ended → Option Ended → List �
 told_text traced bus provisioned activated =
     text_of (steps_lines traced bus.steps) ++ text_of (outcome_lines provisioned activated (active_bytes bus.state.1))
 
--- the texts are those of an image, of weights and of a script; their plan, and the module that the image makes
-pub record IsSetUp (image_text weights_text script_text : List ℕ) : Type 0 where
+-- the texts are those of an image, of weights, of kept paths and of a script; their plan, and the module that the image makes
+pub record IsSetUp (image_text weights_text kept_text script_text : List ℕ) : Type 0 where
   pub certificate : Claim
-  pub given : IsGiven image_text weights_text certificate
+  pub given : IsGiven image_text weights_text kept_text certificate
   pub script : List Directive
   pub is_script : IsTextOf (lines_of script_text) script
   pub starts : start_fault given.is_advert.memory delays ≡ None
 
 -- the image makes no module
-pub record IsNoModule (image_text weights_text script_text : List ℕ) (refused : SimFault) : Type 0 where
-  pub advert : Advertised
-  pub weights : HostWeights
+pub record IsNoModule (image_text weights_text kept_text script_text : List ℕ) (refused : SimFault) : Type 0 where
+  pub inputs : ArePlanningInputs image_text weights_text kept_text
   pub script : List Directive
-  pub is_advert : IsAdvertText image_text advert
-  pub are_weights : IsAnswer weights_text (Ok weights)
   pub is_script : IsTextOf (lines_of script_text) script
-  pub stops : start_fault is_advert.memory delays ≡ Some refused
+  pub stops : start_fault inputs.is_advert.memory delays ≡ Some refused
 
 -- the first of the texts that is none
-abbrev pub IsSetUpRefusal : List ℕ → List ℕ → List ℕ → Fault → Type 0
-IsSetUpRefusal image weights script fault.Memory = Unit {0}
-IsSetUpRefusal image weights script (fault.Module f) = IsNoModule image weights script f
-IsSetUpRefusal image weights script (fault.Script f) =
-    Advertises image × ((listed : HostWeights) × IsAnswer weights (Ok listed)) × IsFirstFault (lines_of script) f
-IsSetUpRefusal image weights script (fault.Weights f) = Advertises image × IsWeightsRefusal weights f
-IsSetUpRefusal image weights script f = IsAdvertRefusal image f
+abbrev pub IsSetUpRefusal : List ℕ → List ℕ → List ℕ → List ℕ → Fault → Type 0
+IsSetUpRefusal image weights kept script fault.Memory = Unit {0}
+IsSetUpRefusal image weights kept script (fault.Module f) = IsNoModule image weights kept script f
+IsSetUpRefusal image weights kept script (fault.Script f) = ArePlanningInputs image weights kept × IsFirstFault (lines_of script) f
+IsSetUpRefusal image weights kept script (fault.Kept f) = IsKeptRefusal image weights kept f
+IsSetUpRefusal image weights kept script (fault.Weights f) = Advertises image × IsWeightsRefusal weights f
+IsSetUpRefusal image weights kept script f = IsAdvertRefusal image f
 
 -- what was done, and what is told of it
-pub record IsCarriedOut (traced activate : Bool) (image_text weights_text script_text text : List ℕ) (ended : Option ProvisionFault) : Type 0 where
-  pub set_up : IsSetUp image_text weights_text script_text
+pub record IsCarriedOut (traced activate : Bool) (image_text weights_text kept_text script_text text : List ℕ) (ended : Option ProvisionFault) : Type 0 where
+  pub set_up : IsSetUp image_text weights_text kept_text script_text
   pub after : ModuleBus
   pub provisioned : Ended
   pub activated : Option Ended
-  pub done : CarriesOut activate set_up.given.advert set_up.certificate.paths (bus_at_start set_up.given.is_advert.memory set_up.script) after provisioned activated
+  pub done : CarriesOut activate set_up.given.advert set_up.certificate.paths set_up.certificate.kept (bus_at_start set_up.given.is_advert.memory set_up.script) after provisioned activated
   pub told : text ≡ told_text traced after provisioned activated
   pub fault : ended ≡ outcome_fault provisioned activated
 
--- whether the steps are shown, and whether activation is asked for
-abbrev pub IsProcedureAnswer : Bool → Bool → List (List ℕ) → Answer → Type 0
-IsProcedureAnswer traced activate (image ∷ weights ∷ script ∷ []) (Ok (text, ended)) = IsCarriedOut traced activate image weights script text ended
-IsProcedureAnswer traced activate (image ∷ weights ∷ script ∷ []) (Err f) = IsSetUpRefusal image weights script f
-IsProcedureAnswer traced activate parts answer = ⊥
+-- the answer to the texts of an image, of weights, of kept paths and of a script, by whether the steps are shown and
+-- activation is asked for
+abbrev pub IsProcedureAnswerTo : Bool → Bool → List (List ℕ) → Answer → Type 0
+IsProcedureAnswerTo traced activate (image ∷ weights ∷ kept ∷ script ∷ []) (Ok (text, ended)) = IsCarriedOut traced activate image weights kept script text ended
+IsProcedureAnswerTo traced activate (image ∷ weights ∷ kept ∷ script ∷ []) (Err f) = IsSetUpRefusal image weights kept script f
+IsProcedureAnswerTo traced activate texts answer = ⊥
 
-abbrev pub IsProvisionAnswer : Bool → List (List ℕ) → Answer → Type 0
-IsProvisionAnswer activate = IsProcedureAnswer false activate
+-- the answer to the parts, with the flag `--keep` or without it
+abbrev pub IsProcedureAnswer : Bool → Bool → Bool → List (List ℕ) → Answer → Type 0
+IsProcedureAnswer traced activate keep parts = IsProcedureAnswerTo traced activate (with_kept keep parts)
 
-abbrev pub IsTraceAnswer : Bool → List (List ℕ) → Answer → Type 0
-IsTraceAnswer activate = IsProcedureAnswer true activate
+abbrev pub IsProvisionAnswer : Bool → Bool → List (List ℕ) → Answer → Type 0
+IsProvisionAnswer activate keep = IsProcedureAnswer false activate keep
+
+abbrev pub IsTraceAnswer : Bool → Bool → List (List ℕ) → Answer → Type 0
+IsTraceAnswer activate keep = IsProcedureAnswer true activate keep

@@ -4,8 +4,9 @@ use Rattle.bus_model.specs.ScriptBuses.{seen_at}
 use Rattle.cmisctl.specs.ProvisionCommand.{IsSetUp, bus_at_start}
 use Rattle.cmisctl.specs.declared.commands.session.Session.{Session}
 
-pub record IsSessionOf (image_text weights_text script_text : List ℕ) (session : Session) : Type 0 where
-  pub set_up : IsSetUp image_text weights_text script_text
+pub record IsSessionOf (image_text weights_text kept_text script_text : List ℕ) (session : Session) : Type 0 where
+  pub set_up : IsSetUp image_text weights_text kept_text script_text
   pub advert : session.advert ≡ set_up.given.advert
   pub plan : session.plan ≡ set_up.certificate.paths
+  pub kept : session.kept ≡ set_up.certificate.kept
   pub bus : seen_at session.bus ≡ bus_at_start set_up.given.is_advert.memory set_up.script

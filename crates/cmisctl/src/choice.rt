@@ -79,7 +79,10 @@ fn chosen(matches: &ArgMatches<'_>) -> Choice
     let entry = command_named(name).unwrap();
     Choice {
         name: entry.command,
+        bus: is_given(given, "bus"),
         activate: is_given(given, "activate"),
+        keep: is_given(given, "keep"),
+        first: is_given(given, "first"),
     }
 }
 

@@ -1,7 +1,9 @@
 //! The program's commands: each reads its whole input and writes one answer.
 mod check_command;
 mod command;
+mod kept_parts;
 mod outcome;
+mod over_bus;
 mod plan_command;
 mod planning_inputs;
 mod provision_command;

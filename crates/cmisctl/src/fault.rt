@@ -8,7 +8,7 @@ use applications::{AdvertFault, WeightsFault};
 use bus_model::ScriptFault;
 use control_sets::ProvisionFault;
 use paged_memory::ImageFault;
-use plan_certificate::{CertificateFault, Reason};
+use plan_certificate::{CertificateFault, KeptFault, Reason};
 use reports::ReportFault;
 use sim_module::SimFault;
 use std::alloc::AllocError;
@@ -33,6 +33,8 @@ pub enum Fault {
     Advert(AdvertFault),
     /// The weights are none.
     Weights(WeightsFault),
+    /// The text names no kept paths, or the module can't carry them.
+    Kept(KeptFault),
     /// The certificate is none.
     Certificate(CertificateFault),
     /// The certificate is bad: the reason, and the number of the path or the entry, or else 0.
@@ -85,6 +87,7 @@ impl Spelled for Fault {
             Fault::Report(fault) => fault.spelling(),
             Fault::Advert(fault) => fault.spelling(),
             Fault::Weights(fault) => fault.spelling(),
+            Fault::Kept(fault) => fault.spelling(),
             Fault::Certificate(fault) => fault.spelling(),
             Fault::Bad(reason, number) => reason.spelling().and(number),
             Fault::Script(fault) => fault.spelling(),
@@ -137,6 +140,14 @@ impl From<WeightsFault> for Fault {
             WeightsFault::Memory => Fault::Memory,
             _ => Fault::Weights(fault),
         }
+    }
+}
+
+impl From<KeptFault> for Fault {
+    ghost from_gives = { λ refused given. given ≡ fault.Kept refused };
+
+    fn from(fault: KeptFault) -> Fault {
+        Fault::Kept(fault)
     }
 }
 

@@ -12,7 +12,7 @@ use arrayvec::ArrayVec;
 use text_lines::{LF, split_ended_line};
 
 /// The most parts that a command takes.
-pub const MAX_PARTS: usize = 3;
+pub const MAX_PARTS: usize = 4;
 
 /// The parts of an input, where there are so many.
 pub fn parts(input: &[u8], count: usize) -> Result<ArrayVec<&[u8], MAX_PARTS>, Fault>

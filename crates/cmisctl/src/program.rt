@@ -48,14 +48,20 @@ fn command<R: Read, W: Write>(
         reader.old reader.new writer.old writer.new result }
 {
     match choice.name {
-        CommandName::Inventory => commands::inventory(alloc, reader, writer),
-        CommandName::Apps => commands::apps(alloc, reader, writer),
-        CommandName::Monitors => commands::monitors(alloc, reader, writer),
-        CommandName::Flags => commands::flags(alloc, reader, writer),
-        CommandName::Plan => commands::plan(alloc, reader, writer),
-        CommandName::Check => commands::check(alloc, reader, writer),
-        CommandName::Provision => commands::provision(alloc, choice.activate, reader, writer),
-        CommandName::Trace => commands::trace(alloc, choice.activate, reader, writer),
+        CommandName::Inventory => commands::inventory(alloc, choice.bus, reader, writer),
+        CommandName::Apps => commands::apps(alloc, choice.bus, reader, writer),
+        CommandName::Monitors => commands::monitors(alloc, choice.bus, reader, writer),
+        CommandName::Flags => commands::flags(alloc, choice.bus, reader, writer),
+        CommandName::Plan => commands::plan(alloc, choice.keep, reader, writer),
+        CommandName::Check => commands::check(alloc, choice.first, reader, writer),
+        CommandName::Provision => commands::provision(
+            alloc,
+            choice.activate,
+            choice.keep,
+            reader,
+            writer,
+        ),
+        CommandName::Trace => commands::trace(alloc, choice.activate, choice.keep, reader, writer),
     }
 }
 

@@ -20,8 +20,14 @@ pub enum CommandName {
 #[derive(Clone, Copy, Debug, PartialEq, Eq)]
 pub struct Choice {
     pub name: CommandName,
+    /// Whether the module is to be read over a bus.
+    pub bus: bool,
     /// Whether the plan is to be activated too.
     pub activate: bool,
+    /// Whether the plan is to keep data paths that the input names.
+    pub keep: bool,
+    /// Whether the plan of a certificate is to be compared with the one that `plan` gives.
+    pub first: bool,
 }
 
 /// A flag, given as `--name`.
@@ -42,10 +48,28 @@ pub struct CommandEntry {
     pub about: &'static str,
 }
 
+/// Asks for a reading over a bus.
+const BUS: Flag = Flag {
+    name: "bus",
+    help: "Read the module over a simulated bus, as a host does",
+};
+
 /// Asks for activation.
 const ACTIVATE: Flag = Flag {
     name: "activate",
     help: "Bring the data paths up as well",
+};
+
+/// Asks for a plan that keeps data paths.
+const KEEP: Flag = Flag {
+    name: "keep",
+    help: "Keep the data paths that a further part names, behind the weights",
+};
+
+/// Asks whether a plan is the first of the best.
+const FIRST: Flag = Flag {
+    name: "first",
+    help: "Say whether the plan is the first of the best, which is the one that 'plan' prints",
 };
 
 // The table: a command's name, its variant, its flags and what help says of it.
@@ -66,14 +90,14 @@ pub fn commands() -> &'static [CommandEntry]
     ensures { map entry_of result.now ≡ commands }
 {
     table! {
-        "inventory" Inventory [] "Print what the module is";
-        "apps" Apps [] "Print the Applications that the module advertises";
-        "monitors" Monitors [] "Print what the module measures";
-        "flags" Flags [] "Print the states of the module and its lanes, and the flags that are raised";
-        "plan" Plan [] "Print the plan that weighs most for an image and weights, with its certificate";
-        "check" Check [] "Judge a certificate for an image and weights, and print its plan where it is good";
-        "provision" Provision [ACTIVATE] "Make the plan active on a simulated module, over a bus that does as a script says";
-        "trace" Trace [ACTIVATE] "Do the same, and print each transaction";
+        "inventory" Inventory [BUS] "Print what the module is";
+        "apps" Apps [BUS] "Print the Applications that the module advertises";
+        "monitors" Monitors [BUS] "Print what the module measures";
+        "flags" Flags [BUS] "Print the states of the module and its lanes, and the flags that are raised";
+        "plan" Plan [KEEP] "Print the plan that weighs most for an image and weights, with its certificate";
+        "check" Check [FIRST] "Judge a certificate for an image and weights, and print its plan where it is good";
+        "provision" Provision [ACTIVATE KEEP] "Make the plan active on a simulated module, over a bus that does as a script says";
+        "trace" Trace [ACTIVATE KEEP] "Do the same, and print each transaction";
     }
 }
 

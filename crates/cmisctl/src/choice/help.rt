@@ -1,4 +1,4 @@
-//! What help says at its end: what the program reads, an example, and how it may end.
+//! What help says at its end: what the program reads, examples, and how it may end.
 
 use super::commands::CommandName;
 
@@ -8,26 +8,30 @@ pub const OF_PROGRAM: &str = "An image text tells a module's memory, in lines of
 'cmisctl COMMAND --help' says what else a command reads. docs/formats.md
 describes all texts, and docs/faults.md what each fault means.";
 
-// The end of a command's help: the parts of its input, its example and a status of its own, if it has one. Each part is taken off
+// The end of a command's help: the parts of its input, its examples and a status of its own, if it has one. Each part is taken off
 // the first list, and its text put on the second.
 macro_rules! end {
-    ([image $($more:ident)*] [$($text:literal)*] $($rest:literal)*) => {
+    ([image $($more:ident)*] [$($text:literal)*] $($rest:tt)*) => {
         end!([$($more)*] [$($text)* "the image text of a module"] $($rest)*)
     };
-    ([weights $($more:ident)*] [$($text:literal)*] $($rest:literal)*) => {
+    ([weights $($more:ident)*] [$($text:literal)*] $($rest:tt)*) => {
         end!([$($more)*] [$($text)* "weights: '[host]', then lines as '0Dh = 101', by HostInterfaceID"] $($rest)*)
     };
-    ([certificate $($more:ident)*] [$($text:literal)*] $($rest:literal)*) => {
+    ([kept $($more:ident)*] [$($text:literal)*] $($rest:tt)*) => {
+        end!([$($more)*] [$($text)* "with --keep: the data paths to keep, lines as 'keep 2 3 2'"] $($rest)*)
+    };
+    ([certificate $($more:ident)*] [$($text:literal)*] $($rest:tt)*) => {
         end!([$($more)*] [$($text)* "a certificate, as 'cmisctl plan' prints it"] $($rest)*)
     };
-    ([script $($more:ident)*] [$($text:literal)*] $($rest:literal)*) => {
+    ([script $($more:ident)*] [$($text:literal)*] $($rest:tt)*) => {
         end!([$($more)*] [$($text)* "a script of the bus: lines as 'ok 4' and 'nack 1', or none"] $($rest)*)
     };
-    ([] [$first:literal $($further:literal)*] $example:literal $($status:literal)?) => {
+    ([] [$first:literal $($further:literal)*] [$($example:literal)*] $($status:literal)?) => {
         concat!(
             "Reads from standard input:\n  ", $first,
             $("\n  then, behind a line '---', ", $further,)*
-            "\n\nExample, in the repository's folder:\n  ./cmisctl ", $example,
+            "\n\nExamples, in the repository's folder:",
+            $("\n  ./cmisctl ", $example,)*
             "\n\nStatus: 0 answered, 1 input refused, 2 command line refused,",
             $("\n", $status, ",",)?
             "\n5 out of memory, 6 a read or write failed. docs/faults.md explains faults."
@@ -38,16 +42,24 @@ macro_rules! end {
 /// The end of the command's help.
 pub fn of_command(command: CommandName) -> &'static str {
     match command {
-        CommandName::Inventory => end!([image] [] "inventory < examples/qsfp_dd_400g_dr4.txt"),
-        CommandName::Apps => end!([image] [] "apps < examples/osfp_800g_many_apps.txt"),
-        CommandName::Monitors => end!([image] [] "monitors < examples/osfp_800g_dr8.txt"),
-        CommandName::Flags => end!([image] [] "flags < examples/osfp_800g_overheated.txt"),
-        CommandName::Plan => end!([image weights] [] "plan < examples/breakouts_400g_dr4.txt"),
+        CommandName::Inventory => end!([image] []
+            ["inventory < examples/qsfp_dd_400g_dr4.txt" "inventory --bus < examples/qsfp28_100g_sr4.txt"]),
+        CommandName::Apps => end!([image] []
+            ["apps < examples/osfp_800g_many_apps.txt" "apps --bus < examples/osfp_800g_many_apps.txt"]),
+        CommandName::Monitors => end!([image] []
+            ["monitors < examples/osfp_800g_dr8.txt" "monitors --bus < examples/osfp_800g_dr8.txt"]),
+        CommandName::Flags => end!([image] []
+            ["flags < examples/osfp_800g_overheated.txt" "flags --bus < examples/sfp_10g_lr_dim.txt"]),
+        CommandName::Plan => end!([image weights kept] []
+            ["plan < examples/breakouts_400g_dr4.txt" "plan --keep < examples/keep_800g_dr8.txt"]),
         CommandName::Check => end!([image weights certificate] []
-            "check < examples/check_800g_one_path.txt" "4 the certificate is bad"),
-        CommandName::Provision => end!([image weights script] []
-            "provision < examples/provision_400g_dr4.txt" "3 not provisioned or not activated"),
-        CommandName::Trace => end!([image weights script] []
-            "trace --activate < examples/provision_400g_dr4.txt" "3 not provisioned or not activated"),
+            ["check < examples/check_800g_one_path.txt" "check --first < examples/check_800g_one_path.txt"]
+            "4 the certificate is bad"),
+        CommandName::Provision => end!([image weights kept script] []
+            ["provision < examples/provision_400g_dr4.txt" "provision --keep < examples/add_800g_dr8.txt"]
+            "3 not provisioned or not activated"),
+        CommandName::Trace => end!([image weights kept script] []
+            ["trace --activate < examples/provision_400g_dr4.txt" "trace --keep < examples/add_800g_dr8.txt"]
+            "3 not provisioned or not activated"),
     }
 }

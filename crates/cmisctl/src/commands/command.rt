@@ -21,15 +21,16 @@ pub trait Command {
     ghost use Rattle.cmisctl.specs.Runs.{Answer, IsOwnAnswer, answer_of};
 
     /// How many parts the input has.
-    const PARTS: usize;
-
-    ghost PARTS: { ℕ };
+    ghost count: { Self → ℕ };
 
     /// What is the answer to the parts, where no allocation is refused.
     ghost answers: { Self → List (List ℕ) → Answer → Type 0 };
 
+    fn parts(&self) -> usize
+        ensures { result ≡ count self.now };
+
     fn answer(&self, alloc: Global, parts: &[&[u8]]) -> Result<Told, Fault>
-        requires { length parts.now ≡ PARTS }
+        requires { length parts.now ≡ count self.now }
         ensures answer { IsOwnAnswer (answers self.now) (map (λ part. part.now) parts.now) (answer_of result) }
         ensures read { IfErr result (λ fault. fault ≢ Fault.Io) };
 }
@@ -41,8 +42,8 @@ pub fn run<C: Command, R: Read, W: Write>(
     reader: &mut CountedReader<R>,
     writer: &mut StoppingWriter<W>,
 ) -> Status
-    requires { C.PARTS ≤ most_parts }
-    ensures { IsCommandRun R.remaining W.contents (IsAnswerTo C.PARTS (C.answers command.now))
+    requires { C.count command.now ≤ most_parts }
+    ensures { IsCommandRun R.remaining W.contents (IsAnswerTo (C.count command.now) (C.answers command.now))
         reader.old reader.new writer.old writer.new result }
 {
     let answer = answer(alloc, command, reader);
@@ -54,15 +55,15 @@ fn answer<C: Command, R: Read>(
     command: &C,
     reader: &mut CountedReader<R>,
 ) -> Result<Told, Fault>
-    requires { C.PARTS ≤ most_parts }
+    requires { C.count command.now ≤ most_parts }
     ensures reads { reads_of reader.new ≤ read_limit }
     ensures taken { TakesWithinLimit (remaining_of R.remaining reader.old)
         (remaining_of R.remaining reader.new) (result ≡ Err Fault.TooLong) }
     ensures reading { SaysReading (reading_failed reader.new) (answer_of result) }
     ensures answer { IfSome (remaining_of R.remaining reader.old)
-        (λ input. IsAnswerTo C.PARTS (C.answers command.now) input (answer_of result)) }
+        (λ input. IsAnswerTo (C.count command.now) (C.answers command.now) input (answer_of result)) }
 {
     let input = read_input(alloc, reader)?;
-    let parts = parts(&input, C::PARTS)?;
+    let parts = parts(&input, command.parts())?;
     command.answer(alloc, parts.as_slice())
 }

@@ -1,8 +1,10 @@
+ghost use Rattle.cmisctl.specs.KeptParts.{count_with};
 ghost use Rattle.cmisctl.specs.PlanCommand.{IsPlanAnswer};
 ghost use Rattle.cmisctl.specs.Runs.{IsAnswerTo, IsCommandRun};
 
 use super::command::{Command, run};
-use super::planning_inputs::read_advert;
+use super::kept_parts::{count_with, kept_part};
+use super::planning_inputs::{read_advert, read_kept};
 use crate::fault::Fault;
 use crate::input::CountedReader;
 use crate::output::StoppingWriter;
@@ -12,34 +14,42 @@ use applications::Weights;
 use std::alloc::Global;
 use std::io::{Read, Write};
 
-struct PlanCommand;
+/// Plans, and keeps the data paths that a part of the input names, or none.
+#[derive(Clone, Copy, Debug)]
+struct PlanCommand {
+    keeps: bool,
+}
 
 impl Command for PlanCommand {
-    const PARTS: usize = 2;
+    ghost count = { λ command. count_with command.keeps 2 };
 
-    ghost PARTS = { 2 };
+    ghost answers = { λ command. IsPlanAnswer command.keeps };
 
-    ghost answers = { λ _. IsPlanAnswer };
+    fn parts(&self) -> usize {
+        count_with(self.keeps, 2)
+    }
 
     fn answer(&self, alloc: Global, parts: &[&[u8]]) -> Result<Told, Fault> {
-        let (image, weights) = (parts[0], parts[1]);
-        let advert = read_advert(image)?;
-        let weights = Weights::read(alloc, weights)?;
+        let advert = read_advert(parts[0])?;
+        let weights = Weights::read(alloc, parts[1])?;
+        let kept = read_kept(&advert, kept_part(self.keeps, parts))?;
         Ok(Told {
-            text: lane_planner::plan(&advert, &weights).write(alloc)?,
+            text: lane_planner::plan_keeping(&advert, &weights, &kept).write(alloc)?,
             fault: None,
         })
     }
 }
 
-/// Reads the texts of an image and of weights, and writes the certificate of the plan that weighs most.
+/// Reads the texts of an image, of weights and, where that is asked for, of kept paths, and writes the certificate of the plan
+/// that weighs most of those that keep them.
 pub fn plan<R: Read, W: Write>(
     alloc: Global,
+    keep: bool,
     reader: &mut CountedReader<R>,
     writer: &mut StoppingWriter<W>,
 ) -> Status
-    ensures { IsCommandRun R.remaining W.contents (IsAnswerTo 2 IsPlanAnswer)
+    ensures { IsCommandRun R.remaining W.contents (IsAnswerTo (count_with keep 2) (IsPlanAnswer keep))
         reader.old reader.new writer.old writer.new result }
 {
-    run(alloc, &PlanCommand, reader, writer)
+    run(alloc, &PlanCommand { keeps: keep }, reader, writer)
 }

@@ -7,6 +7,7 @@ ghost use Rattle.cmisctl.specs.ReportCommands.{IsReportAnswer, IsInventoryAnswer
 ghost use Rattle.cmisctl.specs.Runs.{IsAnswerTo, IsCommandRun};
 
 use super::command::{Command, run};
+use super::over_bus::image_to_report;
 use crate::fault::Fault;
 use crate::input::CountedReader;
 use crate::output::StoppingWriter;
@@ -37,25 +38,32 @@ trait Report {
             (λ fault. result ≡ Err fault) };
 }
 
-/// The command that prints it.
-struct ReportCommand<T>(T);
+/// The command that prints it, of the image or of what is read of it over a bus.
+#[derive(Drop)]
+struct ReportCommand<T> {
+    report: T,
+    is_over_bus: bool,
+}
 
 impl<T: Report> Command for ReportCommand<T> {
-    const PARTS: usize = 1;
+    ghost count = { λ _. 1 };
 
-    ghost PARTS = { 1 };
+    ghost answers = { λ command. IsReportAnswer command.is_over_bus T.refusal T.lines };
 
-    ghost answers = { λ _. IsReportAnswer T.refusal T.lines };
+    fn parts(&self) -> usize {
+        1
+    }
 
     fn answer(&self, alloc: Global, parts: &[&[u8]]) -> Result<Told, Fault> {
-        let image = Image::read(parts[0])?;
+        let image = image_to_report(alloc, parts[0], self.is_over_bus)?;
         Ok(Told {
-            text: self.0.text(alloc, &image)?,
+            text: self.report.text(alloc, &image)?,
             fault: None,
         })
     }
 }
 
+#[derive(Drop)]
 struct InventoryReport;
 
 impl Report for InventoryReport {
@@ -68,6 +76,7 @@ impl Report for InventoryReport {
     }
 }
 
+#[derive(Drop)]
 struct AppsReport;
 
 impl Report for AppsReport {
@@ -80,6 +89,7 @@ impl Report for AppsReport {
     }
 }
 
+#[derive(Drop)]
 struct MonitorsReport;
 
 impl Report for MonitorsReport {
@@ -92,6 +102,7 @@ impl Report for MonitorsReport {
     }
 }
 
+#[derive(Drop)]
 struct FlagsReport;
 
 impl Report for FlagsReport {
@@ -104,50 +115,75 @@ impl Report for FlagsReport {
     }
 }
 
-/// Reads the text of an image, and writes the module's inventory or why there is none.
+fn print<T: Report + Drop, R: Read, W: Write>(
+    alloc: Global,
+    report: T,
+    is_over_bus: bool,
+    reader: &mut CountedReader<R>,
+    writer: &mut StoppingWriter<W>,
+) -> Status
+    ensures { IsCommandRun R.remaining W.contents (IsAnswerTo 1 (IsReportAnswer is_over_bus T.refusal T.lines))
+        reader.old reader.new writer.old writer.new result }
+{
+    let command = ReportCommand {
+        report,
+        is_over_bus,
+    };
+    run(alloc, &command, reader, writer)
+}
+
+/// Reads the text of an image, and writes the module's inventory or why there is none; where `bus` is set, that of the module
+/// as it is read over a bus.
 pub fn inventory<R: Read, W: Write>(
     alloc: Global,
+    bus: bool,
     reader: &mut CountedReader<R>,
     writer: &mut StoppingWriter<W>,
 ) -> Status
-    ensures { IsCommandRun R.remaining W.contents (IsAnswerTo 1 IsInventoryAnswer)
+    ensures { IsCommandRun R.remaining W.contents (IsAnswerTo 1 (IsInventoryAnswer bus))
         reader.old reader.new writer.old writer.new result }
 {
-    run(alloc, &ReportCommand(InventoryReport), reader, writer)
+    print(alloc, InventoryReport, bus, reader, writer)
 }
 
-/// Reads the text of an image, and writes the Applications that the module advertises or why they are not read.
+/// Reads the text of an image, and writes the Applications that the module advertises or why they are not read; where `bus` is
+/// set, those of the module as it is read over a bus.
 pub fn apps<R: Read, W: Write>(
     alloc: Global,
+    bus: bool,
     reader: &mut CountedReader<R>,
     writer: &mut StoppingWriter<W>,
 ) -> Status
-    ensures { IsCommandRun R.remaining W.contents (IsAnswerTo 1 IsAppsAnswer)
+    ensures { IsCommandRun R.remaining W.contents (IsAnswerTo 1 (IsAppsAnswer bus))
         reader.old reader.new writer.old writer.new result }
 {
-    run(alloc, &ReportCommand(AppsReport), reader, writer)
+    print(alloc, AppsReport, bus, reader, writer)
 }
 
-/// Reads the text of an image, and writes what the module measures or why it is not told.
+/// Reads the text of an image, and writes what the module measures or why it is not told; where `bus` is set, by what is read
+/// of it over a bus.
 pub fn monitors<R: Read, W: Write>(
     alloc: Global,
+    bus: bool,
     reader: &mut CountedReader<R>,
     writer: &mut StoppingWriter<W>,
 ) -> Status
-    ensures { IsCommandRun R.remaining W.contents (IsAnswerTo 1 IsMonitorsAnswer)
+    ensures { IsCommandRun R.remaining W.contents (IsAnswerTo 1 (IsMonitorsAnswer bus))
         reader.old reader.new writer.old writer.new result }
 {
-    run(alloc, &ReportCommand(MonitorsReport), reader, writer)
+    print(alloc, MonitorsReport, bus, reader, writer)
 }
 
-/// Reads the text of an image, and writes the module's states and the flags that are raised or why they are not told.
+/// Reads the text of an image, and writes the module's states and the flags that are raised or why they are not told; where
+/// `bus` is set, by what is read of it over a bus.
 pub fn flags<R: Read, W: Write>(
     alloc: Global,
+    bus: bool,
     reader: &mut CountedReader<R>,
     writer: &mut StoppingWriter<W>,
 ) -> Status
-    ensures { IsCommandRun R.remaining W.contents (IsAnswerTo 1 IsFlagsAnswer)
+    ensures { IsCommandRun R.remaining W.contents (IsAnswerTo 1 (IsFlagsAnswer bus))
         reader.old reader.new writer.old writer.new result }
 {
-    run(alloc, &ReportCommand(FlagsReport), reader, writer)
+    print(alloc, FlagsReport, bus, reader, writer)
 }

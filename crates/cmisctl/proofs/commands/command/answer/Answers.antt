@@ -11,5 +11,5 @@ returns-clause-answer g c = of_input (remaining_of g.R.Read.remaining c.args.rea
     let are : map (λ part. part.now) given ≡ parts_of input =
     ap (map (λ part. part.now)) c.as_slice.ensures.value ∙ (c.in_ok-parts.ensures.0 ∙ ap parts_of (c.deref.ensures.value ∙ same)) in
     let counted = ap (λ (parts : List (List ℕ)). length parts) are in
-    let cut : length (parts_of input) ≡ g.C.Command.PARTS = omega (arith, simp length-map at counted, ap length c.as_slice.ensures.value, c.in_ok-parts.ensures.1, c.PARTS.ensures) in
-    own_answer g.C.Command.PARTS (g.C.Command.answers c.args.command.now) input _ within cut (rw are at c.answer.ensures.answer))
+    let cut : length (parts_of input) ≡ (g.C.Command.count c.args.command.now) = omega (arith, simp length-map at counted, ap length c.as_slice.ensures.value, c.in_ok-parts.ensures.1, c.parts.ensures) in
+    own_answer (g.C.Command.count c.args.command.now) (g.C.Command.answers c.args.command.now) input _ within cut (rw are at c.answer.ensures.answer))

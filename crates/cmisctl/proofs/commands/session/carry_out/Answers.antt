@@ -11,8 +11,9 @@ pub returns-then-is_ok : goal.returns-then-is_ok
 returns-then-is_ok c =
     let advert = c.args.advert.now in
     let plan = c.args.plan.now in
-    let provisioned = c.provision-provisioned.result in
-    let between = seen_at c.provision-provisioned.new.bus in
+    let kept = c.args.kept.now in
+    let provisioned = c.provision_keeping-provisioned.result in
+    let between = seen_at c.provision_keeping-provisioned.new.bus in
     let wanted : c.args.is_activated ≡ true = search rules in
     let is : is_ok provisioned ≡ true = search rules in
     let after = seen_at c.activate-activated.new.bus in
@@ -20,18 +21,19 @@ returns-then-is_ok c =
     let goes_on = goes_on_made c.args.is_activated advert plan provisioned between after ended wanted is c.activate-activated.ensures in
     record {
       between = between;
-      provisions = c.provision-provisioned.ensures;
-      active = active_after advert plan (seen_at c.args.bus.now) between (provisioned_steps provisioned) c.requires.sound c.provision-provisioned.ensures;
+      provisions = c.provision_keeping-provisioned.ensures;
+      active = active_after advert plan kept (seen_at c.args.bus.now) between (provisioned_steps provisioned) (c.requires.sound, c.requires.at_rest) c.provision_keeping-provisioned.ensures;
       goes_on = goes_on;
-      still_active = still_active_after c.args.is_activated advert plan (seen_at c.args.bus.now) between after (provisioned_steps provisioned) (Some ended) c.requires.sound c.provision-provisioned.ensures goes_on;
+      still_active = still_active_after c.args.is_activated advert plan kept (seen_at c.args.bus.now) between after (provisioned_steps provisioned) (Some ended) (c.requires.sound, c.requires.at_rest) c.provision_keeping-provisioned.ensures goes_on;
     }
 
 pub returns-else-is_activated : goal.returns-else-is_activated
 returns-else-is_activated c =
     let advert = c.args.advert.now in
     let plan = c.args.plan.now in
-    let provisioned = c.provision-provisioned.result in
-    let between = seen_at c.provision-provisioned.new.bus in
+    let kept = c.args.kept.now in
+    let provisioned = c.provision_keeping-provisioned.result in
+    let between = seen_at c.provision_keeping-provisioned.new.bus in
     let goes_on = elim c.else-is_activated.branch as (λ _. GoesOn c.args.is_activated advert plan (provisioned_steps provisioned) between between None) [
       | else-is_activated-via-then-is_activated+else-is_ok w ↦
           let never : is_ok provisioned ≡ false = search (rules, w.is_ok, w.if-is_ok) in
@@ -42,8 +44,8 @@ returns-else-is_activated c =
     ] in
     record {
       between = between;
-      provisions = c.provision-provisioned.ensures;
-      active = active_after advert plan (seen_at c.args.bus.now) between (provisioned_steps provisioned) c.requires.sound c.provision-provisioned.ensures;
+      provisions = c.provision_keeping-provisioned.ensures;
+      active = active_after advert plan kept (seen_at c.args.bus.now) between (provisioned_steps provisioned) (c.requires.sound, c.requires.at_rest) c.provision_keeping-provisioned.ensures;
       goes_on = goes_on;
-      still_active = still_active_after c.args.is_activated advert plan (seen_at c.args.bus.now) between between (provisioned_steps provisioned) None c.requires.sound c.provision-provisioned.ensures goes_on;
+      still_active = still_active_after c.args.is_activated advert plan kept (seen_at c.args.bus.now) between between (provisioned_steps provisioned) None (c.requires.sound, c.requires.at_rest) c.provision_keeping-provisioned.ensures goes_on;
     }
