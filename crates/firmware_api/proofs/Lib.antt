@@ -1,0 +1,4 @@
+mod HalfMemories
+mod SavedLaws
+mod ModuleRefusals
+mod Padding

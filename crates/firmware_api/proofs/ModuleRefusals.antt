@@ -1,0 +1,57 @@
+-- Which refusal comes first of halves, and what is read of them where none does.
+use Rattle.std.proofs.Common.{◌≡◌, ℕ, ◌<◌, ◌≤◌, Bool, true, false, List, length, Option, Some, None, Result, Ok, Err, refl, ap, subst, nat_lt, arith}
+use Rattle.std.specs.Prelude.{MatchOption}
+use Rattle.std.specs.List.{list_all}
+use Rattle.std.specs.Option.{option_map}
+use Rattle.std.proofs.lemmas.Bool.{ltb-true, ltb-false}
+use Rattle.paged_memory.specs.Images.{Memory}
+use Rattle.applications.specs.Advertised.{Advertised, advertised_by}
+use Rattle.applications.specs.Refusals.{advert_fault}
+use Rattle.applications.specs.declared.fault.AdvertFault.{AdvertFault}
+use Rattle.firmware_api.specs.declared.half.Half.{Half}
+use Rattle.firmware_api.specs.declared.status.Refusal.{Refusal}
+use Rattle.firmware_api.specs.declared.status.Refusal.TheVariants.{TooManyHalves, NoPlace, Advert}
+use Rattle.firmware_api.specs.Halves.{has_place, memory_of, module_refusal}
+
+is_below : (m n : ℕ) (b : Bool) → nat_lt m n ≡ b → m < n → nat_lt m n ≡ true
+is_below m n true e below = e
+is_below m n false e below = absurd (omega (arith, below, ltb-false m n e))
+
+is_not_below : (m n : ℕ) (b : Bool) → nat_lt m n ≡ b → n ≤ m → nat_lt m n ≡ false
+is_not_below m n true e over = absurd (omega (arith, over, ltb-true m n e))
+is_not_below m n false e over = e
+
+pub too_many : (halves : List Half) → 16 < length halves → module_refusal halves ≡ Some TooManyHalves
+unfolding module_refusal
+too_many halves more = rw (is_below 16 (length halves) _ refl more) refl
+
+pub no_place : (halves : List Half) → length halves ≤ 16 → list_all has_place halves ≡ false → module_refusal halves ≡ Some NoPlace
+unfolding module_refusal
+no_place halves few some = rw (is_not_below 16 (length halves) _ refl few, some) refl
+
+pub placed : (halves : List Half) → length halves ≤ 16 → list_all has_place halves ≡ true →
+    module_refusal halves ≡ option_map Advert (advert_fault (memory_of halves))
+unfolding module_refusal
+placed halves few all = rw (is_not_below 16 (length halves) _ refl few, all) refl
+
+-- what the module says, or its fault as a refusal
+abbrev pub passed : Result Advertised AdvertFault → Result Advertised Refusal
+passed (Ok advert) = Ok advert
+passed (Err fault) = Err (Advert fault)
+
+passes_on : (fault : Option AdvertFault) (read : Result Advertised AdvertFault) (advert : Advertised) →
+    MatchOption fault (read ≡ Ok advert) (λ f. read ≡ Err f) →
+    MatchOption (option_map Advert fault) (passed read ≡ Ok advert) (λ refusal. passed read ≡ Err refusal)
+passes_on None read advert answers = ap passed answers
+passes_on (Some fault) read advert answers = ap passed answers
+
+abbrev pub IsRead : Result Advertised AdvertFault → Memory → Type 0
+IsRead read memory = MatchOption (advert_fault memory) (read ≡ Ok (advertised_by memory)) (λ fault. read ≡ Err fault)
+
+abbrev pub IsPassed : Result Advertised Refusal → List Half → Type 0
+IsPassed told halves = MatchOption (module_refusal halves) (told ≡ Ok (advertised_by (memory_of halves))) (λ refusal. told ≡ Err refusal)
+
+pub reads : (halves : List Half) (memory : Memory) (read : Result Advertised AdvertFault) → length halves ≤ 16 → list_all has_place halves ≡ true →
+    memory ≡ memory_of halves → IsRead read memory → IsPassed (passed read) halves
+reads halves memory read few all same is =
+    rw (placed halves few all) (passes_on (advert_fault (memory_of halves)) read (advertised_by (memory_of halves)) (subst (IsRead read) same is))

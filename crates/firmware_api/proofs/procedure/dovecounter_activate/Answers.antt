@@ -1,0 +1,8 @@
+use Rattle.std.proofs.Common.{[], subst}
+use Rattle.control_sets.specs.Progress.{IsAt}
+use Rattle.control_sets.specs.Tasks.{activation}
+use Rattle.firmware_api.proofs.procedure.dovecounter_activate.Goals as goal
+
+pub returns : goal.returns
+returns c =
+    (c.activation.result, c.save.ensures, subst (λ lanes. IsAt (activation c.args.control.now lanes) [] c.activation.result) c.from.ensures c.activation.ensures)

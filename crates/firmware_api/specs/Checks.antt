@@ -1,0 +1,69 @@
+-- What a certificate's text is worth, as C is told. (docs/firmware.md, "Certificates"; docs/planning.md, "The checker")
+use Rattle.std.specs.Prelude.{◌≡◌, ℕ, List, MatchOption, Result, Ok, Err}
+use Rattle.text_lines.specs.Lines.{lines_of}
+use Rattle.applications.specs.Advertised.{Advertised, advertised_by}
+use Rattle.applications.specs.Weights.{HostWeights}
+use Rattle.plan_certificate.specs.declared.fault.CertificateFault.{CertificateFault}
+use Rattle.plan_certificate.specs.declared.state.TheConstants.{STATES}
+use Rattle.plan_certificate.specs.declared.verdict.Verdict.{Verdict}
+use Rattle.plan_certificate.specs.declared.verdict.Verdict.TheVariants.{Good, Bad}
+use Rattle.plan_certificate.specs.declared.verdict.Reason.{Reason}
+use Rattle.plan_certificate.specs.declared.verdict.Reason.TheVariants.{PathNotAllowed, LaneTwice, WeightWrong, NoStart, NotClosed, TooLow, StartNotWeight, KeptNotAdmissible, KeptMissing}
+use Rattle.plan_certificate.specs.Certificates.{Claim, IsGood}
+use Rattle.plan_certificate.specs.CertificateFaults.{IsAnswer}
+use Rattle.plan_certificate.specs.CertificateText.{IsTextOf}
+use Rattle.plan_certificate.specs.Plans.{IsBest}
+use Rattle.plan_certificate.specs.Verdicts.{verdict}
+use Rattle.firmware_api.specs.declared.checking.Judgement.{Judgement}
+use Rattle.firmware_api.specs.declared.half.Half.{Half}
+use Rattle.firmware_api.specs.declared.status.Refusal.{Refusal}
+use Rattle.firmware_api.specs.declared.status.Refusal.TheVariants.{Certificate}
+use Rattle.firmware_api.specs.declared.status.TheConstants.{DONE}
+use Rattle.firmware_api.specs.Halves.{memory_of, module_refusal}
+use Rattle.firmware_api.specs.Statuses.{status_of}
+
+-- the number in its code
+abbrev pub reason_number : Reason → ℕ
+reason_number PathNotAllowed = 1
+reason_number LaneTwice = 2
+reason_number WeightWrong = 3
+reason_number NoStart = 4
+reason_number NotClosed = 5
+reason_number TooLow = 6
+reason_number StartNotWeight = 7
+reason_number KeptNotAdmissible = 8
+reason_number KeptMissing = 9
+
+abbrev pub judgement_of : Verdict → Judgement
+judgement_of Good = record { reason = 0; number = 0 }
+judgement_of (Bad reason number) = record { reason = reason_number reason; number = number }
+
+-- of the certificate, or its text's first fault
+abbrev pub judgement_by : Advertised → HostWeights → Result Claim CertificateFault → Result Judgement Refusal
+judgement_by advert weights (Ok certificate) = Ok (judgement_of (verdict advert weights certificate))
+judgement_by advert weights (Err fault) = Err (Certificate fault)
+
+-- of what the text is read as, which is one alone
+abbrev pub IsTextJudged : Advertised → HostWeights → List ℕ → Result Judgement Refusal → Type 0
+IsTextJudged advert weights text judged =
+    (read : Result Claim CertificateFault) × IsAnswer STATES (lines_of text) read × (judged ≡ judgement_by advert weights read)
+
+-- refusals of the halves come first
+abbrev pub IsJudged : List Half → HostWeights → List ℕ → Result Judgement Refusal → Type 0
+IsJudged halves weights text judged =
+    MatchOption (module_refusal halves) (IsTextJudged (advertised_by (memory_of halves)) weights text judged) (λ refusal. judged ≡ Err refusal)
+
+-- what C is told of a result: the judgement, or the refusal's number
+abbrev pub Tells : ℕ → Judgement → Result Judgement Refusal → Type 0
+Tells status after (Ok judged) = (status ≡ DONE) × (after ≡ judged)
+Tells status after (Err refusal) = status ≡ status_of refusal
+
+abbrev pub IsTold : (Result Judgement Refusal → Type 0) → ℕ → Judgement → Type 0
+IsTold Is status after = (judged : Result Judgement Refusal) × Is judged × Tells status after judged
+
+-- the text is that of a certificate which shows that no plan with its kept paths weighs more than its own
+abbrev pub IsShownBest : List Half → HostWeights → List ℕ → Type 0
+IsShownBest halves weights text =
+    (certificate : Claim) × IsTextOf STATES (lines_of text) certificate
+    × IsGood (advertised_by (memory_of halves)) weights certificate
+    × IsBest (advertised_by (memory_of halves)) weights certificate.kept certificate.paths

@@ -1,0 +1,57 @@
+-- A plan as C sees it, and why kept paths are refused. (docs/firmware.md, "Plans")
+use Rattle.std.specs.Prelude.{◌≡◌, ℕ, ◌-◌, ◌<◌, nat_lt, List, ◌++◌, length, replicate, AllPairs, Option, Some, None, if◌then◌else◌}
+use Rattle.std.specs.Option.{option_map}
+use Rattle.field_tables.specs.LaneSets.{byte_of}
+use Rattle.applications.specs.Advertised.{Advertised, advertised_by}
+use Rattle.applications.specs.Weights.{HostWeights}
+use Rattle.plan_certificate.specs.declared.path.Path.{Path}
+use Rattle.plan_certificate.specs.declared.plan.TheConstants.{MAX_PATHS}
+use Rattle.plan_certificate.specs.Plans.{plan_weight}
+use Rattle.plan_certificate.specs.Verdicts.{kept_fault}
+use Rattle.lane_planner.specs.FirstBest.{IsFirstBest}
+use Rattle.control_sets.specs.ControlBytes.{control_bytes}
+use Rattle.control_sets.specs.PlanLanes.{lanes_outside, plan_lanes}
+use Rattle.firmware_api.specs.declared.half.Half.{Half}
+use Rattle.firmware_api.specs.declared.planning.LanePlan.{LanePlan}
+use Rattle.firmware_api.specs.declared.status.Refusal.{Refusal}
+use Rattle.firmware_api.specs.declared.status.Refusal.TheVariants.{KeptNotAdmissible, TooManyKept}
+use Rattle.firmware_api.specs.Halves.{memory_of, module_refusal}
+
+-- there are more than a plan has, or the module can't carry them together
+abbrev pub kept_refusal : Advertised → List Path → Option Refusal
+kept_refusal advert kept =
+    if nat_lt MAX_PATHS (length kept) then Some TooManyKept
+    else option_map (λ number. KeptNotAdmissible) (kept_fault advert kept)
+
+abbrev pub refusal_before : Option Refusal → Option Refusal → Option Refusal
+refusal_before (Some refusal) later = Some refusal
+refusal_before None later = later
+
+-- refusals of the halves come first
+abbrev pub plan_refusal : List Half → List Path → Option Refusal
+plan_refusal halves kept = refusal_before (module_refusal halves) (kept_refusal (advertised_by (memory_of halves)) kept)
+
+-- what stands behind the last path
+abbrev pub no_path : Path
+no_path = record { app = 0; host = 0; media = 0 }
+
+abbrev pub paths_of : List Path → List Path
+paths_of paths = paths ++ replicate (MAX_PATHS - length paths) no_path
+
+-- these paths, with their weight, the lanes that they take, those that the kept ones leave, and their control bytes
+abbrev pub lane_plan : Advertised → HostWeights → List Path → List Path → LanePlan
+lane_plan advert weights kept paths = record {
+  weight = plan_weight advert weights paths;
+  count = length paths;
+  lanes = byte_of (plan_lanes advert paths);
+  outside = byte_of (lanes_outside advert kept);
+  control = control_bytes advert paths;
+  paths = paths_of paths;
+}
+
+-- the first of the best plans that hold the kept paths, by rising host lane
+pub record IsPlanned (advert : Advertised) (weights : HostWeights) (kept : List Path) (plan : LanePlan) : Type 0 where
+  pub paths : List Path
+  pub is_first : IsFirstBest advert weights kept paths
+  pub rising : AllPairs (λ path later. path.host < later.host) paths
+  pub plan_is : plan ≡ lane_plan advert weights kept paths

@@ -1,0 +1,54 @@
+-- Procedures whose numbers C keeps: what they ask for, and what becomes of them. (docs/firmware.md, "Procedures")
+use Rattle.std.specs.Prelude.{◌≡◌, ℕ, List, Option, Some, None, Result, Ok, Err, MatchOption}
+use Rattle.std.specs.Option.{option_map}
+use Rattle.bus_model.specs.declared.operation.Op.{Op}
+use Rattle.bus_model.specs.declared.operation.Reply.{Reply}
+use Rattle.bus_model.specs.Operations.{Answers}
+use Rattle.control_sets.specs.declared.fault.ProvisionFault.{ProvisionFault}
+use Rattle.control_sets.specs.declared.procedures.procedure.saved.SavedProcedure.{SavedProcedure}
+use Rattle.control_sets.specs.declared.procedures.procedure.Procedure.{Procedure}
+use Rattle.control_sets.specs.declared.procedures.next.Next.{Next}
+use Rattle.control_sets.specs.declared.procedures.next.Next.TheVariants as next
+use Rattle.control_sets.specs.declared.procedures.task.Task.{Task}
+use Rattle.control_sets.specs.SavedNumbers.{saved_fault, restored}
+use Rattle.control_sets.specs.Pages.{History}
+use Rattle.control_sets.specs.Progress.{IsAt}
+use Rattle.control_sets.specs.Progress as progress
+use Rattle.firmware_api.specs.declared.procedure.Answer.{Answer}
+use Rattle.firmware_api.specs.declared.operation.Operation.{Operation}
+use Rattle.firmware_api.specs.declared.status.Refusal.TheVariants.{Ended, NoProcedure, NoReply, NotEnded}
+use Rattle.firmware_api.specs.declared.status.TheConstants.{DONE}
+use Rattle.firmware_api.specs.Operations.{operation_of}
+use Rattle.firmware_api.specs.Statuses.{status_of}
+
+-- these are the numbers of a procedure of these tasks that was told these steps, the newest first
+abbrev pub IsSavedAt : List Task → History → SavedProcedure → Type 0
+IsSavedAt tasks history saved = (procedure : Procedure) × (restored saved ≡ Some procedure) × IsAt tasks history procedure
+
+-- what the procedure with these numbers asks for, where one has them
+abbrev pub asked : SavedProcedure → Option Next
+asked saved = option_map progress.next (restored saved)
+
+-- what C is told of that
+abbrev pub IsNextTold : ℕ → Operation → Option Next → Type 0
+IsNextTold status after None = status ≡ status_of NoProcedure
+IsNextTold status after (Some (next.Do op)) = (status ≡ DONE) × (after ≡ operation_of op)
+IsNextTold status after (Some (next.Done answer)) = status ≡ status_of Ended
+
+-- which status tells of a reply: it is taken exactly where the operation can have it
+abbrev pub IsReplyTold : ℕ → Option Reply → Option Next → Type 0
+IsReplyTold status reply None = status ≡ status_of NoProcedure
+IsReplyTold status reply (Some (next.Done answer)) = status ≡ status_of Ended
+IsReplyTold status None (Some (next.Do op)) = status ≡ status_of NoReply
+IsReplyTold status (Some reply) (Some (next.Do op)) =
+    (Answers op reply → status ≡ DONE) × (¬ (Answers op reply) → status ≡ status_of NoReply)
+
+abbrev pub answer_of : Result ℕ ProvisionFault → Answer
+answer_of (Ok steps) = record { steps = steps; fault = saved_fault None }
+answer_of (Err fault) = record { steps = 0; fault = saved_fault (Some fault) }
+
+-- what C is told of the end
+abbrev pub IsAnswerTold : ℕ → Answer → Option Next → Type 0
+IsAnswerTold status after None = status ≡ status_of NoProcedure
+IsAnswerTold status after (Some (next.Do op)) = status ≡ status_of NotEnded
+IsAnswerTold status after (Some (next.Done answer)) = (status ≡ DONE) × (after ≡ answer_of answer)

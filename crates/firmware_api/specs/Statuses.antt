@@ -1,0 +1,45 @@
+-- The numbers by which C knows refusals. In those of faults the last digit is the number in the fault's code.
+-- (docs/firmware.md, "Statuses")
+use Rattle.std.specs.Prelude.{ℕ, Option, Some, None, Result, Ok, Err}
+use Rattle.applications.specs.declared.fault.AdvertFault.{AdvertFault}
+use Rattle.applications.specs.declared.fault.AdvertFault.TheVariants.{Absent, NotCmis, Revision, NotEightLanes, FlatMemory, BadSum}
+use Rattle.plan_certificate.specs.declared.fault.CertificateFault.{CertificateFault}
+use Rattle.plan_certificate.specs.declared.fault.CertificateFault.TheVariants.{BadLine, OutOfOrder, TooMany, NoEnd}
+use Rattle.firmware_api.specs.declared.status.Refusal.{Refusal}
+use Rattle.firmware_api.specs.declared.status.Refusal.TheVariants.{TooManyHalves, NoPlace, Advert, Certificate, TooManyKept, KeptNotAdmissible, NoProcedure, Ended, NotEnded, NoReply}
+use Rattle.firmware_api.specs.declared.status.TheConstants.{DONE}
+
+abbrev pub advert_status : AdvertFault → ℕ
+advert_status (NotCmis identifier) = 11
+advert_status (Revision revision) = 12
+advert_status FlatMemory = 13
+advert_status (Absent key) = 14
+advert_status (BadSum page) = 15
+advert_status (NotEightLanes identifier) = 16
+
+abbrev pub certificate_status : CertificateFault → ℕ
+certificate_status (BadLine line) = 21
+certificate_status (OutOfOrder line) = 22
+certificate_status TooMany = 23
+certificate_status NoEnd = 24
+
+abbrev pub status_of : Refusal → ℕ
+status_of TooManyHalves = 1
+status_of NoPlace = 2
+status_of (Advert fault) = advert_status fault
+status_of (Certificate fault) = certificate_status fault
+status_of NoProcedure = 31
+status_of Ended = 32
+status_of NotEnded = 33
+status_of NoReply = 34
+status_of TooManyKept = 42
+status_of KeptNotAdmissible = 43
+
+-- a call is refused, or does what it is for
+abbrev pub status_by : Option Refusal → ℕ
+status_by None = DONE
+status_by (Some refusal) = status_of refusal
+
+abbrev pub status_in : {A : Type 0} → Result A Refusal → ℕ
+status_in (Ok value) = DONE
+status_in (Err refusal) = status_of refusal

@@ -1,0 +1,103 @@
+ghost use Rattle.std.specs.Prelude.{◌≡◌, ◌≢◌};
+ghost use Rattle.applications.specs.Advertised.{advertised_by};
+ghost use Rattle.firmware_api.specs.Advertisements.{advertisement_of, application_at, application_of, applications_of};
+ghost use Rattle.firmware_api.specs.Halves.{memory_of, module_refusal};
+ghost use Rattle.firmware_api.specs.Statuses.{status_by};
+
+use crate::half::{Half, read_advert};
+use crate::status::DONE;
+use applications::{Advert, App, MAX_APPS};
+
+/// An Application: what a data path of the module may carry, and on which lanes it may begin. In a byte of lanes bit i-1
+/// is that of lane i.
+#[repr(C)]
+#[derive(Clone, Copy, Debug, PartialEq, Eq, Default)]
+pub struct Application {
+    /// 1 to 15; AppSelCode names it by this number. 0 behind the last one.
+    pub number: u8,
+    /// HostInterfaceID (SFF-8024).
+    pub host_id: u8,
+    /// MediaInterfaceID (SFF-8024).
+    pub media_id: u8,
+    pub host_lanes: u8,
+    pub media_lanes: u8,
+    /// The host lanes where a data path may begin.
+    pub host_starts: u8,
+    /// The media lanes where a data path may begin.
+    pub media_starts: u8,
+}
+
+/// What a module advertises.
+#[repr(C)]
+#[derive(Clone, Copy, Debug, PartialEq, Eq)]
+pub struct Advertisement {
+    /// How many Applications there are.
+    pub count: u8,
+    /// The media lanes that no data path may use.
+    pub unsupported: u8,
+    /// By rising number; zeros behind the last one.
+    pub applications: [Application; MAX_APPS],
+}
+
+/// Puts into `advertisement` what the module advertises whose memory has these halves.
+#[unsafe(no_mangle)]
+pub extern "C" fn dovecounter_advertisement(
+    halves: &[Half],
+    advertisement: &mut Advertisement,
+) -> u32
+    ensures status { result ≡ status_by (module_refusal halves.now) }
+    ensures done { result ≡ DONE → advertisement.new ≡ advertisement_of (advertised_by (memory_of halves.now)) }
+    ensures refused { result ≢ DONE → advertisement.new ≡ advertisement.old }
+{
+    match read_advert(halves) {
+        Ok(advert) => {
+            *advertisement = advertisement_of(&advert);
+            DONE
+        }
+        Err(refusal) => refusal.status(),
+    }
+}
+
+fn advertisement_of(advert: &Advert) -> Advertisement
+    ensures { result ≡ advertisement_of advert.now }
+{
+    let apps = advert.apps();
+    Advertisement {
+        count: apps.len() as u8,
+        unsupported: advert.unsupported().byte(),
+        applications: applications_of(apps),
+    }
+}
+
+fn applications_of(apps: &[App]) -> [Application; MAX_APPS]
+    ensures { result ≡ applications_of apps.now }
+{
+    let mut applications = [Application::default(); MAX_APPS];
+    for (place, application) in applications.iter_mut().enumerate() {
+        *application = application_at(apps, place);
+    }
+    applications
+}
+
+fn application_at(apps: &[App], place: usize) -> Application
+    ensures { result ≡ application_at apps.now place }
+{
+    match apps.get(place) {
+        Some(app) => application_of(app),
+        None => Application::default(),
+    }
+}
+
+fn application_of(app: &App) -> Application
+    ensures { result ≡ application_of app.now }
+{
+    Application {
+        number: app.number,
+        host_id: app.host_id,
+        media_id: app.media_id,
+        host_lanes: app.host_lanes,
+        media_lanes: app.media_lanes,
+        host_starts: app.host_starts.byte(),
+        media_starts: app.media_starts.byte(),
+    }
+}

@@ -1,0 +1,83 @@
+ghost use Rattle.std.specs.Prelude.{◌≡◌, ◌≢◌, IfOk};
+ghost use Rattle.firmware_api.specs.Checks.{IsJudged, IsShownBest, IsTold, judgement_of, reason_number};
+
+use crate::half::{Half, read_advert};
+use crate::status::{DONE, Refusal};
+use applications::Weights;
+use plan_certificate::{Certificate, Reason, STATES, Verdict, check};
+
+/// What a certificate is worth.
+#[repr(C)]
+#[derive(Clone, Copy, Debug, PartialEq, Eq)]
+pub struct Judgement {
+    /// 0 where it is good, else the number in the code of the first reason against it, as 1 for VR1.
+    pub reason: u8,
+    /// Of that reason the number from 1 of the path, the kept path or the entry, or else 0.
+    pub number: usize,
+}
+
+/// Puts into `judgement` what the certificate with this text is worth for the module whose memory has these halves.
+#[unsafe(no_mangle)]
+pub extern "C" fn dovecounter_check(
+    halves: &[Half],
+    weights: &[u32; 256],
+    text: &[u8],
+    judgement: &mut Judgement,
+) -> u32
+    ensures told { IsTold (IsJudged halves.now weights.now text.now) result judgement.new }
+    ensures best { result ≡ DONE → judgement.new.reason ≡ 0 → IsShownBest halves.now weights.now text.now }
+    ensures refused { result ≢ DONE → judgement.new ≡ judgement.old }
+{
+    match judged(halves, weights, text) {
+        Ok(judged) => {
+            *judgement = judged;
+            DONE
+        }
+        Err(refusal) => refusal.status(),
+    }
+}
+
+fn judged(halves: &[Half], weights: &[u32; 256], text: &[u8]) -> Result<Judgement, Refusal>
+    ensures judged { IsJudged halves.now weights.now text.now result }
+    ensures best { IfOk result (λ judged. judged.reason ≡ 0 → IsShownBest halves.now weights.now text.now) }
+{
+    let advert = read_advert(halves)?;
+    match Certificate::<STATES>::read(text) {
+        Ok(certificate) => {
+            let verdict = check(&advert, &Weights::of_table(weights), &certificate);
+            Ok(judgement_of(verdict))
+        }
+        Err(fault) => Err(Refusal::Certificate(fault)),
+    }
+}
+
+fn judgement_of(verdict: Verdict) -> Judgement
+    ensures { result ≡ judgement_of verdict }
+{
+    match verdict {
+        Verdict::Good => Judgement {
+            reason: 0,
+            number: 0,
+        },
+        Verdict::Bad(reason, number) => Judgement {
+            reason: reason_number(reason),
+            number,
+        },
+    }
+}
+
+fn reason_number(reason: Reason) -> u8
+    ensures { result ≡ reason_number reason }
+{
+    match reason {
+        Reason::PathNotAllowed => 1,
+        Reason::LaneTwice => 2,
+        Reason::WeightWrong => 3,
+        Reason::NoStart => 4,
+        Reason::NotClosed => 5,
+        Reason::TooLow => 6,
+        Reason::StartNotWeight => 7,
+        Reason::KeptNotAdmissible => 8,
+        Reason::KeptMissing => 9,
+    }
+}

@@ -1,0 +1,85 @@
+ghost use Rattle.std.specs.Prelude.{◌≡◌, ◌≤◌, length, MatchOption, Ok, Err};
+ghost use Rattle.std.specs.List.{list_all};
+ghost use Rattle.applications.specs.Advertised.{advertised_by};
+ghost use Rattle.firmware_api.specs.Halves.{has_place, key_of, memory_of, module_refusal};
+
+use crate::status::Refusal;
+use applications::Advert;
+use paged_memory::{Dev, Image, Key, MAX_PAGES, PAGE_LEN, Page};
+
+/// 128 bytes of a module's memory, and where they stand.
+#[repr(C)]
+#[derive(Clone, Copy, Debug, PartialEq, Eq)]
+pub struct Half {
+    /// The device's address on the bus: A0h or A2h.
+    pub device: u8,
+    /// 0 for the bytes 0 to 127 of the device, 1 for the bytes 128 to 255.
+    pub upper: u8,
+    /// 0 for a lower half.
+    pub bank: u8,
+    /// 0 for a lower half.
+    pub page: u8,
+    pub bytes: [u8; PAGE_LEN],
+}
+
+impl Half {
+    // Whether its numbers say where it stands.
+    fn has_place(&self) -> bool
+        ensures { result ≡ has_place self.now }
+    {
+        let has_device = self.device == 0xA0 || self.device == 0xA2;
+        let has_half = self.upper == 1 || self.upper == 0 && self.bank == 0 && self.page == 0;
+        has_device && has_half
+    }
+
+    fn key(&self) -> Key
+        ensures { result ≡ key_of self.now }
+    {
+        let dev = if self.device == 0xA2 {
+            Dev::A2
+        } else {
+            Dev::A0
+        };
+        if self.upper == 0 {
+            Key::lower(dev)
+        } else {
+            Key::upper(dev, self.bank, self.page)
+        }
+    }
+}
+
+/// What the module advertises whose memory has these halves.
+pub fn read_advert(halves: &[Half]) -> Result<Advert, Refusal>
+    ensures { MatchOption (module_refusal halves.now) (result ≡ Ok (advertised_by (memory_of halves.now)))
+        (λ refusal. result ≡ Err refusal) }
+{
+    if halves.len() > MAX_PAGES {
+        return Err(Refusal::TooManyHalves);
+    }
+    if !all_have_places(halves) {
+        return Err(Refusal::NoPlace);
+    }
+    match Advert::of(&image_of(halves)) {
+        Ok(advert) => Ok(advert),
+        Err(fault) => Err(Refusal::Advert(fault)),
+    }
+}
+
+fn all_have_places(halves: &[Half]) -> bool
+    ensures { result ≡ list_all has_place halves.now }
+{
+    halves.iter().all(|half| half.has_place())
+}
+
+// Of halves at one place the first counts, so the last is put first.
+fn image_of(halves: &[Half]) -> Image
+    requires { length halves.now ≤ MAX_PAGES }
+    ensures { result ≡ memory_of halves.now }
+{
+    let mut image = Image::new();
+    for place in (0..halves.len()).rev() {
+        let half = halves[place];
+        image.put(half.key(), Page::from(half.bytes)).unwrap();
+    }
+    image
+}

@@ -1,0 +1,79 @@
+ghost use Rattle.std.specs.Prelude.{◌≡◌, ◌≤◌, length};
+ghost use Rattle.firmware_api.specs.Operations.{address_of, operation_of, padded, reply_of};
+
+use arrayvec::ArrayVec;
+use bus_model::{Dev, MAX_STORE, Op, Reply};
+
+/// What C does on its bus for a procedure.
+#[repr(C)]
+#[derive(Clone, Copy, Debug, PartialEq, Eq)]
+pub struct Operation {
+    /// 0 for a fetch, 1 for a store.
+    pub kind: u8,
+    /// The device's address on the bus: A0h or A2h.
+    pub device: u8,
+    /// The address of the first byte.
+    pub offset: u8,
+    /// How many bytes are fetched or stored.
+    pub count: u8,
+    /// Those of a store, and zeros behind them.
+    pub bytes: [u8; MAX_STORE],
+}
+
+impl From<&Op> for Operation {
+    ghost use Rattle.std.specs.Prelude.{◌≡◌};
+    ghost use Rattle.firmware_api.specs.Operations.{operation_of};
+
+    ghost from_gives = { λ op operation. operation ≡ operation_of op.now };
+
+    fn from(op: &Op) -> Operation {
+        match op {
+            Op::Fetch { dev, offset, count } => Operation {
+                kind: 0,
+                device: address_of(*dev),
+                offset: *offset,
+                count: *count,
+                bytes: [0; MAX_STORE],
+            },
+            Op::Store { dev, offset, bytes } => Operation {
+                kind: 1,
+                device: address_of(*dev),
+                offset: *offset,
+                count: bytes.len() as u8,
+                bytes: padded(bytes),
+            },
+        }
+    }
+}
+
+fn address_of(dev: Dev) -> u8
+    ensures { result ≡ address_of dev }
+{
+    match dev {
+        Dev::A0 => 0xA0,
+        Dev::A2 => 0xA2,
+    }
+}
+
+fn padded(bytes: &ArrayVec<u8, MAX_STORE>) -> [u8; MAX_STORE]
+    ensures { result ≡ padded bytes.now.items }
+{
+    let mut all = [0; MAX_STORE];
+    all[..bytes.len()].copy_from_slice(bytes);
+    all
+}
+
+/// The reply by its number: 0 where the bus refused, 1 where a store was taken, 2 where these bytes were fetched.
+pub fn reply_of(number: u8, bytes: &[u8]) -> Option<Reply>
+    ensures { result ≡ reply_of number bytes.now }
+{
+    match number {
+        0 => Some(Reply::Refused),
+        1 => Some(Reply::Done),
+        2 => match ArrayVec::try_from(bytes) {
+            Ok(bytes) => Some(Reply::Bytes(bytes)),
+            Err(_) => None,
+        },
+        _ => None,
+    }
+}

@@ -1,0 +1,102 @@
+ghost use Rattle.std.specs.Prelude.{◌≡◌, ◌≢◌, IfOk, MatchOption, Ok, Err};
+ghost use Rattle.applications.specs.Advertised.{advertised_by};
+ghost use Rattle.plan_certificate.specs.Plans.{IsAdmissible};
+ghost use Rattle.firmware_api.specs.Halves.{memory_of};
+ghost use Rattle.firmware_api.specs.Plans.{IsPlanned, kept_refusal, paths_of, plan_refusal};
+ghost use Rattle.firmware_api.specs.Statuses.{status_by, status_in};
+
+use crate::half::{Half, read_advert};
+use crate::status::{DONE, Refusal};
+use applications::{Advert, Weights};
+use arrayvec::ArrayVec;
+use control_sets::{bytes_of, lanes_of, lanes_outside};
+use lane_planner::plan_keeping;
+use plan_certificate::{MAX_PATHS, Path, Plan, kept_fault};
+
+/// A plan: the data paths that a module's lanes are divided into, and the control bytes that ask for them.
+#[repr(C)]
+#[derive(Clone, Copy, Debug, PartialEq, Eq)]
+pub struct LanePlan {
+    /// The sum of the weights of its paths.
+    pub weight: u64,
+    /// How many paths there are.
+    pub count: u8,
+    /// The host lanes that they take: bit i-1 is 1 for lane i.
+    pub lanes: u8,
+    /// The host lanes that no kept path takes.
+    pub outside: u8,
+    /// The control bytes of host lanes 1 to 8.
+    pub control: [u8; 8],
+    /// By rising host lane; zeros behind the last one.
+    pub paths: [Path; MAX_PATHS],
+}
+
+/// Puts into `plan` the first of the plans that weigh most for the module whose memory has these halves, of those that
+/// hold the kept paths. There is a weight for each HostInterfaceID.
+#[unsafe(no_mangle)]
+pub extern "C" fn dovecounter_plan(
+    halves: &[Half],
+    weights: &[u32; 256],
+    kept: &[Path],
+    plan: &mut LanePlan,
+) -> u32
+    ensures status { result ≡ status_by (plan_refusal halves.now kept.now) }
+    ensures done { result ≡ DONE → IsPlanned (advertised_by (memory_of halves.now)) weights.now kept.now plan.new }
+    ensures refused { result ≢ DONE → plan.new ≡ plan.old }
+{
+    match planned(halves, weights, kept) {
+        Ok(planned) => {
+            *plan = planned;
+            DONE
+        }
+        Err(refusal) => refusal.status(),
+    }
+}
+
+fn planned(halves: &[Half], weights: &[u32; 256], kept: &[Path]) -> Result<LanePlan, Refusal>
+    ensures status { status_in result ≡ status_by (plan_refusal halves.now kept.now) }
+    ensures planned { IfOk result (IsPlanned (advertised_by (memory_of halves.now)) weights.now kept.now) }
+{
+    let advert = read_advert(halves)?;
+    let kept = kept_plan(&advert, kept)?;
+    Ok(best_plan(&advert, weights, &kept))
+}
+
+// The kept paths as a plan, where the module can carry it.
+fn kept_plan(advert: &Advert, kept: &[Path]) -> Result<Plan, Refusal>
+    ensures { MatchOption (kept_refusal advert.now kept.now) ((result ≡ Ok kept.now) × IsAdmissible advert.now kept.now)
+        (λ refusal. result ≡ Err refusal) }
+{
+    let Ok(paths) = ArrayVec::try_from(kept) else {
+        return Err(Refusal::TooManyKept);
+    };
+    let plan = Plan { paths };
+    match kept_fault(advert, &plan) {
+        None => Ok(plan),
+        Some(_) => Err(Refusal::KeptNotAdmissible),
+    }
+}
+
+fn best_plan(advert: &Advert, weights: &[u32; 256], kept: &Plan) -> LanePlan
+    requires { IsAdmissible advert.now kept.now }
+    ensures { IsPlanned advert.now weights.now kept.now result }
+{
+    let certificate = plan_keeping(advert, &Weights::of_table(weights), kept);
+    LanePlan {
+        weight: certificate.weight,
+        count: certificate.plan.paths.len() as u8,
+        lanes: lanes_of(advert, &certificate.plan).byte(),
+        outside: lanes_outside(advert, kept).byte(),
+        control: bytes_of(advert, &certificate.plan),
+        paths: paths_of(&certificate.plan),
+    }
+}
+
+fn paths_of(plan: &Plan) -> [Path; MAX_PATHS]
+    ensures { result ≡ paths_of plan.now }
+{
+    let mut all = [Path::default(); MAX_PATHS];
+    let paths = plan.paths.as_slice();
+    all[..paths.len()].copy_from_slice(paths);
+    all
+}

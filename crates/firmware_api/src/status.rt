@@ -1,0 +1,80 @@
+ghost use Rattle.std.specs.Prelude.{◌≡◌, ◌≢◌};
+ghost use Rattle.firmware_api.specs.Statuses.{advert_status, certificate_status, status_of};
+
+use applications::AdvertFault;
+use plan_certificate::CertificateFault;
+
+/// What a call answers where it did what it is for.
+pub const DONE: u32 = 0;
+
+/// Why a call does nothing.
+#[derive(Clone, Copy, Debug, PartialEq, Eq)]
+pub enum Refusal {
+    /// There are more halves than an image holds.
+    TooManyHalves,
+    /// The numbers of a half don't say where it stands.
+    NoPlace,
+    /// The module doesn't say what it advertises.
+    Advert(AdvertFault),
+    /// The text is no certificate.
+    Certificate(CertificateFault),
+    /// There are more kept paths than a plan has.
+    TooManyKept,
+    /// A kept path isn't allowed, or shares a lane with an earlier one.
+    KeptNotAdmissible,
+    /// The numbers are none of a procedure.
+    NoProcedure,
+    /// The procedure has ended.
+    Ended,
+    /// The procedure has not ended.
+    NotEnded,
+    /// The operation that is to be made has no such reply.
+    NoReply,
+}
+
+impl Refusal {
+    /// The number by which C knows it.
+    pub fn status(self) -> u32
+        ensures status { result ≡ status_of self }
+        ensures refused { result ≢ DONE }
+    {
+        match self {
+            Refusal::TooManyHalves => 1,
+            Refusal::NoPlace => 2,
+            Refusal::Advert(fault) => advert_status(fault),
+            Refusal::Certificate(fault) => certificate_status(fault),
+            Refusal::NoProcedure => 31,
+            Refusal::Ended => 32,
+            Refusal::NotEnded => 33,
+            Refusal::NoReply => 34,
+            Refusal::TooManyKept => 42,
+            Refusal::KeptNotAdmissible => 43,
+        }
+    }
+}
+
+fn advert_status(fault: AdvertFault) -> u32
+    ensures status { result ≡ advert_status fault }
+    ensures refused { result ≢ DONE }
+{
+    match fault {
+        AdvertFault::NotCmis(_) => 11,
+        AdvertFault::Revision(_) => 12,
+        AdvertFault::FlatMemory => 13,
+        AdvertFault::Absent(_) => 14,
+        AdvertFault::BadSum(_) => 15,
+        AdvertFault::NotEightLanes(_) => 16,
+    }
+}
+
+fn certificate_status(fault: CertificateFault) -> u32
+    ensures status { result ≡ certificate_status fault }
+    ensures refused { result ≢ DONE }
+{
+    match fault {
+        CertificateFault::BadLine(_) => 21,
+        CertificateFault::OutOfOrder(_) => 22,
+        CertificateFault::TooMany => 23,
+        CertificateFault::NoEnd => 24,
+    }
+}
