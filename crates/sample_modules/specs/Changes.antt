@@ -1,5 +1,5 @@
 -- What changes make of the 128 bytes of a half. An address is that of the module (0 to 255).
-use Rattle.std.specs.Prelude.{ℕ, ◌+◌, ◌%◌, List, [], ◌∷◌, Option, Some, None, replicate, slice_range, slice_set, sum, unwrap_or}
+use Rattle.std.specs.Prelude.{ℕ, ◌+◌, List, [], ◌∷◌, Option, Some, None, replicate, slice_set, unwrap_or}
 use Rattle.std.specs.FinMap as map
 use Rattle.paged_memory.specs.declared.key.Key.{Key}
 use Rattle.paged_memory.specs.Images.{Memory, place_in_half}
@@ -17,10 +17,6 @@ changed half ((address, byte) ∷ changes) = changed (slice_set half (place_in_h
 abbrev pub run_over : List ℕ → ℕ → List ℕ → List ℕ
 run_over half place [] = half
 run_over half place (byte ∷ bytes) = run_over (slice_set half place byte) (place + 1) bytes
-
--- with the low 8 bits of the sum of these places at another
-abbrev pub summed : List ℕ → ℕ → ℕ → ℕ → List ℕ
-summed half first last place = slice_set half place (sum (slice_range half first (last + 1)) % 256)
 
 -- with the half that another memory has under a key, if any
 abbrev pub with_half : Memory → Key → Option (List ℕ) → Memory

@@ -1,9 +1,9 @@
 //! How to change bytes of an image.
-ghost use Rattle.std.specs.Prelude.{◌≡◌, ◌+◌, ◌≤◌, ◌%◌, ◌↔◌, length, sum, IfOk, IsErr, false};
+ghost use Rattle.std.specs.Prelude.{◌≡◌, ◌+◌, ◌≤◌, ◌↔◌, length, IfOk, IsErr, false};
 ghost use Rattle.std.specs.FinMap as map;
 ghost use Rattle.paged_memory.specs.declared.image.TheConstants.{MAX_PAGES};
 ghost use Rattle.paged_memory.specs.Images.{place_in_half};
-ghost use Rattle.sample_modules.specs.Changes.{half_of, changed, run_over, summed, gathered};
+ghost use Rattle.sample_modules.specs.Changes.{half_of, changed, run_over, gathered};
 
 use paged_memory::{Image, ImageFault, Key, PAGE_LEN, Page};
 
@@ -24,25 +24,6 @@ pub fn with_run(mut image: Image, key: Key, address: u8, bytes: &[u8]) -> Result
     ensures refused { IsErr result ↔ ((map.len image ≡ MAX_PAGES) × (map.contains_key image key ≡ false)) }
 {
     let half = run_over(half_of(&image, key), place_of(address), bytes);
-    image.put(key, Page::from(half))?;
-    Ok(image)
-}
-
-/// The image with the sum of the bytes from one address to another at a third, all of one half.
-pub fn with_sum(
-    mut image: Image,
-    key: Key,
-    first: u8,
-    last: u8,
-    at: u8,
-) -> Result<Image, ImageFault>
-    requires { place_in_half first ≤ place_in_half last }
-    ensures ok { IfOk result (λ new. new ≡ map.insert image key
-        (summed (half_of image key) (place_in_half first) (place_in_half last) (place_in_half at))) }
-    ensures refused { IsErr result ↔ ((map.len image ≡ MAX_PAGES) × (map.contains_key image key ≡ false)) }
-{
-    let mut half = half_of(&image, key);
-    half[place_of(at)] = low_byte_of_sum(&half[place_of(first)..=place_of(last)]);
     image.put(key, Page::from(half))?;
     Ok(image)
 }
@@ -93,12 +74,4 @@ fn run_over(mut half: [u8; PAGE_LEN], place: usize, bytes: &[u8]) -> [u8; PAGE_L
         half[place + index] = *byte;
     }
     half
-}
-
-fn low_byte_of_sum(bytes: &[u8]) -> u8
-    requires { length bytes.now ≤ PAGE_LEN }
-    ensures { result ≡ sum bytes.now % 256 }
-{
-    let total: u32 = bytes.iter().map(|byte| u32::from(*byte)).sum();
-    (total % 256) as u8
 }

@@ -4,5 +4,5 @@
 mod changes;
 mod texts;
 
-pub use changes::{only, with, with_run, with_sum};
+pub use changes::{only, with, with_run};
 pub use texts::{QSFP_DD, QSFP28, SFP};

@@ -2,6 +2,7 @@ mod applies;
 mod certificates;
 mod control_bytes;
 mod fetching;
+mod keeping;
 mod lanes;
 mod lies;
 mod modules;
