@@ -1,20 +1,7 @@
 //! `cmisctl`: manages pluggable optical modules through their memory map.
 #![tactic(auto)]
 
-mod choice;
-mod commands;
-mod failure;
-mod fault;
-mod input;
-mod laws;
-mod output;
-mod parts;
-mod program;
-mod status;
-mod told;
-
-use input::CountedReader;
-use output::StoppingWriter;
+use command_line::{CountedReader, StoppingWriter, run};
 use std::process::ExitCode;
 use std::{env, io};
 
@@ -31,5 +18,5 @@ fn words(rt: &HostRuntime) -> io::Result<Vec<String>> {
 fn main(rt: HostRuntime) -> ExitCode {
     let mut reader = CountedReader::new(rt.reader());
     let mut writer = StoppingWriter::new(io::writer(&rt));
-    ExitCode::from(program::run(rt.alloc(), words(&rt), &mut reader, &mut writer))
+    ExitCode::from(run(rt.alloc(), words(&rt), &mut reader, &mut writer))
 }

@@ -1,6 +1,0 @@
-use Rattle.cmisctl.proofs.BusReadings.{read_to_report}
-use Rattle.cmisctl.proofs.commands.over_bus.image_to_report.Goals as goal
-
-pub returns-then-is_over_bus : goal.returns-then-is_over_bus
-returns-then-is_over_bus c =
-    read_to_report c.args.is_over_bus c.args.text.now c.in_ok-image.image c.fetched.result c.if-is_over_bus.true c.in_ok-image.ensures.ok c.fetched.ensures

@@ -1,8 +1,0 @@
-use Rattle.cmisctl.proofs.CheckedPlans.{good_behind, good_behind_input}
-use Rattle.cmisctl.proofs.laws.what_is_planned_is_good.Goals as goal
-
-pub returns-clause-nothing_kept : goal.returns-clause-nothing_kept
-returns-clause-nothing_kept c = good_behind_input
-
-pub returns-clause-kept : goal.returns-clause-kept
-returns-clause-kept c = good_behind

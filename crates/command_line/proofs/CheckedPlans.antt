@@ -1,0 +1,206 @@
+-- What `check` answers where the third part is the certificate that `plan` wrote.
+use Rattle.std.proofs.Common.{◌≡◌, ◌≢◌, ℕ, ◌≤◌, Bool, true, false, List, [], ◌∷◌, ◌++◌, length, get_or, map, codes, None, Some, Ok, Err, refl, sym, ap, subst, ◌∙◌, arith}
+use Rattle.std.specs.List.{All, before_first}
+use Rattle.std.proofs.lemmas.List.Elements.{All-cons, All-nil}
+use Rattle.text_lines.specs.Lines.{is_lf, ended_lines, lines_of, text_of}
+use Rattle.paged_memory.specs.Images.{Memory}
+use Rattle.paged_memory.specs.ImageText.{IsTextOf as IsImageText}
+use Rattle.paged_memory.proofs.OneAnswer.{same_answer as same_image_answer}
+use Rattle.applications.specs.Advertised.{Advertised, advertised_by}
+use Rattle.applications.specs.Weights.{HostWeights}
+use Rattle.applications.specs.WeightFaults.{IsAnswer as IsWeightsAnswer}
+use Rattle.applications.specs.declared.weights.fault.WeightsFault.{WeightsFault}
+use Rattle.applications.specs.declared.weights.fault.WeightsFault.TheVariants as weights
+use Rattle.plan_certificate.specs.Certificates.{Claim}
+use Rattle.plan_certificate.specs.CertificateText.{IsTextOf, line_text, line_words, lines_in}
+use Rattle.plan_certificate.specs.Verdicts.{verdict}
+use Rattle.plan_certificate.specs.declared.line.Line.{Line}
+use Rattle.plan_certificate.specs.declared.line.Line.TheVariants.{Header, KeptHeader, Weight, KeepLine, PathLine, StateLine, End}
+use Rattle.plan_certificate.specs.declared.state.TheConstants.{STATES}
+use Rattle.plan_certificate.specs.declared.verdict.Verdict.{Verdict}
+use Rattle.plan_certificate.specs.declared.verdict.Verdict.TheVariants.{Good, Bad}
+use Rattle.plan_certificate.proofs.OneAnswer.{same_answer}
+use Rattle.reports.specs.PlanText.{plan_lines}
+use Rattle.command_line.specs.CheckCommand.{IsCheckAnswer, IsGoodAnswer, IsJudged, SaysFirst, first_line, good_line, kept_lines}
+use Rattle.command_line.specs.Limits.{input_limit}
+use Rattle.command_line.specs.Parts.{is_separator_line, parts_of}
+use Rattle.command_line.specs.PlanCommand.{IsPlanAnswer, IsPlanned}
+use Rattle.command_line.specs.PlanningInputs.{IsAdvertText}
+use Rattle.command_line.specs.PlanThenCheck.{first_lines, good_text, input_with, IsCalledGood, IsEnded, IsGoodBehind, IsGoodBehindInput}
+use Rattle.command_line.specs.Runs.{Answer, IsAnswerTo}
+use Rattle.command_line.specs.declared.fault.Fault.TheVariants as fault
+use Rattle.command_line.proofs.TextBehind.{is_one_part, is_plain, parts_behind}
+
+-- ---- no line of a certificate's text is a separator
+
+-- a line that begins with another byte than a dash
+begins_otherwise : (first : ℕ) (line : List ℕ) → get_or line 0 0 ≡ first → first ≢ 45 → line ≢ codes "---"
+begins_otherwise first line is other e = other (sym is ∙ ap (λ l. get_or l 0 0) e)
+
+is_not_dashes : (line : Line) → line_text line ≢ codes "---"
+unfolding line_words
+is_not_dashes Header = begins_otherwise 99 (line_text Header) refl (λ e. omega arith)
+is_not_dashes KeptHeader = begins_otherwise 99 (line_text KeptHeader) refl (λ e. omega arith)
+is_not_dashes (Weight weight) = begins_otherwise 119 (line_text (Weight weight)) refl (λ e. omega arith)
+is_not_dashes (KeepLine path) = begins_otherwise 107 (line_text (KeepLine path)) refl (λ e. omega arith)
+is_not_dashes (PathLine path) = begins_otherwise 112 (line_text (PathLine path)) refl (λ e. omega arith)
+is_not_dashes (StateLine entry) = begins_otherwise 115 (line_text (StateLine entry)) refl (λ e. omega arith)
+is_not_dashes End = begins_otherwise 101 (line_text End) refl (λ e. omega arith)
+
+are_plain : (ended : List (List ℕ)) (lines : List Line) → map (before_first is_lf) ended ≡ map line_text lines
+    → All (λ line. is_separator_line line ≡ false) ended
+are_plain [] lines e = All-nil (λ l. is_separator_line l ≡ false)
+are_plain (first ∷ ended) [] e = absurd cc
+are_plain (first ∷ ended) (line ∷ lines) e =
+    let same : before_first is_lf first ≡ line_text line = cc in
+    let plain = is_plain first (λ dashes. is_not_dashes line (sym same ∙ dashes)) in
+    All-cons (λ l. is_separator_line l ≡ false) first ended plain (are_plain ended lines cc)
+
+certificate_is_one_part : (text : List ℕ) (certificate : Claim) → IsTextOf STATES (lines_of text) certificate → parts_of text ≡ text ∷ []
+certificate_is_one_part text certificate is = is_one_part text (are_plain (ended_lines text) (lines_in certificate) is.lines_are)
+
+-- ---- a text is read in one way
+
+same_image : (text : List ℕ) (a b : Memory) → IsImageText (lines_of text) a → IsImageText (lines_of text) b → a ≡ b
+same_image text a b p q = let same = same_image_answer (lines_of text) (Ok a) (Ok b) p q in cc
+
+same_advert : (text : List ℕ) (a b : Advertised) → IsAdvertText text a → IsAdvertText text b → a ≡ b
+same_advert text a b p q =
+    let memory = same_image text p.memory q.memory p.is_module.is_text q.is_module.is_text in
+    p.is_module.advertised ∙ ap advertised_by memory ∙ sym q.is_module.advertised
+
+same_weights : (text : List ℕ) (a b : HostWeights) → IsWeightsAnswer text (Ok a) → IsWeightsAnswer text (Ok b) → a ≡ b
+same_weights text a b p q = p.1 ∙ sym q.1
+
+not_refused : (text : List ℕ) (listed : HostWeights) (f : WeightsFault) → f ≢ weights.Memory
+    → IsWeightsAnswer text (Ok listed) → ¬ (IsWeightsAnswer text (Err f))
+not_refused text listed weights.Memory other p q = other refl
+not_refused text listed f other p q = absurd cc
+
+same_claim : (text : List ℕ) (a b : Claim) → IsTextOf STATES (lines_of text) a → IsTextOf STATES (lines_of text) b → a ≡ b
+same_claim text a b p q = let same = same_answer STATES (lines_of text) (Ok a) (Ok b) p q in cc
+
+-- ---- what `check` answers to the parts
+
+module _ (image_text weights_text kept_text text : List ℕ) (planned : IsPlanned image_text weights_text kept_text text) where
+  says : (first : Bool) → SaysFirst first planned.given.advert planned.given.weights planned.certificate (first_lines first)
+  says true = (true, ((λ _. planned.given.is_first), (λ _. refl)), refl)
+  says false = refl
+
+  good_answer : (first : Bool) → IsGoodAnswer first image_text weights_text text (good_text first planned)
+  good_answer first = record {
+    judged = record {
+      advert = planned.given.advert;
+      weights = planned.given.weights;
+      certificate = planned.certificate;
+      is_advert = planned.given.is_advert;
+      are_weights = planned.given.are_weights;
+      is_certificate = planned.read_again;
+      is_verdict = planned.given.judged_again;
+    };
+    is_best = planned.given.is_best;
+    told = record { first_lines = first_lines first; says_first = says first; told = refl };
+  }
+
+  module _ (judged : Verdict) (is : IsJudged image_text weights_text text judged) where
+    the_advert : is.advert ≡ planned.given.advert
+    the_advert = same_advert image_text is.advert planned.given.advert is.is_advert planned.given.is_advert
+
+    the_weights : is.weights ≡ planned.given.weights
+    the_weights = same_weights weights_text is.weights planned.given.weights is.are_weights planned.given.are_weights
+
+    the_certificate : is.certificate ≡ planned.certificate
+    the_certificate = same_claim text is.certificate planned.certificate is.is_certificate planned.read_again
+
+    judged_good : judged ≡ Good
+    judged_good = sym is.is_verdict ∙ (λ i. verdict (the_advert i) (the_weights i) (the_certificate i)) ∙ planned.given.judged_again
+
+  -- the plan is the first of the best, so this is said of it where it is asked for
+  says_so : (first : Bool) (lines : List (List ℕ)) → SaysFirst first planned.given.advert planned.given.weights planned.certificate lines → lines ≡ first_lines first
+  says_so true lines (is_first, same, said) = said ∙ ap (λ (b : Bool). first_line b ∷ []) (same.1 planned.given.is_first)
+  says_so false lines none = none
+
+  told_good : (first : Bool) (told : List ℕ) → IsGoodAnswer first image_text weights_text text told → told ≡ good_text first planned
+  told_good first told is =
+      let advert = the_advert Good is.judged in
+      let listed = the_weights Good is.judged in
+      let certificate = the_certificate Good is.judged in
+      let lines = says_so first is.told.first_lines (subst (λ (c : Claim). SaysFirst first planned.given.advert planned.given.weights c is.told.first_lines) certificate
+      (subst (λ (w : HostWeights). SaysFirst first planned.given.advert w is.judged.certificate is.told.first_lines) listed
+      (subst (λ (a : Advertised). SaysFirst first a is.judged.weights is.judged.certificate is.told.first_lines) advert is.told.says_first))) in
+      is.told.told ∙ (λ i. text_of (good_line ∷ kept_lines (length (certificate i).kept) ++ plan_lines (advert i) (listed i) (certificate i).paths ++ lines i))
+
+  alone : (first : Bool) (answer : Answer) → IsCheckAnswer first (image_text ∷ weights_text ∷ text ∷ []) answer → answer ≡ Ok (good_text first planned, None)
+  alone first (Ok (told, None)) is = let same = told_good first told is in λ i. Ok (same i, None)
+  alone first (Ok (told, Some f)) is = absurd is
+  alone first (Err (fault.Bad reason number)) is = let good = judged_good (Bad reason number) is in absurd cc
+  alone first (Err (fault.Certificate f)) is =
+      let same = same_answer STATES (lines_of text) (Ok planned.certificate) (Err f) planned.read_again is.2 in
+      absurd cc
+  alone first (Err (fault.Weights f)) is = absurd (not_refused weights_text planned.given.weights f is.1.0 planned.given.are_weights is.1.1)
+  alone first (Err (fault.Image f)) is =
+      let read = planned.given.is_advert in
+      let same = same_image_answer (lines_of image_text) (Ok read.memory) (Err f) read.is_module.is_text is in
+      absurd cc
+  alone first (Err (fault.Advert f)) is =
+      let read = planned.given.is_advert in
+      let same = same_image image_text read.memory is.0 read.is_module.is_text is.1 in
+      let accepted = read.is_module.accepted in
+      absurd (cc is.2)
+  alone first (Err f) is = absurd is
+
+  module _ (input : List ℕ) (cut : parts_of input ≡ image_text ∷ weights_text ∷ text ∷ []) (within : length input ≤ input_limit) where
+    counted : length (parts_of input) ≡ 3
+    counted = ap (λ (l : List (List ℕ)). length l) cut
+
+    good_to : (first : Bool) → IsAnswerTo 3 (IsCheckAnswer first) input (Ok (good_text first planned, None))
+    good_to first = (within, counted, subst (λ l. IsCheckAnswer first l (Ok (good_text first planned, None))) (sym cut) (good_answer first))
+
+    alone_to : (first : Bool) (answer : Answer) → IsAnswerTo 3 (IsCheckAnswer first) input answer → answer ≢ Err fault.Memory → answer ≢ Err fault.Io
+        → answer ≡ Ok (good_text first planned, None)
+    alone_to first (Ok told) is memory read = alone first (Ok told) (subst (λ l. IsCheckAnswer first l (Ok told)) cut is.2)
+    alone_to first (Err fault.Memory) is memory read = absurd (memory refl)
+    alone_to first (Err fault.Io) is memory read = absurd (read refl)
+    alone_to first (Err fault.TooLong) is memory read = absurd (omega arith)
+    alone_to first (Err (fault.Parts number)) is memory read = absurd (is.2 (is.1 ∙ counted))
+    alone_to first (Err f) is memory read = alone first (Err f) (subst (λ l. IsCheckAnswer first l (Err f)) cut is.2)
+
+    called_good : IsCalledGood planned input
+    called_good = record { good = good_to; alone = alone_to }
+
+-- ---- the two commands
+
+record Planned (input text : List ℕ) : Type 0 where
+  image_text : List ℕ
+  weights_text : List ℕ
+  parts : parts_of input ≡ image_text ∷ weights_text ∷ []
+  planned : IsPlanned image_text weights_text [] text
+
+planned_from : (input text : List ℕ) (parts : List (List ℕ)) → parts_of input ≡ parts → IsPlanAnswer false parts (Ok (text, None))
+    → Planned input text
+planned_from input text [] cut is = absurd is
+planned_from input text (image ∷ []) cut is = absurd is
+planned_from input text (image ∷ listed ∷ []) cut is = record { image_text = image; weights_text = listed; parts = cut; planned = is }
+planned_from input text (image ∷ listed ∷ more ∷ rest) cut is = absurd is
+
+pub good_behind_input : (input text : List ℕ) → IsEnded input → IsAnswerTo 2 (IsPlanAnswer false) input (Ok (text, None))
+    → length (input_with input text) ≤ input_limit → IsGoodBehindInput input text
+good_behind_input input text (before, ends) is within =
+    let from = planned_from input text (parts_of input) refl is.2 in
+    let cut : parts_of (input_with input text) ≡ from.image_text ∷ from.weights_text ∷ text ∷ [] =
+    rw ends (parts_behind before text)
+    ∙ ap (λ l. l ++ parts_of text) (ap parts_of (sym ends) ∙ from.parts)
+    ∙ ap (λ l. from.image_text ∷ from.weights_text ∷ l) (certificate_is_one_part text from.planned.certificate from.planned.read_again) in
+    record {
+      image_text = from.image_text;
+      weights_text = from.weights_text;
+      planned = from.planned;
+      parts = cut;
+      good = called_good from.image_text from.weights_text [] text from.planned (input_with input text) cut within;
+    }
+
+pub good_behind : (image listed kept text input : List ℕ) → parts_of input ≡ image ∷ listed ∷ kept ∷ []
+    → IsAnswerTo 3 (IsPlanAnswer true) input (Ok (text, None)) → IsGoodBehind image listed kept text
+good_behind image listed kept text input cut is =
+    let planned : IsPlanned image listed kept text = subst (λ l. IsPlanAnswer true l (Ok (text, None))) cut is.2 in
+    record { planned = planned; good = λ other within parts. called_good image listed kept text planned other parts within }

@@ -1,0 +1,37 @@
+-- What a command answers to its parts is among its answers to the input.
+use Rattle.std.proofs.Common.{◌≡◌, ℕ, ◌≤◌, Bool, List, [], ◌∷◌, length, Option, Some, None, IfSome, Ok, Err}
+use Rattle.applications.specs.WeightFaults.{IsAnswer}
+use Rattle.applications.specs.declared.weights.fault.WeightsFault.{WeightsFault}
+use Rattle.applications.specs.declared.weights.fault.WeightsFault.TheVariants as weights
+use Rattle.command_line.specs.CheckCommand.{IsCheckAnswer}
+use Rattle.command_line.specs.Faults.{fault_of_weights}
+use Rattle.command_line.specs.Limits.{input_limit}
+use Rattle.command_line.specs.Parts.{parts_of}
+use Rattle.command_line.specs.PlanningInputs.{Advertises}
+use Rattle.command_line.specs.Runs.{Answer, IsAnswerTo, IsOwnAnswer}
+use Rattle.command_line.specs.declared.fault.Fault.TheVariants as fault
+
+pub own_answer : (count : ℕ) (IsMine : List (List ℕ) → Answer → Type 0) (input : List ℕ) (a : Answer) → length input ≤ input_limit → length (parts_of input) ≡ count
+    → IsOwnAnswer IsMine (parts_of input) a → IsAnswerTo count IsMine input a
+own_answer count IsMine input (Ok text) within is own = (within, is, own)
+own_answer count IsMine input (Err fault.Memory) within is own = tt
+own_answer count IsMine input (Err fault.Io) within is own = absurd own
+own_answer count IsMine input (Err fault.TooLong) within is own = absurd own
+own_answer count IsMine input (Err (fault.Parts n)) within is own = absurd own
+own_answer count IsMine input (Err f) within is own = (within, is, own)
+
+-- what holds of the bytes that were read holds of the input, where that is known
+pub of_input : (o : Option (List ℕ)) (bytes : List ℕ) (P : List ℕ → Type 0) → IfSome o (λ input. (bytes ≡ input) × (length input ≤ input_limit))
+    → ((input : List ℕ) → bytes ≡ input → length input ≤ input_limit → P input) → IfSome o P
+of_input None bytes P h k = tt
+of_input (Some input) bytes P h k = k input h.0 h.1
+
+-- what follows of the input holds of it, where it is known
+pub if_known : {T : Type 0} (o : Option T) (P Q : T → Type 0) → ((x : T) → P x → Q x) → IfSome o P → IfSome o Q
+if_known None P Q k h = tt
+if_known (Some x) P Q k h = k x h
+
+pub check_weights_refused : (first : Bool) (image text certificate : List ℕ) (f : WeightsFault) → Advertises image → IsAnswer text (Err f)
+    → IsOwnAnswer (IsCheckAnswer first) (image ∷ text ∷ certificate ∷ []) (Err (fault_of_weights f))
+check_weights_refused first image text certificate weights.Memory told is = tt
+check_weights_refused first image text certificate f told is = (told, (λ same. absurd cc, is))

@@ -1,0 +1,67 @@
+-- The plan that is given, and the answer of the command `plan`, by what its texts answer.
+use Rattle.std.proofs.Common.{◌≡◌, ◌↔◌, ◌<◌, ℕ, Bool, All, AllPairs, Contains, List, [], ◌∷◌, None, Ok, Err, map, sym, subst}
+use Rattle.applications.specs.Advertised.{Advertised}
+use Rattle.applications.specs.Weights.{HostWeights}
+use Rattle.applications.specs.WeightFaults.{IsAnswer}
+use Rattle.applications.specs.declared.weights.fault.WeightsFault.{WeightsFault}
+use Rattle.applications.specs.declared.weights.fault.WeightsFault.TheVariants as weights
+use Rattle.lane_planner.specs.FirstBest.{IsFirstBest}
+use Rattle.lane_planner.specs.Gains.{IsGain}
+use Rattle.plan_certificate.specs.Certificates.{Claim, IsGood, state_of}
+use Rattle.plan_certificate.specs.Plans.{IsBest}
+use Rattle.plan_certificate.specs.ReachedStates.{IsReached}
+use Rattle.plan_certificate.specs.Verdicts.{verdict}
+use Rattle.plan_certificate.specs.declared.fault.KeptFault.{KeptFault}
+use Rattle.plan_certificate.specs.declared.path.Path.{Path}
+use Rattle.plan_certificate.specs.declared.state.State.{State}
+use Rattle.plan_certificate.specs.declared.verdict.Verdict.TheVariants.{Good}
+use Rattle.command_line.specs.Faults.{fault_of_weights}
+use Rattle.command_line.specs.GivenPlan.{IsGiven}
+use Rattle.command_line.specs.KeptParts.{with_kept}
+use Rattle.command_line.specs.PlanCommand.{IsPlanAnswer, IsPlanAnswerTo, IsPlanned}
+use Rattle.command_line.specs.PlanningInputs.{Advertises, AreKept, IsAdvertRefusal, IsAdvertText, IsKeptRefusal}
+use Rattle.command_line.specs.Runs.{Answer, IsOwnAnswer}
+use Rattle.command_line.specs.declared.fault.Fault.{Fault}
+use Rattle.command_line.specs.declared.fault.Fault.TheVariants as fault
+
+-- a certificate with these kept paths is given for their text
+module _ (image_text weights_text kept_text : List ℕ) (advert : Advertised) (listed : HostWeights) (kept : List Path) (certificate : Claim) where
+  unfoldable pub is_given : certificate.kept ≡ kept → IsAdvertText image_text advert → IsAnswer weights_text (Ok listed) → AreKept advert kept_text kept
+      → IsGood advert listed certificate → IsBest advert listed kept certificate.paths → IsFirstBest advert listed kept certificate.paths
+      → AllPairs (λ path later. path.host < later.host) certificate.paths
+      → All (λ entry. IsGain advert listed kept (state_of entry) entry.potential) certificate.entries
+      → ((state : State) → IsReached advert listed kept state ↔ Contains (map state_of certificate.entries) state)
+      → verdict advert listed certificate ≡ Good → IsGiven image_text weights_text kept_text certificate
+  is_given same is_advert are_weights are_kept good best first rising gains states judged = record {
+    advert = advert;
+    weights = listed;
+    is_advert = is_advert;
+    are_weights = are_weights;
+    are_kept = subst (λ (k : List Path). AreKept advert kept_text k) (sym same) are_kept;
+    is_good = good;
+    is_best = subst (λ (k : List Path). IsBest advert listed k certificate.paths) (sym same) best;
+    is_first = subst (λ (k : List Path). IsFirstBest advert listed k certificate.paths) (sym same) first;
+    rising = rising;
+    gains = subst (λ (k : List Path). All (λ entry. IsGain advert listed k (state_of entry) entry.potential) certificate.entries) (sym same) gains;
+    states = subst (λ (k : List Path). (state : State) → IsReached advert listed k state ↔ Contains (map state_of certificate.entries) state) (sym same) states;
+    judged_again = judged;
+  }
+
+module _ (keep : Bool) (parts : List (List ℕ)) (image listed kept : List ℕ) (texts : with_kept keep parts ≡ image ∷ listed ∷ kept ∷ []) where
+  as_texts : (a : Answer) → IsPlanAnswerTo (image ∷ listed ∷ kept ∷ []) a → IsPlanAnswer keep parts a
+  as_texts a is = subst (λ l. IsPlanAnswerTo l a) (sym texts) is
+
+  pub planned_answer : (text : List ℕ) → IsPlanned image listed kept text → IsOwnAnswer (IsPlanAnswer keep) parts (Ok (text, None))
+  planned_answer text is = as_texts (Ok (text, None)) is
+
+  pub advert_refused : (f : Fault) → IsAdvertRefusal image f → IsOwnAnswer (IsPlanAnswer keep) parts (Err f)
+  advert_refused (fault.Image f) is = as_texts (Err (fault.Image f)) is
+  advert_refused (fault.Advert f) is = as_texts (Err (fault.Advert f)) is
+  advert_refused f is = absurd is
+
+  pub weights_refused : (f : WeightsFault) → Advertises image → IsAnswer listed (Err f) → IsOwnAnswer (IsPlanAnswer keep) parts (Err (fault_of_weights f))
+  weights_refused weights.Memory told is = tt
+  weights_refused f told is = as_texts (Err (fault.Weights f)) (told, (λ same. absurd cc, is))
+
+  pub kept_refused : (f : KeptFault) → IsKeptRefusal image listed kept f → IsOwnAnswer (IsPlanAnswer keep) parts (Err (fault.Kept f))
+  kept_refused f is = as_texts (Err (fault.Kept f)) is

@@ -1,0 +1,61 @@
+use Rattle.std.proofs.Common.{refl, sym, ap, ◌∙◌, ◌∷◌, [], Err}
+use Rattle.std.proofs.lemmas.Result.{err_from_is_err_and}
+use Rattle.text_lines.specs.Lines.{text_of}
+use Rattle.plan_certificate.specs.Certificates.{Claim}
+use Rattle.plan_certificate.specs.declared.verdict.Verdict.TheVariants.{Bad}
+use Rattle.reports.specs.PlanText.{plan_lines}
+use Rattle.command_line.specs.CheckCommand.{IsCheckAnswer, IsGoodAnswer, IsJudged, good_line}
+use Rattle.command_line.specs.declared.fault.Fault.TheVariants.{Certificate}
+use Rattle.command_line.proofs.KnownParts.{part_at, three_parts}
+use Rattle.command_line.proofs.OwnAnswers.{check_weights_refused}
+use Rattle.command_line.proofs.commands.check_command.CheckCommandCommand.answer.Goals as goal
+
+pub returns-in_err-weights-clause-answer : goal.returns-in_err-weights-clause-answer
+returns-in_err-weights-clause-answer c =
+    let parts = c.args.parts.now in
+    let first = c.args.self.now.tells_first in
+    let p = err_from_is_err_and c.from_residual-in_err-weights.result c.from_residual-in_err-weights.ensures.1 in
+    rw (three_parts parts c.requires, p.1, p.2) (check_weights_refused first (part_at parts 0) (part_at parts 1) (part_at parts 2) c.in_err-weights.field-0.0 (c.in_ok-advert.advert, c.in_ok-advert.ensures) c.in_err-weights.ensures.answer)
+
+pub returns-in_err-certificate-clause-answer : goal.returns-in_err-certificate-clause-answer
+returns-in_err-certificate-clause-answer c =
+    let parts = c.args.parts.now in
+    let first = c.args.self.now.tells_first in
+    let p = err_from_is_err_and c.from_residual-in_err-certificate.result c.from_residual-in_err-certificate.ensures.1 in
+    let is : IsCheckAnswer first (part_at parts 0 ∷ part_at parts 1 ∷ part_at parts 2 ∷ []) (Err (Certificate c.in_err-certificate.field-0.0)) =
+    ((c.in_ok-advert.advert, c.in_ok-advert.ensures), (c.in_ok-weights.weights, c.in_ok-weights.ensures.answer), c.in_err-certificate.ensures.err) in
+    rw (three_parts parts c.requires, p.1, p.2) is
+
+pub returns-in_ok-good_text-in-Good-clause-answer : goal.returns-in_ok-good_text-in-Good-clause-answer
+returns-in_ok-good_text-in-Good-clause-answer c =
+    let parts = c.args.parts.now in
+    let first = c.args.self.now.tells_first in
+    let good : IsGoodAnswer first (part_at parts 0) (part_at parts 1) (part_at parts 2) c.in_ok-good_text-in-Good.field-0.items = record {
+      judged = record {
+        advert = c.in_ok-advert.advert;
+        weights = c.in_ok-weights.weights;
+        certificate = c.in_ok-certificate.certificate;
+        is_advert = c.in_ok-advert.ensures;
+        are_weights = c.in_ok-weights.ensures.answer;
+        is_certificate = c.in_ok-certificate.ensures.ok;
+        is_verdict = sym c.in-Good.ensures.verdict;
+      };
+      is_best = c.in-Good.ensures.best refl;
+      told = c.in_ok-good_text-in-Good.ensures;
+    } in
+    rw (three_parts parts c.requires) good
+
+pub returns-in-Bad-clause-answer : goal.returns-in-Bad-clause-answer
+returns-in-Bad-clause-answer c =
+    let parts = c.args.parts.now in
+    let first = c.args.self.now.tells_first in
+    let bad : IsJudged (part_at parts 0) (part_at parts 1) (part_at parts 2) (Bad c.in-Bad.reason c.in-Bad.number) = record {
+      advert = c.in_ok-advert.advert;
+      weights = c.in_ok-weights.weights;
+      certificate = c.in_ok-certificate.certificate;
+      is_advert = c.in_ok-advert.ensures;
+      are_weights = c.in_ok-weights.ensures.answer;
+      is_certificate = c.in_ok-certificate.ensures.ok;
+      is_verdict = sym c.in-Bad.ensures.verdict;
+    } in
+    rw (three_parts parts c.requires) bad

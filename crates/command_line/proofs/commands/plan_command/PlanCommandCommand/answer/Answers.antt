@@ -1,0 +1,52 @@
+use Rattle.std.proofs.lemmas.Result.{err_from_is_err_and}
+use Rattle.command_line.specs.KeptParts.{kept_part}
+use Rattle.command_line.specs.PlanCommand.{IsPlanned}
+use Rattle.command_line.specs.PlanningInputs.{IsKeptRefusal}
+use Rattle.command_line.proofs.KnownParts.{kept_last, part_at, texts_of}
+use Rattle.command_line.proofs.PlanAnswers.{advert_refused, is_given, kept_refused, planned_answer, weights_refused}
+use Rattle.command_line.proofs.commands.plan_command.PlanCommandCommand.answer.Goals as goal
+
+pub returns-in_err-advert-clause-answer : goal.returns-in_err-advert-clause-answer
+returns-in_err-advert-clause-answer c =
+    let parts = c.args.parts.now in
+    let keep = c.args.self.now.keeps in
+    let p = err_from_is_err_and c.from_residual.result c.from_residual.ensures.1 in
+    rw (p.1, p.2) (advert_refused keep (texts_of parts) (part_at parts 0) (part_at parts 1) (kept_part keep (texts_of parts)) (kept_last keep parts c.requires) c.in_err-advert.field-0.0 c.in_err-advert.ensures)
+
+pub returns-in_err-weights-clause-answer : goal.returns-in_err-weights-clause-answer
+returns-in_err-weights-clause-answer c =
+    let parts = c.args.parts.now in
+    let keep = c.args.self.now.keeps in
+    let p = err_from_is_err_and c.from_residual-in_err-weights.result c.from_residual-in_err-weights.ensures.1 in
+    rw (p.1, p.2) (weights_refused keep (texts_of parts) (part_at parts 0) (part_at parts 1) (kept_part keep (texts_of parts)) (kept_last keep parts c.requires) c.in_err-weights.field-0.0
+    (c.in_ok-advert.advert, c.in_ok-advert.ensures) c.in_err-weights.ensures.answer)
+
+pub returns-in_err-kept-clause-answer : goal.returns-in_err-kept-clause-answer
+returns-in_err-kept-clause-answer c =
+    let parts = c.args.parts.now in
+    let keep = c.args.self.now.keeps in
+    let p = err_from_is_err_and c.from_residual-in_err-kept.result c.from_residual-in_err-kept.ensures.1 in
+    let refused : IsKeptRefusal (part_at parts 0) (part_at parts 1) (kept_part keep (texts_of parts)) c.in_err-kept.field-0.0 = record {
+      advert = c.in_ok-advert.advert;
+      weights = c.in_ok-weights.weights;
+      is_advert = c.in_ok-advert.ensures;
+      are_weights = c.in_ok-weights.ensures.answer;
+      are_not_kept = rw c.kept_part.ensures at c.in_err-kept.ensures;
+    } in
+    rw (p.1, p.2) (kept_refused keep (texts_of parts) (part_at parts 0) (part_at parts 1) (kept_part keep (texts_of parts)) (kept_last keep parts c.requires) c.in_err-kept.field-0.0 refused)
+
+pub returns-clause-answer : goal.returns-clause-answer
+returns-clause-answer c =
+    let parts = c.args.parts.now in
+    let keep = c.args.self.now.keeps in
+    let kept_text = kept_part keep (texts_of parts) in
+    let all = c.plan_keeping.ensures in
+    let planned : IsPlanned (part_at parts 0) (part_at parts 1) kept_text c.in_ok-write.field-0.items = record {
+      certificate = c.plan_keeping.result;
+      given = is_given (part_at parts 0) (part_at parts 1) kept_text c.in_ok-advert.advert c.in_ok-weights.weights c.in_ok-kept.kept c.plan_keeping.result
+          all.kept c.in_ok-advert.ensures c.in_ok-weights.ensures.answer (rw c.kept_part.ensures at c.in_ok-kept.ensures)
+          all.good all.best all.first all.rising all.gains all.states all.judged;
+      told = c.in_ok-write.ensures.written;
+      read_again = c.in_ok-write.ensures.read_back;
+    } in
+    planned_answer keep (texts_of parts) (part_at parts 0) (part_at parts 1) kept_text (kept_last keep parts c.requires) c.in_ok-write.field-0.items planned

@@ -1,0 +1,72 @@
+-- What the command `check` answers to its parts, with the flag `--first` or without it. (docs/formats.md, "Input" and "check")
+use Rattle.std.specs.Prelude.{◌≡◌, ◌↔◌, ℕ, Bool, true, false, IsTrue, List, [], ◌∷◌, ◌++◌, ◌==◌, if◌then◌else◌, length, codes, None, Ok, Err}
+use Rattle.std.specs.Fmt.{decimal}
+use Rattle.text_lines.specs.Lines.{lines_of, text_of}
+use Rattle.text_lines.specs.Words.{spaced}
+use Rattle.applications.specs.Advertised.{Advertised}
+use Rattle.applications.specs.Weights.{HostWeights}
+use Rattle.applications.specs.WeightFaults.{IsAnswer}
+use Rattle.plan_certificate.specs.Certificates.{Claim}
+use Rattle.plan_certificate.specs.CertificateText.{IsTextOf}
+use Rattle.plan_certificate.specs.CertificateFaults.{IsFirstFault}
+use Rattle.plan_certificate.specs.Plans.{IsBest}
+use Rattle.plan_certificate.specs.Verdicts.{verdict}
+use Rattle.plan_certificate.specs.declared.verdict.Verdict.{Verdict}
+use Rattle.plan_certificate.specs.declared.verdict.Verdict.TheVariants.{Good, Bad}
+use Rattle.lane_planner.specs.FirstBest.{IsFirstBest}
+use Rattle.reports.specs.PlanText.{plan_lines}
+use Rattle.plan_certificate.specs.declared.state.TheConstants.{STATES}
+use Rattle.command_line.specs.declared.fault.Fault.TheVariants as fault
+use Rattle.command_line.specs.PlanningInputs.{Advertises, IsAdvertText, IsAdvertRefusal, IsWeightsRefusal}
+use Rattle.command_line.specs.Runs.{Answer}
+
+unfoldable pub good_line : List ℕ
+good_line = codes "good"
+
+unfoldable pub kept_line : ℕ → List ℕ
+kept_line count = spaced (codes "kept" ∷ decimal count ∷ [])
+
+-- how many paths are kept, where some are
+abbrev pub kept_lines : ℕ → List (List ℕ)
+kept_lines count = if count == 0 then [] else kept_line count ∷ []
+
+unfoldable pub first_line : Bool → List ℕ
+first_line true = codes "first yes"
+first_line false = codes "first no"
+
+-- whether the plan is the first of the best, where that is asked for
+abbrev pub SaysFirst : Bool → Advertised → HostWeights → Claim → List (List ℕ) → Type 0
+SaysFirst true advert weights certificate lines =
+    (is_first : Bool) × (IsTrue is_first ↔ IsFirstBest advert weights certificate.kept certificate.paths) × (lines ≡ first_line is_first ∷ [])
+SaysFirst false advert weights certificate lines = lines ≡ []
+
+-- what is told of a good certificate: how many paths it keeps, its plan, and whether that is the first
+pub record TellsGood (first : Bool) (advert : Advertised) (weights : HostWeights) (certificate : Claim) (text : List ℕ) : Type 0 where
+  pub first_lines : List (List ℕ)
+  pub says_first : SaysFirst first advert weights certificate first_lines
+  pub told : text ≡ text_of (good_line ∷ kept_lines (length certificate.kept) ++ plan_lines advert weights certificate.paths ++ first_lines)
+
+-- the texts are those of an image, of weights and of a certificate, of which this is the verdict
+pub record IsJudged (image_text weights_text certificate_text : List ℕ) (judged : Verdict) : Type 0 where
+  pub advert : Advertised
+  pub weights : HostWeights
+  pub certificate : Claim
+  pub is_advert : IsAdvertText image_text advert
+  pub are_weights : IsAnswer weights_text (Ok weights)
+  pub is_certificate : IsTextOf STATES (lines_of certificate_text) certificate
+  pub is_verdict : verdict advert weights certificate ≡ judged
+
+-- the certificate is good, so its plan is best among those that hold the kept paths, and the plan is told
+pub record IsGoodAnswer (first : Bool) (image_text weights_text certificate_text text : List ℕ) : Type 0 where
+  pub judged : IsJudged image_text weights_text certificate_text Good
+  pub is_best : IsBest judged.advert judged.weights judged.certificate.kept judged.certificate.paths
+  pub told : TellsGood first judged.advert judged.weights judged.certificate text
+
+abbrev pub IsCheckAnswer : Bool → List (List ℕ) → Answer → Type 0
+IsCheckAnswer first (image ∷ weights ∷ certificate ∷ []) (Ok (text, None)) = IsGoodAnswer first image weights certificate text
+IsCheckAnswer first (image ∷ weights ∷ certificate ∷ []) (Err (fault.Bad reason number)) = IsJudged image weights certificate (Bad reason number)
+IsCheckAnswer first (image ∷ weights ∷ certificate ∷ []) (Err (fault.Certificate f)) =
+    Advertises image × ((listed : HostWeights) × IsAnswer weights (Ok listed)) × IsFirstFault STATES (lines_of certificate) f
+IsCheckAnswer first (image ∷ weights ∷ certificate ∷ []) (Err (fault.Weights f)) = Advertises image × IsWeightsRefusal weights f
+IsCheckAnswer first (image ∷ weights ∷ certificate ∷ []) (Err f) = IsAdvertRefusal image f
+IsCheckAnswer first parts answer = ⊥

@@ -1,0 +1,94 @@
+-- The command line `cmisctl COMMAND [FLAGS]`, as `clap` reads it (docs/formats.md): one level of
+-- subcommands, one of them required, each with its own flags.
+use Rattle.std.specs.Prelude.{Bool, true, false, List, [], ◌∷◌, fold, Option, Some}
+use Rattle.std.specs.Prelude.{codes, find, option_map, option_and_then}
+use Rattle.std.specs.Option.{option_map_or}
+use Rattle.std.specs.Str.{bytes_eq}
+use Rattle.clap.specs.Words.{App, Row, Rule, Text, first_of, new_app, new_rule, subcommand_of}
+use Rattle.clap.specs.Words.{fault_of, with_rule, with_subcommand, Kinds}
+use Rattle.clap.specs.Simple.{on_top}
+use Rattle.clap.specs.declared.builder.action.ArgAction.TheVariants.{SetTrue}
+use Rattle.command_line.specs.declared.choice.commands.CommandName.{CommandName}
+use Rattle.command_line.specs.declared.choice.commands.CommandName.TheVariants.{Inventory, Apps, Monitors, Flags, Plan, Check, Provision, Trace}
+use Rattle.command_line.specs.declared.choice.commands.Choice.{Choice}
+
+-- a command, by its name among the words, and the names of its flags
+pub record Entry : Type 0 where
+  pub name : Text
+  pub command : CommandName
+  pub flags : List Text
+
+abbrev pub bus : Text
+bus = codes "bus"
+
+abbrev pub activate : Text
+activate = codes "activate"
+
+abbrev pub keep : Text
+keep = codes "keep"
+
+abbrev pub first : Text
+first = codes "first"
+
+unfoldable pub commands : List Entry
+commands =
+    record { name = codes "inventory"; command = Inventory; flags = bus ∷ [] }
+    ∷ record { name = codes "apps"; command = Apps; flags = bus ∷ [] }
+    ∷ record { name = codes "monitors"; command = Monitors; flags = bus ∷ [] }
+    ∷ record { name = codes "flags"; command = Flags; flags = bus ∷ [] }
+    ∷ record { name = codes "plan"; command = Plan; flags = keep ∷ [] }
+    ∷ record { name = codes "check"; command = Check; flags = first ∷ [] }
+    ∷ record { name = codes "provision"; command = Provision; flags = activate ∷ keep ∷ [] }
+    ∷ record { name = codes "trace"; command = Trace; flags = activate ∷ keep ∷ [] }
+    ∷ []
+
+-- `--name`, without a value and at most once
+abbrev pub flag_rule : Text → Rule
+flag_rule name = record (new_rule name) { long = Some name; action = Some SetTrue }
+
+-- a command and its flags
+abbrev pub command_app : Entry → App
+command_app entry =
+    fold (λ app flag. with_rule app (flag_rule flag)) (new_app entry.name) entry.flags
+
+-- the program before its commands: one of them is required, and `help` is none of them
+abbrev pub bare_program : App
+bare_program = on_top (λ s. record s {
+  subcommand_required = true;
+  disable_help_subcommand = true;
+}) (new_app (codes "cmisctl"))
+
+-- the program with these commands
+abbrev pub program_of : List Entry → App
+program_of entries =
+    fold (λ app entry. with_subcommand app (command_app entry).top) bare_program entries
+
+unfoldable pub program : App
+unfolding commands
+program = program_of commands
+
+-- the command of this name
+abbrev pub entry_named : Text → Option Entry
+entry_named name = find (λ entry. bytes_eq entry.name name) commands
+
+-- `clap` gives a flag the value `true` where it stands among the words
+abbrev pub is_given : Text → List Row → Bool
+is_given flag rows = option_map_or (λ value. bytes_eq value (codes "true")) (first_of flag rows) false
+
+-- the choice that a subcommand and its matches make, where there is one
+abbrev pub choice_in : Option (Text × List Row) → Option Choice
+choice_in = option_and_then (λ found. option_map (λ entry. record {
+  name = entry.command;
+  bus = is_given bus found.1;
+  activate = is_given activate found.1;
+  keep = is_given keep found.1;
+  first = is_given first found.1;
+}) (entry_named found.0))
+
+-- the choice that the words make
+abbrev pub choice_of : List Text → Option Choice
+choice_of words = choice_in (subcommand_of program words)
+
+-- the kinds of error that `clap` may answer to the words, none where it takes them
+abbrev pub faults_of : List Text → Kinds
+faults_of words = fault_of program words

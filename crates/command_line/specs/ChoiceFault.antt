@@ -1,0 +1,37 @@
+-- Why a command line gives no choice, and what the program then says (docs/formats.md).
+use Rattle.std.specs.Prelude.{◌≢◌, ⊤}
+use Rattle.clap.specs.Words.{IsAmong, Kinds, kind_of}
+use Rattle.clap.specs.declared.error.Error.{Error}
+use Rattle.clap.specs.declared.error.kind.ErrorKind.{ErrorKind}
+use Rattle.clap.specs.declared.error.kind.ErrorKind.TheVariants.{DisplayHelp, DisplayVersion}
+use Rattle.clap.specs.declared.error.kind.ErrorKind.TheVariants.{OutOfMemory}
+use Rattle.command_line.specs.declared.choice.fault.ChoiceFault.{ChoiceFault}
+use Rattle.command_line.specs.declared.choice.fault.ChoiceFault.TheVariants.{Memory, Line}
+use Rattle.command_line.specs.declared.status.Status.{Status}
+use Rattle.command_line.specs.declared.status.Status.TheVariants as status
+
+-- the fault of an error of this kind
+abbrev pub fault_by_kind : ErrorKind → Error → ChoiceFault
+fault_by_kind OutOfMemory error = Memory
+fault_by_kind _ error = Line error
+
+-- what `clap`'s error comes to: its want of memory is the program's
+abbrev pub fault_of_error : Error → ChoiceFault
+fault_of_error error = fault_by_kind (kind_of error) error
+
+-- help and the version were asked for; the rest are mistakes
+abbrev pub status_by_kind : ErrorKind → Status
+status_by_kind DisplayHelp = status.Done
+status_by_kind DisplayVersion = status.Done
+status_by_kind _ = status.CommandLine
+
+-- how the program ends where there is no choice
+abbrev pub status_of_fault : ChoiceFault → Status
+status_of_fault Memory = status.Memory
+status_of_fault (Line error) = status_by_kind (kind_of error)
+
+-- an allocation was refused, or the words are refused for one of these kinds, of which none is want
+-- of memory
+abbrev pub IsFaultAmong : Kinds → ChoiceFault → Type 0
+IsFaultAmong kinds Memory = ⊤
+IsFaultAmong kinds (Line error) = IsAmong (kind_of error) kinds × (kind_of error ≢ OutOfMemory)

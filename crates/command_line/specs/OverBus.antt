@@ -1,0 +1,58 @@
+-- What a report speaks of: the memory of the image that is given, or what is read of its module over a bus that refuses
+-- nothing by itself. (docs/formats.md, "Reports over a bus"; docs/bus.md, "Windows" and "Reading an image")
+use Rattle.std.specs.Prelude.{◌≡◌, ℕ, Bool, true, false, List, [], Result, Ok, Err}
+use Rattle.text_lines.specs.Lines.{lines_of}
+use Rattle.bus_model.specs.Runs.{IsFull, Seen}
+use Rattle.bus_model.specs.ScriptedBus.{script_rules}
+use Rattle.bus_model.specs.declared.script.Directive.{Directive}
+use Rattle.paged_memory.specs.Images.{Memory}
+use Rattle.paged_memory.specs.ImageText.{IsTextOf}
+use Rattle.paged_memory.specs.ImageFaults.{IsFirstFault}
+use Rattle.paged_memory.specs.Windows.{Windowed, started, window_conduct}
+use Rattle.control_sets.specs.Procedures.{MakesHistory}
+use Rattle.reports.specs.FetchedImages.{IsFetching}
+use Rattle.reports.specs.declared.fault.ReportFault.{ReportFault}
+use Rattle.command_line.specs.declared.fault.Fault.{Fault}
+use Rattle.command_line.specs.declared.fault.Fault.TheVariants as fault
+
+-- the steps made on a bus, the script that is left, and the window
+abbrev pub WindowBus : Type 0
+WindowBus = Seen (List Directive × Windowed)
+
+-- before any step, without a script, with a new window of a memory
+abbrev pub window_at_start : Memory → WindowBus
+window_at_start memory = record { steps = []; room = 4096; state = ([], started memory) }
+
+-- to read the module of this memory over that bus is answered so
+abbrev pub IsFetchedFrom : Memory → Result Memory ReportFault → Type 0
+IsFetchedFrom memory answer =
+    (after : WindowBus) × MakesHistory (script_rules window_conduct) (window_at_start memory) after (λ history. IsFetching (IsFull after) history answer)
+
+-- why nothing is: there is no room for the steps, or the reading has a fault
+abbrev pub IsFetchRefusal : Memory → Fault → Type 0
+IsFetchRefusal memory fault.Memory = Unit {0}
+IsFetchRefusal memory (fault.Report f) = IsFetchedFrom memory (Err f)
+IsFetchRefusal memory f = ⊥
+
+-- the text is that of an image, and to read its module over a bus is answered so
+pub record IsReadOverBus (text : List ℕ) (answer : Result Memory ReportFault) : Type 0 where
+  pub memory : Memory
+  pub is_text : IsTextOf (lines_of text) memory
+  pub fetched : IsFetchedFrom memory answer
+
+-- what is reported of by the text of an image: over a bus, or the image itself
+abbrev pub IsToReport : Bool → List ℕ → Memory → Type 0
+IsToReport true text memory = IsReadOverBus text (Ok memory)
+IsToReport false text memory = IsTextOf (lines_of text) memory
+
+-- the reading over a bus has this fault
+abbrev pub IsUnread : Bool → List ℕ → ReportFault → Type 0
+IsUnread true text f = IsReadOverBus text (Err f)
+IsUnread false text f = ⊥
+
+-- why there is nothing to report of: the steps of a bus alone want memory
+abbrev pub IsInputRefusal : Bool → List ℕ → Fault → Type 0
+IsInputRefusal bus text fault.Memory = bus ≡ true
+IsInputRefusal bus text (fault.Image f) = IsFirstFault (lines_of text) f
+IsInputRefusal bus text (fault.Report f) = IsUnread bus text f
+IsInputRefusal bus text f = ⊥

@@ -1,0 +1,30 @@
+-- What the command `plan` answers to its parts. (docs/formats.md, "Input" and "plan")
+use Rattle.std.specs.Prelude.{◌≡◌, ℕ, Bool, List, [], ◌∷◌, None, Ok, Err}
+use Rattle.text_lines.specs.Lines.{lines_of, text_of}
+use Rattle.plan_certificate.specs.Certificates.{Claim}
+use Rattle.plan_certificate.specs.CertificateText.{IsTextOf, certificate_lines}
+use Rattle.plan_certificate.specs.declared.state.TheConstants.{STATES}
+use Rattle.command_line.specs.declared.fault.Fault.TheVariants as fault
+use Rattle.command_line.specs.GivenPlan.{IsGiven}
+use Rattle.command_line.specs.KeptParts.{with_kept}
+use Rattle.command_line.specs.PlanningInputs.{Advertises, IsAdvertRefusal, IsKeptRefusal, IsWeightsRefusal}
+use Rattle.command_line.specs.Runs.{Answer}
+
+-- the certificate of the plan that is given, as its text, which is read as it again
+pub record IsPlanned (image_text weights_text kept_text text : List ℕ) : Type 0 where
+  pub certificate : Claim
+  pub given : IsGiven image_text weights_text kept_text certificate
+  pub told : text ≡ text_of (certificate_lines certificate)
+  pub read_again : IsTextOf STATES (lines_of text) certificate
+
+-- the answer to the texts of an image, of weights and of kept paths
+abbrev pub IsPlanAnswerTo : List (List ℕ) → Answer → Type 0
+IsPlanAnswerTo (image ∷ weights ∷ kept ∷ []) (Ok (text, None)) = IsPlanned image weights kept text
+IsPlanAnswerTo (image ∷ weights ∷ kept ∷ []) (Err (fault.Kept f)) = IsKeptRefusal image weights kept f
+IsPlanAnswerTo (image ∷ weights ∷ kept ∷ []) (Err (fault.Weights f)) = Advertises image × IsWeightsRefusal weights f
+IsPlanAnswerTo (image ∷ weights ∷ kept ∷ []) (Err f) = IsAdvertRefusal image f
+IsPlanAnswerTo texts answer = ⊥
+
+-- the answer to its parts, with the flag `--keep` or without it
+abbrev pub IsPlanAnswer : Bool → List (List ℕ) → Answer → Type 0
+IsPlanAnswer keep parts = IsPlanAnswerTo (with_kept keep parts)

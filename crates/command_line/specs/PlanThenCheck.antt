@@ -1,0 +1,48 @@
+-- What `check` answers to the text that `plan` wrote, in its place behind the same image and weights. (docs/formats.md, "check")
+use Rattle.std.specs.Prelude.{◌≡◌, ◌≢◌, ℕ, ◌≤◌, Bool, true, false, List, [], ◌∷◌, ◌++◌, length, codes, None, Ok, Err}
+use Rattle.text_lines.specs.Lines.{text_of}
+use Rattle.reports.specs.PlanText.{plan_lines}
+use Rattle.command_line.specs.CheckCommand.{IsCheckAnswer, first_line, good_line, kept_lines}
+use Rattle.command_line.specs.Limits.{input_limit}
+use Rattle.command_line.specs.Parts.{parts_of}
+use Rattle.command_line.specs.PlanCommand.{IsPlanned}
+use Rattle.command_line.specs.Runs.{Answer, IsAnswerTo}
+use Rattle.command_line.specs.declared.fault.Fault.TheVariants.{Memory, Io}
+
+-- an LF ends the last line
+abbrev pub IsEnded : List ℕ → Type 0
+IsEnded text = (before : List ℕ) × (text ≡ before ++ 10 ∷ [])
+
+-- an input, a line `---` and a certificate's text
+abbrev pub input_with : List ℕ → List ℕ → List ℕ
+input_with input certificate_text = input ++ (codes "---\n" ++ certificate_text)
+
+-- the plan is the first of the best, where that is asked for
+abbrev pub first_lines : Bool → List (List ℕ)
+first_lines true = first_line true ∷ []
+first_lines false = []
+
+-- `good`, and the plan that was given
+abbrev pub good_text : {image_text weights_text kept_text text : List ℕ} → Bool → IsPlanned image_text weights_text kept_text text → List ℕ
+good_text first planned = text_of (good_line ∷ kept_lines (length planned.certificate.kept)
+    ++ plan_lines planned.given.advert planned.given.weights planned.certificate.paths ++ first_lines first)
+
+-- with the flag `--first` or without it, `check` answers `good` and the plan to this input, and, where no allocation and no read
+-- is refused, nothing else
+pub record IsCalledGood {image_text weights_text kept_text text : List ℕ} (planned : IsPlanned image_text weights_text kept_text text) (input : List ℕ) : Type 0 where
+  pub good : (first : Bool) → IsAnswerTo 3 (IsCheckAnswer first) input (Ok (good_text first planned, None))
+  pub alone : (first : Bool) (answer : Answer) → IsAnswerTo 3 (IsCheckAnswer first) input answer → answer ≢ Err Memory → answer ≢ Err Io
+      → answer ≡ Ok (good_text first planned, None)
+
+-- the text is of the plan of these texts, and behind the image and the weights `check` calls it good
+pub record IsGoodBehind (image_text weights_text kept_text text : List ℕ) : Type 0 where
+  pub planned : IsPlanned image_text weights_text kept_text text
+  pub good : (input : List ℕ) → length input ≤ input_limit → parts_of input ≡ image_text ∷ weights_text ∷ text ∷ [] → IsCalledGood planned input
+
+-- the text is of the plan of an input without kept paths, and is the third part behind that input
+pub record IsGoodBehindInput (input text : List ℕ) : Type 0 where
+  pub image_text : List ℕ
+  pub weights_text : List ℕ
+  pub planned : IsPlanned image_text weights_text [] text
+  pub parts : parts_of (input_with input text) ≡ image_text ∷ weights_text ∷ text ∷ []
+  pub good : IsCalledGood planned (input_with input text)

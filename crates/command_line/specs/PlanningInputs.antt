@@ -1,0 +1,72 @@
+-- What commands that plan read: what a module advertises, weights, and the paths that the plan keeps. (docs/formats.md, "Input")
+use Rattle.std.specs.Prelude.{◌≡◌, ◌≢◌, ℕ, List, Some, None, Ok, Err}
+use Rattle.text_lines.specs.Lines.{lines_of}
+use Rattle.paged_memory.specs.Images.{Memory}
+use Rattle.paged_memory.specs.ImageText.{IsTextOf}
+use Rattle.paged_memory.specs.ImageFaults.{IsFirstFault}
+use Rattle.applications.specs.Advertised.{Advertised, advertised_by}
+use Rattle.applications.specs.Refusals.{advert_fault}
+use Rattle.applications.specs.WeightFaults.{IsAnswer}
+use Rattle.applications.specs.declared.weights.fault.WeightsFault.{WeightsFault}
+use Rattle.applications.specs.declared.weights.fault.WeightsFault.TheVariants as weights
+use Rattle.applications.specs.Weights.{HostWeights}
+use Rattle.plan_certificate.specs.KeptText.{IsFirstKeptFault, IsKeptText}
+use Rattle.plan_certificate.specs.Plans.{IsAdmissible}
+use Rattle.plan_certificate.specs.Verdicts.{kept_fault}
+use Rattle.plan_certificate.specs.declared.fault.KeptFault.{KeptFault}
+use Rattle.plan_certificate.specs.declared.fault.KeptFault.TheVariants.{NotAdmissible}
+use Rattle.plan_certificate.specs.declared.path.Path.{Path}
+use Rattle.command_line.specs.declared.fault.Fault.{Fault}
+use Rattle.command_line.specs.declared.fault.Fault.TheVariants as fault
+
+-- the text is that of this image, whose module advertises this
+pub record IsModuleText (text : List ℕ) (memory : Memory) (advert : Advertised) : Type 0 where
+  pub is_text : IsTextOf (lines_of text) memory
+  pub accepted : advert_fault memory ≡ None
+  pub advertised : advert ≡ advertised_by memory
+
+-- the text is that of an image whose module advertises this
+pub record IsAdvertText (text : List ℕ) (advert : Advertised) : Type 0 where
+  pub memory : Memory
+  pub is_module : IsModuleText text memory advert
+
+-- the text is that of an image whose module says what it advertises
+abbrev pub Advertises : List ℕ → Type 0
+Advertises text = (advert : Advertised) × IsAdvertText text advert
+
+-- the text is no image's, or the module doesn't say what it advertises
+abbrev pub IsAdvertRefusal : List ℕ → Fault → Type 0
+IsAdvertRefusal text (fault.Image f) = IsFirstFault (lines_of text) f
+IsAdvertRefusal text (fault.Advert f) = (memory : Memory) × IsTextOf (lines_of text) memory × (advert_fault memory ≡ Some f)
+IsAdvertRefusal text f = ⊥
+
+-- the text lists no weights
+abbrev pub IsWeightsRefusal : List ℕ → WeightsFault → Type 0
+IsWeightsRefusal text f = (f ≢ weights.Memory) × IsAnswer text (Err f)
+
+-- the text is that of these kept paths, which the module can carry together
+pub record AreKept (advert : Advertised) (text : List ℕ) (kept : List Path) : Type 0 where
+  pub is_text : IsKeptText (lines_of text) kept
+  pub admissible : IsAdmissible advert kept
+
+-- the text names no kept paths, or some that the module can't carry, of which this is the first
+abbrev pub AreNotKept : Advertised → List ℕ → KeptFault → Type 0
+AreNotKept advert text (NotAdmissible number) = (kept : List Path) × IsKeptText (lines_of text) kept × (kept_fault advert kept ≡ Some number)
+AreNotKept advert text f = IsFirstKeptFault (lines_of text) f
+
+-- the image and the weights are accepted, and the kept paths are not
+pub record IsKeptRefusal (image_text weights_text kept_text : List ℕ) (refused : KeptFault) : Type 0 where
+  pub advert : Advertised
+  pub weights : HostWeights
+  pub is_advert : IsAdvertText image_text advert
+  pub are_weights : IsAnswer weights_text (Ok weights)
+  pub are_not_kept : AreNotKept advert kept_text refused
+
+-- the image, the weights and the kept paths are accepted
+pub record ArePlanningInputs (image_text weights_text kept_text : List ℕ) : Type 0 where
+  pub advert : Advertised
+  pub weights : HostWeights
+  pub kept : List Path
+  pub is_advert : IsAdvertText image_text advert
+  pub are_weights : IsAnswer weights_text (Ok weights)
+  pub are_kept : AreKept advert kept_text kept

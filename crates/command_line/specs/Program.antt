@@ -1,0 +1,89 @@
+-- One run of the whole program, from the words of its command line and its input to what it writes and how it ends.
+-- (docs/formats.md)
+use Rattle.std.specs.Prelude.{◌≡◌, ◌⊎◌, ◌++◌, ◌∷◌, ℕ, Bool, true, false, List, [], map, codes, string_bytes, Option, Some, Result, Ok, Err, Vec, String}
+use Rattle.std.specs.Result.{result_map_both}
+use Rattle.std.specs.IoError.{error_kind}
+use Rattle.std.specs.Io.KnownBytes.{Appends}
+use Rattle.std.specs.declared.alloc.Global.{Global}
+use Rattle.std.specs.declared.io.Error.{Error}
+use Rattle.std.specs.declared.io.ErrorKind.{ErrorKind}
+use Rattle.std.specs.declared.io.ErrorKind.TheVariants.{OutOfMemory}
+use Rattle.clap.specs.Words.{Text, takes}
+use Rattle.command_line.specs.Choice.{choice_of, faults_of, program}
+use Rattle.command_line.specs.ChoiceFault.{IsFaultAmong, status_of_fault}
+use Rattle.command_line.specs.CheckCommand.{IsCheckAnswer}
+use Rattle.command_line.specs.Faults.{fault_line}
+use Rattle.command_line.specs.KeptParts.{count_with}
+use Rattle.command_line.specs.PlanCommand.{IsPlanAnswer}
+use Rattle.command_line.specs.ProvisionCommand.{IsProvisionAnswer, IsTraceAnswer}
+use Rattle.command_line.specs.ReportCommands.{IsInventoryAnswer, IsAppsAnswer, IsMonitorsAnswer, IsFlagsAnswer}
+use Rattle.command_line.specs.Runs.{Answer, IsAnswerTo, IsCommandRun, ended}
+use Rattle.command_line.specs.StoppingWriter.{contents_of, writing_failed}
+use Rattle.command_line.specs.declared.choice.commands.Choice.{Choice}
+use Rattle.command_line.specs.declared.choice.commands.CommandName.{CommandName}
+use Rattle.command_line.specs.declared.choice.commands.CommandName.TheVariants.{Inventory, Apps, Monitors, Flags, Plan, Check, Provision, Trace}
+use Rattle.command_line.specs.declared.choice.fault.ChoiceFault.{ChoiceFault}
+use Rattle.command_line.specs.declared.choice.fault.ChoiceFault.TheVariants.{Memory}
+use Rattle.command_line.specs.declared.fault.Fault.TheVariants as fault
+use Rattle.command_line.specs.declared.input.counted_reader.CountedReader.{CountedReader}
+use Rattle.command_line.specs.declared.output.stopping_writer.StoppingWriter.{StoppingWriter}
+use Rattle.command_line.specs.declared.status.Status.{Status}
+use Rattle.command_line.specs.declared.status.Status.TheVariants as status
+
+-- what each command answers to an input, with the flags that are given
+abbrev pub IsAnswerBy : CommandName → Choice → List ℕ → Answer → Type 0
+IsAnswerBy Inventory given = IsAnswerTo 1 (IsInventoryAnswer given.bus)
+IsAnswerBy Apps given = IsAnswerTo 1 (IsAppsAnswer given.bus)
+IsAnswerBy Monitors given = IsAnswerTo 1 (IsMonitorsAnswer given.bus)
+IsAnswerBy Flags given = IsAnswerTo 1 (IsFlagsAnswer given.bus)
+IsAnswerBy Plan given = IsAnswerTo (count_with given.keep 2) (IsPlanAnswer given.keep)
+IsAnswerBy Check given = IsAnswerTo 3 (IsCheckAnswer given.first)
+IsAnswerBy Provision given = IsAnswerTo (count_with given.keep 3) (IsProvisionAnswer given.activate given.keep)
+IsAnswerBy Trace given = IsAnswerTo (count_with given.keep 3) (IsTraceAnswer given.activate given.keep)
+
+abbrev pub IsAnswerOf : Choice → List ℕ → Answer → Type 0
+IsAnswerOf choice = IsAnswerBy choice.name choice
+
+-- the words give no choice: `clap` refuses them, or an allocation was refused
+abbrev pub IsRefusalOf : List Text → ChoiceFault → Type 0
+IsRefusalOf words fault = IsFaultAmong (faults_of words) fault × (takes program words ≡ true → fault ≡ Memory)
+
+-- a refusal was said, want of memory in its own line, and the run ended so
+abbrev pub IsRefusalSaid : ChoiceFault → Option (List ℕ) → Option (List ℕ) → Bool → Status → Type 0
+IsRefusalSaid refusal before after write_failed status =
+    (status ≡ ended write_failed (status_of_fault refusal))
+    × (refusal ≡ Memory → write_failed ≡ false → Appends before after (fault_line fault.Memory))
+
+-- the words of a command line that could be read
+abbrev pub words_of : Result (Vec (String Global) Global) Error → Result (List Text) Error
+words_of words = result_map_both (λ words. map string_bytes words.items) (λ error. error) words
+
+-- how the program ends where its words cannot be read, and the line that it writes
+abbrev pub words_status : ErrorKind → Status
+words_status OutOfMemory = status.Memory
+words_status _ = status.CommandLine
+
+unfoldable pub words_line : ErrorKind → List ℕ
+words_line OutOfMemory = fault_line fault.Memory
+words_line _ = codes "error: a word of the command line is not UTF-8" ++ 10 ∷ []
+
+abbrev pub IsWordsRefusalSaid : Error → Option (List ℕ) → Option (List ℕ) → Bool → Status → Type 0
+IsWordsRefusalSaid error before after write_failed status =
+    (status ≡ ended write_failed (words_status (error_kind error)))
+    × (write_failed ≡ false → Appends before after (words_line (error_kind error)))
+
+-- a refusal of the command line: the reader is left as it was, and after a failed write nothing more is written
+pub record IsRefusalRun {R W : Type 0} (contents : W → Option (List ℕ)) (IsSaid : Option (List ℕ) → Option (List ℕ) → Bool → Status → Type 0)
+    (reader reader_after : CountedReader R) (writer writer_after : StoppingWriter W) (status : Status) : Type 0 where
+  pub unread : reader_after ≡ reader
+  pub said : IsSaid (contents_of contents writer) (contents_of contents writer_after) (writing_failed writer_after) status
+  pub stopped : writing_failed writer ≡ true → writer_after ≡ writer
+
+-- the command that the words choose was run, or they were refused
+abbrev pub IsProgramRun : {R W : Type 0} → (R → Option (List ℕ)) → (W → Option (List ℕ)) → Result (List Text) Error
+    → CountedReader R → CountedReader R → StoppingWriter W → StoppingWriter W → Status → Type 0
+IsProgramRun remaining contents (Ok words) reader reader_after writer writer_after status =
+    ((choice : Choice) × (choice_of words ≡ Some choice) × IsCommandRun remaining contents (IsAnswerOf choice) reader reader_after writer writer_after status)
+    ⊎ ((fault : ChoiceFault) × IsRefusalOf words fault × IsRefusalRun contents (IsRefusalSaid fault) reader reader_after writer writer_after status)
+IsProgramRun remaining contents (Err error) reader reader_after writer writer_after status =
+    IsRefusalRun contents (IsWordsRefusalSaid error) reader reader_after writer writer_after status

@@ -1,0 +1,166 @@
+-- What the commands `provision` and `trace` answer to their parts: the plan that is given is provisioned on a simulated
+-- module of the image, but for its kept paths, over a bus that does as the script says, and activated where that is asked for.
+-- (docs/formats.md, "Input", "provision" and "trace")
+use Rattle.std.specs.Prelude.{◌≡◌, ℕ, Bool, true, false, List, [], ◌∷◌, ◌++◌, codes, map, Option, Some, None, Result, Ok, Err, IfOk}
+use Rattle.std.specs.Fmt.{decimal}
+use Rattle.hex.specs.Hex.{encode_lower}
+use Rattle.text_lines.specs.Lines.{lines_of, text_of}
+use Rattle.text_lines.specs.Words.{spaced}
+use Rattle.bus_model.specs.Runs.{IsFull, Seen}
+use Rattle.bus_model.specs.ScriptedBus.{script_rules}
+use Rattle.bus_model.specs.ScriptFaults.{IsFirstFault}
+use Rattle.bus_model.specs.ScriptText.{IsTextOf}
+use Rattle.bus_model.specs.declared.operation.Step.{Step}
+use Rattle.bus_model.specs.declared.script.Directive.{Directive}
+use Rattle.paged_memory.specs.Images.{Memory}
+use Rattle.applications.specs.Advertised.{Advertised}
+use Rattle.plan_certificate.specs.Certificates.{Claim}
+use Rattle.plan_certificate.specs.declared.path.Path.{Path}
+use Rattle.control_sets.specs.ControlBytes.{control_bytes}
+use Rattle.control_sets.specs.PlanLanes.{lanes_outside, plan_lanes}
+use Rattle.control_sets.specs.OutcomeOfActivation.{IsActivation}
+use Rattle.control_sets.specs.OutcomeOfProvisioning.{IsProvisioning}
+use Rattle.control_sets.specs.Procedures.{MakesHistory}
+use Rattle.control_sets.specs.declared.fault.ProvisionFault.{ProvisionFault}
+use Rattle.sim_module.specs.Lanes.{active_bytes}
+use Rattle.sim_module.specs.Modules.{conduct}
+use Rattle.sim_module.specs.Starts.{start, start_fault}
+use Rattle.sim_module.specs.declared.delays.Delays.{Delays}
+use Rattle.sim_module.specs.declared.fault.SimFault.{SimFault}
+use Rattle.sim_module.specs.declared.module.SimModule.{SimModule}
+use Rattle.reports.specs.Trace.{trace_lines}
+use Rattle.command_line.specs.GivenPlan.{IsGiven}
+use Rattle.command_line.specs.KeptParts.{with_kept}
+use Rattle.command_line.specs.PlanningInputs.{Advertises, ArePlanningInputs, IsAdvertRefusal, IsKeptRefusal, IsWeightsRefusal}
+use Rattle.command_line.specs.Runs.{Answer}
+use Rattle.command_line.specs.declared.fault.Fault.{Fault}
+use Rattle.command_line.specs.declared.fault.Fault.TheVariants as fault
+
+-- how long each work of the module takes, in ticks
+abbrev pub delays : Delays
+delays = record { apply = 4; init = 4; turn_on = 4; turn_off = 4; deinit = 4; power_up = 4; power_down = 4 }
+
+-- the steps made on a bus, the script that is left, and the module
+abbrev pub ModuleBus : Type 0
+ModuleBus = Seen (List Directive × SimModule)
+
+-- before any step, with the module of an image as it starts
+abbrev pub bus_at_start : Memory → List Directive → ModuleBus
+bus_at_start memory script = record { steps = []; room = 8192; state = (script, start memory delays) }
+
+-- number of steps, or why the procedure ended without success
+abbrev pub Ended : Type 0
+Ended = Result ℕ ProvisionFault
+
+-- to provision these paths, on the lanes outside the kept ones, makes one of the other and ends so
+abbrev pub Provisions : Advertised → List Path → List Path → ModuleBus → ModuleBus → Ended → Type 0
+Provisions advert paths kept before after ended =
+    MakesHistory (script_rules conduct) before after
+    (λ history. IsProvisioning (control_bytes advert paths) (lanes_outside advert kept) (IsFull after) history ended)
+
+abbrev pub Activates : Advertised → List Path → ModuleBus → ModuleBus → Ended → Type 0
+Activates advert paths before after ended =
+    MakesHistory (script_rules conduct) before after
+    (λ history. IsActivation (control_bytes advert paths) (plan_lanes advert paths) (IsFull after) history ended)
+
+-- activation follows a success of provisioning, where it is asked for, and else no step is made
+abbrev pub GoesOn : Bool → Advertised → List Path → Ended → ModuleBus → ModuleBus → Option Ended → Type 0
+GoesOn true advert paths (Ok steps) before after (Some ended) = Activates advert paths before after ended
+GoesOn true advert paths (Err fault) before after None = after ≡ before
+GoesOn false advert paths provisioned before after None = after ≡ before
+GoesOn activate advert paths provisioned before after activated = ⊥
+
+-- both procedures, as far as they are made; after a success of the first the control bytes are active, and still so at the
+-- end, whatever comes of the second
+pub record CarriesOut (activate : Bool) (advert : Advertised) (paths kept : List Path) (before after : ModuleBus) (provisioned : Ended) (activated : Option Ended) : Type 0 where
+  pub between : ModuleBus
+  pub provisions : Provisions advert paths kept before between provisioned
+  pub active : IfOk provisioned (λ steps. active_bytes between.state.1 ≡ control_bytes advert paths)
+  pub goes_on : GoesOn activate advert paths provisioned between after activated
+  pub still_active : IfOk provisioned (λ steps. active_bytes after.state.1 ≡ control_bytes advert paths)
+
+unfoldable pub provisioned_line : ℕ → List ℕ
+provisioned_line steps = spaced (codes "provisioned" ∷ decimal steps ∷ [])
+
+unfoldable pub activated_line : ℕ → List ℕ
+activated_line steps = spaced (codes "activated" ∷ decimal steps ∷ [])
+
+-- the control bytes in lower-case hexadecimal, lane 1 first
+abbrev pub control_words : List ℕ → List (List ℕ)
+control_words bytes = map (λ byte. encode_lower (byte ∷ [])) bytes
+
+unfoldable pub active_line : List ℕ → List ℕ
+active_line bytes = spaced (codes "active" ∷ control_words bytes)
+
+-- each success, and the active bytes where there is no fault
+abbrev pub outcome_lines : Ended → Option Ended → List ℕ → List (List ℕ)
+outcome_lines (Err fault) activated active = []
+outcome_lines (Ok steps) None active = provisioned_line steps ∷ active_line active ∷ []
+outcome_lines (Ok steps) (Some (Ok more)) active = provisioned_line steps ∷ activated_line more ∷ active_line active ∷ []
+outcome_lines (Ok steps) (Some (Err fault)) active = provisioned_line steps ∷ []
+
+abbrev pub outcome_fault : Ended → Option Ended → Option ProvisionFault
+outcome_fault (Err fault) activated = Some fault
+outcome_fault (Ok steps) None = None
+outcome_fault (Ok steps) (Some (Ok more)) = None
+outcome_fault (Ok steps) (Some (Err fault)) = Some fault
+
+-- the steps stand first, where they are shown
+abbrev pub steps_lines : Bool → List Step → List (List ℕ)
+steps_lines true steps = trace_lines steps
+steps_lines false steps = []
+
+abbrev pub told_text : Bool → ModuleBus → Ended → Option Ended → List ℕ
+told_text traced bus provisioned activated =
+    text_of (steps_lines traced bus.steps) ++ text_of (outcome_lines provisioned activated (active_bytes bus.state.1))
+
+-- the texts are those of an image, of weights, of kept paths and of a script; their plan, and the module that the image makes
+pub record IsSetUp (image_text weights_text kept_text script_text : List ℕ) : Type 0 where
+  pub certificate : Claim
+  pub given : IsGiven image_text weights_text kept_text certificate
+  pub script : List Directive
+  pub is_script : IsTextOf (lines_of script_text) script
+  pub starts : start_fault given.is_advert.memory delays ≡ None
+
+-- the image makes no module
+pub record IsNoModule (image_text weights_text kept_text script_text : List ℕ) (refused : SimFault) : Type 0 where
+  pub inputs : ArePlanningInputs image_text weights_text kept_text
+  pub script : List Directive
+  pub is_script : IsTextOf (lines_of script_text) script
+  pub stops : start_fault inputs.is_advert.memory delays ≡ Some refused
+
+-- the first of the texts that is none
+abbrev pub IsSetUpRefusal : List ℕ → List ℕ → List ℕ → List ℕ → Fault → Type 0
+IsSetUpRefusal image weights kept script fault.Memory = Unit {0}
+IsSetUpRefusal image weights kept script (fault.Module f) = IsNoModule image weights kept script f
+IsSetUpRefusal image weights kept script (fault.Script f) = ArePlanningInputs image weights kept × IsFirstFault (lines_of script) f
+IsSetUpRefusal image weights kept script (fault.Kept f) = IsKeptRefusal image weights kept f
+IsSetUpRefusal image weights kept script (fault.Weights f) = Advertises image × IsWeightsRefusal weights f
+IsSetUpRefusal image weights kept script f = IsAdvertRefusal image f
+
+-- what was done, and what is told of it
+pub record IsCarriedOut (traced activate : Bool) (image_text weights_text kept_text script_text text : List ℕ) (ended : Option ProvisionFault) : Type 0 where
+  pub set_up : IsSetUp image_text weights_text kept_text script_text
+  pub after : ModuleBus
+  pub provisioned : Ended
+  pub activated : Option Ended
+  pub done : CarriesOut activate set_up.given.advert set_up.certificate.paths set_up.certificate.kept (bus_at_start set_up.given.is_advert.memory set_up.script) after provisioned activated
+  pub told : text ≡ told_text traced after provisioned activated
+  pub fault : ended ≡ outcome_fault provisioned activated
+
+-- the answer to the texts of an image, of weights, of kept paths and of a script, by whether the steps are shown and
+-- activation is asked for
+abbrev pub IsProcedureAnswerTo : Bool → Bool → List (List ℕ) → Answer → Type 0
+IsProcedureAnswerTo traced activate (image ∷ weights ∷ kept ∷ script ∷ []) (Ok (text, ended)) = IsCarriedOut traced activate image weights kept script text ended
+IsProcedureAnswerTo traced activate (image ∷ weights ∷ kept ∷ script ∷ []) (Err f) = IsSetUpRefusal image weights kept script f
+IsProcedureAnswerTo traced activate texts answer = ⊥
+
+-- the answer to the parts, with the flag `--keep` or without it
+abbrev pub IsProcedureAnswer : Bool → Bool → Bool → List (List ℕ) → Answer → Type 0
+IsProcedureAnswer traced activate keep parts = IsProcedureAnswerTo traced activate (with_kept keep parts)
+
+abbrev pub IsProvisionAnswer : Bool → Bool → List (List ℕ) → Answer → Type 0
+IsProvisionAnswer activate keep = IsProcedureAnswer false activate keep
+
+abbrev pub IsTraceAnswer : Bool → Bool → List (List ℕ) → Answer → Type 0
+IsTraceAnswer activate keep = IsProcedureAnswer true activate keep

@@ -1,0 +1,92 @@
+-- One run of a command: what it writes and how it ends, by its answer to the input. (docs/formats.md, "Input and output")
+use Rattle.std.specs.Prelude.{◌≡◌, ◌≢◌, ◌<◌, ◌≤◌, ◌↔◌, ◌||◌, ℕ, Bool, true, false, List, length, ◌++◌, Option, Some, None, IfSome, Result, Ok, Err}
+use Rattle.std.specs.Result.{result_map_both}
+use Rattle.std.specs.Io.KnownBytes.{Appends}
+use Rattle.control_sets.specs.declared.fault.ProvisionFault.{ProvisionFault}
+use Rattle.command_line.specs.declared.fault.Fault.{Fault}
+use Rattle.command_line.specs.declared.fault.Fault.TheVariants.{Memory, Io, TooLong, Parts, Provision}
+use Rattle.command_line.specs.declared.told.Told.{Told}
+use Rattle.command_line.specs.declared.status.Status.{Status}
+use Rattle.command_line.specs.declared.status.Status.TheVariants.{Done, NotProvisioned, ReadOrWrite}
+use Rattle.command_line.specs.CountedReader.{reading_failed, reads_of, remaining_of}
+use Rattle.command_line.specs.Faults.{fault_line, status_of}
+use Rattle.command_line.specs.Input.{TakesWithinLimit}
+use Rattle.command_line.specs.Limits.{input_limit, read_limit}
+use Rattle.command_line.specs.Parts.{parts_of}
+use Rattle.command_line.specs.StoppingWriter.{contents_of, writing_failed}
+use Rattle.command_line.specs.declared.input.counted_reader.CountedReader.{CountedReader}
+use Rattle.command_line.specs.declared.output.stopping_writer.StoppingWriter.{StoppingWriter}
+
+-- a text and the fault of the procedure that it tells of, if there is one, or a fault alone
+abbrev pub Answer : Type 0
+Answer = Result (List ℕ × Option ProvisionFault) Fault
+
+-- what a function answers, as such a one
+abbrev pub answer_of : Result Told Fault → Answer
+answer_of result = result_map_both (λ told. (told.text.items, told.fault)) (λ fault. fault) result
+
+abbrev pub output_of : Answer → List ℕ
+output_of (Ok (text, None)) = text
+output_of (Ok (text, Some fault)) = text ++ fault_line (Provision fault)
+output_of (Err fault) = fault_line fault
+
+abbrev pub status_after : Answer → Status
+status_after (Ok (text, None)) = Done
+status_after (Ok (text, Some fault)) = NotProvisioned
+status_after (Err fault) = status_of fault
+
+-- what a command itself answers to its parts, where no allocation was refused
+abbrev pub IsOwnAnswer : (List (List ℕ) → Answer → Type 0) → List (List ℕ) → Answer → Type 0
+IsOwnAnswer IsAnswer parts (Err Memory) = Unit {0}
+-- reading and cutting the input are no business of its own
+IsOwnAnswer IsAnswer parts (Err Io) = ⊥
+IsOwnAnswer IsAnswer parts (Err TooLong) = ⊥
+IsOwnAnswer IsAnswer parts (Err (Parts n)) = ⊥
+IsOwnAnswer IsAnswer parts answer = IsAnswer parts answer
+
+-- the answer of a command that takes so many parts: its own to those parts, or that there are other than so many, or that
+-- the input is too long; an allocation or a read may fail on any input
+abbrev pub IsAnswerTo : ℕ → (List (List ℕ) → Answer → Type 0) → List ℕ → Answer → Type 0
+IsAnswerTo count IsAnswer input (Err Memory) = Unit {0}
+IsAnswerTo count IsAnswer input (Err Io) = Unit {0}
+IsAnswerTo count IsAnswer input (Err TooLong) = input_limit < length input
+IsAnswerTo count IsAnswer input (Err (Parts n)) = (length input ≤ input_limit) × (n ≡ length (parts_of input)) × (n ≢ count)
+IsAnswerTo count IsAnswer input answer = (length input ≤ input_limit) × (length (parts_of input) ≡ count) × IsAnswer (parts_of input) answer
+
+-- how the run ends where it was to end so: a failed write is said before all else
+abbrev pub ended : Bool → Status → Status
+ended true status = ReadOrWrite
+ended false status = status
+
+-- the answer is want of a read exactly where a read failed
+abbrev pub SaysReading : Bool → Answer → Type 0
+SaysReading failed answer = (answer ≡ Err Io) ↔ (failed ≡ true)
+
+-- the answer was written whole where no write failed, after what the writer held before, and the run ended so
+abbrev pub IsWritten : Answer → Option (List ℕ) → Option (List ℕ) → Bool → Status → Type 0
+IsWritten answer before after write_failed status =
+    (status ≡ ended write_failed (status_after answer)) × (write_failed ≡ false → Appends before after (output_of answer))
+
+-- the run ends so exactly where a read or a write failed
+abbrev pub EndsByFailure : Bool → Bool → Status → Type 0
+EndsByFailure read_failed write_failed status = (status ≡ ReadOrWrite) ↔ ((read_failed || write_failed) ≡ true)
+
+-- such an answer was written, and no more was read than it needs
+pub record IsAnswered {R W : Type 0} (remaining : R → Option (List ℕ)) (contents : W → Option (List ℕ)) (IsAnswer : Answer → Type 0)
+    (reader reader_after : CountedReader R) (writer writer_after : StoppingWriter W) (status : Status) : Type 0 where
+  pub answer : Answer
+  pub is_answer : IsAnswer answer
+  pub reading : SaysReading (reading_failed reader_after) answer
+  pub taken : TakesWithinLimit (remaining_of remaining reader) (remaining_of remaining reader_after) (answer ≡ Err TooLong)
+  pub written : IsWritten answer (contents_of contents writer) (contents_of contents writer_after) (writing_failed writer_after) status
+
+-- one run of a command on a reader and a writer, before and after, that answers its input so
+pub record IsCommandRun {R W : Type 0} (remaining : R → Option (List ℕ)) (contents : W → Option (List ℕ)) (IsAnswer : List ℕ → Answer → Type 0)
+    (reader reader_after : CountedReader R) (writer writer_after : StoppingWriter W) (status : Status) : Type 0 where
+  -- the reads are counted within their limit
+  pub reads : reads_of reader_after ≤ read_limit
+  pub failure : EndsByFailure (reading_failed reader_after) (writing_failed writer_after) status
+  -- after a failed write nothing more is written
+  pub stopped : writing_failed writer ≡ true → writer_after ≡ writer
+  -- where the reader's bytes are known
+  pub answered : IfSome (remaining_of remaining reader) (λ input. IsAnswered remaining contents (IsAnswer input) reader reader_after writer writer_after status)

@@ -1,0 +1,119 @@
+//! The command line: which command the words name, and which flags they give it.
+ghost use Rattle.std.specs.Prelude.{◌≡◌, ◌∷◌, map, codes, false, true, IfOk, IfErr, IsSome, Some};
+ghost use Rattle.std.specs.Prelude.{[], string_bytes, option_map, MatchResult};
+ghost use Rattle.std.specs.List.{list_all};
+ghost use Rattle.clap.specs.declared.builder.command.Command.TheViews.{out-Command as fields_of};
+ghost use Rattle.clap.specs.Words.{Text, app_of, found_of, rows_of, rule_of, subcommand_rows_of, takes};
+ghost use Rattle.command_line.specs.Choice.{program, choice_of, choice_in, flag_rule, command_app};
+ghost use Rattle.command_line.specs.Choice.{commands, faults_of, is_given};
+ghost use Rattle.command_line.specs.Program.{IsRefusalOf};
+ghost use Rattle.command_line.specs.Entries.{entry_of};
+
+pub mod commands;
+pub mod fault;
+mod help;
+
+use clap::error::ErrorKind;
+use clap::{Arg, ArgAction, ArgMatches, Command};
+use commands::{Choice, CommandEntry, Flag, command_named};
+use fault::ChoiceFault;
+use std::alloc::{AllocError, Global};
+
+/// The flag as an argument of its command.
+fn flag<'a>(alloc: Global, flag: &Flag) -> Arg<'a>
+    ensures rule { rule_of result ≡ flag_rule flag.now.name.now }
+    ensures local { result.global ≡ false }
+{
+    Arg::new(alloc, flag.name)
+        .long(flag.name)
+        .action(ArgAction::SetTrue)
+        .help(flag.help)
+}
+
+/// A command with its flags.
+fn command<'a>(alloc: Global, entry: &CommandEntry) -> Result<Command<'a>, AllocError>
+    ensures app { IfOk result (λ c. app_of c ≡ command_app (entry_of entry.now)) }
+    ensures local { IfOk result (λ c. (fields_of c).has_globals ≡ false) }
+{
+    let mut command = Command::new(alloc, entry.name)
+        .about(entry.about)
+        .after_help(help::of_command(entry.command));
+    for given in entry.flags {
+        command = command.arg(flag(alloc, given))?;
+    }
+    Ok(command)
+}
+
+/// The command line of the program, as `clap` reads it.
+fn program<'a>(alloc: Global) -> Result<Command<'a>, AllocError>
+    ensures app { IfOk result (λ c. app_of c ≡ program) }
+    ensures local { IfOk result (λ c. (fields_of c).has_globals ≡ false) }
+{
+    let mut program = Command::new(alloc, "cmisctl")
+        .about("Manages pluggable optical modules through their memory map")
+        .after_help(help::OF_PROGRAM)
+        .subcommand_required(true)
+        .disable_help_subcommand(true);
+    for entry in commands::commands() {
+        program = program.subcommand(command(alloc, entry)?)?;
+    }
+    Ok(program)
+}
+
+// Whether the flag stands among the words.
+fn is_given(matches: &ArgMatches<'_>, flag: &str) -> bool
+    ensures { result ≡ is_given flag.now (rows_of (found_of matches.now)) }
+{
+    match matches.get_str(flag) {
+        Some(value) => value == "true",
+        None => false,
+    }
+}
+
+/// What the matches of the program ask for.
+fn chosen(matches: &ArgMatches<'_>) -> Choice
+    requires { IsSome (choice_in (subcommand_rows_of matches.now)) }
+    ensures { choice_in (subcommand_rows_of matches.now) ≡ Some result }
+{
+    let (name, given) = matches.subcommand().unwrap();
+    let entry = command_named(name).unwrap();
+    Choice {
+        name: entry.command,
+        bus: is_given(given, "bus"),
+        activate: is_given(given, "activate"),
+        keep: is_given(given, "keep"),
+        first: is_given(given, "first"),
+    }
+}
+
+/// What the words ask for, of which the first is the program's name.
+pub fn choice(alloc: Global, words: &[String]) -> Result<Choice, ChoiceFault>
+    ensures answer { IfOk result (λ choice. choice_of (map string_bytes words.now) ≡ Some choice) }
+    ensures taken { IfOk result (λ _. faults_of (map string_bytes words.now) ≡ []) }
+    ensures refused { IfErr result (IsRefusalOf (map string_bytes words.now)) }
+{
+    let matches = program(alloc)?.try_get_matches_from(words)?;
+    Ok(chosen(&matches))
+}
+
+/// Each command's name, alone after the program's own, is taken and chooses that command.
+pub fn names_choose_their_commands()
+    ensures taken { (program_name : Text)
+        → list_all (λ entry. takes program (program_name ∷ entry.name ∷ [])) commands ≡ true }
+    ensures chosen { (program_name : Text)
+        → map (λ entry. option_map (λ choice. choice.name)
+        (choice_of (program_name ∷ entry.name ∷ []))) commands
+        ≡ map (λ entry. Some entry.command) commands }
+{}
+
+/// Help comes by its flags alone, `help` is no command, and some command is wanted.
+pub fn help_is_a_flag()
+    ensures long { (program_name : Text)
+        → faults_of (program_name ∷ codes "--help" ∷ []) ≡ ErrorKind.DisplayHelp ∷ [] }
+    ensures short { (program_name : Text)
+        → faults_of (program_name ∷ codes "-h" ∷ []) ≡ ErrorKind.DisplayHelp ∷ [] }
+    ensures word { (program_name : Text) → faults_of (program_name ∷ codes "help" ∷ [])
+        ≡ ErrorKind.UnknownArgument ∷ ErrorKind.InvalidSubcommand ∷ [] }
+    ensures nothing { (program_name : Text)
+        → faults_of (program_name ∷ []) ≡ ErrorKind.MissingSubcommand ∷ [] }
+{}

@@ -1,0 +1,109 @@
+//! The commands of the program and their flags, one line each.
+ghost use Rattle.std.specs.Prelude.{◌≡◌, map, option_copied, option_map};
+ghost use Rattle.command_line.specs.Choice.{commands, entry_named};
+ghost use Rattle.command_line.specs.Entries.{entry_of};
+
+/// What the program is asked to do.
+#[derive(Clone, Copy, Debug, PartialEq, Eq)]
+pub enum CommandName {
+    Inventory,
+    Apps,
+    Monitors,
+    Flags,
+    Plan,
+    Check,
+    Provision,
+    Trace,
+}
+
+/// What the command line asks for.
+#[derive(Clone, Copy, Debug, PartialEq, Eq)]
+pub struct Choice {
+    pub name: CommandName,
+    /// Whether the module is to be read over a bus.
+    pub bus: bool,
+    /// Whether the plan is to be activated too.
+    pub activate: bool,
+    /// Whether the plan is to keep data paths that the input names.
+    pub keep: bool,
+    /// Whether the plan of a certificate is to be compared with the one that `plan` gives.
+    pub first: bool,
+}
+
+/// A flag, given as `--name`.
+#[derive(Clone, Copy, Debug)]
+pub struct Flag {
+    pub name: &'static str,
+    /// What help says of it.
+    pub help: &'static str,
+}
+
+/// A command of the command line.
+#[derive(Clone, Copy, Debug)]
+pub struct CommandEntry {
+    pub name: &'static str,
+    pub command: CommandName,
+    pub flags: &'static [Flag],
+    /// What help says of it.
+    pub about: &'static str,
+}
+
+/// Asks for a reading over a bus.
+const BUS: Flag = Flag {
+    name: "bus",
+    help: "Read the module over a simulated bus, as a host does",
+};
+
+/// Asks for activation.
+const ACTIVATE: Flag = Flag {
+    name: "activate",
+    help: "Bring the data paths up as well",
+};
+
+/// Asks for a plan that keeps data paths.
+const KEEP: Flag = Flag {
+    name: "keep",
+    help: "Keep the data paths that a further part names, behind the weights",
+};
+
+/// Asks whether a plan is the first of the best.
+const FIRST: Flag = Flag {
+    name: "first",
+    help: "Say whether the plan is the first of the best, which is the one that 'plan' prints",
+};
+
+// The table: a command's name, its variant, its flags and what help says of it.
+macro_rules! table {
+    ($($name:literal $command:ident [$($flag:ident)*] $about:literal;)*) => {
+        &[$(CommandEntry {
+            name: $name,
+            command: CommandName::$command,
+            flags: &[$($flag),*],
+            about: $about,
+        }),*]
+    };
+}
+
+/// The commands, in the order in which help shows them.
+#[tactic(auto, unfolding(crate::specs::Choice::commands))]
+pub fn commands() -> &'static [CommandEntry]
+    ensures { map entry_of result.now ≡ commands }
+{
+    table! {
+        "inventory" Inventory [BUS] "Print what the module is";
+        "apps" Apps [BUS] "Print the Applications that the module advertises";
+        "monitors" Monitors [BUS] "Print what the module measures";
+        "flags" Flags [BUS] "Print the states of the module and its lanes, and the flags that are raised";
+        "plan" Plan [KEEP] "Print the plan that weighs most for an image and weights, with its certificate";
+        "check" Check [FIRST] "Judge a certificate for an image and weights, and print its plan where it is good";
+        "provision" Provision [ACTIVATE KEEP] "Make the plan active on a simulated module, over a bus that does as a script says";
+        "trace" Trace [ACTIVATE KEEP] "Do the same, and print each transaction";
+    }
+}
+
+/// The command of this name.
+pub fn command_named(name: &str) -> Option<&'static CommandEntry>
+    ensures { option_map entry_of (option_copied result) ≡ entry_named name.now }
+{
+    commands().iter().find(|entry| entry.name == name)
+}

@@ -1,0 +1,70 @@
+//! Why a command line gives no choice, and what the program then says.
+ghost use Rattle.std.specs.Prelude.{◌≡◌, true};
+ghost use Rattle.command_line.specs.ChoiceFault.{fault_of_error, status_by_kind};
+ghost use Rattle.clap.specs.Words.{kind_of};
+ghost use Rattle.command_line.specs.Program.{IsRefusalSaid};
+ghost use Rattle.command_line.specs.StoppingWriter.{contents_of, writing_failed};
+ghost use Rattle.command_line.specs.declared.choice.fault.ChoiceFault.TheVariants.{Memory};
+
+use crate::fault::Fault;
+use crate::output::{OutputFault, StoppingWriter, write_answer};
+use crate::status::Status;
+use clap::error::ErrorKind;
+use std::alloc::AllocError;
+use std::io::Write;
+use thiserror::Error;
+
+/// Why the words give no choice.
+#[derive(Debug, Drop, Error)]
+pub enum ChoiceFault {
+    /// An allocation was refused.
+    #[error("out of memory")]
+    Memory,
+    /// The words are refused, or ask for help.
+    #[error(transparent)]
+    Line(clap::Error),
+}
+
+impl From<clap::Error> for ChoiceFault {
+    ghost from_gives = { λ error fault. fault ≡ fault_of_error error };
+
+    fn from(error: clap::Error) -> ChoiceFault {
+        match error.kind() {
+            ErrorKind::OutOfMemory => ChoiceFault::Memory,
+            _ => ChoiceFault::Line(error),
+        }
+    }
+}
+
+impl From<AllocError> for ChoiceFault {
+    ghost from_gives = { λ _ fault. fault ≡ Memory };
+
+    fn from(_error: AllocError) -> ChoiceFault {
+        ChoiceFault::Memory
+    }
+}
+
+/// Writes why there is no choice, as `clap` puts it, and answers how the program ends.
+pub fn choice_refused<W: Write>(fault: &ChoiceFault, writer: &mut StoppingWriter<W>) -> Status
+    ensures said { IsRefusalSaid fault.now (contents_of W.contents writer.old)
+        (contents_of W.contents writer.new) (writing_failed writer.new) result }
+    ensures stopped { writing_failed writer.old ≡ true → writer.new ≡ writer.old }
+{
+    let ChoiceFault::Line(error) = fault else {
+        return write_answer(writer, Err(Fault::Memory));
+    };
+    match writer.put_text(error) {
+        Ok(()) => status_of(error),
+        Err(OutputFault) => Status::ReadOrWrite,
+    }
+}
+
+/// How the program ends where `clap` answers this: help is an answer, and all else a fault.
+fn status_of(error: &clap::Error) -> Status
+    ensures { result ≡ status_by_kind (kind_of error.now) }
+{
+    match error.kind() {
+        ErrorKind::DisplayHelp | ErrorKind::DisplayVersion => Status::Done,
+        _ => Status::CommandLine,
+    }
+}

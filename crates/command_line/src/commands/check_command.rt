@@ -1,0 +1,125 @@
+ghost use Rattle.std.specs.Prelude.{◌≡◌, ◌++◌, ◌∷◌, [], ℕ, List, IfOk, OnOk};
+ghost use Rattle.text_lines.specs.Lines.{text_of};
+ghost use Rattle.plan_certificate.specs.Certificates.{IsGood};
+ghost use Rattle.command_line.specs.CheckCommand.{IsCheckAnswer, SaysFirst, TellsGood, first_line, kept_lines};
+ghost use Rattle.command_line.specs.Runs.{IsAnswerTo, IsCommandRun};
+
+use super::command::{Command, run};
+use super::planning_inputs::read_advert;
+use crate::fault::Fault;
+use crate::input::CountedReader;
+use crate::output::StoppingWriter;
+use crate::status::Status;
+use crate::told::Told;
+use applications::{Advert, Weights};
+use lane_planner::first_best;
+use plan_certificate::{Certificate, STATES, Verdict};
+use reports::plan_text;
+use std::alloc::{AllocError, Global};
+use std::io::{Read, Write};
+use text_lines::Spelled;
+
+/// Judges a certificate, and says whether its plan is the first of the best, or not.
+#[derive(Clone, Copy, Debug)]
+struct CheckCommand {
+    tells_first: bool,
+}
+
+impl Command for CheckCommand {
+    ghost count = { λ _. 3 };
+
+    ghost answers = { λ command. IsCheckAnswer command.tells_first };
+
+    fn parts(&self) -> usize {
+        3
+    }
+
+    fn answer(&self, alloc: Global, parts: &[&[u8]]) -> Result<Told, Fault> {
+        let (image, weights, certificate) = (parts[0], parts[1], parts[2]);
+        let advert = read_advert(image)?;
+        let weights = Weights::read(alloc, weights)?;
+        let certificate = Certificate::<STATES>::read(certificate)?;
+        match plan_certificate::check(&advert, &weights, &certificate) {
+            Verdict::Good => Ok(Told {
+                text: good_text(alloc, &advert, &weights, &certificate, self.tells_first)?,
+                fault: None,
+            }),
+            Verdict::Bad(reason, number) => Err(Fault::Bad(reason, number)),
+        }
+    }
+}
+
+// What is told of a good certificate.
+fn good_text(
+    alloc: Global,
+    advert: &Advert,
+    weights: &Weights,
+    certificate: &Certificate<STATES>,
+    tells_first: bool,
+) -> Result<Vec<u8>, AllocError>
+    requires { IsGood advert.now weights.now certificate.now }
+    ensures { IfOk result (λ text. TellsGood tells_first advert.now weights.now certificate.now text.items) }
+{
+    let plan = plan_text(alloc, advert, weights, &certificate.plan)?;
+    let mut text = b"good\n".to_vec(alloc)?;
+    push_kept(&mut text, certificate.kept.paths.len())?;
+    text.extend_from_slice(&plan)?;
+    push_first(&mut text, advert, weights, certificate, tells_first)?;
+    Ok(text)
+}
+
+#[tactic(auto, unfolding(crate::specs::CheckCommand::kept_line))]
+fn push_kept(text: &mut Vec<u8>, count: usize) -> Result<(), AllocError>
+    ensures { OnOk result (text.new.items ≡ text.old.items ++ text_of (kept_lines count)) }
+{
+    if count == 0 {
+        return Ok(());
+    }
+    let line = count.spelling().line_after("kept");
+    text.extend_from_slice(line.as_slice())
+}
+
+// Whether the plan is the first of the best, where that is asked for.
+fn push_first(
+    text: &mut Vec<u8>,
+    advert: &Advert,
+    weights: &Weights,
+    certificate: &Certificate<STATES>,
+    is_asked: bool,
+) -> Result<(), AllocError>
+    requires { IsGood advert.now weights.now certificate.now }
+    ensures { OnOk result ((lines : List (List ℕ)) × SaysFirst is_asked advert.now weights.now certificate.now lines
+        × (text.new.items ≡ text.old.items ++ text_of lines)) }
+{
+    if !is_asked {
+        return Ok(());
+    }
+    push_first_line(text, first_best(advert, weights, certificate))?;
+    Ok(())
+}
+
+#[tactic(auto, unfolding(crate::specs::CheckCommand::first_line))]
+fn push_first_line(text: &mut Vec<u8>, is_first: bool) -> Result<(), AllocError>
+    ensures { OnOk result (text.new.items ≡ text.old.items ++ (first_line is_first ++ 10 ∷ [])) }
+{
+    let line = if is_first {
+        "first yes\n"
+    } else {
+        "first no\n"
+    };
+    text.extend_from_slice(line.as_bytes())
+}
+
+/// Reads the texts of an image, of weights and of a certificate, and writes whether the certificate is good, and where it is
+/// its plan, and whether that is the first of the best, where that is asked for.
+pub fn check<R: Read, W: Write>(
+    alloc: Global,
+    first: bool,
+    reader: &mut CountedReader<R>,
+    writer: &mut StoppingWriter<W>,
+) -> Status
+    ensures { IsCommandRun R.remaining W.contents (IsAnswerTo 3 (IsCheckAnswer first))
+        reader.old reader.new writer.old writer.new result }
+{
+    run(alloc, &CheckCommand { tells_first: first }, reader, writer)
+}

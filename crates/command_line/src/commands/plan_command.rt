@@ -1,0 +1,55 @@
+ghost use Rattle.command_line.specs.KeptParts.{count_with};
+ghost use Rattle.command_line.specs.PlanCommand.{IsPlanAnswer};
+ghost use Rattle.command_line.specs.Runs.{IsAnswerTo, IsCommandRun};
+
+use super::command::{Command, run};
+use super::kept_parts::{count_with, kept_part};
+use super::planning_inputs::{read_advert, read_kept};
+use crate::fault::Fault;
+use crate::input::CountedReader;
+use crate::output::StoppingWriter;
+use crate::status::Status;
+use crate::told::Told;
+use applications::Weights;
+use std::alloc::Global;
+use std::io::{Read, Write};
+
+/// Plans, and keeps the data paths that a part of the input names, or none.
+#[derive(Clone, Copy, Debug)]
+struct PlanCommand {
+    keeps: bool,
+}
+
+impl Command for PlanCommand {
+    ghost count = { λ command. count_with command.keeps 2 };
+
+    ghost answers = { λ command. IsPlanAnswer command.keeps };
+
+    fn parts(&self) -> usize {
+        count_with(self.keeps, 2)
+    }
+
+    fn answer(&self, alloc: Global, parts: &[&[u8]]) -> Result<Told, Fault> {
+        let advert = read_advert(parts[0])?;
+        let weights = Weights::read(alloc, parts[1])?;
+        let kept = read_kept(&advert, kept_part(self.keeps, parts))?;
+        Ok(Told {
+            text: lane_planner::plan_keeping(&advert, &weights, &kept).write(alloc)?,
+            fault: None,
+        })
+    }
+}
+
+/// Reads the texts of an image, of weights and, where that is asked for, of kept paths, and writes the certificate of the plan
+/// that weighs most of those that keep them.
+pub fn plan<R: Read, W: Write>(
+    alloc: Global,
+    keep: bool,
+    reader: &mut CountedReader<R>,
+    writer: &mut StoppingWriter<W>,
+) -> Status
+    ensures { IsCommandRun R.remaining W.contents (IsAnswerTo (count_with keep 2) (IsPlanAnswer keep))
+        reader.old reader.new writer.old writer.new result }
+{
+    run(alloc, &PlanCommand { keeps: keep }, reader, writer)
+}

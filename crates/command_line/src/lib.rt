@@ -1,0 +1,20 @@
+//! The commands of the command line: what each reads, what it answers to its words and its input, and how a run ends.
+#![tactic(auto)]
+
+mod choice;
+mod commands;
+mod failure;
+mod fault;
+mod input;
+pub mod laws;
+mod output;
+mod parts;
+mod program;
+mod status;
+mod told;
+
+pub use fault::Fault;
+pub use input::{CountedReader, MAX_INPUT, MAX_READS, read_input};
+pub use output::{OutputFault, StoppingWriter};
+pub use program::run;
+pub use status::Status;
