@@ -21,6 +21,7 @@ use Rattle.plan_certificate.specs.declared.verdict.Verdict.{Verdict}
 use Rattle.plan_certificate.specs.declared.verdict.Verdict.TheVariants.{Good, Bad}
 use Rattle.plan_certificate.proofs.OneAnswer.{same_answer}
 use Rattle.reports.specs.PlanText.{plan_lines}
+use Rattle.command_line.specs.declared.commands.check_command.CheckCommand.{CheckCommand}
 use Rattle.command_line.specs.CheckCommand.{IsCheckAnswer, IsGoodAnswer, IsJudged, SaysFirst, first_line, good_line, kept_lines}
 use Rattle.command_line.specs.Limits.{input_limit}
 use Rattle.command_line.specs.Parts.{is_separator_line, parts_of}
@@ -87,8 +88,8 @@ module _ (image_text weights_text kept_text text : List ℕ) (planned : IsPlanne
   says true = (true, ((λ _. planned.given.is_first), (λ _. refl)), refl)
   says false = refl
 
-  good_answer : (first : Bool) → IsGoodAnswer first image_text weights_text text (good_text first planned)
-  good_answer first = record {
+  good_answer : (command : CheckCommand) → IsGoodAnswer command image_text weights_text text (good_text command planned)
+  good_answer command = record {
     judged = record {
       advert = planned.given.advert;
       weights = planned.given.weights;
@@ -99,7 +100,7 @@ module _ (image_text weights_text kept_text text : List ℕ) (planned : IsPlanne
       is_verdict = planned.given.judged_again;
     };
     is_best = planned.given.is_best;
-    told = record { first_lines = first_lines first; says_first = says first; told = refl };
+    told = record { first_lines = first_lines command.tells_first; says_first = says command.tells_first; told = refl };
   }
 
   module _ (judged : Verdict) (is : IsJudged image_text weights_text text judged) where
@@ -120,50 +121,50 @@ module _ (image_text weights_text kept_text text : List ℕ) (planned : IsPlanne
   says_so true lines (is_first, same, said) = said ∙ ap (λ (b : Bool). first_line b ∷ []) (same.1 planned.given.is_first)
   says_so false lines none = none
 
-  told_good : (first : Bool) (told : List ℕ) → IsGoodAnswer first image_text weights_text text told → told ≡ good_text first planned
-  told_good first told is =
+  told_good : (command : CheckCommand) (told : List ℕ) → IsGoodAnswer command image_text weights_text text told → told ≡ good_text command planned
+  told_good command told is =
       let advert = the_advert Good is.judged in
       let listed = the_weights Good is.judged in
       let certificate = the_certificate Good is.judged in
-      let lines = says_so first is.told.first_lines (subst (λ (c : Claim). SaysFirst first planned.given.advert planned.given.weights c is.told.first_lines) certificate
-      (subst (λ (w : HostWeights). SaysFirst first planned.given.advert w is.judged.certificate is.told.first_lines) listed
-      (subst (λ (a : Advertised). SaysFirst first a is.judged.weights is.judged.certificate is.told.first_lines) advert is.told.says_first))) in
+      let lines = says_so command.tells_first is.told.first_lines (subst (λ (c : Claim). SaysFirst command.tells_first planned.given.advert planned.given.weights c is.told.first_lines) certificate
+      (subst (λ (w : HostWeights). SaysFirst command.tells_first planned.given.advert w is.judged.certificate is.told.first_lines) listed
+      (subst (λ (a : Advertised). SaysFirst command.tells_first a is.judged.weights is.judged.certificate is.told.first_lines) advert is.told.says_first))) in
       is.told.told ∙ (λ i. text_of (good_line ∷ kept_lines (length (certificate i).kept) ++ plan_lines (advert i) (listed i) (certificate i).paths ++ lines i))
 
-  alone : (first : Bool) (answer : Answer) → IsCheckAnswer first (image_text ∷ weights_text ∷ text ∷ []) answer → answer ≡ Ok (good_text first planned, None)
-  alone first (Ok (told, None)) is = let same = told_good first told is in λ i. Ok (same i, None)
-  alone first (Ok (told, Some f)) is = absurd is
-  alone first (Err (fault.Bad reason number)) is = let good = judged_good (Bad reason number) is in absurd cc
-  alone first (Err (fault.Certificate f)) is =
+  alone : (command : CheckCommand) (answer : Answer) → IsCheckAnswer command (image_text ∷ weights_text ∷ text ∷ []) answer → answer ≡ Ok (good_text command planned, None)
+  alone command (Ok (told, None)) is = let same = told_good command told is in λ i. Ok (same i, None)
+  alone command (Ok (told, Some f)) is = absurd is
+  alone command (Err (fault.Bad reason number)) is = let good = judged_good (Bad reason number) is in absurd cc
+  alone command (Err (fault.Certificate f)) is =
       let same = same_answer STATES (lines_of text) (Ok planned.certificate) (Err f) planned.read_again is.2 in
       absurd cc
-  alone first (Err (fault.Weights f)) is = absurd (not_refused weights_text planned.given.weights f is.1.0 planned.given.are_weights is.1.1)
-  alone first (Err (fault.Image f)) is =
+  alone command (Err (fault.Weights f)) is = absurd (not_refused weights_text planned.given.weights f is.1.0 planned.given.are_weights is.1.1)
+  alone command (Err (fault.Image f)) is =
       let read = planned.given.is_advert in
       let same = same_image_answer (lines_of image_text) (Ok read.memory) (Err f) read.is_module.is_text is in
       absurd cc
-  alone first (Err (fault.Advert f)) is =
+  alone command (Err (fault.Advert f)) is =
       let read = planned.given.is_advert in
       let same = same_image image_text read.memory is.0 read.is_module.is_text is.1 in
       let accepted = read.is_module.accepted in
       absurd (cc is.2)
-  alone first (Err f) is = absurd is
+  alone command (Err f) is = absurd is
 
   module _ (input : List ℕ) (cut : parts_of input ≡ image_text ∷ weights_text ∷ text ∷ []) (within : length input ≤ input_limit) where
     counted : length (parts_of input) ≡ 3
     counted = ap (λ (l : List (List ℕ)). length l) cut
 
-    good_to : (first : Bool) → IsAnswerTo 3 (IsCheckAnswer first) input (Ok (good_text first planned, None))
-    good_to first = (within, counted, subst (λ l. IsCheckAnswer first l (Ok (good_text first planned, None))) (sym cut) (good_answer first))
+    good_to : (command : CheckCommand) → IsAnswerTo 3 (IsCheckAnswer command) input (Ok (good_text command planned, None))
+    good_to command = (within, counted, subst (λ l. IsCheckAnswer command l (Ok (good_text command planned, None))) (sym cut) (good_answer command))
 
-    alone_to : (first : Bool) (answer : Answer) → IsAnswerTo 3 (IsCheckAnswer first) input answer → answer ≢ Err fault.Memory → answer ≢ Err fault.Io
-        → answer ≡ Ok (good_text first planned, None)
-    alone_to first (Ok told) is memory read = alone first (Ok told) (subst (λ l. IsCheckAnswer first l (Ok told)) cut is.2)
-    alone_to first (Err fault.Memory) is memory read = absurd (memory refl)
-    alone_to first (Err fault.Io) is memory read = absurd (read refl)
-    alone_to first (Err fault.TooLong) is memory read = absurd (omega arith)
-    alone_to first (Err (fault.Parts number)) is memory read = absurd (is.2 (is.1 ∙ counted))
-    alone_to first (Err f) is memory read = alone first (Err f) (subst (λ l. IsCheckAnswer first l (Err f)) cut is.2)
+    alone_to : (command : CheckCommand) (answer : Answer) → IsAnswerTo 3 (IsCheckAnswer command) input answer → answer ≢ Err fault.Memory → answer ≢ Err fault.Io
+        → answer ≡ Ok (good_text command planned, None)
+    alone_to command (Ok told) is memory read = alone command (Ok told) (subst (λ l. IsCheckAnswer command l (Ok told)) cut is.2)
+    alone_to command (Err fault.Memory) is memory read = absurd (memory refl)
+    alone_to command (Err fault.Io) is memory read = absurd (read refl)
+    alone_to command (Err fault.TooLong) is memory read = absurd (omega arith)
+    alone_to command (Err (fault.Parts number)) is memory read = absurd (is.2 (is.1 ∙ counted))
+    alone_to command (Err f) is memory read = alone command (Err f) (subst (λ l. IsCheckAnswer command l (Err f)) cut is.2)
 
     called_good : IsCalledGood planned input
     called_good = record { good = good_to; alone = alone_to }

@@ -4,6 +4,7 @@ use Rattle.applications.specs.WeightFaults.{IsAnswer}
 use Rattle.applications.specs.declared.weights.fault.WeightsFault.{WeightsFault}
 use Rattle.applications.specs.declared.weights.fault.WeightsFault.TheVariants as weights
 use Rattle.command_line.specs.CheckCommand.{IsCheckAnswer}
+use Rattle.command_line.specs.declared.commands.check_command.CheckCommand.{CheckCommand}
 use Rattle.command_line.specs.Faults.{fault_of_weights}
 use Rattle.command_line.specs.Limits.{input_limit}
 use Rattle.command_line.specs.Parts.{parts_of}
@@ -31,7 +32,7 @@ pub if_known : {T : Type 0} (o : Option T) (P Q : T → Type 0) → ((x : T) →
 if_known None P Q k h = tt
 if_known (Some x) P Q k h = k x h
 
-pub check_weights_refused : (first : Bool) (image text certificate : List ℕ) (f : WeightsFault) → Advertises image → IsAnswer text (Err f)
-    → IsOwnAnswer (IsCheckAnswer first) (image ∷ text ∷ certificate ∷ []) (Err (fault_of_weights f))
-check_weights_refused first image text certificate weights.Memory told is = tt
-check_weights_refused first image text certificate f told is = (told, (λ same. absurd cc, is))
+pub check_weights_refused : (command : CheckCommand) (image text certificate : List ℕ) (f : WeightsFault) → Advertises image → IsAnswer text (Err f)
+    → IsOwnAnswer (IsCheckAnswer command) (image ∷ text ∷ certificate ∷ []) (Err (fault_of_weights f))
+check_weights_refused command image text certificate weights.Memory told is = tt
+check_weights_refused command image text certificate f told is = (told, (λ same. absurd cc, is))

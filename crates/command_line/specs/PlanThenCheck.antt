@@ -3,6 +3,7 @@ use Rattle.std.specs.Prelude.{◌≡◌, ◌≢◌, ℕ, ◌≤◌, Bool, true, 
 use Rattle.text_lines.specs.Lines.{text_of}
 use Rattle.reports.specs.PlanText.{plan_lines}
 use Rattle.command_line.specs.CheckCommand.{IsCheckAnswer, first_line, good_line, kept_lines}
+use Rattle.command_line.specs.declared.commands.check_command.CheckCommand.{CheckCommand}
 use Rattle.command_line.specs.Limits.{input_limit}
 use Rattle.command_line.specs.Parts.{parts_of}
 use Rattle.command_line.specs.PlanCommand.{IsPlanned}
@@ -23,16 +24,16 @@ first_lines true = first_line true ∷ []
 first_lines false = []
 
 -- `good`, and the plan that was given
-abbrev pub good_text : {image_text weights_text kept_text text : List ℕ} → Bool → IsPlanned image_text weights_text kept_text text → List ℕ
-good_text first planned = text_of (good_line ∷ kept_lines (length planned.certificate.kept)
-    ++ plan_lines planned.given.advert planned.given.weights planned.certificate.paths ++ first_lines first)
+abbrev pub good_text : {image_text weights_text kept_text text : List ℕ} → CheckCommand → IsPlanned image_text weights_text kept_text text → List ℕ
+good_text command planned = text_of (good_line ∷ kept_lines (length planned.certificate.kept)
+    ++ plan_lines planned.given.advert planned.given.weights planned.certificate.paths ++ first_lines command.tells_first)
 
--- with the flag `--first` or without it, `check` answers `good` and the plan to this input, and, where no allocation and no read
--- is refused, nothing else
+-- whatever flags are given, `check` answers `good` and the plan to this input, and, where no allocation and no read is refused,
+-- nothing else
 pub record IsCalledGood {image_text weights_text kept_text text : List ℕ} (planned : IsPlanned image_text weights_text kept_text text) (input : List ℕ) : Type 0 where
-  pub good : (first : Bool) → IsAnswerTo 3 (IsCheckAnswer first) input (Ok (good_text first planned, None))
-  pub alone : (first : Bool) (answer : Answer) → IsAnswerTo 3 (IsCheckAnswer first) input answer → answer ≢ Err Memory → answer ≢ Err Io
-      → answer ≡ Ok (good_text first planned, None)
+  pub good : (command : CheckCommand) → IsAnswerTo 3 (IsCheckAnswer command) input (Ok (good_text command planned, None))
+  pub alone : (command : CheckCommand) (answer : Answer) → IsAnswerTo 3 (IsCheckAnswer command) input answer → answer ≢ Err Memory → answer ≢ Err Io
+      → answer ≡ Ok (good_text command planned, None)
 
 -- the text is of the plan of these texts, and behind the image and the weights `check` calls it good
 pub record IsGoodBehind (image_text weights_text kept_text text : List ℕ) : Type 0 where

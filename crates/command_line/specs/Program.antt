@@ -37,7 +37,7 @@ IsAnswerBy Apps given = IsAnswerTo 1 (IsAppsAnswer given.bus)
 IsAnswerBy Monitors given = IsAnswerTo 1 (IsMonitorsAnswer given.bus)
 IsAnswerBy Flags given = IsAnswerTo 1 (IsFlagsAnswer given.bus)
 IsAnswerBy Plan given = IsAnswerTo (count_with given.keep 2) (IsPlanAnswer given.keep)
-IsAnswerBy Check given = IsAnswerTo 3 (IsCheckAnswer given.first)
+IsAnswerBy Check given = IsAnswerTo 3 (IsCheckAnswer record { tells_first = given.first })
 IsAnswerBy Provision given = IsAnswerTo (count_with given.keep 3) (IsProvisionAnswer given.activate given.keep)
 IsAnswerBy Trace given = IsAnswerTo (count_with given.keep 3) (IsTraceAnswer given.activate given.keep)
 

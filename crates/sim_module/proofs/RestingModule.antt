@@ -1,5 +1,5 @@
 -- While no apply is in progress and none is asked for, what is active stays, whichever page is mapped.
-use Rattle.std.proofs.Common.{◌≡◌, inl, inr, ℕ, zero, suc, ◌+◌, ◌-◌, ◌<◌, ◌≤◌, Bool, true, List, [], ◌∷◌, length, get_or, map, take, refl, ap, sym, subst, ◌∙◌, if◌then◌else◌, nat_lt, arith}
+use Rattle.std.proofs.Common.{◌≡◌, inl, inr, ℕ, zero, suc, ◌+◌, ◌-◌, ◌<◌, ◌≤◌, Bool, true, None, List, [], ◌∷◌, length, get_or, map, take, refl, ap, sym, subst, ◌∙◌, if◌then◌else◌, nat_lt, arith}
 use Rattle.std.proofs.lemmas.Bool.{cases_lt}
 use Rattle.std.proofs.lemmas.Bool.Decides.{nat_tests}
 use Rattle.std.proofs.lemmas.List.{ext_get_or, get_or-map, length-map}
@@ -10,6 +10,8 @@ use Rattle.bus_model.specs.declared.operation.Op.TheVariants.{Fetch, Store}
 use Rattle.bus_model.specs.Keeping.{IsKeptBy, IsKeptInTime}
 use Rattle.field_tables.specs.LaneSets.{lanes_in}
 use Rattle.control_sets.specs.HostPaths.{IsLane}
+use Rattle.paged_memory.specs.Images.{Memory}
+use Rattle.sim_module.specs.declared.delays.Delays.{Delays}
 use Rattle.sim_module.specs.declared.lane.Lane.{Lane}
 use Rattle.sim_module.specs.declared.module.SimModule.{SimModule}
 use Rattle.sim_module.specs.ActiveSets.{IsAtRest}
@@ -17,16 +19,25 @@ use Rattle.sim_module.specs.Lanes.{active_bytes, all_lanes, lane_at, no_lane}
 use Rattle.sim_module.specs.Modules.{conduct}
 use Rattle.sim_module.specs.Registers.{is_from}
 use Rattle.sim_module.specs.ShownBytes.{cleared, is_mapped}
+use Rattle.sim_module.specs.Starts.{active_at_start, start, start_lane}
 use Rattle.sim_module.specs.Stores.{stored_byte, stored_bytes, stored_high, stored_low}
 use Rattle.sim_module.specs.Ticks.{pinned, ticked, ticked_lane}
 use Rattle.bus_model.proofs.Histories.{AnyPin}
 use Rattle.sim_module.proofs.LanesInTime.{made_lane, settled_lane}
-use Rattle.sim_module.proofs.SoundModule.{either, fetched_keeps, kept_by_other, stored_keeps}
+use Rattle.sim_module.proofs.SoundModule.{either, fetched_keeps, kept_by_other, made_keeps, stored_keeps}
 
 pub take_fewer : (k : ℕ) (bytes : List ℕ) → length (take k bytes) ≤ length bytes
 take_fewer zero bytes = omega arith
 take_fewer (suc k) [] = omega arith
 take_fewer (suc k) (byte ∷ bytes) = let fewer = take_fewer k bytes in omega (arith, fewer)
+
+pub rest_start : (memory : Memory) (delays : Delays) → IsAtRest (active_at_start memory) (start memory delays)
+unfolding start
+rest_start memory delays = record {
+  eight = length-map-range_with_len (start_lane memory) 1 8;
+  none = λ lane within. made_keeps (λ (l : Lane). l.kept ≡ None) (start_lane memory) no_lane (λ n. refl) refl all_lanes (lane - 1);
+  active = refl;
+}
 
 -- a module with the same lanes
 pub rest_lanes : (control : List ℕ) (sim other : SimModule) → other.lanes ≡ sim.lanes → IsAtRest control sim → IsAtRest control other

@@ -21,6 +21,10 @@ is_at field address = address == address_of field
 abbrev pub is_in : Field → ℕ → ℕ → Bool
 is_in field count address = is_from (address_of field) count address
 
+-- how many bytes of page 11h have flags of the lanes, from that of the changed states of data paths on
+abbrev pub lane_flag_bytes : ℕ
+lane_flag_bytes = 19
+
 -- a field of one bit, in the byte that has it
 abbrev pub is_set : Field → ℕ → Bool
 is_set field byte = bit_at byte (low_of (row_of field).bits) == 1

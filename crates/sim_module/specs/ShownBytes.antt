@@ -12,9 +12,8 @@ use Rattle.module_states.specs.Codes as module_codes
 use Rattle.datapath_states.specs.StateCodes.{code_of}
 use Rattle.datapath_states.specs.StatusCodes.{status_code_of}
 use Rattle.sim_module.specs.declared.module.SimModule.{SimModule}
-use Rattle.sim_module.specs.declared.module.TheConstants.{LANE_FLAGS}
 use Rattle.sim_module.specs.Lanes.{lane_at}
-use Rattle.sim_module.specs.Registers.{address_of, is_at, is_from, is_in}
+use Rattle.sim_module.specs.Registers.{address_of, is_at, is_from, is_in, lane_flag_bytes}
 use Rattle.paged_memory.specs.Selections.{shown_key}
 
 -- a page of bank 0 is mapped
@@ -65,7 +64,7 @@ configuration_bytes sim address =
 abbrev pub status_bytes : SimModule → ℕ → List (Bool × ℕ)
 status_bytes sim address =
     (is_in CPathStates 4 address, pair_byte (path_code sim) (address - address_of CPathStates))
-    ∷ (is_in CPathStateChanged LANE_FLAGS address, slice_index sim.lane_flags (address - address_of CPathStateChanged))
+    ∷ (is_in CPathStateChanged lane_flag_bytes address, slice_index sim.lane_flags (address - address_of CPathStateChanged))
     ∷ (is_in CConfigStatus 4 address, pair_byte (status_code sim) (address - address_of CConfigStatus))
     ∷ (is_in CActiveAppSel 8 address, (lane_at sim (address - address_of CActiveAppSel + 1)).active)
     ∷ []
@@ -93,7 +92,7 @@ abbrev pub left_lane_flag : SimModule → (ℕ → Bool) → ℕ → ℕ
 left_lane_flag sim is_read index = left_flag (is_mapped sim 0x11 && is_read (address_of CPathStateChanged + index)) (slice_index sim.lane_flags index)
 
 abbrev pub left_lane_flags : SimModule → (ℕ → Bool) → List ℕ
-left_lane_flags sim is_read = map (left_lane_flag sim is_read) (range_with_len 0 LANE_FLAGS)
+left_lane_flags sim is_read = map (left_lane_flag sim is_read) (range_with_len 0 lane_flag_bytes)
 
 -- after the bytes at some addresses were read
 unfoldable pub cleared : SimModule → (ℕ → Bool) → SimModule

@@ -21,13 +21,11 @@ use Rattle.datapath_states.specs.declared.state.PathState.TheVariants.{Deactivat
 use Rattle.datapath_states.specs.declared.status.ConfigStatus.TheVariants.{Undefined}
 use Rattle.control_sets.specs.HostPaths.{wrong_lane}
 use Rattle.sim_module.specs.declared.delays.Delays.{Delays}
-use Rattle.sim_module.specs.declared.delays.TheConstants.{MAX_DELAY}
 use Rattle.sim_module.specs.declared.fault.SimFault.{SimFault}
 use Rattle.sim_module.specs.declared.fault.SimFault.TheVariants.{Absent, Advert, BadDelay, ActiveNotPaths}
 use Rattle.sim_module.specs.declared.lane.Lane.{Lane}
 use Rattle.sim_module.specs.declared.module.SimModule.{SimModule}
-use Rattle.sim_module.specs.declared.module.TheConstants.{LANE_FLAGS}
-use Rattle.sim_module.specs.Registers.{address_of}
+use Rattle.sim_module.specs.Registers.{address_of, lane_flag_bytes}
 use Rattle.sim_module.specs.Lanes.{all_lanes}
 use Rattle.sim_module.specs.Down.{asks_low_power}
 
@@ -64,7 +62,7 @@ start memory delays = record {
   deinit = lanes_in (byte_of_field memory CDPDeinit 0);
   apply_left = 0;
   module_flags = byte_of_field memory CModuleFlag 0;
-  lane_flags = map (byte_of_field memory CPathStateChanged) (range_with_len 0 LANE_FLAGS);
+  lane_flags = map (byte_of_field memory CPathStateChanged) (range_with_len 0 lane_flag_bytes);
 }
 
 -- the halves that a module needs
@@ -76,7 +74,7 @@ abbrev pub absent_half : Memory → Option Key
 absent_half memory = find (is_absent memory) needed_halves
 
 abbrev pub is_delay : ℕ → Bool
-is_delay delay = nat_le 1 delay && nat_le delay MAX_DELAY
+is_delay delay = nat_le 1 delay && nat_le delay 1000
 
 abbrev pub are_delays : Delays → Bool
 are_delays delays =

@@ -5,13 +5,14 @@ ghost use Rattle.field_tables.specs.LaneSets.{Lanes};
 ghost use Rattle.control_sets.specs.OutcomeCodes.{IsOf};
 ghost use Rattle.sim_module.specs.declared.delays.Delays.{Delays};
 ghost use Rattle.sim_module.specs.Soundness.{HoldsItsPath, IsAlwaysKept, IsSound, LanesStayUp};
-ghost use Rattle.sim_module.specs.Starts.{start};
-ghost use Rattle.sim_module.specs.ActiveSets.{ActivationLeavesActive, ActiveIsPlanned, ActiveIsPlannedOn, HasNoApply};
+ghost use Rattle.sim_module.specs.Starts.{active_at_start, start};
+ghost use Rattle.sim_module.specs.ActiveSets.{ActivationLeavesActive, ActiveIsPlanned, ActiveIsPlannedOn, HasNoApply, IsAtRest};
 ghost use Rattle.sim_module.specs.KeptPaths.{KeptPathsStayUp};
 
-/// A new module has eight lanes, and no apply of it is in progress.
+/// A new module has eight lanes, the active bytes of its memory are active, and no apply is in progress.
 pub fn a_new_module_is_sound()
-    ensures { (memory : Memory) (delays : Delays) → IsSound (start memory delays) }
+    ensures sound { (memory : Memory) (delays : Delays) → IsSound (start memory delays) }
+    ensures at_rest { (memory : Memory) (delays : Delays) → IsAtRest (active_at_start memory) (start memory delays) }
 {}
 
 /// Whatever happens to a module, the lanes of an apply in progress have the status ConfigInProgress.

@@ -45,7 +45,7 @@ ghost use Rattle.std.specs.List.{range_with_len};
 ghost use Rattle.applications.specs.Advertised.{advertised_by};
 ghost use Rattle.control_sets.specs.HostPaths.{IsLane};
 ghost use Rattle.sim_module.specs.Lanes.{all_lanes};
-ghost use Rattle.sim_module.specs.Registers.{address_of};
+ghost use Rattle.sim_module.specs.Registers.{address_of, lane_flag_bytes};
 ghost use Rattle.sim_module.specs.Starts as spec;
 
 // The first half that an image lacks of those that a module needs.
@@ -80,7 +80,7 @@ fn active_at_start(image: &Image) -> [u8; 8]
 }
 
 fn lane_flags(image: &Image) -> [u8; LANE_FLAGS]
-    ensures { result ≡ map (spec.byte_of_field image.now Field.CPathStateChanged) (range_with_len 0 LANE_FLAGS) }
+    ensures { result ≡ map (spec.byte_of_field image.now Field.CPathStateChanged) (range_with_len 0 lane_flag_bytes) }
 {
     let mut flags = [0; LANE_FLAGS];
     for (index, flag) in flags.iter_mut().enumerate() {

@@ -28,7 +28,7 @@ struct CheckCommand {
 impl Command for CheckCommand {
     ghost count = { λ _. 3 };
 
-    ghost answers = { λ command. IsCheckAnswer command.tells_first };
+    ghost answers = { IsCheckAnswer };
 
     fn parts(&self) -> usize {
         3
@@ -41,7 +41,7 @@ impl Command for CheckCommand {
         let certificate = Certificate::<STATES>::read(certificate)?;
         match plan_certificate::check(&advert, &weights, &certificate) {
             Verdict::Good => Ok(Told {
-                text: good_text(alloc, &advert, &weights, &certificate, self.tells_first)?,
+                text: self.good_text(alloc, &advert, &weights, &certificate)?,
                 fault: None,
             }),
             Verdict::Bad(reason, number) => Err(Fault::Bad(reason, number)),
@@ -49,23 +49,25 @@ impl Command for CheckCommand {
     }
 }
 
-// What is told of a good certificate.
-fn good_text(
-    alloc: Global,
-    advert: &Advert,
-    weights: &Weights,
-    certificate: &Certificate<STATES>,
-    tells_first: bool,
-) -> Result<Vec<u8>, AllocError>
-    requires { IsGood advert.now weights.now certificate.now }
-    ensures { IfOk result (λ text. TellsGood tells_first advert.now weights.now certificate.now text.items) }
-{
-    let plan = plan_text(alloc, advert, weights, &certificate.plan)?;
-    let mut text = b"good\n".to_vec(alloc)?;
-    push_kept(&mut text, certificate.kept.paths.len())?;
-    text.extend_from_slice(&plan)?;
-    push_first(&mut text, advert, weights, certificate, tells_first)?;
-    Ok(text)
+impl CheckCommand {
+    // What is told of a good certificate.
+    fn good_text(
+        self,
+        alloc: Global,
+        advert: &Advert,
+        weights: &Weights,
+        certificate: &Certificate<STATES>,
+    ) -> Result<Vec<u8>, AllocError>
+        requires { IsGood advert.now weights.now certificate.now }
+        ensures { IfOk result (λ text. TellsGood self advert.now weights.now certificate.now text.items) }
+    {
+        let plan = plan_text(alloc, advert, weights, &certificate.plan)?;
+        let mut text = b"good\n".to_vec(alloc)?;
+        push_kept(&mut text, certificate.kept.paths.len())?;
+        text.extend_from_slice(&plan)?;
+        push_first(&mut text, advert, weights, certificate, self.tells_first)?;
+        Ok(text)
+    }
 }
 
 #[tactic(auto, unfolding(crate::specs::CheckCommand::kept_line))]
@@ -118,7 +120,7 @@ pub fn check<R: Read, W: Write>(
     reader: &mut CountedReader<R>,
     writer: &mut StoppingWriter<W>,
 ) -> Status
-    ensures { IsCommandRun R.remaining W.contents (IsAnswerTo 3 (IsCheckAnswer first))
+    ensures { IsCommandRun R.remaining W.contents (IsAnswerTo 3 (IsCheckAnswer record { tells_first = first }))
         reader.old reader.new writer.old writer.new result }
 {
     run(alloc, &CheckCommand { tells_first: first }, reader, writer)

@@ -13,24 +13,24 @@ use Rattle.command_line.proofs.commands.check_command.CheckCommandCommand.answer
 pub returns-in_err-weights-clause-answer : goal.returns-in_err-weights-clause-answer
 returns-in_err-weights-clause-answer c =
     let parts = c.args.parts.now in
-    let first = c.args.self.now.tells_first in
+    let command = c.args.self.now in
     let p = err_from_is_err_and c.from_residual-in_err-weights.result c.from_residual-in_err-weights.ensures.1 in
-    rw (three_parts parts c.requires, p.1, p.2) (check_weights_refused first (part_at parts 0) (part_at parts 1) (part_at parts 2) c.in_err-weights.field-0.0 (c.in_ok-advert.advert, c.in_ok-advert.ensures) c.in_err-weights.ensures.answer)
+    rw (three_parts parts c.requires, p.1, p.2) (check_weights_refused command (part_at parts 0) (part_at parts 1) (part_at parts 2) c.in_err-weights.field-0.0 (c.in_ok-advert.advert, c.in_ok-advert.ensures) c.in_err-weights.ensures.answer)
 
 pub returns-in_err-certificate-clause-answer : goal.returns-in_err-certificate-clause-answer
 returns-in_err-certificate-clause-answer c =
     let parts = c.args.parts.now in
-    let first = c.args.self.now.tells_first in
+    let command = c.args.self.now in
     let p = err_from_is_err_and c.from_residual-in_err-certificate.result c.from_residual-in_err-certificate.ensures.1 in
-    let is : IsCheckAnswer first (part_at parts 0 ∷ part_at parts 1 ∷ part_at parts 2 ∷ []) (Err (Certificate c.in_err-certificate.field-0.0)) =
+    let is : IsCheckAnswer command (part_at parts 0 ∷ part_at parts 1 ∷ part_at parts 2 ∷ []) (Err (Certificate c.in_err-certificate.field-0.0)) =
     ((c.in_ok-advert.advert, c.in_ok-advert.ensures), (c.in_ok-weights.weights, c.in_ok-weights.ensures.answer), c.in_err-certificate.ensures.err) in
     rw (three_parts parts c.requires, p.1, p.2) is
 
 pub returns-in_ok-good_text-in-Good-clause-answer : goal.returns-in_ok-good_text-in-Good-clause-answer
 returns-in_ok-good_text-in-Good-clause-answer c =
     let parts = c.args.parts.now in
-    let first = c.args.self.now.tells_first in
-    let good : IsGoodAnswer first (part_at parts 0) (part_at parts 1) (part_at parts 2) c.in_ok-good_text-in-Good.field-0.items = record {
+    let command = c.args.self.now in
+    let good : IsGoodAnswer command (part_at parts 0) (part_at parts 1) (part_at parts 2) c.in_ok-good_text-in-Good.field-0.items = record {
       judged = record {
         advert = c.in_ok-advert.advert;
         weights = c.in_ok-weights.weights;
@@ -48,7 +48,7 @@ returns-in_ok-good_text-in-Good-clause-answer c =
 pub returns-in-Bad-clause-answer : goal.returns-in-Bad-clause-answer
 returns-in-Bad-clause-answer c =
     let parts = c.args.parts.now in
-    let first = c.args.self.now.tells_first in
+    let command = c.args.self.now in
     let bad : IsJudged (part_at parts 0) (part_at parts 1) (part_at parts 2) (Bad c.in-Bad.reason c.in-Bad.number) = record {
       advert = c.in_ok-advert.advert;
       weights = c.in_ok-weights.weights;
