@@ -35,7 +35,7 @@ pub fn parts(input: &[u8], count: usize) -> Result<ArrayVec<&[u8], MAX_PARTS>, F
 }
 
 // The parts of an input from the first to the last; none once the last has been given.
-#[derive(Clone, Copy, Debug)]
+#[derive(Clone, Copy)]
 struct Pieces<'a> {
     rest: Option<&'a [u8]>,
 }

@@ -8,7 +8,7 @@ use plan_certificate::CertificateFault;
 pub const DONE: u32 = 0;
 
 /// Why a call does nothing.
-#[derive(Clone, Copy, Debug, PartialEq, Eq)]
+#[derive(Clone, Copy)]
 pub enum Refusal {
     /// There are more halves than an image holds.
     TooManyHalves,

@@ -15,6 +15,8 @@ mod Drafts
 mod AddedLines
 mod WholeTexts
 pub mod OneAnswer
+mod OneKeptList
+mod Places
 mod WrittenCertificates
 mod Numbered
 pub mod MoveLists

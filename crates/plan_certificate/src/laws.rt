@@ -2,9 +2,12 @@
 ghost use Rattle.std.specs.Prelude.{◌≡◌, ℕ, List, Result, Ok};
 ghost use Rattle.text_lines.specs.Lines.{lines_of, text_of};
 ghost use Rattle.plan_certificate.specs.declared.fault.CertificateFault.{CertificateFault};
+ghost use Rattle.plan_certificate.specs.declared.fault.KeptFault.{KeptFault};
+ghost use Rattle.plan_certificate.specs.declared.path.Path.{Path};
 ghost use Rattle.plan_certificate.specs.Certificates.{Claim};
 ghost use Rattle.plan_certificate.specs.CertificateText.{certificate_lines, IsReadable, IsTextOf};
 ghost use Rattle.plan_certificate.specs.CertificateFaults.{IsAnswer};
+ghost use Rattle.plan_certificate.specs.KeptText.{IsKeptAnswer};
 
 /// Lines have one answer at most, whatever room there is for states: two certificates share no text, no text has
 /// both a certificate and a fault, and the first fault of a text is one.
@@ -19,4 +22,9 @@ pub fn written_is_read()
         → IsTextOf states (lines_of (text_of (certificate_lines certificate))) certificate }
     ensures alone { (states : ℕ) (certificate : Claim) (answer : Result Claim CertificateFault) → IsReadable states certificate
         → IsAnswer states (lines_of (text_of (certificate_lines certificate))) answer → answer ≡ Ok certificate }
+{}
+
+/// Lines have one answer at most as the text of kept paths, too: one list, or one first fault.
+pub fn one_kept_list()
+    ensures { (lines : List (List ℕ)) (a b : Result (List Path) KeptFault) → IsKeptAnswer lines a → IsKeptAnswer lines b → a ≡ b }
 {}

@@ -10,7 +10,7 @@ use sff8472_map::is_sfp;
 use sff8636_map::is_qsfp;
 
 /// The families of modules: each has a standard of its own for what stands where in its memory.
-#[derive(Clone, Copy, Debug, PartialEq, Eq)]
+#[derive(Clone, Copy)]
 pub enum Family {
     /// OIF-CMIS-05.0.
     Cmis,

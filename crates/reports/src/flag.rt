@@ -7,7 +7,7 @@ use crate::quantity::Quantity;
 use std::fmt;
 
 /// A limit of what is measured.
-#[derive(Clone, Copy, Debug, PartialEq, Eq)]
+#[derive(Clone, Copy)]
 pub enum Level {
     HighAlarm,
     LowAlarm,
@@ -16,7 +16,7 @@ pub enum Level {
 }
 
 /// What a flag can tell of a lane beside what is measured there.
-#[derive(Clone, Copy, Debug, PartialEq, Eq)]
+#[derive(Clone, Copy)]
 pub enum Condition {
     PathStateChanged,
     TxFailure,
@@ -32,7 +32,7 @@ pub enum Condition {
 }
 
 /// What a flag tells.
-#[derive(Clone, Copy, Debug, PartialEq, Eq)]
+#[derive(Clone, Copy)]
 pub enum FlagName {
     /// What is measured has passed a limit.
     Passed(Quantity, Level),
@@ -40,7 +40,7 @@ pub enum FlagName {
 }
 
 /// A flag of the module, or of one of its lanes.
-#[derive(Clone, Copy, Debug, PartialEq, Eq)]
+#[derive(Clone, Copy)]
 pub struct Flag {
     pub name: FlagName,
     pub lane: Option<u8>,

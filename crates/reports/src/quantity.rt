@@ -5,7 +5,7 @@ ghost use Rattle.reports.specs.Quantities.{limits_name_of, millis_in, name_of, u
 use field_tables::{Unit, millis};
 
 /// What a module measures of itself or of its lanes.
-#[derive(Clone, Copy, Debug, PartialEq, Eq)]
+#[derive(Clone, Copy)]
 pub enum Quantity {
     Temperature,
     /// The supply voltage.

@@ -4,7 +4,7 @@ ghost use Rattle.command_line.specs.Choice.{commands, entry_named};
 ghost use Rattle.command_line.specs.Entries.{entry_of};
 
 /// What the program is asked to do.
-#[derive(Clone, Copy, Debug, PartialEq, Eq)]
+#[derive(Clone, Copy, PartialEq)]
 pub enum CommandName {
     Inventory,
     Apps,
@@ -17,7 +17,7 @@ pub enum CommandName {
 }
 
 /// What the command line asks for.
-#[derive(Clone, Copy, Debug, PartialEq, Eq)]
+#[derive(Clone, Copy)]
 pub struct Choice {
     pub name: CommandName,
     /// Whether the module is to be read over a bus.
@@ -31,7 +31,7 @@ pub struct Choice {
 }
 
 /// A flag, given as `--name`.
-#[derive(Clone, Copy, Debug)]
+#[derive(Clone, Copy)]
 pub struct Flag {
     pub name: &'static str,
     /// What help says of it.
@@ -39,7 +39,7 @@ pub struct Flag {
 }
 
 /// A command of the command line.
-#[derive(Clone, Copy, Debug)]
+#[derive(Clone, Copy)]
 pub struct CommandEntry {
     pub name: &'static str,
     pub command: CommandName,

@@ -20,7 +20,7 @@ use std::io::{Read, Write};
 use text_lines::Spelled;
 
 /// Judges a certificate, and says whether its plan is the first of the best, or not.
-#[derive(Clone, Copy, Debug)]
+#[derive(Clone, Copy)]
 struct CheckCommand {
     tells_first: bool,
 }

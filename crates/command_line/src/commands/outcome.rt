@@ -59,7 +59,7 @@ fn push_active(text: &mut Vec<u8>, active: [u8; 8]) -> Result<(), AllocError>
 }
 
 /// Control bytes, lane 1 first.
-#[derive(Clone, Copy, Debug)]
+#[derive(Clone, Copy)]
 struct ControlWords([u8; 8]);
 
 /// In lower-case hexadecimal.

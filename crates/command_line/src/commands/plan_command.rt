@@ -15,7 +15,7 @@ use std::alloc::Global;
 use std::io::{Read, Write};
 
 /// Plans, and keeps the data paths that a part of the input names, or none.
-#[derive(Clone, Copy, Debug)]
+#[derive(Clone, Copy)]
 struct PlanCommand {
     keeps: bool,
 }

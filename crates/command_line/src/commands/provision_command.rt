@@ -19,7 +19,7 @@ use std::alloc::{AllocError, Global};
 use std::io::{Read, Write};
 
 /// Provisions the plan that is given, and shows the steps or not.
-#[derive(Clone, Copy, Debug)]
+#[derive(Clone, Copy)]
 struct ProvisionCommand {
     is_traced: bool,
     is_activated: bool,

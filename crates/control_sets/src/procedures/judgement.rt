@@ -12,7 +12,7 @@ use field_tables::LaneSet;
 use module_states::ModuleState;
 
 /// What a reply says of a task.
-#[derive(Clone, Copy, Debug, PartialEq, Eq)]
+#[derive(Clone, Copy)]
 pub enum Judgement {
     /// It is met.
     Met,

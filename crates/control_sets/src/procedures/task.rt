@@ -11,7 +11,7 @@ use field_tables::LaneSet;
 
 /// One thing that a procedure brings about, by one operation that is made until its reply is as wanted. In a byte of bits
 /// bit i-1 is that of lane i.
-#[derive(Clone, Copy, Debug, PartialEq, Eq)]
+#[derive(Clone, Copy)]
 pub enum Task {
     /// The module is in ModuleReady.
     FindReady,

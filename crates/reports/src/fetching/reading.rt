@@ -12,7 +12,7 @@ use control_sets::MAX_STEPS;
 use paged_memory::{Image, PAGE_LEN, Page, Paging, Selected};
 
 /// What is wanted.
-#[derive(Debug, Drop)]
+#[derive(Drop)]
 pub enum Next {
     /// This operation is to be made, and its reply to be told.
     Do(Op),
@@ -23,7 +23,7 @@ pub enum Next {
 }
 
 /// What was read so far.
-#[derive(Debug, Drop)]
+#[derive(Drop)]
 pub struct Reading {
     /// The halves that were read.
     pub image: Image,

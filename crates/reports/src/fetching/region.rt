@@ -5,7 +5,7 @@ use bus_model::{Dev, Op};
 use paged_memory::Key;
 
 /// A half of a module's memory that is read over the bus.
-#[derive(Clone, Copy, Debug, PartialEq, Eq)]
+#[derive(Clone, Copy)]
 pub enum Region {
     /// The lower half of a device.
     Lower(Dev),
