@@ -7,7 +7,8 @@ use Rattle.applications.specs.Weights.{HostWeights}
 use Rattle.plan_certificate.specs.declared.path.Path.{Path}
 use Rattle.plan_certificate.specs.declared.state.State.{State}
 use Rattle.plan_certificate.specs.Paths.{IsLower, media_lanes, is_allowed, path_weight}
-use Rattle.plan_certificate.specs.Plans.{plan_weight}
+use Rattle.plan_certificate.specs.Plans.{IsAdmissible, plan_weight}
+use Rattle.plan_certificate.specs.Plans as plans
 use Rattle.plan_certificate.specs.KeptPaths.{may_stay_free}
 use Rattle.plan_certificate.specs.States.{start, free_step, path_step, steps_from}
 use Rattle.plan_certificate.proofs.Heaviest.{ComesOrCame, IsLater, after_path, allowed, bounded, come_free, come_taken, each_step, lanes_later, stay_later}
@@ -36,22 +37,31 @@ pub record Agrees (advert : Advertised) (weights : HostWeights) (kept : List Pat
 abbrev pub AgreesOrLater : Advertised → HostWeights → List Path → (State → ℕ) → State → List Path → List Path → Type 0
 AgreesOrLater advert weights kept gain state paths others = Agrees advert weights kept gain state paths others ⊎ ComesBefore paths others
 
+-- the paths of a plan that holds the kept ones may all still come
+pub may_come : (advert : Advertised) (kept others : List Path) → IsAdmissible advert others → plans.Keeps kept others → AllByRecursion (IsLater advert kept start) others
+may_come advert kept others plan holds =
+    map_each (Contains others) (IsLater advert kept start) others
+    (λ path held.
+    let can = All-contains (λ (p : Path). is_allowed advert p ≡ true) others path plan.allowed held in
+    record { can = plan_eligible advert kept others plan holds path held can; past = (allowed advert path can).host_from; unused = disjoint_none (media_lanes advert path) })
+    (each_contained others)
+
+-- the kept ones among them
+pub kept_come : (advert : Advertised) (kept others : List Path) → plans.Keeps kept others → AllByRecursion (ComesOrCame advert start others) kept
+kept_come advert kept others holds = map_each (Contains others) (ComesOrCame advert start others) kept (λ path held. inl held) holds
+
 pub agrees_at_start : (advert : Advertised) (weights : HostWeights) (kept : List Path) (gain : State → ℕ) (others : List Path) → IsPlanOf advert weights kept (gain start) others → Agrees advert weights kept gain start [] others
-agrees_at_start advert weights kept gain others plan =
-    let later : (path : Path) → Contains others path → IsLater advert kept start path = (λ path held.
-    let can = All-contains (λ (p : Path). is_allowed advert p ≡ true) others path plan.admissible.allowed held in
-    record { can = plan_eligible advert kept others plan.admissible plan.keeps path held can; past = (allowed advert path can).host_from; unused = disjoint_none (media_lanes advert path) }) in
-    record {
-      rest = others;
-      taken = λ k d below. absurd (omega (arith, below));
-      split = λ path held. inr held;
-      inside = each_contained others;
-      later = map_each (Contains others) (IsLater advert kept start) others later (each_contained others);
-      apart = from_pairs advert others plan.admissible.apart;
-      of_use = recursion_from_All (IsOfUse advert weights kept) others plan.of_use;
-      come = map_each (Contains others) (ComesOrCame advert start others) kept (λ path held. inl held) plan.keeps;
-      weighs = plan.weighs;
-    }
+agrees_at_start advert weights kept gain others plan = record {
+  rest = others;
+  taken = λ k d below. absurd (omega (arith, below));
+  split = λ path held. inr held;
+  inside = each_contained others;
+  later = may_come advert kept others plan.admissible plan.keeps;
+  apart = from_pairs advert others plan.admissible.apart;
+  of_use = recursion_from_All (IsOfUse advert weights kept) others plan.of_use;
+  come = kept_come advert kept others plan.keeps;
+  weighs = plan.weighs;
+}
 
 -- ---- what the state's gain is, and those after its steps
 

@@ -18,4 +18,5 @@ mod FirstPlans
 mod KeptTaken
 mod FirstLaws
 mod ReadOffs
+mod PlansReadOff
 mod ReachedEntries

@@ -9,4 +9,4 @@ mod planner;
 mod reached;
 
 pub use first::first_best;
-pub use planner::{plan, plan_keeping};
+pub use planner::{first_plan, plan, plan_keeping};

@@ -59,6 +59,18 @@ pub fn plan_keeping(advert: &Advert, weights: &Weights, kept: &Plan) -> Certific
     }
 }
 
+/// The plan of `plan_keeping`, without its certificate.
+pub fn first_plan(advert: &Advert, weights: &Weights, kept: &Plan) -> Plan
+    requires { IsAdmissible advert.now kept.now }
+    ensures first { IsFirstBest advert.now weights.now kept.now result }
+    ensures rising { AllPairs (λ path later. path.host < later.host) result }
+{
+    let kept = kept.paths.as_slice();
+    let marks = reached(advert, weights, kept);
+    let table = gains_of(advert, weights, kept, &marks);
+    read_off(advert, weights, kept, &table)
+}
+
 // The plan that the gains lead to, from the start upwards.
 fn read_off(advert: &Advert, weights: &Weights, kept: &[Path], table: &[u64]) -> Plan
     requires kept { IsAdmissible advert.now kept.now }

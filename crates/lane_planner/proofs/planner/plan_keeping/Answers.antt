@@ -1,14 +1,15 @@
-use Rattle.std.proofs.Common.{◌≡◌, ℕ, List, get_or, sym, subst, ap, ◌∙◌, arith}
+use Rattle.std.proofs.Common.{◌≡◌, ℕ, List, get_or, sym, subst, ap, ◌∙◌}
 use Rattle.plan_certificate.specs.declared.path.Path.{Path}
 use Rattle.plan_certificate.specs.declared.certificate.Entry.{Entry}
-use Rattle.plan_certificate.specs.Plans.{AreAllowed, IsAdmissible, IsBest}
+use Rattle.plan_certificate.specs.Plans.{AreAllowed, IsAdmissible}
 use Rattle.plan_certificate.specs.Certificates.{IsBound}
 use Rattle.plan_certificate.specs.States.{start}
 use Rattle.plan_certificate.proofs.GoodVerdicts.{good_verdict}
-use Rattle.plan_certificate.proofs.Heaviest.{good_is_best}
+use Rattle.lane_planner.specs.FirstBest.{IsFirstBest}
 use Rattle.lane_planner.specs.Marks.{MarksReached}
 use Rattle.lane_planner.specs.Tables.{HasGains, IsReadOff, gain_at}
 use Rattle.lane_planner.proofs.Places.{start_place}
+use Rattle.lane_planner.proofs.PlansReadOff.{read_off_is_first}
 use Rattle.lane_planner.proofs.ReachedEntries.{bound_at, each_covers, each_gain, states_are}
 use Rattle.lane_planner.proofs.ReachedStates.{start_reached}
 use Rattle.lane_planner.proofs.planner.plan_keeping.Goals as goal
@@ -53,24 +54,17 @@ returns-clause-good c =
 pub returns-clause-judged : goal.returns-clause-judged
 returns-clause-judged c = (good_verdict c.args.advert.now c.args.weights.now _ c.entries_of.ensures.states).1 (returns-clause-good c)
 
-pub returns-clause-best : goal.returns-clause-best
-returns-clause-best c =
-    subst (λ (paths : List Path). IsBest c.args.advert.now c.args.weights.now paths c.read_off.result) c.copy_of.ensures (good_is_best c.args.advert.now c.args.weights.now _ (returns-clause-good c))
-
 pub returns-clause-first : goal.returns-clause-first
 returns-clause-first c =
     let advert = c.args.advert.now in
     let weights = c.args.weights.now in
+    let table = c.gains_of-table.result in
     let same : c.as_slice-paths.result.now ≡ c.args.kept.now = (let read = c.as_slice-paths.ensures.value in let seen = c.kept.view_is in cc) in
-    let off = subst (λ (paths : List Path). IsReadOff advert weights paths c.gains_of-table.result c.read_off.result) same c.read_off.ensures in
-    let best = returns-clause-best c in
-    record {
-      candidate = record { best = best; of_use = off.plan.of_use };
-      first = λ others other.
-          let upper = best.heaviest others other.best.admissible other.best.keeps in
-          let lower = other.best.heaviest c.read_off.result best.admissible best.keeps in
-          off.first others (record { admissible = other.best.admissible; keeps = other.best.keeps; weighs = omega (arith, upper, lower, off.plan.weighs); of_use = other.of_use });
-    }
+    let First : List Path → Type 0 = λ kept. IsFirstBest advert weights kept c.read_off.result in
+    subst First same (read_off_is_first advert weights c.as_slice-paths.result.now table c.read_off.result c.gains_of-table.ensures c.read_off.ensures)
+
+pub returns-clause-best : goal.returns-clause-best
+returns-clause-best c = (returns-clause-first c).candidate.best
 
 pub returns-clause-gains : goal.returns-clause-gains
 returns-clause-gains c =
