@@ -29,6 +29,12 @@ selected_numbered number page =
     else (if number == 2 then Some (Page page)
     else None))
 
+-- the page that was read back; 0 where none was
+abbrev pub page_read_back : Selected → ℕ
+page_read_back Unknown = 0
+page_read_back Open = 0
+page_read_back (Page page) = page
+
 -- by the number in its code: 1 for BU1
 abbrev pub bus_fault_numbered : ℕ → Option BusFault
 bus_fault_numbered number =

@@ -1,5 +1,5 @@
 ghost use Rattle.std.specs.Prelude.{◌≡◌, Some};
-ghost use Rattle.control_sets.specs.SavedNumbers.{restored, selected_numbered, work_numbered};
+ghost use Rattle.control_sets.specs.SavedNumbers.{page_read_back, restored, saved_fault, selected_numbered, work_numbered};
 
 use super::{Procedure, Work};
 use crate::procedures::saved_fault::SavedFault;
@@ -55,7 +55,9 @@ impl SavedProcedure {
 impl Procedure {
     /// Its numbers.
     pub fn save(&self) -> SavedProcedure
-        ensures { restored result ≡ Some self.now }
+        ensures same { restored result ≡ Some self.now }
+        ensures page { result.page ≡ page_read_back self.now.session.selection }
+        ensures fault { result.fault ≡ saved_fault self.now.fault }
     {
         let (work, control, lanes) = numbers_of_work(&self.work);
         let (selection, page) = numbers_of_selected(self.session.selection);
@@ -98,7 +100,8 @@ fn numbers_of_work(work: &Work) -> (u8, [u8; 8], u8)
 }
 
 fn numbers_of_selected(selected: Selected) -> (u8, u8)
-    ensures { selected_numbered result.0 result.1 ≡ Some selected }
+    ensures same { selected_numbered result.0 result.1 ≡ Some selected }
+    ensures page { result.1 ≡ page_read_back selected }
 {
     match selected {
         Selected::Unknown => (0, 0),

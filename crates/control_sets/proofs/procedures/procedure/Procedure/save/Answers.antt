@@ -3,7 +3,7 @@ use Rattle.control_sets.specs.SavedNumbers.{fault_in}
 use Rattle.control_sets.proofs.SavedBack.{fault_back, saved_back}
 use Rattle.control_sets.proofs.procedures.procedure.Procedure.save.Goals as goal
 
-pub returns : goal.returns
-returns c =
+pub returns-clause-same : goal.returns-clause-same
+returns-clause-same c =
     let old = c.args.self.now in
-    saved_back _ old.work old.session.selection old.fault c.numbers_of_work-work.ensures c.numbers_of_selected-selection.ensures (ap fault_in c.of.ensures ∙ fault_back old.fault)
+    saved_back _ old.work old.session.selection old.fault c.numbers_of_work-work.ensures c.numbers_of_selected-selection.ensures.same (ap fault_in c.of.ensures ∙ fault_back old.fault)
