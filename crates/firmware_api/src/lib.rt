@@ -9,6 +9,3 @@ mod operation;
 mod planning;
 mod procedure;
 mod status;
-
-#[test]
-fn nothing() {}

@@ -10,8 +10,8 @@ use crate::status::{DONE, Refusal};
 use applications::{Advert, Weights};
 use arrayvec::ArrayVec;
 use control_sets::{bytes_of, lanes_of, lanes_outside};
-use lane_planner::plan_keeping;
-use plan_certificate::{MAX_PATHS, Path, Plan, kept_fault};
+use lane_planner::first_plan;
+use plan_certificate::{MAX_PATHS, Path, Plan, kept_fault, weight_of};
 
 /// A plan: the data paths that a module's lanes are divided into, and the control bytes that ask for them.
 #[repr(C)]
@@ -81,14 +81,15 @@ fn best_plan(advert: &Advert, weights: &[u32; 256], kept: &Plan) -> LanePlan
     requires { IsAdmissible advert.now kept.now }
     ensures { IsPlanned advert.now weights.now kept.now result }
 {
-    let certificate = plan_keeping(advert, &Weights::of_table(weights), kept);
+    let weights = Weights::of_table(weights);
+    let plan = first_plan(advert, &weights, kept);
     LanePlan {
-        weight: certificate.weight,
-        count: certificate.plan.paths.len() as u8,
-        lanes: lanes_of(advert, &certificate.plan).byte(),
+        weight: weight_of(advert, &weights, &plan),
+        count: plan.paths.len() as u8,
+        lanes: lanes_of(advert, &plan).byte(),
         outside: lanes_outside(advert, kept).byte(),
-        control: bytes_of(advert, &certificate.plan),
-        paths: paths_of(&certificate.plan),
+        control: bytes_of(advert, &plan),
+        paths: paths_of(&plan),
     }
 }
 

@@ -5,4 +5,4 @@ use Rattle.firmware_api.proofs.procedure.dovecounter_activate.Goals as goal
 
 pub returns : goal.returns
 returns c =
-    (c.activation.result, c.save.ensures, subst (λ lanes. IsAt (activation c.args.control.now lanes) [] c.activation.result) c.from.ensures c.activation.ensures)
+    (c.activation.result, c.save.ensures.same, subst (λ lanes. IsAt (activation c.args.control.now lanes) [] c.activation.result) c.from.ensures c.activation.ensures)
