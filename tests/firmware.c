@@ -2,6 +2,7 @@
    what is not. */
 #include "dovecounter.h"
 
+#include <stddef.h>
 #include <stdio.h>
 #include <string.h>
 
@@ -65,11 +66,36 @@ static void expect_status(const char *what, uint32_t wanted, size_t count) {
         expect_same("a refused advertisement is not written", &before, &advertisement, sizeof advertisement);
 }
 
-static void change(const char *what, uint32_t wanted, int half, int address, uint8_t byte) {
-    make_module();
-    halves[half].bytes[address % 128] = byte;
-    expect_status(what, wanted, 3);
-}
+/* One byte of a half that is changed, and the status that comes of it. */
+struct change {
+    const char *what;
+    uint32_t wanted;
+    int half; /* 0 for the lower half, 1 for page 00h, 2 for page 01h */
+    size_t place;
+    uint8_t byte;
+};
+
+enum {
+    DEVICE = offsetof(struct dovecounter_half, device),
+    UPPER = offsetof(struct dovecounter_half, upper),
+    BANK = offsetof(struct dovecounter_half, bank),
+    PAGE = offsetof(struct dovecounter_half, page),
+    BYTES = offsetof(struct dovecounter_half, bytes)
+};
+
+static const struct change changes[] = {
+    {"another device", DOVECOUNTER_NO_PLACE, 1, DEVICE, 0xA1},
+    {"another half", DOVECOUNTER_NO_PLACE, 1, UPPER, 2},
+    {"a lower half of a page", DOVECOUNTER_NO_PLACE, 0, PAGE, 1},
+    {"a lower half of a bank", DOVECOUNTER_NO_PLACE, 0, BANK, 1},
+    {"the other device", DOVECOUNTER_ABSENT, 0, DEVICE, 0xA2},
+    {"an SFP+ module", DOVECOUNTER_NOT_CMIS, 0, BYTES + 0, 0x03},
+    {"CMIS 3.0", DOVECOUNTER_REVISION, 0, BYTES + 1, 0x30},
+    {"QSFP+ with CMIS", DOVECOUNTER_NOT_EIGHT_LANES, 0, BYTES + 0, 0x1E},
+    {"flat memory", DOVECOUNTER_FLAT_MEMORY, 0, BYTES + 2, 0x80},
+    {"a wrong sum of page 00h", DOVECOUNTER_BAD_SUM, 1, BYTES + 130 - 128, 1},
+    {"a wrong sum of page 01h", DOVECOUNTER_BAD_SUM, 2, BYTES + 130 - 128, 1},
+};
 
 static void try_halves(void) {
     static struct dovecounter_half many[17];
@@ -81,26 +107,12 @@ static void try_halves(void) {
     memset(many, 0, sizeof many);
     expect("seventeen halves", DOVECOUNTER_TOO_MANY_HALVES, dovecounter_plan(many, 17, weights, nothing, 0, &plan));
     expect("sixteen halves without a device", DOVECOUNTER_NO_PLACE, dovecounter_plan(many, 16, weights, nothing, 0, &plan));
-    halves[1].device = 0xA1;
-    expect_status("another device", DOVECOUNTER_NO_PLACE, 3);
-    make_module();
-    halves[1].upper = 2;
-    expect_status("another half", DOVECOUNTER_NO_PLACE, 3);
-    make_module();
-    halves[0].page = 1;
-    expect_status("a lower half of a page", DOVECOUNTER_NO_PLACE, 3);
-    make_module();
-    halves[0].bank = 1;
-    expect_status("a lower half of a bank", DOVECOUNTER_NO_PLACE, 3);
-    make_module();
-    halves[0].device = 0xA2;
-    expect_status("the other device", DOVECOUNTER_ABSENT, 3);
-    change("an SFP+ module", DOVECOUNTER_NOT_CMIS, 0, 0, 0x03);
-    change("CMIS 3.0", DOVECOUNTER_REVISION, 0, 1, 0x30);
-    change("QSFP+ with CMIS", DOVECOUNTER_NOT_EIGHT_LANES, 0, 0, 0x1E);
-    change("flat memory", DOVECOUNTER_FLAT_MEMORY, 0, 2, 0x80);
-    change("a wrong sum of page 00h", DOVECOUNTER_BAD_SUM, 1, 130, 1);
-    change("a wrong sum of page 01h", DOVECOUNTER_BAD_SUM, 2, 130, 1);
+    for (size_t i = 0; i < sizeof changes / sizeof changes[0]; i++) {
+        const struct change *change = &changes[i];
+        make_module();
+        memcpy((uint8_t *)&halves[change->half] + change->place, &change->byte, 1);
+        expect_status(change->what, change->wanted, 3);
+    }
     make_module();
 }
 
@@ -148,16 +160,20 @@ static void refuse_kept(const char *what, uint32_t wanted, const struct dovecoun
 }
 
 /* A second Application, 100GAUI-2 on host lanes 1, 3, 5 and 7 and a media lane, weighs 50: four of them less than the first. */
-static void try_kept(void) {
-    static const struct dovecounter_path first = {2, 3, 2}, nine[9] = {{1, 1, 1}};
-    static const struct dovecounter_path other[2] = {{2, 3, 2}, {2, 5, 2}}, absent = {3, 1, 1};
-    static const uint8_t control[8] = {0x20, 0x20, 0x24, 0x24, 0x28, 0x28, 0x2C, 0x2C};
-    struct dovecounter_plan plan;
+static void make_two_applications(void) {
     make_module();
     memcpy(halves[0].bytes + 90, "\x0D\x14\x21\x55\xFF", 5);
     halves[2].bytes[177 - 128] = 0x0F;
     set_sum(&halves[2], 130, 254, 255);
     weights[0x0D] = 50;
+}
+
+static void try_kept(void) {
+    static const struct dovecounter_path first = {2, 3, 2}, nine[9] = {{1, 1, 1}};
+    static const struct dovecounter_path other[2] = {{2, 3, 2}, {2, 5, 2}}, absent = {3, 1, 1};
+    static const uint8_t control[8] = {0x20, 0x20, 0x24, 0x24, 0x28, 0x28, 0x2C, 0x2C};
+    struct dovecounter_plan plan;
+    make_two_applications();
     expect("plan with two Applications", DOVECOUNTER_DONE, dovecounter_plan(halves, 3, weights, nothing, 0, &plan));
     expect("nothing kept: Application", 1, plan.paths[0].application);
     expect("kept", DOVECOUNTER_DONE, dovecounter_plan(halves, 3, weights, &first, 1, &plan));
@@ -282,6 +298,89 @@ static void try_procedure(const struct dovecounter_plan *plan) {
     expect_same("no operation is written", &before, &operation, sizeof operation);
 }
 
+/* ---- a module in software, on which a path is up ---- */
+
+struct module {
+    uint8_t page;          /* that is selected */
+    uint8_t deinitialized; /* the DPDeinit bits */
+    uint8_t touched;       /* lanes that were ever taken down or applied to */
+    uint8_t staged[8];
+    uint8_t active[8];
+};
+
+static void store(struct module *module, const struct dovecounter_operation *operation) {
+    uint8_t first = operation->bytes[0];
+    if (operation->offset == 126) module->page = operation->bytes[1];
+    if (operation->offset == 128) module->deinitialized = first;
+    if (operation->offset == 145) memcpy(module->staged, operation->bytes, 8);
+    if (operation->offset == 128 || operation->offset == 143) module->touched |= first;
+    for (int lane = 0; operation->offset == 143 && lane < 8; lane++)
+        if (first >> lane & 1) module->active[lane] = module->staged[lane];
+}
+
+/* Four bits for each lane: `code` for the lanes of the mask, `other` for the others. */
+static void set_codes(uint8_t bytes[8], uint8_t lanes, unsigned code, unsigned other) {
+    for (int lane = 0; lane < 8; lane += 2) {
+        unsigned low = lanes >> lane & 1 ? code : other, high = lanes >> (lane + 1) & 1 ? code : other;
+        bytes[lane / 2] = (uint8_t)(high << 4 | low);
+    }
+}
+
+static void fetch(const struct module *module, uint8_t offset, uint8_t bytes[8]) {
+    if (offset == 3) bytes[0] = 3 << 1; /* ModuleReady */
+    if (offset == 126) bytes[0] = 0, bytes[1] = module->page;
+    if (offset == 128) set_codes(bytes, module->deinitialized, 1, 4); /* DPDeactivated, DPActivated */
+    if (offset == 145) memcpy(bytes, module->staged, 8);
+    if (offset == 202) set_codes(bytes, module->touched, 1, 2); /* ConfigSuccess, ConfigRejected */
+    if (offset == 206) memcpy(bytes, module->active, 8);
+}
+
+static struct dovecounter_fault carry_out(struct module *module, struct dovecounter_procedure *procedure) {
+    struct dovecounter_operation operation;
+    struct dovecounter_answer answer;
+    while (dovecounter_next(procedure, &operation) == DOVECOUNTER_DONE) {
+        int fetches = operation.kind == DOVECOUNTER_FETCH;
+        uint8_t bytes[8];
+        if (fetches)
+            fetch(module, operation.offset, bytes);
+        else
+            store(module, &operation);
+        dovecounter_reply(procedure, fetches ? DOVECOUNTER_FETCHED : DOVECOUNTER_STORED, bytes, fetches ? operation.count : 0);
+    }
+    expect("the end", DOVECOUNTER_DONE, dovecounter_answer(procedure, &answer));
+    return answer.fault;
+}
+
+/* Lanes 3 and 4 carry a kept path: they are neither taken down nor applied to. */
+static void try_kept_procedure(void) {
+    static const struct dovecounter_path kept = {2, 3, 2};
+    static const uint8_t before[8] = {0, 0, 0x24, 0x24}, others[8] = {0, 0, 0x24, 0x14};
+    struct module module = {0};
+    struct dovecounter_plan plan;
+    struct dovecounter_procedure procedure;
+    struct dovecounter_fault fault;
+    make_two_applications();
+    expect("kept", DOVECOUNTER_DONE, dovecounter_plan(halves, 3, weights, &kept, 1, &plan));
+    memcpy(module.active, before, 8);
+    dovecounter_provision(plan.control, plan.outside, &procedure);
+    expect("provisioned beside a kept path", 0, carry_out(&module, &procedure).code);
+    expect("lanes that were touched", 0xF3, module.touched);
+    expect_same("active bytes", plan.control, module.active, 8);
+    dovecounter_activate(plan.control, plan.lanes, &procedure);
+    expect("activated beside a kept path", 0, carry_out(&module, &procedure).code);
+    expect("lanes that are down", 0, module.deinitialized);
+    expect("lanes that were touched until then", 0xF3, module.touched);
+
+    memset(&module, 0, sizeof module);
+    memcpy(module.active, others, 8);
+    dovecounter_provision(plan.control, plan.outside, &procedure);
+    fault = carry_out(&module, &procedure);
+    expect("PV3, the kept path is another one", 3, fault.code);
+    expect("PV3 4", 4, fault.first);
+    expect("the kept lanes are left all the same", 0xF3, module.touched);
+    weights[0x0D] = 0;
+}
+
 static void try_other_numbers(const struct dovecounter_plan *plan) {
     struct dovecounter_procedure procedure, other;
     struct dovecounter_operation operation;
@@ -315,6 +414,7 @@ int main(void) {
     try_kept();
     try_check();
     try_procedure(&plan);
+    try_kept_procedure();
     try_other_numbers(&plan);
     printf("firmware: %d failures\n", failures);
     return failures != 0;

@@ -1,7 +1,6 @@
 -- Procedures whose numbers C keeps: what they ask for, and what becomes of them. (docs/firmware.md, "Procedures")
-use Rattle.std.specs.Prelude.{◌≡◌, ℕ, List, Option, Some, None, Result, Ok, Err, MatchOption}
+use Rattle.std.specs.Prelude.{◌≡◌, ℕ, List, Option, Some, None, Result, Ok, Err}
 use Rattle.std.specs.Option.{option_map}
-use Rattle.bus_model.specs.declared.operation.Op.{Op}
 use Rattle.bus_model.specs.declared.operation.Reply.{Reply}
 use Rattle.bus_model.specs.Operations.{Answers}
 use Rattle.control_sets.specs.declared.fault.ProvisionFault.{ProvisionFault}
