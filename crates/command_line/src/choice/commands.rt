@@ -57,13 +57,13 @@ const BUS: Flag = Flag {
 /// Asks for activation.
 const ACTIVATE: Flag = Flag {
     name: "activate",
-    help: "Bring the data paths up as well",
+    help: "Bring the plan's data paths up as well",
 };
 
 /// Asks for a plan that keeps data paths.
 const KEEP: Flag = Flag {
     name: "keep",
-    help: "Keep the data paths that a further part names, behind the weights",
+    help: "Keep data paths: a further part of the input names them, behind the weights",
 };
 
 /// Asks whether a plan is the first of the best.
@@ -97,7 +97,7 @@ pub fn commands() -> &'static [CommandEntry]
         "plan" Plan [KEEP] "Print the plan that weighs most for an image and weights, with its certificate";
         "check" Check [FIRST] "Judge a certificate for an image and weights, and print its plan where it is good";
         "provision" Provision [ACTIVATE KEEP] "Make the plan active on a simulated module, over a bus that does as a script says";
-        "trace" Trace [ACTIVATE KEEP] "Do the same, and print each transaction";
+        "trace" Trace [ACTIVATE KEEP] "Make the plan active as 'provision' does, and print each transaction";
     }
 }
 

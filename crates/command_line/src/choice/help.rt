@@ -15,26 +15,30 @@ macro_rules! end {
         end!([$($more)*] [$($text)* "the image text of a module"] $($rest)*)
     };
     ([weights $($more:ident)*] [$($text:literal)*] $($rest:tt)*) => {
-        end!([$($more)*] [$($text)* "weights: '[host]', then lines as '0Dh = 101', by HostInterfaceID"] $($rest)*)
+        end!([$($more)*]
+            [$($text)* "then, behind a line '---', weights: '[host]', then lines as '0Dh = 101', by HostInterfaceID"] $($rest)*)
     };
     ([kept $($more:ident)*] [$($text:literal)*] $($rest:tt)*) => {
-        end!([$($more)*] [$($text)* "with --keep: the data paths to keep, lines as 'keep 2 3 2'"] $($rest)*)
+        end!([$($more)*]
+            [$($text)* "with --keep then, behind a line '---', data paths to keep: lines as 'keep 2 3 2',"
+                "  Application 2 from host lane 3 and media lane 2 on"]
+            $($rest)*)
     };
     ([certificate $($more:ident)*] [$($text:literal)*] $($rest:tt)*) => {
-        end!([$($more)*] [$($text)* "a certificate, as 'cmisctl plan' prints it"] $($rest)*)
+        end!([$($more)*] [$($text)* "then, behind a line '---', a certificate, as 'cmisctl plan' prints it"] $($rest)*)
     };
     ([script $($more:ident)*] [$($text:literal)*] $($rest:tt)*) => {
-        end!([$($more)*] [$($text)* "a script of the bus: lines as 'ok 4' and 'nack 1', or none"] $($rest)*)
+        end!([$($more)*] [$($text)* "then, behind a line '---', a script of the bus: lines as 'ok 4' and 'nack 1', or no line"] $($rest)*)
     };
-    ([] [$first:literal $($further:literal)*] [$($example:literal)*] $($status:literal)?) => {
+    ([] [$($text:literal)*] [$($example:literal)*] $($status:literal)?) => {
         concat!(
-            "Reads from standard input:\n  ", $first,
-            $("\n  then, behind a line '---', ", $further,)*
+            "Reads from standard input, as '< FILE' gives it:",
+            $("\n  ", $text,)*
             "\n\nExamples, in the repository's folder:",
             $("\n  ./cmisctl ", $example,)*
-            "\n\nStatus: 0 answered, 1 input refused, 2 command line refused,",
-            $("\n", $status, ",",)?
-            "\n5 out of memory, 6 a read or write failed. docs/faults.md explains faults."
+            "\n\nStatus: 0 answered, 1 input refused, 2 command line refused,\n",
+            $($status, ", ",)?
+            "5 out of memory, 6 a read or write failed.\ndocs/faults.md says what a line 'fault ..' means and what to do."
         )
     };
 }
@@ -56,7 +60,7 @@ pub fn of_command(command: CommandName) -> &'static str {
             ["check < examples/check_800g_one_path.txt" "check --first < examples/check_800g_one_path.txt"]
             "4 the certificate is bad"),
         CommandName::Provision => end!([image weights kept script] []
-            ["provision < examples/provision_400g_dr4.txt" "provision --keep < examples/add_800g_dr8.txt"]
+            ["provision --activate < examples/provision_400g_dr4.txt" "provision --keep < examples/add_800g_dr8.txt"]
             "3 not provisioned or not activated"),
         CommandName::Trace => end!([image weights kept script] []
             ["trace --activate < examples/provision_400g_dr4.txt" "trace --keep < examples/add_800g_dr8.txt"]
