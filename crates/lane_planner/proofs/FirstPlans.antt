@@ -20,7 +20,7 @@ use Rattle.lane_planner.specs.FirstBest.{ComesBefore, IsOfUse, IsSameOrBefore}
 use Rattle.lane_planner.specs.Gains.{IsGain, IsLimit}
 use Rattle.lane_planner.specs.Tables.{IsPlanOf, gain_at}
 use Rattle.lane_planner.proofs.ChosenPaths.{IsLowest, Keeps}
-use Rattle.lane_planner.proofs.GainLaws.{GainsAfter, NoneKeeps, covers_step, free_keeps, limit_kept}
+use Rattle.lane_planner.proofs.GainLaws.{GainsAfter, NoneKeeps, covers_step, free_keeps, limit_retained}
 
 -- the paths so far are in the other plan; what else it has may still come, and weighs the state's whole gain
 pub record Agrees (advert : Advertised) (weights : HostWeights) (kept : List Path) (gain : State → ℕ) (state : State) (paths others : List Path) : Type 0 where
@@ -91,7 +91,7 @@ met advert weights kept table state paths others gains agrees picked =
     let later = each_pair (IsLater advert kept state) (IsApart advert picked.path) (IsLater advert kept step.end) picked.rest
     (λ path is_later apart. after_path advert weights kept state picked.path path parts.0 picked.begins is_later apart) parts.1 picked.path_apart in
     let come = come_taken advert weights (path_weight advert weights) kept state agrees.rest picked agrees.come in
-    let most = bounded advert weights kept (IsLimit advert weights kept) (limit_kept advert weights kept) 8 step.end (gain_at table step.end) (omega arith) after.greatest picked.rest picked.rest_apart later come in
+    let most = bounded advert weights kept (IsLimit advert weights kept) (limit_retained advert weights kept) 8 step.end (gain_at table step.end) (omega arith) after.greatest picked.rest picked.rest_apart later come in
     record {
       picked = picked;
       keeps = record {

@@ -121,8 +121,8 @@ abbrev pub LeavesEnough : (State → ℕ → Type 0) → ℕ → Step → Type 0
 LeavesEnough Bounds potential step = (later : ℕ) × Bounds step.end later × (step.weight + later ≤ potential)
 
 -- what bounds the gain at a state does so after each step
-abbrev pub IsKept : Advertised → HostWeights → List Path → (State → ℕ → Type 0) → Type 0
-IsKept advert weights kept Bounds = (state : State) (potential : ℕ) → Bounds state potential → AllByRecursion (LeavesEnough Bounds potential) (steps_from advert weights kept state)
+abbrev pub IsRetained : Advertised → HostWeights → List Path → (State → ℕ → Type 0) → Type 0
+IsRetained advert weights kept Bounds = (state : State) (potential : ℕ) → Bounds state potential → AllByRecursion (LeavesEnough Bounds potential) (steps_from advert weights kept state)
 
 -- a kept path is one of those that may still come, or its host lanes are decided
 abbrev pub ComesOrCame : Advertised → State → List Path → Path → Type 0
@@ -162,7 +162,7 @@ come_taken advert weights weigh kept state paths picked come =
     ]) come
 
 -- then no paths that may still come, the kept ones among them, weigh more
-pub bounded : (advert : Advertised) (weights : HostWeights) (kept : List Path) (Bounds : State → ℕ → Type 0) → IsKept advert weights kept Bounds → (left : ℕ) (state : State) (potential : ℕ) → 8 ≤ state.boundary + left → Bounds state potential
+pub bounded : (advert : Advertised) (weights : HostWeights) (kept : List Path) (Bounds : State → ℕ → Type 0) → IsRetained advert weights kept Bounds → (left : ℕ) (state : State) (potential : ℕ) → 8 ≤ state.boundary + left → Bounds state potential
     → (paths : List Path) → AreApart advert paths → AllByRecursion (IsLater advert kept state) paths → AllByRecursion (ComesOrCame advert state paths) kept → plan_weight advert weights paths ≤ potential
 bounded advert weights kept Bounds is_kept zero state potential ends bound paths apart each come = omega (arith, none_later advert kept (path_weight advert weights) state paths (omega (arith, ends)) each)
 bounded advert weights kept Bounds is_kept (suc left) state potential ends bound paths apart each come =
@@ -189,8 +189,8 @@ bounded advert weights kept Bounds is_kept (suc left) state potential ends bound
     ]
 
 -- the potentials of a good certificate's entries do
-entries_kept : (advert : Advertised) (weights : HostWeights) (c : Claim) → IsGood advert weights c → IsKept advert weights c.kept (IsBound c.entries)
-entries_kept advert weights c good state potential bound =
+entries_retained : (advert : Advertised) (weights : HostWeights) (c : Claim) → IsGood advert weights c → IsRetained advert weights c.kept (IsBound c.entries)
+entries_retained advert weights c good state potential bound =
     let Covered : Step → Type 0 = IsCovered c.entries potential in
     let at_entry = All-contains (λ (entry : Entry). All (IsCovered c.entries entry.potential) (steps_from advert weights c.kept (state_of entry))) c.entries bound.0 good.closed bound.1 in
     let at_state : All Covered (steps_from advert weights c.kept state) =
@@ -207,5 +207,5 @@ good_is_best advert weights c good = record {
       record { can = plan_eligible advert c.kept others is_plan keeps path listed can; past = (allowed advert path can).host_from; unused = disjoint_none (media_lanes advert path) } in
       let each = map_each (Contains others) (IsLater advert c.kept start) others later (each_contained others) in
       let come = map_each (Contains others) (ComesOrCame advert start others) c.kept (λ path listed. inl listed) keeps in
-      omega (arith, good.weighs, bounded advert weights c.kept (IsBound c.entries) (entries_kept advert weights c good) 8 start c.weight (omega arith) good.begun others (from_pairs advert others is_plan.apart) each come);
+      omega (arith, good.weighs, bounded advert weights c.kept (IsBound c.entries) (entries_retained advert weights c good) 8 start c.weight (omega arith) good.begun others (from_pairs advert others is_plan.apart) each come);
 }

@@ -25,4 +25,4 @@ pub mod MoveSteps
 pub mod EachMove
 pub mod HeaviestMoves
 mod MoveFlaws
-mod KeptMoves
+mod RetainedMoves

@@ -184,40 +184,40 @@ fn move_of(advert: &Advert, weights: &Weights, path: Path) -> Move
 }
 
 // Lists, in the place of others, of moves on the same lanes one that weighs most.
-fn list_heaviest(kept: &mut ArrayVec<Move, MAX_MOVES>, moves: &[Move])
+fn list_heaviest(heaviest: &mut ArrayVec<Move, MAX_MOVES>, moves: &[Move])
     requires { length moves.now ≤ MAX_MOVES }
-    ensures { AreHeaviest moves.now kept.new.items }
+    ensures { AreHeaviest moves.now heaviest.new.items }
 {
-    kept.clear();
+    heaviest.clear();
     for one in moves {
-        keep(kept, one);
+        retain(heaviest, one);
     }
 }
 
 // Adds a move, or puts it in the place of a lighter one on its lanes.
-fn keep(kept: &mut ArrayVec<Move, MAX_MOVES>, new: &Move)
-    requires { length kept.old.items < MAX_MOVES }
-    ensures among { All (λ one. Contains kept.old.items one ⊎ (one ≡ new.now)) kept.new.items }
-    ensures outweighed { All (IsOutweighed kept.new.items) kept.old.items }
-    ensures added { IsOutweighed kept.new.items new.now }
-    ensures few { length kept.new.items ≤ length kept.old.items + 1 }
+fn retain(retained: &mut ArrayVec<Move, MAX_MOVES>, new: &Move)
+    requires { length retained.old.items < MAX_MOVES }
+    ensures among { All (λ one. Contains retained.old.items one ⊎ (one ≡ new.now)) retained.new.items }
+    ensures outweighed { All (IsOutweighed retained.new.items) retained.old.items }
+    ensures added { IsOutweighed retained.new.items new.now }
+    ensures few { length retained.new.items ≤ length retained.old.items + 1 }
 {
-    match place_on_lanes_of(kept.as_slice(), new) {
-        Some(place) => replace_lighter(kept.as_mut_slice(), place, new),
-        None => kept.push(*new),
+    match place_on_lanes_of(retained.as_slice(), new) {
+        Some(place) => replace_lighter(retained.as_mut_slice(), place, new),
+        None => retained.push(*new),
     }
 }
 
-fn replace_lighter(kept: &mut [Move], place: usize, new: &Move)
-    requires place { place < length kept.old }
-    requires lanes { HoldsAt (HasLanesOf new.now) kept.old place }
-    ensures among { All (λ one. Contains kept.old one ⊎ (one ≡ new.now)) kept.new }
-    ensures outweighed { All (IsOutweighed kept.new) kept.old }
-    ensures added { IsOutweighed kept.new new.now }
+fn replace_lighter(retained: &mut [Move], place: usize, new: &Move)
+    requires place { place < length retained.old }
+    requires lanes { HoldsAt (HasLanesOf new.now) retained.old place }
+    ensures among { All (λ one. Contains retained.old one ⊎ (one ≡ new.now)) retained.new }
+    ensures outweighed { All (IsOutweighed retained.new) retained.old }
+    ensures added { IsOutweighed retained.new new.now }
 {
-    let old = kept[place];
+    let old = retained[place];
     if old.weight < new.weight {
-        kept[place] = *new;
+        retained[place] = *new;
     }
 }
 

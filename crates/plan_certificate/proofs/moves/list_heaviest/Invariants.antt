@@ -4,4 +4,4 @@ use Rattle.plan_certificate.proofs.moves.list_heaviest.Given as goal
 
 -- the heaviest of those so far
 abbrev pub invariant-loop-one : goal.invariant-loop-one
-invariant-loop-one l = AreHeaviest (take l.one-index l.moves) l.kept.items
+invariant-loop-one l = AreHeaviest (take l.one-index l.moves) l.heaviest.items

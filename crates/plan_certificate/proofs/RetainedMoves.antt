@@ -54,8 +54,8 @@ module _ (moves : List Move) (place : ℕ) (new : Move) (below : place < length 
       ]
 
   -- where the one there weighs as much
-  pub kept_added : HoldsAt (HasLanesOf new) moves place → new.weight ≤ (get_or moves place new).weight → IsOutweighed moves new
-  kept_added lanes heavier = record { other = get_or moves place new; listed = Contains-get_or moves place new below; lanes = lanes new; weighs = heavier }
+  pub retained_added : HoldsAt (HasLanesOf new) moves place → new.weight ≤ (get_or moves place new).weight → IsOutweighed moves new
+  retained_added lanes heavier = record { other = get_or moves place new; listed = Contains-get_or moves place new below; lanes = lanes new; weighs = heavier }
 
 -- ---- the heaviest of one move more
 
@@ -76,27 +76,27 @@ outweighed_on moves more move all by =
     }
 
 -- one move more, where the list has been extended by it
-pub heaviest_more : (moves kept more : List Move) (k : ℕ) (new : Move) → k < length moves → new ≡ get_or moves k new → AreHeaviest (take k moves) kept → All (AmongOrNew kept new) more → All (IsOutweighed more) kept → IsOutweighed more new → length more ≤ length kept + 1
+pub heaviest_more : (moves retained more : List Move) (k : ℕ) (new : Move) → k < length moves → new ≡ get_or moves k new → AreHeaviest (take k moves) retained → All (AmongOrNew retained new) more → All (IsOutweighed more) retained → IsOutweighed more new → length more ≤ length retained + 1
     → AreHeaviest (take (k + 1) moves) more
-heaviest_more moves kept more k new below is are among outweighed added few = record {
-  among = All-weaker (AmongOrNew kept new) (Contains (take (k + 1) moves)) (λ one from. elim (from) [
-    | inl old ↦ subst (λ (ms : List Move). Contains ms one) (sym (one_more moves k new below is)) (Contains-append_left (take k moves) (new ∷ []) one (All-contains (Contains (take k moves)) kept one are.among old))
+heaviest_more moves retained more k new below is are among outweighed added few = record {
+  among = All-weaker (AmongOrNew retained new) (Contains (take (k + 1) moves)) (λ one from. elim (from) [
+    | inl old ↦ subst (λ (ms : List Move). Contains ms one) (sym (one_more moves k new below is)) (Contains-append_left (take k moves) (new ∷ []) one (All-contains (Contains (take k moves)) retained one are.among old))
     | inr same ↦ subst (λ (ms : List Move). Contains ms one) (sym (one_more moves k new below is)) (subst (λ (m : Move). Contains (take k moves ++ new ∷ []) m) (sym same) (Contains-push (take k moves) new))
   ]) more among;
   outweighed = All-more (IsOutweighed more) moves k new below
-      (All-weaker (IsOutweighed kept) (IsOutweighed more) (λ move by. outweighed_on kept more move outweighed by) (take k moves) are.outweighed)
+      (All-weaker (IsOutweighed retained) (IsOutweighed more) (λ move by. outweighed_on retained more move outweighed by) (take k moves) are.outweighed)
       (subst (IsOutweighed more) is added);
   few = omega (arith, few, are.few, ap (λ (ms : List Move). length ms) (one_more moves k new below is), length-append (take k moves) (new ∷ []));
 }
 
-pub heaviest_of_none : (moves kept : List Move) → kept ≡ [] → AreHeaviest (take 0 moves) kept
-heaviest_of_none moves kept none = record {
+pub heaviest_of_none : (moves retained : List Move) → retained ≡ [] → AreHeaviest (take 0 moves) retained
+heaviest_of_none moves retained none = record {
   among = λ k d below. absurd (omega (arith, below, ap (λ (ms : List Move). length ms) none));
   outweighed = λ k d below. absurd (omega (arith, below));
   few = omega (arith, ap (λ (ms : List Move). length ms) none);
 }
 
-pub heaviest_of_all : (moves kept : List Move) (k : ℕ) → k ≡ length moves → AreHeaviest (take k moves) kept → AreHeaviest moves kept
-heaviest_of_all moves kept k end are =
+pub heaviest_of_all : (moves retained : List Move) (k : ℕ) → k ≡ length moves → AreHeaviest (take k moves) retained → AreHeaviest moves retained
+heaviest_of_all moves retained k end are =
     let whole : take k moves ≡ moves = ap (λ (n : ℕ). take n moves) end ∙ take-length moves in
-    subst (λ (ms : List Move). AreHeaviest ms kept) whole are
+    subst (λ (ms : List Move). AreHeaviest ms retained) whole are
