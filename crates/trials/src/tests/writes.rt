@@ -1,5 +1,6 @@
 use command_line::StoppingWriter;
-use std::io::ErrorKind;
+use std::io;
+use std::io::{ErrorKind, Write};
 use std::test::Fail;
 
 /// Takes `room` bytes, two a write, and then fails; `flushes` says whether a flush succeeds.
