@@ -1,5 +1,5 @@
 // What can still be gained from the states that are reached.
-ghost use Rattle.std.specs.Prelude.{◌≡◌, ◌+◌, ◌≤◌, ◌<◌, ◌-◌, ◌*◌, All};
+ghost use Rattle.std.specs.Prelude.{◌≡◌, ◌+◌, ◌≤◌, ◌<◌, ◌-◌, ◌*◌, All, replicate};
 ghost use Rattle.plan_certificate.specs.Plans.{AreAllowed};
 ghost use Rattle.plan_certificate.specs.Moves.{LeadsOn, steps_by};
 ghost use Rattle.lane_planner.specs.Marks.{MarksReached};
@@ -8,13 +8,19 @@ ghost use Rattle.lane_planner.specs.Tables.{HasGains, IsMost, IsTable};
 use applications::{Advert, Weights};
 use plan_certificate::{HOST_LANES, Move, Moves, Path, STATES, State};
 
-/// The gains of the marked states, by their places.
-pub fn gains_of(advert: &Advert, weights: &Weights, kept: &[Path], marks: &[bool]) -> [u64; STATES]
+/// Puts the gains of the marked states into the table, by their places.
+pub fn put_gains(
+    advert: &Advert,
+    weights: &Weights,
+    kept: &[Path],
+    marks: &[bool],
+    table: &mut [u64; STATES],
+)
     requires kept { AreAllowed advert.now kept.now }
     requires marks { MarksReached advert.now weights.now kept.now marks.now }
-    ensures { HasGains advert.now weights.now kept.now 0 result }
+    requires blank { table.old ≡ replicate STATES 0 }
+    ensures { HasGains advert.now weights.now kept.now 0 table.new }
 {
-    let mut table = [0; STATES];
     for boundary in (0..HOST_LANES).rev() {
         let moves = Moves::at(advert, weights, kept, boundary);
         for used in (0..256usize).rev() {
@@ -22,11 +28,10 @@ pub fn gains_of(advert: &Advert, weights: &Weights, kept: &[Path], marks: &[bool
             if marks[place] {
                 let state = State::at(place);
                 let free = moves.may_stay_free;
-                table[place] = most(free, moves.heaviest.as_slice(), &table, &state);
+                table[place] = most(free, moves.heaviest.as_slice(), table, &state);
             }
         }
     }
-    table
 }
 
 // The most that a step from the state weighs together with what can be gained where it leads; 0 where there is none.

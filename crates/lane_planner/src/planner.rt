@@ -12,7 +12,7 @@ ghost use Rattle.lane_planner.specs.Gains.{IsGain};
 ghost use Rattle.lane_planner.specs.Tables.{AreEntries, HasGains, IsReadOff};
 
 use crate::choices::chosen;
-use crate::gains::gains_of;
+use crate::gains::put_gains;
 use crate::reached::reached;
 use applications::{Advert, Weights};
 use arrayvec::ArrayVec;
@@ -50,7 +50,8 @@ pub fn plan_keeping(advert: &Advert, weights: &Weights, kept: &Plan) -> Certific
 {
     let paths = kept.paths.as_slice();
     let marks = reached(advert, weights, paths);
-    let table = gains_of(advert, weights, paths, &marks);
+    let mut table = [0; STATES];
+    put_gains(advert, weights, paths, &marks, &mut table);
     Certificate {
         weight: table[0],
         kept: copy_of(kept),
@@ -67,7 +68,8 @@ pub fn first_plan(advert: &Advert, weights: &Weights, kept: &Plan) -> Plan
 {
     let kept = kept.paths.as_slice();
     let marks = reached(advert, weights, kept);
-    let table = gains_of(advert, weights, kept, &marks);
+    let mut table = [0; STATES];
+    put_gains(advert, weights, kept, &marks, &mut table);
     read_off(advert, weights, kept, &table)
 }
 

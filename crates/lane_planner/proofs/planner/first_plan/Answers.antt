@@ -10,8 +10,8 @@ reached-marks-requires c =
     let same : c.as_slice-kept.result.now ≡ c.args.kept.now = (let read = c.as_slice-kept.ensures.value in let seen = c.kept.view_is in cc) in
     subst (AreAllowed c.args.advert.now) (sym same) c.requires.allowed
 
-pub gains_of-table-requires-clause-kept : goal.gains_of-table-requires-clause-kept
-gains_of-table-requires-clause-kept c =
+pub put_gains-requires-clause-kept : goal.put_gains-requires-clause-kept
+put_gains-requires-clause-kept c =
     let same : c.as_slice-kept.result.now ≡ c.args.kept.now = (let read = c.as_slice-kept.ensures.value in let seen = c.kept.view_is in cc) in
     subst (AreAllowed c.args.advert.now) (sym same) c.requires.allowed
 
@@ -26,4 +26,4 @@ returns-clause-first c =
     let weights = c.args.weights.now in
     let same : c.as_slice-kept.result.now ≡ c.args.kept.now = (let read = c.as_slice-kept.ensures.value in let seen = c.kept.view_is in cc) in
     let First : List Path → Type 0 = λ kept. IsFirstBest advert weights kept c.read_off.result in
-    subst First same (read_off_is_first advert weights c.as_slice-kept.result.now c.gains_of-table.result c.read_off.result c.gains_of-table.ensures c.read_off.ensures)
+    subst First same (read_off_is_first advert weights c.as_slice-kept.result.now c.put_gains.new.table c.read_off.result c.put_gains.ensures c.read_off.ensures)

@@ -19,8 +19,8 @@ reached-marks-requires c =
     let same : c.as_slice-paths.result.now ≡ c.args.kept.now = (let read = c.as_slice-paths.ensures.value in let seen = c.kept.view_is in cc) in
     subst (AreAllowed c.args.advert.now) (sym same) c.requires.allowed
 
-pub gains_of-table-requires-clause-kept : goal.gains_of-table-requires-clause-kept
-gains_of-table-requires-clause-kept c =
+pub put_gains-requires-clause-kept : goal.put_gains-requires-clause-kept
+put_gains-requires-clause-kept c =
     let same : c.as_slice-paths.result.now ≡ c.args.kept.now = (let read = c.as_slice-paths.ensures.value in let seen = c.kept.view_is in cc) in
     subst (AreAllowed c.args.advert.now) (sym same) c.requires.allowed
 
@@ -35,11 +35,11 @@ returns-clause-good c =
     let weights = c.args.weights.now in
     let kept : List Path = c.copy_of.result in
     let marks = c.reached-marks.result in
-    let table = c.gains_of-table.result in
+    let table = c.put_gains.new.table in
     let entries : List Entry = c.entries_of.result.items in
     let same : c.as_slice-paths.result.now ≡ kept = (let read = c.as_slice-paths.ensures.value in let seen = c.kept.view_is in let copied = c.copy_of.ensures in cc) in
     let reached = subst (λ (paths : List Path). MarksReached advert weights paths marks) same c.reached-marks.ensures in
-    let has = subst (λ (paths : List Path). HasGains advert weights paths 0 table) same c.gains_of-table.ensures in
+    let has = subst (λ (paths : List Path). HasGains advert weights paths 0 table) same c.put_gains.ensures in
     let off = subst (λ (paths : List Path). IsReadOff advert weights paths table c.read_off.result) same c.read_off.ensures in
     let weight : get_or table 0 0 ≡ gain_at table start = ap (λ (n : ℕ). get_or table n 0) (sym start_place) in
     record {
@@ -58,10 +58,10 @@ pub returns-clause-first : goal.returns-clause-first
 returns-clause-first c =
     let advert = c.args.advert.now in
     let weights = c.args.weights.now in
-    let table = c.gains_of-table.result in
+    let table = c.put_gains.new.table in
     let same : c.as_slice-paths.result.now ≡ c.args.kept.now = (let read = c.as_slice-paths.ensures.value in let seen = c.kept.view_is in cc) in
     let First : List Path → Type 0 = λ kept. IsFirstBest advert weights kept c.read_off.result in
-    subst First same (read_off_is_first advert weights c.as_slice-paths.result.now table c.read_off.result c.gains_of-table.ensures c.read_off.ensures)
+    subst First same (read_off_is_first advert weights c.as_slice-paths.result.now table c.read_off.result c.put_gains.ensures c.read_off.ensures)
 
 pub returns-clause-best : goal.returns-clause-best
 returns-clause-best c = (returns-clause-first c).candidate.best
@@ -72,10 +72,10 @@ returns-clause-gains c =
     let weights = c.args.weights.now in
     let kept : List Path = c.args.kept.now in
     let marks = c.reached-marks.result in
-    let table = c.gains_of-table.result in
+    let table = c.put_gains.new.table in
     let same : c.as_slice-paths.result.now ≡ kept = (let read = c.as_slice-paths.ensures.value in let seen = c.kept.view_is in cc) in
     let reached = subst (λ (paths : List Path). MarksReached advert weights paths marks) same c.reached-marks.ensures in
-    let has = subst (λ (paths : List Path). HasGains advert weights paths 0 table) same c.gains_of-table.ensures in
+    let has = subst (λ (paths : List Path). HasGains advert weights paths 0 table) same c.put_gains.ensures in
     each_gain advert weights kept marks table c.entries_of.result.items reached has c.entries_of.ensures
 
 pub returns-clause-states : goal.returns-clause-states
@@ -84,8 +84,8 @@ returns-clause-states c =
     let weights = c.args.weights.now in
     let kept : List Path = c.args.kept.now in
     let marks = c.reached-marks.result in
-    let table = c.gains_of-table.result in
+    let table = c.put_gains.new.table in
     let same : c.as_slice-paths.result.now ≡ kept = (let read = c.as_slice-paths.ensures.value in let seen = c.kept.view_is in cc) in
     let reached = subst (λ (paths : List Path). MarksReached advert weights paths marks) same c.reached-marks.ensures in
-    let has = subst (λ (paths : List Path). HasGains advert weights paths 0 table) same c.gains_of-table.ensures in
+    let has = subst (λ (paths : List Path). HasGains advert weights paths 0 table) same c.put_gains.ensures in
     states_are advert weights kept marks table c.entries_of.result.items reached has c.entries_of.ensures

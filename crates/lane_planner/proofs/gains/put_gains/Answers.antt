@@ -9,10 +9,10 @@ use Rattle.lane_planner.specs.Marks.{IsMarked}
 use Rattle.lane_planner.specs.Tables.{HasGains, IsMost}
 use Rattle.lane_planner.proofs.MostGained.{gain_is_most}
 use Rattle.lane_planner.proofs.TableGains.{gains_begun, gains_more, gains_past}
-use Rattle.lane_planner.proofs.gains.gains_of.Goals as goal
+use Rattle.lane_planner.proofs.gains.put_gains.Goals as goal
 
 pub loop-boundary-init : goal.loop-boundary-init
-loop-boundary-init c = gains_begun c.args.advert.now c.args.weights.now c.args.kept.now 2304 refl
+loop-boundary-init c = subst (HasGains c.args.advert.now c.args.weights.now c.args.kept.now 2048) (sym c.requires.blank) (gains_begun c.args.advert.now c.args.weights.now c.args.kept.now 2304 refl)
 
 pub loop-used-init : goal.loop-used-init
 loop-used-init c =

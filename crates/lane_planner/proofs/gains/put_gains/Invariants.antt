@@ -1,6 +1,6 @@
 use Rattle.std.proofs.Common.{◌+◌, ◌*◌}
 use Rattle.lane_planner.specs.Tables.{HasGains}
-use Rattle.lane_planner.proofs.gains.gains_of.Given as goal
+use Rattle.lane_planner.proofs.gains.put_gains.Given as goal
 
 -- the gains from this boundary on
 abbrev pub invariant-loop-boundary : goal.invariant-loop-boundary
