@@ -69,14 +69,14 @@ impl Moves {
         ensures boundary { result.boundary ≡ boundary }
         ensures moves { AreMoves advert.now weights.now kept.now boundary result.may_stay_free result.all.items result.heaviest.items }
     {
-        let mut moves = Moves {
+        let all = moves_at(advert, weights, kept, boundary + 1);
+        let heaviest = heaviest(all.as_slice());
+        Moves {
             boundary,
-            may_stay_free: false,
-            all: ArrayVec::new(),
-            heaviest: ArrayVec::new(),
-        };
-        moves.list(advert, weights, kept);
-        moves
+            may_stay_free: may_stay_free(advert, kept, boundary + 1),
+            all,
+            heaviest,
+        }
     }
 
     /// Turns to the host lane after another boundary.
@@ -88,22 +88,19 @@ impl Moves {
         ensures moves { AreMoves advert.now weights.now kept.now boundary self.new.may_stay_free self.new.all.items self.new.heaviest.items }
     {
         if self.boundary != boundary {
-            self.boundary = boundary;
-            self.list(advert, weights, kept);
+            self.renew(advert, weights, kept, boundary);
         }
     }
 
-    // Lists those after its boundary, in the place of what it has.
-    fn list(&mut self, advert: &Advert, weights: &Weights, kept: &[Path])
-        requires open { self.old.boundary < 8 }
+    // No part of `turn_to`, which would blank tables for the moves at each call.
+    #[inline(never)]
+    fn renew(&mut self, advert: &Advert, weights: &Weights, kept: &[Path], boundary: u8)
+        requires boundary { boundary < 8 }
         requires kept { AreAllowed advert.now kept.now }
-        ensures boundary { self.new.boundary ≡ self.old.boundary }
-        ensures moves { AreMoves advert.now weights.now kept.now self.old.boundary self.new.may_stay_free self.new.all.items self.new.heaviest.items }
+        ensures boundary { self.new.boundary ≡ boundary }
+        ensures moves { AreMoves advert.now weights.now kept.now boundary self.new.may_stay_free self.new.all.items self.new.heaviest.items }
     {
-        let host = self.boundary + 1;
-        self.may_stay_free = may_stay_free(advert, kept, host);
-        list_moves(&mut self.all, advert, weights, kept, host);
-        list_heaviest(&mut self.heaviest, self.all.as_slice());
+        *self = Moves::at(advert, weights, kept, boundary);
     }
 }
 
@@ -121,27 +118,10 @@ pub fn moves_at(
     ensures lead_on { All (LeadsOn (host - 1)) result.items }
 {
     let mut moves = ArrayVec::new();
-    list_moves(&mut moves, advert, weights, kept, host);
-    moves
-}
-
-// Lists them in the place of others.
-fn list_moves(
-    moves: &mut ArrayVec<Move, MAX_MOVES>,
-    advert: &Advert,
-    weights: &Weights,
-    kept: &[Path],
-    host: u8,
-)
-    requires { AreAllowed advert.now kept.now }
-    ensures moves { moves.new.items ≡ spec.moves_at advert.now weights.now kept.now host }
-    ensures rising { AllPairs (λ one later. IsLower one.path later.path) moves.new.items }
-    ensures lead_on { All (LeadsOn (host - 1)) moves.new.items }
-{
-    moves.clear();
     for app in advert.apps() {
-        push_moves(moves, advert, weights, kept, host, app.number);
+        push_moves(&mut moves, advert, weights, kept, host, app.number);
     }
+    moves
 }
 
 // Those of one Application.
@@ -183,15 +163,16 @@ fn move_of(advert: &Advert, weights: &Weights, path: Path) -> Move
     }
 }
 
-// Lists, in the place of others, of moves on the same lanes one that weighs most.
-fn list_heaviest(heaviest: &mut ArrayVec<Move, MAX_MOVES>, moves: &[Move])
+// Of moves on the same lanes one that weighs most.
+fn heaviest(moves: &[Move]) -> ArrayVec<Move, MAX_MOVES>
     requires { length moves.now ≤ MAX_MOVES }
-    ensures { AreHeaviest moves.now heaviest.new.items }
+    ensures { AreHeaviest moves.now result.items }
 {
-    heaviest.clear();
+    let mut heaviest = ArrayVec::new();
     for one in moves {
-        retain(heaviest, one);
+        retain(&mut heaviest, one);
     }
+    heaviest
 }
 
 // Adds a move, or puts it in the place of a lighter one on its lanes.
