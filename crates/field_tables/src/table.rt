@@ -21,16 +21,18 @@ macro_rules! unit {
 macro_rules! rows {
     ($field:ident; $($name:ident: $dev:ident $half:ident $page:literal, $offset:literal [$($bits:tt)*], $layout:ident $(($number:literal))?, $count:literal, $sign:ident $($unit:ident)?;)*) => {
         match $field {
-            $(Field::$name => Row {
-                dev: Dev::$dev,
-                half: Half::$half,
-                page: $page,
-                offset: $offset,
-                bits: part!($($bits)*),
-                layout: Layout::$layout $(($number))?,
-                count: $count,
-                sign: Sign::$sign,
-                unit: unit!($($unit)?),
+            $(Field::$name => const {
+                Row {
+                    dev: Dev::$dev,
+                    half: Half::$half,
+                    page: $page,
+                    offset: $offset,
+                    bits: part!($($bits)*),
+                    layout: Layout::$layout $(($number))?,
+                    count: $count,
+                    sign: Sign::$sign,
+                    unit: unit!($($unit)?),
+                }
             },)*
         }
     };
