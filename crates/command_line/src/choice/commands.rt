@@ -85,7 +85,6 @@ macro_rules! table {
 }
 
 /// The commands, in the order in which help shows them.
-#[tactic(auto, unfolding(crate::specs::Choice::commands))]
 pub fn commands() -> &'static [CommandEntry]
     ensures { map entry_of result.now ≡ commands }
 {
