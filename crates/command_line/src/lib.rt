@@ -14,7 +14,7 @@ mod status;
 mod told;
 
 pub use fault::Fault;
-pub use input::{CountedReader, MAX_INPUT, MAX_READS, read_input};
+pub use input::{CountedReader, MAX_READS, read_input};
 pub use output::{OutputFault, StoppingWriter};
 pub use program::run;
 pub use status::Status;

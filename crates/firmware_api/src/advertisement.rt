@@ -11,7 +11,7 @@ use applications::{Advert, App, MAX_APPS};
 /// An Application: what a data path of the module may carry, and on which lanes it may begin. In a byte of lanes bit i-1
 /// is that of lane i.
 #[repr(C)]
-#[derive(Clone, Copy, Debug, PartialEq, Eq, Default)]
+#[derive(Clone, Copy, Default)]
 pub struct Application {
     /// 1 to 15; AppSelCode names it by this number. 0 behind the last one.
     pub number: u8,
@@ -29,7 +29,7 @@ pub struct Application {
 
 /// What a module advertises.
 #[repr(C)]
-#[derive(Clone, Copy, Debug, PartialEq, Eq)]
+#[derive(Clone, Copy)]
 pub struct Advertisement {
     /// How many Applications there are.
     pub count: u8,

@@ -8,7 +8,7 @@ use plan_certificate::{Certificate, Reason, STATES, Verdict, check};
 
 /// What a certificate is worth.
 #[repr(C)]
-#[derive(Clone, Copy, Debug, PartialEq, Eq)]
+#[derive(Clone, Copy)]
 pub struct Judgement {
     /// 0 where it is good, else the number in the code of the first reason against it, as 1 for VR1.
     pub reason: u8,

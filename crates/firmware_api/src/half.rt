@@ -9,7 +9,7 @@ use paged_memory::{Dev, Image, Key, MAX_PAGES, PAGE_LEN, Page};
 
 /// 128 bytes of a module's memory, and where they stand.
 #[repr(C)]
-#[derive(Clone, Copy, Debug, PartialEq, Eq)]
+#[derive(Clone, Copy)]
 pub struct Half {
     /// The device's address on the bus: A0h or A2h.
     pub device: u8,

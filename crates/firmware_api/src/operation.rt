@@ -6,7 +6,7 @@ use bus_model::{Dev, MAX_STORE, Op, Reply};
 
 /// What C does on its bus for a procedure.
 #[repr(C)]
-#[derive(Clone, Copy, Debug, PartialEq, Eq)]
+#[derive(Clone, Copy)]
 pub struct Operation {
     /// 0 for a fetch, 1 for a store.
     pub kind: u8,

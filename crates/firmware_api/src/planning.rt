@@ -15,7 +15,7 @@ use plan_certificate::{MAX_PATHS, Path, Plan, kept_fault, weight_of};
 
 /// A plan: the data paths that a module's lanes are divided into, and the control bytes that ask for them.
 #[repr(C)]
-#[derive(Clone, Copy, Debug, PartialEq, Eq)]
+#[derive(Clone, Copy)]
 pub struct LanePlan {
     /// The sum of the weights of its paths.
     pub weight: u64,

@@ -22,7 +22,7 @@ use field_tables::LaneSet;
 
 /// How a procedure ended.
 #[repr(C)]
-#[derive(Clone, Copy, Debug, PartialEq, Eq)]
+#[derive(Clone, Copy)]
 pub struct Answer {
     /// How many steps a success took; 0 where there is a fault.
     pub steps: u16,

@@ -122,9 +122,10 @@ fn read_item(name: &[u8], first: &[u8], second: &[u8], third: &[u8]) -> Option<L
     ensures { MatchOption result ((line : Line) → IsLineInRange line → name.now ∷ first.now ∷ second.now ∷ third.now ∷ [] ≢ line_words line)
         (λ line. IsLineInRange line × (name.now ∷ first.now ∷ second.now ∷ third.now ∷ [] ≡ line_words line)) }
 {
-    if name == b"keep".as_slice() {
-        match read_path(first, second, third) {
-            Some(path) => Some(Line::KeepLine(path)),
+    // States first, since most lines are theirs.
+    if name == b"state".as_slice() {
+        match read_entry(first, second, third) {
+            Some(entry) => Some(Line::StateLine(entry)),
             None => None,
         }
     } else if name == b"path".as_slice() {
@@ -132,9 +133,9 @@ fn read_item(name: &[u8], first: &[u8], second: &[u8], third: &[u8]) -> Option<L
             Some(path) => Some(Line::PathLine(path)),
             None => None,
         }
-    } else if name == b"state".as_slice() {
-        match read_entry(first, second, third) {
-            Some(entry) => Some(Line::StateLine(entry)),
+    } else if name == b"keep".as_slice() {
+        match read_path(first, second, third) {
+            Some(path) => Some(Line::KeepLine(path)),
             None => None,
         }
     } else {

@@ -88,19 +88,22 @@ impl Moves {
         ensures moves { AreMoves advert.now weights.now kept.now boundary self.new.may_stay_free self.new.all.items self.new.heaviest.items }
     {
         if self.boundary != boundary {
-            self.renew(advert, weights, kept, boundary);
+            self.list(advert, weights, kept, boundary);
         }
     }
 
     // No part of `turn_to`, which would blank tables for the moves at each call.
     #[inline(never)]
-    fn renew(&mut self, advert: &Advert, weights: &Weights, kept: &[Path], boundary: u8)
+    fn list(&mut self, advert: &Advert, weights: &Weights, kept: &[Path], boundary: u8)
         requires boundary { boundary < 8 }
         requires kept { AreAllowed advert.now kept.now }
         ensures boundary { self.new.boundary ≡ boundary }
         ensures moves { AreMoves advert.now weights.now kept.now boundary self.new.may_stay_free self.new.all.items self.new.heaviest.items }
     {
-        *self = Moves::at(advert, weights, kept, boundary);
+        self.boundary = boundary;
+        self.may_stay_free = may_stay_free(advert, kept, boundary + 1);
+        self.all = moves_at(advert, weights, kept, boundary + 1);
+        self.heaviest = heaviest(self.all.as_slice());
     }
 }
 

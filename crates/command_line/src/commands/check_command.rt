@@ -38,13 +38,16 @@ impl Command for CheckCommand {
         let (image, weights, certificate) = (parts[0], parts[1], parts[2]);
         let advert = read_advert(image)?;
         let weights = Weights::read(alloc, weights)?;
-        let certificate = Certificate::<STATES>::read(certificate)?;
-        match plan_certificate::check(&advert, &weights, &certificate) {
-            Verdict::Good => Ok(Told {
-                text: self.good_text(alloc, &advert, &weights, &certificate)?,
-                fault: None,
-            }),
-            Verdict::Bad(reason, number) => Err(Fault::Bad(reason, number)),
+        // By reference, since a certificate has room for all states.
+        match &Certificate::<STATES>::read(certificate) {
+            Ok(certificate) => match plan_certificate::check(&advert, &weights, certificate) {
+                Verdict::Good => Ok(Told {
+                    text: self.good_text(alloc, &advert, &weights, certificate)?,
+                    fault: None,
+                }),
+                Verdict::Bad(reason, number) => Err(Fault::Bad(reason, number)),
+            },
+            Err(fault) => Err(Fault::Certificate(*fault)),
         }
     }
 }
