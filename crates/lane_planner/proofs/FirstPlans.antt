@@ -6,21 +6,19 @@ use Rattle.applications.specs.Advertised.{Advertised}
 use Rattle.applications.specs.Weights.{HostWeights}
 use Rattle.plan_certificate.specs.declared.path.Path.{Path}
 use Rattle.plan_certificate.specs.declared.state.State.{State}
-use Rattle.plan_certificate.specs.Paths.{IsLower, media_lanes, is_allowed, path_weight}
-use Rattle.plan_certificate.specs.Plans.{IsAdmissible, plan_weight}
-use Rattle.plan_certificate.specs.Plans as plans
+use Rattle.plan_certificate.specs.Paths.{IsLower, path_weight}
+use Rattle.plan_certificate.specs.Plans.{plan_weight}
 use Rattle.plan_certificate.specs.KeptPaths.{may_stay_free}
 use Rattle.plan_certificate.specs.States.{start, free_step, path_step, steps_from}
-use Rattle.plan_certificate.proofs.Heaviest.{ComesOrCame, IsLater, after_path, allowed, bounded, come_free, come_taken, each_step, lanes_later, stay_later}
-use Rattle.plan_certificate.proofs.KeptPaths.{eligible_allowed, plan_eligible}
-use Rattle.plan_certificate.proofs.LaneRuns.{disjoint_none}
+use Rattle.plan_certificate.proofs.Heaviest.{ComesOrCame, IsLater, after_path, all_later, allowed, bounded, come_free, come_taken, each_step, kept_come, lanes_later, stay_later}
+use Rattle.plan_certificate.proofs.KeptPaths.{eligible_allowed}
 use Rattle.plan_certificate.proofs.Lists.{each_contained, each_pair, map_each}
 use Rattle.plan_certificate.proofs.PathTakenOut.{AreApart, IsApart, Picked, from_pairs, pick}
 use Rattle.lane_planner.specs.FirstBest.{ComesBefore, IsOfUse, IsSameOrBefore}
 use Rattle.lane_planner.specs.Gains.{IsGain, IsLimit}
 use Rattle.lane_planner.specs.Tables.{IsPlanOf, gain_at}
 use Rattle.lane_planner.proofs.ChosenPaths.{IsLowest, Keeps}
-use Rattle.lane_planner.proofs.GainLaws.{GainsAfter, NoneKeeps, covers_step, free_keeps, limit_retained}
+use Rattle.lane_planner.proofs.GainLaws.{GainsAfter, NoneKeeps, covers_step, free_keeps, limit_preserved}
 
 -- the paths so far are in the other plan; what else it has may still come, and weighs the state's whole gain
 pub record Agrees (advert : Advertised) (weights : HostWeights) (kept : List Path) (gain : State → ℕ) (state : State) (paths others : List Path) : Type 0 where
@@ -37,26 +35,13 @@ pub record Agrees (advert : Advertised) (weights : HostWeights) (kept : List Pat
 abbrev pub AgreesOrLater : Advertised → HostWeights → List Path → (State → ℕ) → State → List Path → List Path → Type 0
 AgreesOrLater advert weights kept gain state paths others = Agrees advert weights kept gain state paths others ⊎ ComesBefore paths others
 
--- the paths of a plan that holds the kept ones may all still come
-pub may_come : (advert : Advertised) (kept others : List Path) → IsAdmissible advert others → plans.Keeps kept others → AllByRecursion (IsLater advert kept start) others
-may_come advert kept others plan holds =
-    map_each (Contains others) (IsLater advert kept start) others
-    (λ path held.
-    let can = All-contains (λ (p : Path). is_allowed advert p ≡ true) others path plan.allowed held in
-    record { can = plan_eligible advert kept others plan holds path held can; past = (allowed advert path can).host_from; unused = disjoint_none (media_lanes advert path) })
-    (each_contained others)
-
--- the kept ones among them
-pub kept_come : (advert : Advertised) (kept others : List Path) → plans.Keeps kept others → AllByRecursion (ComesOrCame advert start others) kept
-kept_come advert kept others holds = map_each (Contains others) (ComesOrCame advert start others) kept (λ path held. inl held) holds
-
 pub agrees_at_start : (advert : Advertised) (weights : HostWeights) (kept : List Path) (gain : State → ℕ) (others : List Path) → IsPlanOf advert weights kept (gain start) others → Agrees advert weights kept gain start [] others
 agrees_at_start advert weights kept gain others plan = record {
   rest = others;
   taken = λ k d below. absurd (omega (arith, below));
   split = λ path held. inr held;
   inside = each_contained others;
-  later = may_come advert kept others plan.admissible plan.keeps;
+  later = all_later advert kept others plan.admissible plan.keeps;
   apart = from_pairs advert others plan.admissible.apart;
   of_use = recursion_from_All (IsOfUse advert weights kept) others plan.of_use;
   come = kept_come advert kept others plan.keeps;
@@ -91,7 +76,7 @@ met advert weights kept table state paths others gains agrees picked =
     let later = each_pair (IsLater advert kept state) (IsApart advert picked.path) (IsLater advert kept step.end) picked.rest
     (λ path is_later apart. after_path advert weights kept state picked.path path parts.0 picked.begins is_later apart) parts.1 picked.path_apart in
     let come = come_taken advert weights (path_weight advert weights) kept state agrees.rest picked agrees.come in
-    let most = bounded advert weights kept (IsLimit advert weights kept) (limit_retained advert weights kept) 8 step.end (gain_at table step.end) (omega arith) after.greatest picked.rest picked.rest_apart later come in
+    let most = bounded advert weights kept (IsLimit advert weights kept) (limit_preserved advert weights kept) 8 step.end (gain_at table step.end) (omega arith) after.greatest picked.rest picked.rest_apart later come in
     record {
       picked = picked;
       keeps = record {

@@ -13,7 +13,7 @@ use Rattle.plan_certificate.specs.declared.state.Step.{Step}
 use Rattle.plan_certificate.specs.Paths.{media_lanes, path_weight}
 use Rattle.plan_certificate.specs.KeptPaths.{is_among, is_eligible, may_stay_free}
 use Rattle.plan_certificate.specs.States.{free_step, path_step, steps_from}
-use Rattle.plan_certificate.proofs.Heaviest.{IsRetained, IsLater, LeavesEnough, allowed, each_step, lanes_later}
+use Rattle.plan_certificate.proofs.Heaviest.{IsPreserved, IsLater, LeavesEnough, allowed, each_step, lanes_later}
 use Rattle.plan_certificate.proofs.KeptPaths.{eligible_allowed, listed_among}
 use Rattle.plan_certificate.proofs.Lists.{each_contained, map_each}
 use Rattle.lane_planner.specs.FirstBest.{IsOfUse}
@@ -27,8 +27,8 @@ weight step = step.weight
 
 -- ---- limits
 
-pub limit_retained : (advert : Advertised) (weights : HostWeights) (kept : List Path) → IsRetained advert weights kept (IsLimit advert weights kept)
-limit_retained advert weights kept state potential limit =
+pub limit_preserved : (advert : Advertised) (weights : HostWeights) (kept : List Path) → IsPreserved advert weights kept (IsLimit advert weights kept)
+limit_preserved advert weights kept state potential limit =
     let steps = steps_from advert weights kept state in
     map_each (Contains steps) (LeavesEnough (IsLimit advert weights kept) potential) steps
     (λ step contains.

@@ -5,20 +5,19 @@ use Rattle.applications.specs.Weights.{HostWeights}
 use Rattle.plan_certificate.specs.declared.path.Path.{Path}
 use Rattle.plan_certificate.specs.Plans.{IsAdmissible, IsBest, Keeps, plan_weight}
 use Rattle.plan_certificate.specs.States.{start}
-use Rattle.plan_certificate.proofs.Heaviest.{bounded}
+use Rattle.plan_certificate.proofs.Heaviest.{all_later, bounded, kept_come}
 use Rattle.plan_certificate.proofs.PathTakenOut.{from_pairs}
 use Rattle.lane_planner.specs.FirstBest.{IsFirstBest}
 use Rattle.lane_planner.specs.Gains.{IsGain, IsLimit}
 use Rattle.lane_planner.specs.Tables.{HasGains, IsReadOff, gain_at}
-use Rattle.lane_planner.proofs.FirstPlans.{kept_come, may_come}
-use Rattle.lane_planner.proofs.GainLaws.{limit_retained}
+use Rattle.lane_planner.proofs.GainLaws.{limit_preserved}
 use Rattle.lane_planner.proofs.ReachedStates.{start_reached}
 use Rattle.lane_planner.proofs.TableGains.{gain_in}
 
 -- no plan that holds the kept paths weighs more than what can be gained from the start
 within_gain : (advert : Advertised) (weights : HostWeights) (kept others : List Path) (gain : ℕ) → IsGain advert weights kept start gain → IsAdmissible advert others → Keeps kept others → plan_weight advert weights others ≤ gain
 within_gain advert weights kept others gain is plan keeps =
-    bounded advert weights kept (IsLimit advert weights kept) (limit_retained advert weights kept) 8 start gain (omega arith) is.greatest others (from_pairs advert others plan.apart) (may_come advert kept others plan keeps) (kept_come advert kept others keeps)
+    bounded advert weights kept (IsLimit advert weights kept) (limit_preserved advert weights kept) 8 start gain (omega arith) is.greatest others (from_pairs advert others plan.apart) (all_later advert kept others plan keeps) (kept_come advert kept others keeps)
 
 read_off_is_best : (advert : Advertised) (weights : HostWeights) (kept : List Path) (table : List ℕ) (paths : List Path) → HasGains advert weights kept 0 table → IsReadOff advert weights kept table paths → IsBest advert weights kept paths
 read_off_is_best advert weights kept table paths has off =

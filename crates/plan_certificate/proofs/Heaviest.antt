@@ -14,7 +14,7 @@ use Rattle.plan_certificate.specs.declared.state.State.{State}
 use Rattle.plan_certificate.specs.declared.state.Step.{Step}
 use Rattle.plan_certificate.specs.declared.certificate.Entry.{Entry}
 use Rattle.plan_certificate.specs.Paths.{app_of, has_number, no_app, media_lanes, is_allowed, path_weight}
-use Rattle.plan_certificate.specs.Plans.{are_apart, IsBest, plan_weight}
+use Rattle.plan_certificate.specs.Plans.{are_apart, IsAdmissible, IsBest, Keeps, plan_weight}
 use Rattle.plan_certificate.specs.KeptPaths.{is_eligible, may_stay_free}
 use Rattle.plan_certificate.specs.States.{start, free_step, free_steps, path_step, paths_at, paths_of_app, fits, path_steps, steps_from}
 use Rattle.plan_certificate.specs.Certificates.{Claim, IsBound, IsCovered, IsGood, state_of}
@@ -121,8 +121,8 @@ abbrev pub LeavesEnough : (State → ℕ → Type 0) → ℕ → Step → Type 0
 LeavesEnough Bounds potential step = (later : ℕ) × Bounds step.end later × (step.weight + later ≤ potential)
 
 -- what bounds the gain at a state does so after each step
-abbrev pub IsRetained : Advertised → HostWeights → List Path → (State → ℕ → Type 0) → Type 0
-IsRetained advert weights kept Bounds = (state : State) (potential : ℕ) → Bounds state potential → AllByRecursion (LeavesEnough Bounds potential) (steps_from advert weights kept state)
+abbrev pub IsPreserved : Advertised → HostWeights → List Path → (State → ℕ → Type 0) → Type 0
+IsPreserved advert weights kept Bounds = (state : State) (potential : ℕ) → Bounds state potential → AllByRecursion (LeavesEnough Bounds potential) (steps_from advert weights kept state)
 
 -- a kept path is one of those that may still come, or its host lanes are decided
 abbrev pub ComesOrCame : Advertised → State → List Path → Path → Type 0
@@ -162,19 +162,19 @@ come_taken advert weights weigh kept state paths picked come =
     ]) come
 
 -- then no paths that may still come, the kept ones among them, weigh more
-pub bounded : (advert : Advertised) (weights : HostWeights) (kept : List Path) (Bounds : State → ℕ → Type 0) → IsRetained advert weights kept Bounds → (left : ℕ) (state : State) (potential : ℕ) → 8 ≤ state.boundary + left → Bounds state potential
+pub bounded : (advert : Advertised) (weights : HostWeights) (kept : List Path) (Bounds : State → ℕ → Type 0) → IsPreserved advert weights kept Bounds → (left : ℕ) (state : State) (potential : ℕ) → 8 ≤ state.boundary + left → Bounds state potential
     → (paths : List Path) → AreApart advert paths → AllByRecursion (IsLater advert kept state) paths → AllByRecursion (ComesOrCame advert state paths) kept → plan_weight advert weights paths ≤ potential
-bounded advert weights kept Bounds is_kept zero state potential ends bound paths apart each come = omega (arith, none_later advert kept (path_weight advert weights) state paths (omega (arith, ends)) each)
-bounded advert weights kept Bounds is_kept (suc left) state potential ends bound paths apart each come =
+bounded advert weights kept Bounds is_preserved zero state potential ends bound paths apart each come = omega (arith, none_later advert kept (path_weight advert weights) state paths (omega (arith, ends)) each)
+bounded advert weights kept Bounds is_preserved (suc left) state potential ends bound paths apart each come =
     let weigh = path_weight advert weights in
     elim (cases_lt state.boundary 8) [
       | inr ended ↦ omega (arith, none_later advert kept weigh state paths (omega (arith, ended)) each)
       | inl below ↦
-          let steps = each_step advert weights kept (LeavesEnough Bounds potential) state below (is_kept state potential bound) in
+          let steps = each_step advert weights kept (LeavesEnough Bounds potential) state below (is_preserved state potential bound) in
           elim (pick advert weigh paths (state.boundary + 1) apart) [
             | inr elsewhere ↦
                 let step = steps.0 (lane_free advert kept kept state paths each elsewhere come) in
-                let rest = bounded advert weights kept Bounds is_kept left (free_step state).end step.0 (omega (arith, ends)) step.1 paths apart (stay_later advert kept state paths each elsewhere) (come_free advert kept state paths come) in
+                let rest = bounded advert weights kept Bounds is_preserved left (free_step state).end step.0 (omega (arith, ends)) step.1 paths apart (stay_later advert kept state paths each elsewhere) (come_free advert kept state paths come) in
                 omega (arith, rest, step.2)
             | inl picked ↦
                 let parts = picked.each (IsLater advert kept state) each in
@@ -183,29 +183,37 @@ bounded advert weights kept Bounds is_kept (suc left) state potential ends bound
                 let End : State = (path_step advert weights state picked.path).end in
                 let later = each_pair (IsLater advert kept state) (IsApart advert picked.path) (IsLater advert kept End) picked.rest
                 (λ path is_later apart. after_path advert weights kept state picked.path path parts.0 picked.begins is_later apart) parts.1 picked.path_apart in
-                let rest = bounded advert weights kept Bounds is_kept left End step.0 (omega (arith, ends, lanes.host_some)) step.1 picked.rest picked.rest_apart later (come_taken advert weights weigh kept state paths picked come) in
+                let rest = bounded advert weights kept Bounds is_preserved left End step.0 (omega (arith, ends, lanes.host_some)) step.1 picked.rest picked.rest_apart later (come_taken advert weights weigh kept state paths picked come) in
                 omega (arith, rest, step.2, picked.weighs)
           ]
     ]
 
 -- the potentials of a good certificate's entries do
-entries_retained : (advert : Advertised) (weights : HostWeights) (c : Claim) → IsGood advert weights c → IsRetained advert weights c.kept (IsBound c.entries)
-entries_retained advert weights c good state potential bound =
+entries_preserved : (advert : Advertised) (weights : HostWeights) (c : Claim) → IsGood advert weights c → IsPreserved advert weights c.kept (IsBound c.entries)
+entries_preserved advert weights c good state potential bound =
     let Covered : Step → Type 0 = IsCovered c.entries potential in
     let at_entry = All-contains (λ (entry : Entry). All (IsCovered c.entries entry.potential) (steps_from advert weights c.kept (state_of entry))) c.entries bound.0 good.closed bound.1 in
     let at_state : All Covered (steps_from advert weights c.kept state) =
     subst (λ (s : State). All Covered (steps_from advert weights c.kept s)) bound.2 (subst (λ (p : ℕ). All (IsCovered c.entries p) (steps_from advert weights c.kept (state_of bound.0))) bound.3 at_entry) in
     recursion_from_All Covered (steps_from advert weights c.kept state) at_state
 
+-- the paths of a plan that holds the kept ones may all still come at the start
+pub all_later : (advert : Advertised) (kept others : List Path) → IsAdmissible advert others → Keeps kept others → AllByRecursion (IsLater advert kept start) others
+all_later advert kept others plan keeps =
+    map_each (Contains others) (IsLater advert kept start) others
+    (λ path held.
+    let can = All-contains (λ (p : Path). is_allowed advert p ≡ true) others path plan.allowed held in
+    record { can = plan_eligible advert kept others plan keeps path held can; past = (allowed advert path can).host_from; unused = disjoint_none (media_lanes advert path) })
+    (each_contained others)
+
+-- the kept ones among them
+pub kept_come : (advert : Advertised) (kept others : List Path) → Keeps kept others → AllByRecursion (ComesOrCame advert start others) kept
+kept_come advert kept others keeps = map_each (Contains others) (ComesOrCame advert start others) kept (λ path held. inl held) keeps
+
 pub good_is_best : (advert : Advertised) (weights : HostWeights) (c : Claim) → IsGood advert weights c → IsBest advert weights c.kept c.paths
 good_is_best advert weights c good = record {
   admissible = good.admissible;
   keeps = good.keeps;
   heaviest = λ others is_plan keeps.
-      let later : (path : Path) → Contains others path → IsLater advert c.kept start path = λ path listed.
-      let can = All-contains (λ (p : Path). is_allowed advert p ≡ true) others path is_plan.allowed listed in
-      record { can = plan_eligible advert c.kept others is_plan keeps path listed can; past = (allowed advert path can).host_from; unused = disjoint_none (media_lanes advert path) } in
-      let each = map_each (Contains others) (IsLater advert c.kept start) others later (each_contained others) in
-      let come = map_each (Contains others) (ComesOrCame advert start others) c.kept (λ path listed. inl listed) keeps in
-      omega (arith, good.weighs, bounded advert weights c.kept (IsBound c.entries) (entries_retained advert weights c good) 8 start c.weight (omega arith) good.begun others (from_pairs advert others is_plan.apart) each come);
+      omega (arith, good.weighs, bounded advert weights c.kept (IsBound c.entries) (entries_preserved advert weights c good) 8 start c.weight (omega arith) good.begun others (from_pairs advert others is_plan.apart) (all_later advert c.kept others is_plan keeps) (kept_come advert c.kept others keeps));
 }

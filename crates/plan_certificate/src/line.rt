@@ -13,7 +13,7 @@ use std::fmt;
 use text_lines::{HexByte, read_decimal, read_hex_byte, split_words};
 
 /// A line of a certificate's text.
-#[derive(Clone, Copy, Debug)]
+#[derive(Clone, Copy)]
 pub enum Line {
     /// Of version 1: nothing is kept.
     Header,

@@ -13,7 +13,7 @@ use std::marker::Model;
 const BOUNDARIES: usize = 10;
 
 /// The entries of a certificate, and how many stand before those of each boundary.
-#[derive(Debug, Drop)]
+#[derive(Drop)]
 pub struct Entries<'a> {
     all: &'a [Entry],
     before: [usize; BOUNDARIES],

@@ -1,5 +1,5 @@
 /// How far a certificate's text has been read.
-#[derive(Clone, Copy, Debug, PartialEq, Eq)]
+#[derive(Clone, Copy, PartialEq)]
 pub enum Stage {
     /// No line.
     Start,
