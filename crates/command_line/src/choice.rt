@@ -37,7 +37,7 @@ fn command<'a>(alloc: Global, entry: &CommandEntry) -> Result<Command<'a>, Alloc
 {
     let mut command = Command::new(alloc, entry.name)
         .about(entry.about)
-        .override_usage(help::usage_of(entry.command))
+        .override_usage(entry.usage)
         .after_help(help::of_command(entry.command));
     for given in entry.flags {
         command = command.arg(flag(alloc, given))?;

@@ -44,6 +44,8 @@ pub struct CommandEntry {
     pub name: &'static str,
     pub command: CommandName,
     pub flags: &'static [Flag],
+    /// How help says that it is called.
+    pub usage: &'static str,
     /// What help says of it.
     pub about: &'static str,
 }
@@ -79,6 +81,7 @@ macro_rules! table {
             name: $name,
             command: CommandName::$command,
             flags: &[$($flag),*],
+            usage: concat!("cmisctl ", $name, " [OPTIONS] < INPUT"),
             about: $about,
         }),*]
     };

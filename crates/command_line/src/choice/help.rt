@@ -1,4 +1,4 @@
-//! What help says beside the commands and flags: how a command is called, what it reads, examples, and how it may end.
+//! What help says beside the commands and flags: what a command reads, examples, and how it may end.
 
 use super::commands::CommandName;
 
@@ -41,20 +41,6 @@ macro_rules! end {
             "5 out of memory, 6 a read or write failed.\ndocs/faults.md says what a line 'fault ..' means and what to do."
         )
     };
-}
-
-/// How the command is called.
-pub fn usage_of(command: CommandName) -> &'static str {
-    match command {
-        CommandName::Inventory => "cmisctl inventory [OPTIONS] < INPUT",
-        CommandName::Apps => "cmisctl apps [OPTIONS] < INPUT",
-        CommandName::Monitors => "cmisctl monitors [OPTIONS] < INPUT",
-        CommandName::Flags => "cmisctl flags [OPTIONS] < INPUT",
-        CommandName::Plan => "cmisctl plan [OPTIONS] < INPUT",
-        CommandName::Check => "cmisctl check [OPTIONS] < INPUT",
-        CommandName::Provision => "cmisctl provision [OPTIONS] < INPUT",
-        CommandName::Trace => "cmisctl trace [OPTIONS] < INPUT",
-    }
 }
 
 /// The end of the command's help.
