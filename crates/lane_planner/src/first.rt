@@ -2,11 +2,11 @@ ghost use Rattle.std.specs.Prelude.{◌↔◌, All, Contains, IsTrue};
 ghost use Rattle.plan_certificate.specs.Certificates.{IsGood};
 ghost use Rattle.lane_planner.specs.FirstBest.{HaveSamePaths, IsFirstBest};
 
-use crate::planner::plan_keeping;
+use crate::planner::first_plan;
 use applications::{Advert, Weights};
 use plan_certificate::{Certificate, Path};
 
-/// Whether the plan of a good certificate has the paths of the one that `plan_keeping` gives for what it keeps, in whatever
+/// Whether the plan of a good certificate has the paths of the one that `first_plan` gives for what it keeps, in whatever
 /// order.
 pub fn first_best<const STATES: usize>(
     advert: &Advert,
@@ -16,11 +16,8 @@ pub fn first_best<const STATES: usize>(
     requires { IsGood advert.now weights.now certificate.now }
     ensures { IsTrue result ↔ IsFirstBest advert.now weights.now certificate.now.kept certificate.now.paths }
 {
-    let first = plan_keeping(advert, weights, &certificate.kept);
-    have_same_paths(
-        certificate.plan.paths.as_slice(),
-        first.plan.paths.as_slice(),
-    )
+    let first = first_plan(advert, weights, &certificate.kept);
+    have_same_paths(certificate.plan.paths.as_slice(), first.paths.as_slice())
 }
 
 fn have_same_paths(paths: &[Path], others: &[Path]) -> bool
