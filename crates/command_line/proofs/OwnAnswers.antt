@@ -1,5 +1,5 @@
 -- What a command answers to its parts is among its answers to the input.
-use Rattle.std.proofs.Common.{◌≡◌, ℕ, ◌≤◌, Bool, List, [], ◌∷◌, length, Option, Some, None, IfSome, Ok, Err}
+use Rattle.std.proofs.Common.{◌≡◌, ℕ, ◌≤◌, List, [], ◌∷◌, length, Option, Some, None, IfSome, Ok, Err}
 use Rattle.applications.specs.WeightFaults.{IsAnswer}
 use Rattle.applications.specs.declared.weights.fault.WeightsFault.{WeightsFault}
 use Rattle.applications.specs.declared.weights.fault.WeightsFault.TheVariants as weights
