@@ -21,18 +21,16 @@ macro_rules! unit {
 macro_rules! rows {
     ($field:ident; $($name:ident: $dev:ident $half:ident $page:literal, $offset:literal [$($bits:tt)*], $layout:ident $(($number:literal))?, $count:literal, $sign:ident $($unit:ident)?;)*) => {
         match $field {
-            $(Field::$name => const {
-                Row {
-                    dev: Dev::$dev,
-                    half: Half::$half,
-                    page: $page,
-                    offset: $offset,
-                    bits: part!($($bits)*),
-                    layout: Layout::$layout $(($number))?,
-                    count: $count,
-                    sign: Sign::$sign,
-                    unit: unit!($($unit)?),
-                }
+            $(Field::$name => &Row {
+                dev: Dev::$dev,
+                half: Half::$half,
+                page: $page,
+                offset: $offset,
+                bits: part!($($bits)*),
+                layout: Layout::$layout $(($number))?,
+                count: $count,
+                sign: Sign::$sign,
+                unit: unit!($($unit)?),
             },)*
         }
     };
@@ -43,7 +41,7 @@ pub fn row(field: Field) -> Row
     ensures { result ≡ row_of field }
 {
     // device, half and page, offset and bits, layout, number of values, sign and unit
-    rows! { field;
+    *rows! { field;
         CIdentifier: A0 Lower 0x00, 0 [byte], Single, 1, Unsigned;
         CRevision: A0 Lower 0x00, 1 [byte], Single, 1, Unsigned;
         CFlatMemory: A0 Lower 0x00, 2 [7-7], Single, 1, Unsigned;
