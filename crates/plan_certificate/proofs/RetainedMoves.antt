@@ -6,7 +6,7 @@ use Rattle.std.proofs.Math.ListN.{length-set}
 use Rattle.std.proofs.Math.Seq.{take-length, take-suc}
 use Rattle.std.proofs.lemmas.Bool.{cases_eq}
 use Rattle.std.proofs.lemmas.List.{get_or_default, length-append}
-use Rattle.std.proofs.lemmas.List.Elements.{All-contains, All-contains_itself, All-more, All-weaker, Contains-append_left, Contains-get_or, Contains-push}
+use Rattle.std.proofs.lemmas.List.Elements.{All-contains, All-contains_itself, All-more, All-push, All-weaker, Contains-append_left, Contains-get_or, Contains-push}
 use Rattle.plan_certificate.specs.declared.moves.Move.{Move}
 use Rattle.plan_certificate.specs.Moves.{AreHeaviest, HasLanesOf, IsOutweighed}
 
@@ -27,6 +27,10 @@ pushed_added moves new = itself (moves ++ new ∷ []) new (Contains-push moves n
 pub pushed_outweighed : (moves : List Move) (new : Move) → All (IsOutweighed (moves ++ new ∷ [])) moves
 pushed_outweighed moves new =
     All-weaker (Contains moves) (IsOutweighed (moves ++ new ∷ [])) (λ move listed. itself (moves ++ new ∷ []) move (Contains-append_left moves (new ∷ []) move listed)) moves (All-contains_itself moves)
+
+pub pushed_among : (moves : List Move) (new : Move) → All (AmongOrNew moves new) (moves ++ new ∷ [])
+pushed_among moves new =
+    All-push (AmongOrNew moves new) moves new (All-weaker (Contains moves) (AmongOrNew moves new) (λ move listed. inl listed) moves (All-contains_itself moves)) (inr refl)
 
 -- ---- in the place of a lighter one
 
