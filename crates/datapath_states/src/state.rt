@@ -32,15 +32,15 @@ impl fmt::Display for PathState {
     ghost output = { λ state. Some (name_of state) };
 
     fn fmt<W: fmt::Write>(&self, f: &mut fmt::Formatter<W>) -> fmt::Result {
-        match self {
-            PathState::Deactivated => write!(f, "DPDeactivated"),
-            PathState::Init => write!(f, "DPInit"),
-            PathState::Deinit => write!(f, "DPDeinit"),
-            PathState::Activated => write!(f, "DPActivated"),
-            PathState::TxTurnOn => write!(f, "DPTxTurnOn"),
-            PathState::TxTurnOff => write!(f, "DPTxTurnOff"),
-            PathState::Initialized => write!(f, "DPInitialized"),
-        }
+        f.write_str(match self {
+            PathState::Deactivated => "DPDeactivated",
+            PathState::Init => "DPInit",
+            PathState::Deinit => "DPDeinit",
+            PathState::Activated => "DPActivated",
+            PathState::TxTurnOn => "DPTxTurnOn",
+            PathState::TxTurnOff => "DPTxTurnOff",
+            PathState::Initialized => "DPInitialized",
+        })
     }
 }
 

@@ -47,18 +47,18 @@ impl fmt::Display for ConfigStatus {
     ghost output = { λ status. Some (status_name status) };
 
     fn fmt<W: fmt::Write>(&self, f: &mut fmt::Formatter<W>) -> fmt::Result {
-        match self {
-            ConfigStatus::Undefined => write!(f, "ConfigUndefined"),
-            ConfigStatus::Success => write!(f, "ConfigSuccess"),
-            ConfigStatus::Rejected => write!(f, "ConfigRejected"),
-            ConfigStatus::RejectedInvalidAppSel => write!(f, "ConfigRejectedInvalidAppSel"),
-            ConfigStatus::RejectedInvalidDataPath => write!(f, "ConfigRejectedInvalidDataPath"),
-            ConfigStatus::RejectedInvalidSi => write!(f, "ConfigRejectedInvalidSI"),
-            ConfigStatus::RejectedLanesInUse => write!(f, "ConfigRejectedLanesInUse"),
-            ConfigStatus::RejectedPartialDataPath => write!(f, "ConfigRejectedPartialDataPath"),
-            ConfigStatus::InProgress => write!(f, "ConfigInProgress"),
-            ConfigStatus::Custom(code) => write!(f, "custom-{code}"),
-        }
+        f.write_str(match self {
+            ConfigStatus::Undefined => "ConfigUndefined",
+            ConfigStatus::Success => "ConfigSuccess",
+            ConfigStatus::Rejected => "ConfigRejected",
+            ConfigStatus::RejectedInvalidAppSel => "ConfigRejectedInvalidAppSel",
+            ConfigStatus::RejectedInvalidDataPath => "ConfigRejectedInvalidDataPath",
+            ConfigStatus::RejectedInvalidSi => "ConfigRejectedInvalidSI",
+            ConfigStatus::RejectedLanesInUse => "ConfigRejectedLanesInUse",
+            ConfigStatus::RejectedPartialDataPath => "ConfigRejectedPartialDataPath",
+            ConfigStatus::InProgress => "ConfigInProgress",
+            ConfigStatus::Custom(code) => return write!(f, "custom-{code}"),
+        })
     }
 }
 

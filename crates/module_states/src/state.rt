@@ -38,13 +38,13 @@ impl fmt::Display for ModuleState {
     ghost output = { λ state. Some (name_of state) };
 
     fn fmt<W: fmt::Write>(&self, f: &mut fmt::Formatter<W>) -> fmt::Result {
-        match self {
-            ModuleState::LowPwr => write!(f, "ModuleLowPwr"),
-            ModuleState::PwrUp => write!(f, "ModulePwrUp"),
-            ModuleState::Ready => write!(f, "ModuleReady"),
-            ModuleState::PwrDn => write!(f, "ModulePwrDn"),
-            ModuleState::Fault => write!(f, "ModuleFault"),
-        }
+        f.write_str(match self {
+            ModuleState::LowPwr => "ModuleLowPwr",
+            ModuleState::PwrUp => "ModulePwrUp",
+            ModuleState::Ready => "ModuleReady",
+            ModuleState::PwrDn => "ModulePwrDn",
+            ModuleState::Fault => "ModuleFault",
+        })
     }
 }
 
