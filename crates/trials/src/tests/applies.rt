@@ -80,7 +80,7 @@ fn the_first_code_that_applies_is_given(rt: HostRuntime) -> Result<(), Fail> {
 fn a_further_apply_ends_the_one_in_progress(rt: HostRuntime) -> Result<(), Fail> {
     let mut module = module()?;
     apply(&mut module, &PAIRS, 0x0F);
-    let rows: [Row; 14] = [
+    let rows: &[Row] = &[
         // Nothing is applied where no lane is asked for.
         (3, 143, &[0x00], &[0]),
         (0, 126, &[0, 0x11], &[0, 0x11]),
@@ -99,7 +99,7 @@ fn a_further_apply_ends_the_one_in_progress(rt: HostRuntime) -> Result<(), Fail>
         (9, 126, &[0, 0x11], &[0, 0x11]),
         (0, 202, &[], &[0x22, 0x11, 0x11, 0x07, 0, 0, 0x24, 0x24]),
     ];
-    assert_eq!(rt; first_wrong(&mut module, &rows), None);
+    assert_eq!(rt; first_wrong(&mut module, rows), None);
     assert_eq!(rt; module.active(), [0, 0, 0x24, 0x24, 0x28, 0x28, 0, 0]);
     Ok(())
 }
@@ -108,13 +108,13 @@ fn a_further_apply_ends_the_one_in_progress(rt: HostRuntime) -> Result<(), Fail>
 fn what_was_staged_then_is_applied(rt: HostRuntime) -> Result<(), Fail> {
     let mut module = module()?;
     apply(&mut module, &PAIRS, 0xFF);
-    let rows: [Row; 5] = [
+    let rows: &[Row] = &[
         (0, 145, &[0x10; 8], &[0x10; 8]),
         (4, 145, &[], &[0x10; 8]),
         (0, 126, &[0, 0x11], &[0, 0x11]),
         (0, 202, &[], &[0x11; 4]),
         (0, 206, &[], &PAIRS),
     ];
-    assert_eq!(rt; first_wrong(&mut module, &rows), None);
+    assert_eq!(rt; first_wrong(&mut module, rows), None);
     Ok(())
 }

@@ -98,7 +98,7 @@ fn a_thousand_ticks_are_waited_for(rt: HostRuntime) -> Result<(), Fail> {
 fn low_power_waits_for_the_paths(rt: HostRuntime) -> Result<(), Fail> {
     let mut module = module_of(PAIRS, ONES)?;
     module.low_power_pin(true);
-    let rows: [Row; 11] = [
+    let rows: &[Row] = &[
         (0, 126, &[0, 0x11], &[0, 0x11]),
         // The pin counts where bit 6 of byte 26 allows it.
         (5, 128, &[], &[0x44; 4]),
@@ -112,16 +112,16 @@ fn low_power_waits_for_the_paths(rt: HostRuntime) -> Result<(), Fail> {
         (1, 3, &[], &[0x02]),
         (1, 3, &[], &[0x02]),
     ];
-    assert_eq!(rt; first_wrong(&mut module, &rows), None);
+    assert_eq!(rt; first_wrong(&mut module, rows), None);
     module.low_power_pin(false);
-    let rows: [Row; 4] = [
+    let rows: &[Row] = &[
         (1, 3, &[], &[0x04]),
         (1, 3, &[], &[0x06]),
         // The paths look at the state before the tick.
         (0, 128, &[], &[0x11; 4]),
         (1, 128, &[], &[0x22; 4]),
     ];
-    assert_eq!(rt; first_wrong(&mut module, &rows), None);
+    assert_eq!(rt; first_wrong(&mut module, rows), None);
     Ok(())
 }
 

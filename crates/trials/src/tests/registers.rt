@@ -22,14 +22,14 @@ fn a_latched_byte_is_kept_until_it_is_read(rt: HostRuntime) -> Result<(), Fail> 
 fn a_fetch_clears_the_latched_bytes_that_it_read(rt: HostRuntime) -> Result<(), Fail> {
     let flagged = with_run(image()?, upper(0, 0x11), 134, &[0xFF; 19])?;
     let mut module = SimModule::new(&flagged, FOURS)?;
-    let rows: [Row; 2] = [
+    let rows: &[Row] = &[
         // Under another page nothing latched is read.
         (0, 134, &[], b"LE    "),
         (0, 126, &[0, 0x11], &[0, 0x11]),
     ];
-    assert_eq!(rt; first_wrong(&mut module, &rows), None);
+    assert_eq!(rt; first_wrong(&mut module, rows), None);
     assert_eq!(rt; module.fetch(Dev::A2, 134, 19).is_none(), true);
-    let rows: [Row; 7] = [
+    let rows: &[Row] = &[
         // It begins outside of the latched bytes and ends inside.
         (0, 132, &[], &[0, 0, 0xFF, 0xFF]),
         (0, 134, &[], &[0, 0, 0xFF, 0xFF]),
@@ -41,7 +41,7 @@ fn a_fetch_clears_the_latched_bytes_that_it_read(rt: HostRuntime) -> Result<(), 
         (0, 8, &[], &[0, 0x04, 0]),
         (0, 8, &[], &[0; 3]),
     ];
-    assert_eq!(rt; first_wrong(&mut module, &rows), None);
+    assert_eq!(rt; first_wrong(&mut module, rows), None);
     Ok(())
 }
 
@@ -49,7 +49,7 @@ fn a_fetch_clears_the_latched_bytes_that_it_read(rt: HostRuntime) -> Result<(), 
 fn stores_change_a_few_registers_alone(rt: HostRuntime) -> Result<(), Fail> {
     let mut module = module()?;
     assert_eq!(rt; module.store(Dev::A2, 26, &[0x10]), false);
-    let rows: [Row; 12] = [
+    let rows: &[Row] = &[
         // Read only: the identifier, the module state, the flags.
         (0, 0, &[0xFF], &[0x18, 0x50, 0, 0x06]),
         (0, 3, &[0xFF], &[0x06]),
@@ -66,7 +66,7 @@ fn stores_change_a_few_registers_alone(rt: HostRuntime) -> Result<(), Fail> {
         (0, 126, &[0, 0x11], &[0, 0x11]),
         (0, 206, &[0x10], &[0; 8]),
     ];
-    assert_eq!(rt; first_wrong(&mut module, &rows), None);
+    assert_eq!(rt; first_wrong(&mut module, rows), None);
     Ok(())
 }
 
@@ -78,7 +78,7 @@ fn pages_of_other_banks_are_the_images(rt: HostRuntime) -> Result<(), Fail> {
         &[(128, 0x55), (143, 0x66), (145, 0x77)],
     )?;
     let mut module = SimModule::new(&banked, FOURS)?;
-    let rows: [Row; 10] = [
+    let rows: &[Row] = &[
         (0, 126, &[1, 0x10], &[1, 0x10]),
         (0, 128, &[0xAA], &[0x55]),
         (0, 145, &PAIRS, &[0x77]),
@@ -91,6 +91,6 @@ fn pages_of_other_banks_are_the_images(rt: HostRuntime) -> Result<(), Fail> {
         // A page that isn't there selects page 00h.
         (0, 126, &[1, 0x11], &[0, 0]),
     ];
-    assert_eq!(rt; first_wrong(&mut module, &rows), None);
+    assert_eq!(rt; first_wrong(&mut module, rows), None);
     Ok(())
 }

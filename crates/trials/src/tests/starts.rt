@@ -15,13 +15,13 @@ fn a_new_module_has_what_its_image_says(rt: HostRuntime) -> Result<(), Fail> {
     assert_eq!(rt; started.active(), PAIRS);
     assert_eq!(rt; started.path_states(), [PathState::Deactivated; 8]);
     assert_eq!(rt; started.state(), ModuleState::Ready);
-    let rows: [Row; 4] = [
+    let rows: &[Row] = &[
         (0, 126, &[0, 0x11], &[0, 0x11]),
         (0, 128, &[], &[0x11; 4]),
         (0, 202, &[], &[0; 4]),
         (0, 206, &[], &PAIRS),
     ];
-    assert_eq!(rt; first_wrong(&mut started, &rows), None);
+    assert_eq!(rt; first_wrong(&mut started, rows), None);
 
     // The pin is off, so a permission alone doesn't ask for low power.
     for (control, state) in [(0x10, ModuleState::LowPwr), (0x40, ModuleState::Ready)] {

@@ -70,7 +70,7 @@ fn first_wrong(alloc: Global, image: &Image, rows: &[Row]) -> Result<Option<usiz
 
 #[test]
 fn selects_a_bank_and_a_page(rt: HostRuntime) -> Result<(), Fail> {
-    let rows: [Row; 8] = [
+    let rows: &[Row] = &[
         (126, &[0x00, 0x11], Some([0x00, 0x11, 0xb1])),
         (126, &[0x00, 0x03], Some([0x00, 0x00, 0xa0])),
         (127, &[0x10], Some([0x00, 0x10, 0xb0])),
@@ -82,17 +82,17 @@ fn selects_a_bank_and_a_page(rt: HostRuntime) -> Result<(), Fail> {
         (124, &[0x00, 0x00, 0x00], Some([0x00, 0x10, 0xb0])),
         (254, &[0x01, 0x01], Some([0x00, 0x10, 0xb0])),
     ];
-    assert_eq!(rt; first_wrong(rt.alloc(), &image(&paths())?, &rows)?, None);
+    assert_eq!(rt; first_wrong(rt.alloc(), &image(&paths())?, rows)?, None);
 
     // a page of another bank, which stays the waiting one
     let mut two_banks = image(&paths())?;
     two_banks.put(Key::upper(Dev::A0, 1, 0x10), Page::from([0xc0; 128]))?;
-    let rows: [Row; 3] = [
+    let rows: &[Row] = &[
         (126, &[0x01, 0x10], Some([0x01, 0x10, 0xc0])),
         (127, &[0x10], Some([0x01, 0x10, 0xc0])),
         (127, &[0x11], Some([0x00, 0x00, 0xa0])),
     ];
-    assert_eq!(rt; first_wrong(rt.alloc(), &two_banks, &rows)?, None);
+    assert_eq!(rt; first_wrong(rt.alloc(), &two_banks, rows)?, None);
     Ok(())
 }
 
@@ -104,20 +104,20 @@ fn selects_a_page_alone_or_nothing(rt: HostRuntime) -> Result<(), Fail> {
         (Key::upper(Dev::A0, 0, 0x03), 0xa3),
         (Key::upper(Dev::A0, 1, 0x03), 0xc3),
     ])?;
-    let rows: [Row; 3] = [
+    let rows: &[Row] = &[
         (126, &[0x01, 0x03], Some([0x00, 0x03, 0xa3])),
         (126, &[0x01], Some([0x00, 0x03, 0xa3])),
         (127, &[0x02], Some([0x00, 0x00, 0xa0])),
     ];
-    assert_eq!(rt; first_wrong(rt.alloc(), &sff_8636, &rows)?, None);
+    assert_eq!(rt; first_wrong(rt.alloc(), &sff_8636, rows)?, None);
 
     let sff_8472 = image(&[
         (Key::lower(Dev::A0), 0x03),
         (Key::upper(Dev::A0, 0, 0x00), 0xa0),
         (Key::upper(Dev::A0, 0, 0x02), 0xa2),
     ])?;
-    let rows: [Row; 1] = [(126, &[0x00, 0x02], Some([0x00, 0x00, 0xa0]))];
-    assert_eq!(rt; first_wrong(rt.alloc(), &sff_8472, &rows)?, None);
+    let rows: &[Row] = &[(126, &[0x00, 0x02], Some([0x00, 0x00, 0xa0]))];
+    assert_eq!(rt; first_wrong(rt.alloc(), &sff_8472, rows)?, None);
 
     let diagnostics = image(&[
         (Key::lower(Dev::A2), 0x00),
@@ -130,8 +130,8 @@ fn selects_a_page_alone_or_nothing(rt: HostRuntime) -> Result<(), Fail> {
     assert_eq!(rt; shown, ArrayVec::try_from([0xe0].as_slice()).ok());
 
     let no_lower_half = image(&[(Key::upper(Dev::A0, 0, 0x00), 0xa0)])?;
-    let rows: [Row; 1] = [(127, &[0x00], None)];
-    assert_eq!(rt; first_wrong(rt.alloc(), &no_lower_half, &rows)?, None);
+    let rows: &[Row] = &[(127, &[0x00], None)];
+    assert_eq!(rt; first_wrong(rt.alloc(), &no_lower_half, rows)?, None);
     Ok(())
 }
 
