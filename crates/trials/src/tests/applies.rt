@@ -20,7 +20,7 @@ fn statuses(module: &mut SimModule) -> [u8; 4] {
 
 #[test]
 fn each_refusal_has_its_code(rt: HostRuntime) -> Result<(), Fail> {
-    let rows: [(&[u8], u8, [u8; 4]); 8] = [
+    let rows: &[(&[u8], u8, [u8; 4])] = &[
         (&[0x20, 0x20], 0x01, [0x07, 0, 0, 0]),
         (&[0x20, 0x24], 0x03, [0x44, 0, 0, 0]),
         (&[0x22, 0x22], 0x03, [0x44, 0, 0, 0]),
@@ -33,9 +33,9 @@ fn each_refusal_has_its_code(rt: HostRuntime) -> Result<(), Fail> {
     ];
     for (staged, mask, wanted) in rows {
         let mut module = module()?;
-        apply(&mut module, staged, mask);
+        apply(&mut module, staged, *mask);
         let found = statuses(&mut module);
-        assert_eq!(rt; found, wanted, "{wanted:?}");
+        assert_eq!(rt; found, *wanted, "{wanted:?}");
     }
     Ok(())
 }
@@ -43,7 +43,7 @@ fn each_refusal_has_its_code(rt: HostRuntime) -> Result<(), Fail> {
 #[test]
 fn the_first_code_that_applies_is_given(rt: HostRuntime) -> Result<(), Fail> {
     // Lane 1 meets two conditions at a time; of a lane in use the Active Control Set has pairs.
-    let rows: [(bool, u8, u8); 8] = [
+    let rows: &[(bool, u8, u8)] = &[
         // 6 before 3, 5, 4 and 7
         (true, 0x30, 6),
         (true, 0x21, 6),
@@ -57,12 +57,12 @@ fn the_first_code_that_applies_is_given(rt: HostRuntime) -> Result<(), Fail> {
         (false, 0x22, 4),
     ];
     for (in_use, byte, code) in rows {
-        let active = if in_use { PAIRS } else { [0; 8] };
+        let active = if *in_use { PAIRS } else { [0; 8] };
         let mut module = module_of(active, FOURS)?;
         pass(&mut module, 1);
-        apply(&mut module, &[byte], 0x01);
+        apply(&mut module, &[*byte], 0x01);
         let [first, ..] = statuses(&mut module);
-        assert_eq!(rt; first, code, "{byte}");
+        assert_eq!(rt; first, *code, "{byte}");
     }
     // 3 before 7: by the lanes of its active path, which DPDeinit keeps deactivated.
     let mut module = module_of(PAIRS, FOURS)?;

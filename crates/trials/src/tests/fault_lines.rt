@@ -10,10 +10,15 @@ use text_lines::Spelled;
 /// The faults that no module or bus within reach of a command line shows.
 #[test]
 fn a_fault_has_its_line(rt: HostRuntime) {
-    let sff = |fault| Fault::Report(ReportFault::Sff(fault));
-    for (fault, line) in [
-        (sff(SffFault::WrongIdentifier(24)), "fault SF1 24\n"),
-        (sff(SffFault::FlatMemory), "fault SF2\n"),
+    let lines: &[(Fault, &str)] = &[
+        (
+            Fault::Report(ReportFault::Sff(SffFault::WrongIdentifier(24))),
+            "fault SF1 24\n",
+        ),
+        (
+            Fault::Report(ReportFault::Sff(SffFault::FlatMemory)),
+            "fault SF2\n",
+        ),
         (
             Fault::Module(SimFault::Advert(AdvertFault::BadSum(1))),
             "fault SM2 AD5 1\n",
@@ -39,7 +44,8 @@ fn a_fault_has_its_line(rt: HostRuntime) {
             Fault::Provision(ProvisionFault::Reserved(8)),
             "fault PV7 8\n",
         ),
-    ] {
+    ];
+    for (fault, line) in lines {
         let spelled = fault.spelling().line_after(fault.word());
         assert_eq!(rt; spelled.as_slice(), line.as_bytes());
     }

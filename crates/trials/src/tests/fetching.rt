@@ -21,7 +21,7 @@ fn fetched(
 
 #[test]
 fn a_module_is_read_in_so_many_steps(rt: HostRuntime) -> Result<(), Fail> {
-    let rows: [(&str, &[u8], usize); 4] = [
+    let rows: &[(&str, &[u8], usize)] = &[
         (QSFP_DD, b"", 13),
         (QSFP_DD, b"ok 4\nnack 1\n", 15),
         (QSFP28, b"", 7),
@@ -29,7 +29,7 @@ fn a_module_is_read_in_so_many_steps(rt: HostRuntime) -> Result<(), Fail> {
     ];
     for (text, script, wanted) in rows {
         let (steps, answer) = fetched(rt.alloc(), &Image::read(text.as_bytes())?, script, 4096)?;
-        assert_eq!(rt; steps, wanted, "{text}");
+        assert_eq!(rt; steps, *wanted, "{text}");
         assert!(rt; answer.is_ok(), "{text}");
     }
     Ok(())
