@@ -18,6 +18,7 @@ macro_rules! unit {
     ($unit:ident) => { Some(Unit::$unit) };
 }
 
+// Each arm borrows a constant: if it built its row member by member, the proof would take minutes.
 macro_rules! rows {
     ($field:ident; $($name:ident: $dev:ident $half:ident $page:literal, $offset:literal [$($bits:tt)*], $layout:ident $(($number:literal))?, $count:literal, $sign:ident $($unit:ident)?;)*) => {
         match $field {
