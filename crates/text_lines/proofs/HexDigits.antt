@@ -126,3 +126,36 @@ encode_more xs i lt = sym (encode_append lower_digits (take i xs) (get_or xs i 0
 -- hexadecimal digits are one word
 pub hex_word : (bytes : List ℕ) → IsBytes bytes → IsWord (encode_lower bytes)
 hex_word bytes fits = digits_pass (λ byte. not (is_space byte)) refl bytes fits
+
+-- ---- one byte
+
+two : (word : List ℕ) → length word ≡ 2 → word ≡ get_or word 0 0 ∷ get_or word 1 0 ∷ []
+two [] long = absurd (omega (arith, long))
+two (a ∷ []) long = absurd (omega (arith, long))
+two (a ∷ b ∷ []) long = refl
+two (a ∷ b ∷ d ∷ rest) long = absurd (omega (arith, long))
+
+abbrev pub digit_of : ℕ → ℕ
+digit_of value = get_or lower_digits value 0
+
+pub byte_spelled : (word : List ℕ) (high low : ℕ) → length word ≡ 2 → (high < 16) × (digit_of high ≡ get_or word 0 0) → (low < 16) × (digit_of low ≡ get_or word 1 0) → word ≡ encode_lower ((16 * high + low) ∷ [])
+unfolding encode_with
+byte_spelled word high low long h l =
+    let front : (16 * high + low) / 16 ≡ high = omega (arith, h.0, l.0) in
+    let back : (16 * high + low) % 16 ≡ low = omega (arith, h.0, l.0) in
+    let first = sym h.1 ∙ ap digit_of (sym front) in
+    let second = sym l.1 ∙ ap digit_of (sym back) in
+    two word long ∙ (λ i. first i ∷ second i ∷ [])
+
+module _ (word : List ℕ) (byte : ℕ) (fits : byte < 256) (spelled : word ≡ encode_lower (byte ∷ [])) where
+  pub spelled_length : length word ≡ 2
+  unfolding encode_with
+  spelled_length = ap length spelled
+
+  pub spelled_first : digit_of (byte / 16) ≡ get_or word 0 0
+  unfolding encode_with
+  spelled_first = sym (ap (λ (w : List ℕ). get_or w 0 0) spelled)
+
+  pub spelled_second : digit_of (byte % 16) ≡ get_or word 1 0
+  unfolding encode_with
+  spelled_second = sym (ap (λ (w : List ℕ). get_or w 1 0) spelled)

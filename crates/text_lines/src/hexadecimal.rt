@@ -24,10 +24,27 @@ pub fn read_hexadecimal<const N: usize>(word: &[u8]) -> Option<[u8; N]>
 pub fn read_hex_byte(word: &[u8]) -> Option<u8>
     ensures { MatchOption result ((byte : ℕ) → byte < 256 → word.now ≢ encode_lower (byte ∷ [])) (λ byte. word.now ≡ encode_lower (byte ∷ [])) }
 {
-    let Some(bytes) = read_hexadecimal::<1>(word) else {
+    let [high, low] = word else {
         return None;
     };
-    Some(bytes[0])
+    let Some(high) = value_of(*high) else {
+        return None;
+    };
+    let Some(low) = value_of(*low) else {
+        return None;
+    };
+    Some(16 * high + low)
+}
+
+// The value of a lower-case hexadecimal digit.
+fn value_of(digit: u8) -> Option<u8>
+    ensures { MatchOption result ((value : ℕ) → value < 16 → slice_index lower_digits value ≢ digit) (λ value. (value < 16) × (slice_index lower_digits value ≡ digit)) }
+{
+    match digit {
+        b'0'..=b'9' => Some(digit - b'0'),
+        b'a'..=b'f' => Some(digit - b'a' + 10),
+        _ => None,
+    }
 }
 
 fn has_no_upper(word: &[u8]) -> bool
@@ -46,7 +63,17 @@ impl fmt::Display for HexByte {
     #[tactic(auto, unfolding(hex::specs::Hex::encode_with))]
     fn fmt<W: fmt::Write>(&self, f: &mut fmt::Formatter<W>) -> fmt::Result {
         let (high, low) = (digit(self.0 / 16), digit(self.0 % 16));
-        write!(f, "{high}{low}")
+        write!(f, "{}{}", char::from(high), char::from(low))
+    }
+}
+
+impl HexByte {
+    /// The two digits.
+    #[tactic(auto, unfolding(hex::specs::Hex::encode_with))]
+    pub fn digits(self) -> [u8; 2]
+        ensures { result ≡ encode_lower (self.0 ∷ []) }
+    {
+        [digit(self.0 / 16), digit(self.0 % 16)]
     }
 }
 
@@ -66,10 +93,10 @@ impl fmt::Display for Hexadecimal<'_> {
     }
 }
 
-fn digit(value: u8) -> char
+fn digit(value: u8) -> u8
     requires { value < 16 }
     ensures glyph { result ≡ slice_index lower_digits value }
     ensures ascii { result < 128 }
 {
-    char::from(b"0123456789abcdef"[usize::from(value)])
+    b"0123456789abcdef"[usize::from(value)]
 }
