@@ -17,7 +17,7 @@ mod WholeTexts
 pub mod OneAnswer
 mod OneKeptList
 mod Places
-mod WrittenCertificates
+pub mod WrittenCertificates
 mod Numbered
 pub mod MoveLists
 mod MoveOrder

@@ -10,7 +10,7 @@ use Rattle.plan_certificate.specs.declared.certificate.Entry.{Entry}
 use Rattle.plan_certificate.specs.declared.line.Line.{Line}
 use Rattle.plan_certificate.specs.declared.line.Line.TheVariants.{Weight, KeepLine, PathLine, StateLine, End}
 use Rattle.plan_certificate.specs.Certificates.{Claim, HasStates}
-use Rattle.plan_certificate.specs.CertificateText.{header_of, line_text, certificate_lines, lines_in, IsPathInRange, IsEntryInRange, IsLineInRange, IsReadable, IsTextOf}
+use Rattle.plan_certificate.specs.CertificateText.{header_of, line_text, certificate_lines, head_lines, lines_in, IsPathInRange, IsEntryInRange, IsLineInRange, IsReadable, IsTextOf}
 use Rattle.plan_certificate.proofs.LineWords.{header_in_range, line_has_no_lf}
 
 lines_clean : (lines : List Line) → AllByRecursion IsLineInRange lines → AllByRecursion HasNoLf (map line_text lines)
@@ -46,34 +46,43 @@ is_readable states certificate weight kept paths entries rising few_kept few_pat
 text_more : (xs ys : List (List ℕ)) → text_of (xs ++ ys) ≡ text_of xs ++ text_of ys
 text_more = flat_map-append (λ line. line ++ 10 ∷ [])
 
-abbrev text_in : List Line → List ℕ
+abbrev pub text_in : List Line → List ℕ
 text_in lines = text_of (map line_text lines)
 
 lines_more : (xs ys : List Line) → text_in (xs ++ ys) ≡ text_in xs ++ text_in ys
 lines_more xs ys = ap text_of (map-append line_text xs ys) ∙ text_more (map line_text xs) (map line_text ys)
 
--- the kept paths, the paths, the states and the end
-lists_text : (kept paths : List Path) (entries : List Entry)
-    → text_in (map KeepLine kept ++ map PathLine paths ++ map StateLine entries ++ End ∷ [])
-    ≡ text_in (map KeepLine kept) ++ text_in (map PathLine paths) ++ text_in (map StateLine entries) ++ (line_text End ++ 10 ∷ [])
-lists_text kept paths entries =
-    let keeps = map KeepLine kept in
-    let runs = map PathLine paths in
-    let states = map StateLine entries in
-    lines_more (keeps ++ runs ++ states) (End ∷ [])
-    ∙ (λ i. lines_more (keeps ++ runs) states i ++ append-nil (line_text End ++ 10 ∷ []) i)
-    ∙ ap (λ l. l ++ text_in states ++ (line_text End ++ 10 ∷ [])) (lines_more keeps runs)
+-- the lines before the entries
+pub head_text : (weight : ℕ) (kept paths : List Path) (first second third last : List ℕ) → first ≡ line_text (header_of kept) ++ 10 ∷ [] → second ≡ first ++ (line_text (Weight weight) ++ 10 ∷ [])
+    → third ≡ second ++ text_of (map line_text (map KeepLine kept)) → last ≡ third ++ text_of (map line_text (map PathLine paths)) → last ≡ text_in (head_lines weight kept paths)
+head_text weight kept paths first second third last header weigh keeps runs =
+    let head = line_text (header_of kept) ++ 10 ∷ [] in
+    let weight_text = line_text (Weight weight) ++ 10 ∷ [] in
+    let kept_text = text_in (map KeepLine kept) in
+    let path_text = text_in (map PathLine paths) in
+    let parts : last ≡ ((head ++ weight_text) ++ kept_text) ++ path_text = rw (runs, keeps, weigh, header) refl in
+    let grouped : ((head ++ weight_text) ++ kept_text) ++ path_text ≡ head ++ (weight_text ++ (kept_text ++ path_text)) = simp append_assoc in
+    parts ∙ grouped ∙ ap (λ l. head ++ (weight_text ++ l)) (sym (lines_more (map KeepLine kept) (map PathLine paths)))
 
-module _ (certificate : Claim) (first second third fourth fifth last : List ℕ) where
-  pub whole_text : first ≡ line_text (header_of certificate.kept) ++ 10 ∷ [] → second ≡ first ++ (line_text (Weight certificate.weight) ++ 10 ∷ []) → third ≡ second ++ text_of (map line_text (map KeepLine certificate.kept))
-      → fourth ≡ third ++ text_of (map line_text (map PathLine certificate.paths)) → fifth ≡ fourth ++ text_of (map line_text (map StateLine certificate.entries)) → last ≡ fifth ++ (line_text End ++ 10 ∷ []) → last ≡ text_of (certificate_lines certificate)
-  whole_text header weight kept paths states end =
-      let head = line_text (header_of certificate.kept) ++ 10 ∷ [] in
-      let weigh = line_text (Weight certificate.weight) ++ 10 ∷ [] in
-      let kept_text = text_in (map KeepLine certificate.kept) in
-      let path_text = text_in (map PathLine certificate.paths) in
-      let state_text = text_in (map StateLine certificate.entries) in
-      let end_text = line_text End ++ 10 ∷ [] in
-      let parts : last ≡ (head ++ weigh) ++ kept_text ++ path_text ++ state_text ++ end_text = rw (end, states, paths, kept, weight, header) refl in
-      let grouped : (head ++ weigh) ++ kept_text ++ path_text ++ state_text ++ end_text ≡ head ++ (weigh ++ (kept_text ++ path_text ++ state_text ++ end_text)) = simp append_assoc in
-      parts ∙ grouped ∙ ap (λ l. head ++ (weigh ++ l)) (sym (lists_text certificate.kept certificate.paths certificate.entries))
+-- and the entries, and the end
+pub whole_text : (certificate : Claim) (head text last : List ℕ) → head ≡ text_in (head_lines certificate.weight certificate.kept certificate.paths)
+    → text ≡ head ++ text_in (map StateLine certificate.entries) → last ≡ text ++ (line_text End ++ 10 ∷ []) → last ≡ text_of (certificate_lines certificate)
+whole_text certificate head text last is states end =
+    let lines = head_lines certificate.weight certificate.kept certificate.paths in
+    let entries = map StateLine certificate.entries in
+    let parts : last ≡ (text_in lines ++ text_in entries) ++ (line_text End ++ 10 ∷ []) = rw (end, states, is) refl in
+    parts
+    ∙ ap (λ l. l ++ (line_text End ++ 10 ∷ [])) (sym (lines_more lines entries))
+    ∙ ap (λ l. text_in (lines ++ entries) ++ l) (sym (append-nil (line_text End ++ 10 ∷ [])))
+    ∙ sym (lines_more (lines ++ entries) (End ∷ []))
+
+-- one entry more
+pub entry_text : (head text more : List ℕ) (entries : List Entry) (entry : Entry) → text ≡ head ++ text_in (map StateLine entries) → more ≡ text ++ (line_text (StateLine entry) ++ 10 ∷ [])
+    → more ≡ head ++ text_in (map StateLine (entries ++ entry ∷ []))
+entry_text head text more entries entry is added =
+    let before = text_in (map StateLine entries) in
+    let line = line_text (StateLine entry) ++ 10 ∷ [] in
+    let parts : more ≡ (head ++ before) ++ line = rw (added, is) refl in
+    let both : text_in (map StateLine (entries ++ entry ∷ [])) ≡ before ++ line =
+    ap text_in (map-append StateLine entries (entry ∷ [])) ∙ lines_more (map StateLine entries) (StateLine entry ∷ []) ∙ ap (λ l. before ++ l) (append-nil line) in
+    parts ∙ append_assoc head before line ∙ ap (λ l. head ++ l) (sym both)

@@ -5,6 +5,7 @@ use Rattle.std.specs.Prelude.{◌≡◌, ℕ, ◌<◌, ◌≤◌, ◌^◌, List,
 use Rattle.std.specs.List.{AllByRecursion}
 use Rattle.std.specs.Fmt.{decimal}
 use Rattle.hex.specs.Hex.{encode_lower}
+use Rattle.text_lines.specs.Lines.{text_of}
 use Rattle.text_lines.specs.Words.{spaced}
 use Rattle.plan_certificate.specs.declared.path.Path.{Path}
 use Rattle.plan_certificate.specs.declared.certificate.Entry.{Entry}
@@ -58,6 +59,19 @@ IsLineInRange End = Unit {0}
 abbrev pub header_of : List Path → Line
 header_of [] = Header
 header_of (path ∷ paths) = KeptHeader
+
+-- the lines before the entries
+abbrev pub head_lines : ℕ → List Path → List Path → List Line
+head_lines weight kept paths = header_of kept ∷ Weight weight ∷ map KeepLine kept ++ map PathLine paths
+
+-- the text of these lines, whose numbers are in their ranges, of as many paths as a plan has at most
+pub record IsHead (weight : ℕ) (kept paths : List Path) (text : List ℕ) : Type 0 where
+  pub written : text ≡ text_of (map line_text (head_lines weight kept paths))
+  pub small : weight < 2 ^ 64
+  pub kept_in_range : AllByRecursion IsPathInRange kept
+  pub paths_in_range : AllByRecursion IsPathInRange paths
+  pub few_kept : length kept ≤ 8
+  pub few_paths : length paths ≤ 8
 
 -- the lines of a certificate
 abbrev pub lines_in : Claim → List Line

@@ -1,22 +1,20 @@
--- How entries whose states rise are parted by their boundaries, to be looked up. (docs/planning.md, "The checker")
-use Rattle.std.specs.Prelude.{ℕ, ◌<◌, ◌≤◌, Bool, ◌==◌, List, length, slice_index}
-use Rattle.std.specs.List.{AllPairs, AllWithin}
+-- How entries whose states rise are numbered by the places of their states, to be looked up. (docs/planning.md, "The
+-- checker")
+use Rattle.std.specs.Prelude.{◌≡◌, ℕ, ◌+◌, ◌-◌, ◌<◌, ◌≤◌, List, length, slice_index, slice_index_or}
 use Rattle.plan_certificate.specs.declared.certificate.Entry.{Entry}
-use Rattle.plan_certificate.specs.Certificates.{HasStates}
+use Rattle.plan_certificate.specs.Certificates.{HasStates, entry_place}
 
--- so many entries are of lower boundaries, and these are the first
-pub record IsParted (entries : List Entry) (boundary count : ℕ) : Type 0 where
-  pub within : count ≤ length entries
-  pub lower : AllWithin (λ entry. entry.boundary < boundary) entries 0 count
-  pub others : AllWithin (λ entry. boundary ≤ entry.boundary) entries count (length entries)
+-- the entry of this number, from 1, is one of so many first entries, and its state has this place
+pub record IsNumberOf (entries : List Entry) (count place number : ℕ) : Type 0 where
+  pub within : number ≤ count
+  pub there : (d : Entry) → entry_place (slice_index_or entries (number - 1) d) ≡ place
 
--- for each boundary, and for the end of the last one
-pub record AreParted (entries : List Entry) (counts : List ℕ) : Type 0 where
+-- by each place the number of its entry among so many first entries, or 0 where it has none
+pub record HasNumbers (entries : List Entry) (count : ℕ) (numbers : List ℕ) : Type 0 where
+  pub all : length numbers ≡ 2304
+  pub entry : (place : ℕ) → 0 < slice_index numbers place → IsNumberOf entries count place (slice_index numbers place)
+  pub each : (k : ℕ) (d : Entry) → k < count → slice_index numbers (entry_place (slice_index_or entries k d)) ≡ k + 1
+
+pub record AreNumbered (entries : List Entry) (numbers : List ℕ) : Type 0 where
   pub states : HasStates entries
-  pub parts : (boundary : ℕ) → boundary < 10 → IsParted entries boundary (slice_index counts boundary)
-
-abbrev pub has_used : ℕ → Entry → Bool
-has_used used entry = entry.used == used
-
-abbrev pub RisesByUsed : List Entry → Type 0
-RisesByUsed entries = AllPairs (λ entry later. entry.used < later.used) entries
+  pub by_place : HasNumbers entries (length entries) numbers

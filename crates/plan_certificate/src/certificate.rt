@@ -6,6 +6,7 @@ use crate::state::State;
 use arrayvec::ArrayVec;
 use field_tables::LaneSet;
 use std::marker::Model;
+pub use writing::{write_end, write_entry, write_head};
 
 /// A state and a bound on what can still be gained from it.
 #[derive(Clone, Copy, Debug, PartialEq, Eq, Default)]

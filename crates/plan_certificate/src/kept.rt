@@ -1,11 +1,11 @@
 // What a plan may hold beside the paths that it keeps.
 ghost use Rattle.std.specs.Prelude.{◌≡◌, true};
-ghost use Rattle.plan_certificate.specs.Paths.{is_allowed};
+ghost use Rattle.plan_certificate.specs.Paths.{app_of, is_allowed, may_begin};
 ghost use Rattle.plan_certificate.specs.Plans.{AreAllowed};
 ghost use Rattle.plan_certificate.specs.KeptPaths as spec;
 
 use crate::path::Path;
-use applications::Advert;
+use applications::{Advert, App};
 
 /// Whether one of the paths is this one.
 pub fn is_among(paths: &[Path], path: Path) -> bool
@@ -66,4 +66,17 @@ pub fn may_stay_free(advert: &Advert, kept: &[Path], lane: u8) -> bool
         }
     }
     true
+}
+
+/// As `is_eligible`, of a path with this Application; `begins` is whether it may begin at the path's host lane.
+#[tactic(auto, unfolding(crate::specs::Paths::is_allowed))]
+pub fn is_eligible_as(advert: &Advert, kept: &[Path], app: &App, begins: bool, path: Path) -> bool
+    requires kept { AreAllowed advert.now kept.now }
+    requires app { app.now ≡ app_of advert.now path }
+    requires begins { begins ≡ may_begin app.now path.host }
+    ensures { result ≡ spec.is_eligible advert.now kept.now path }
+{
+    begins
+        && path.may_take(app, advert)
+        && (is_among(kept, path) || is_apart_from(advert, kept, path))
 }

@@ -17,7 +17,7 @@ mod stage;
 mod state;
 mod verdict;
 
-pub use certificate::{Certificate, Entry};
+pub use certificate::{Certificate, Entry, write_end, write_entry, write_head};
 pub use checker::check;
 pub use fault::{CertificateFault, KeptFault};
 pub use kept::is_among;

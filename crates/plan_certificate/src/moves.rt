@@ -6,7 +6,7 @@ ghost use Rattle.plan_certificate.specs.States.{paths_of_app};
 ghost use Rattle.plan_certificate.specs.Moves.{AreHeaviest, AreMoves, HasLanesOf, IsOutweighed, LeadsOn};
 ghost use Rattle.plan_certificate.specs.Moves as spec;
 
-use crate::kept::{is_eligible, may_stay_free};
+use crate::kept::{is_eligible_as, may_stay_free};
 use crate::path::Path;
 use crate::state::{State, Step};
 use applications::{Advert, Weights};
@@ -141,28 +141,30 @@ fn push_moves(
     ensures moves { moves.new.items ≡ moves.old.items ++ spec.moves_of advert.now weights.now kept.now (paths_of_app host app) }
     ensures few { length moves.new.items ≤ length moves.old.items + 8 }
 {
+    // What does not hang on the media lane is found once.
+    let first = Path {
+        app,
+        host,
+        media: 1,
+    };
+    let application = first.application(advert);
+    let begins = first.may_begin(&application);
+    let weight = weights.of(application.host_id);
     for before in 0..8 {
         let path = Path {
             app,
             host,
             media: before + 1,
         };
-        if is_eligible(advert, kept, path) {
-            let one = move_of(advert, weights, path);
-            moves.push(one);
+        if is_eligible_as(advert, kept, &application, begins, path) {
+            let media_lanes = LaneSet::run(path.media, application.media_lanes);
+            moves.push(Move {
+                path,
+                host_lanes: application.host_lanes,
+                media_lanes,
+                weight,
+            });
         }
-    }
-}
-
-fn move_of(advert: &Advert, weights: &Weights, path: Path) -> Move
-    requires { is_allowed advert.now path ≡ true }
-    ensures { result ≡ spec.move_of advert.now weights.now path }
-{
-    Move {
-        path,
-        host_lanes: path.application(advert).host_lanes,
-        media_lanes: path.media_lanes(advert),
-        weight: path.weight(advert, weights),
     }
 }
 

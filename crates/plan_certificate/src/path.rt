@@ -31,16 +31,29 @@ impl Path {
         App::default()
     }
 
+    /// Whether the Application has usable numbers of lanes, and may begin at the path's host lane.
+    pub fn may_begin(self, app: &App) -> bool
+        ensures { result ≡ spec.may_begin app.now self.host }
+    {
+        app.is_usable() && is_run(app.host_starts, self.host, app.host_lanes)
+    }
+
+    /// Whether such an Application may begin at the path's media lane, and takes no unsupported one.
+    pub fn may_take(self, app: &App, advert: &Advert) -> bool
+        requires { spec.may_begin app.now self.host ≡ true }
+        ensures { result ≡ spec.may_take advert.now app.now self.media }
+    {
+        is_run(app.media_starts, self.media, app.media_lanes)
+            && LaneSet::run(self.media, app.media_lanes).is_disjoint(advert.unsupported())
+    }
+
     /// Whether the module can carry the path.
     #[tactic(auto, unfolding(crate::specs::Paths::is_allowed))]
     pub fn is_allowed(self, advert: &Advert) -> bool
         ensures { result ≡ spec.is_allowed advert.now self }
     {
         let app = self.application(advert);
-        app.is_usable()
-            && is_run(app.host_starts, self.host, app.host_lanes)
-            && is_run(app.media_starts, self.media, app.media_lanes)
-            && LaneSet::run(self.media, app.media_lanes).is_disjoint(advert.unsupported())
+        self.may_begin(&app) && self.may_take(&app, advert)
     }
 
     /// The host lanes of the path.

@@ -1,5 +1,5 @@
 // Reading a certificate from its text, one line after another.
-ghost use Rattle.std.specs.Prelude.{◌≡◌, ◌≢◌, ◌↔◌, ◌<◌, ◌≤◌, ◌+◌, ◌++◌, ◌∷◌, [], ℕ, IsTrue, IfOk, IfErr, map, length};
+ghost use Rattle.std.specs.Prelude.{◌≡◌, ◌≢◌, ◌↔◌, ◌<◌, ◌≤◌, ◌+◌, ◌++◌, ◌∷◌, [], ℕ, IsTrue, IfOk, IfErr, OnOk, map, length};
 ghost use Rattle.std.specs.Bool.{OnTrue, OnFalse};
 ghost use Rattle.std.specs.List.{All};
 ghost use Rattle.text_lines.specs.Lines.{lines_of};
@@ -26,26 +26,15 @@ impl<const STATES: usize> Certificate<STATES> {
         ensures ok { IfOk result (IsTextOf STATES (lines_of text.now)) }
         ensures err { IfErr result (IsFirstFault STATES (lines_of text.now)) }
     {
-        let mut certificate = Certificate::<STATES>::blank();
-        let mut stage = Stage::Start;
-        let mut number = 0;
-        let mut rest = text;
-        while let Some((line, after)) = split_line(rest) {
-            number += 1;
-            match certificate.take_line(stage, line, number) {
-                Ok(next) => stage = next,
-                Err(fault) => return Err(fault),
-            }
-            rest = after;
+        let mut certificate = Certificate::blank();
+        match certificate.take(text) {
+            Ok(()) => Ok(certificate),
+            Err(fault) => Err(fault),
         }
-        if stage != Stage::Ended {
-            return Err(CertificateFault::NoEnd);
-        }
-        Ok(certificate)
     }
 
-    // What is known before any line.
-    fn blank() -> Self
+    /// A certificate that says nothing, to take a text.
+    pub fn blank() -> Self
         ensures { result ≡ record { weight = 0; kept = []; paths = []; entries = [] } }
     {
         Certificate {
@@ -58,6 +47,29 @@ impl<const STATES: usize> Certificate<STATES> {
             },
             entries: ArrayVec::new(),
         }
+    }
+
+    /// Makes a blank certificate that of a text, in its place, where the text has no fault.
+    pub fn take(&mut self, text: &[u8]) -> Result<(), CertificateFault>
+        requires { self.old ≡ record { weight = 0; kept = []; paths = []; entries = [] } }
+        ensures ok { OnOk result (IsTextOf STATES (lines_of text.now) self.new) }
+        ensures err { IfErr result (IsFirstFault STATES (lines_of text.now)) }
+    {
+        let mut stage = Stage::Start;
+        let mut number = 0;
+        let mut rest = text;
+        while let Some((line, after)) = split_line(rest) {
+            number += 1;
+            match self.take_line(stage, line, number) {
+                Ok(next) => stage = next,
+                Err(fault) => return Err(fault),
+            }
+            rest = after;
+        }
+        if stage != Stage::Ended {
+            return Err(CertificateFault::NoEnd);
+        }
+        Ok(())
     }
 
     // Takes the line of this number, which follows the lines so far.

@@ -1,6 +1,5 @@
 use Rattle.std.proofs.Common.{◌≡◌, ◌++◌, take, map}
 use Rattle.std.specs.List.{AllByRecursion}
-use Rattle.std.specs.String.{string_bytes}
 use Rattle.text_lines.specs.Lines.{text_of}
 use Rattle.plan_certificate.specs.declared.line.Line.TheVariants.{StateLine}
 use Rattle.plan_certificate.specs.CertificateText.{line_text, IsEntryInRange}
@@ -9,6 +8,6 @@ use Rattle.plan_certificate.proofs.certificate.writing.write_entries.Given as go
 -- the state lines of the entries so far
 abbrev pub invariant-loop-entry : goal.invariant-loop-entry
 invariant-loop-entry l = record {
-  written : string_bytes l.text ≡ string_bytes l.fn.text ++ text_of (map line_text (map (λ entry. StateLine entry) (take l.entry-index l.entries)));
+  written : l.text.items ≡ l.fn.text.items ++ text_of (map line_text (map (λ entry. StateLine entry) (take l.entry-index l.entries)));
   each : AllByRecursion IsEntryInRange (take l.entry-index l.entries);
 }

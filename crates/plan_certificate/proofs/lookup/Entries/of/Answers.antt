@@ -1,21 +1,16 @@
-use Rattle.std.proofs.Common.{ℕ, ◌<◌, get_or, sym, subst, ◌∙◌, arith}
-use Rattle.std.proofs.Math.ListN.{set}
-use Rattle.std.proofs.lemmas.List.{get_or-set_same, get_or-set_other, length-set}
-use borrow.Author.Count.{below_more}
-use Rattle.plan_certificate.specs.Lookups.{IsParted}
+use Rattle.std.proofs.Common.{refl, arith}
+use Rattle.plan_certificate.specs.declared.certificate.Entry.{Entry}
+use Rattle.plan_certificate.proofs.Lookups.{none_numbered, number_small, one_numbered}
 use Rattle.plan_certificate.proofs.lookup.Entries.of.Goals as goal
 
-pub loop-boundary-preserved : goal.loop-boundary-preserved
-loop-boundary-preserved c =
-    let entries = c.args.all.now in
-    let before = c.loop-boundary.before in
-    let boundary = c.loop-boundary.boundary in
-    let count = c.count_before.result in
-    let so_far = c.loop-boundary.invariant in
-    let inside : boundary < 10 = omega arith in
-    record {
-      all = length-set before boundary count ∙ so_far.all;
-      parts = below_more (λ (k : ℕ). IsParted entries k (get_or (set before boundary count) k 0)) boundary
-          (λ k below. subst (IsParted entries k) (sym (get_or-set_other before boundary k count 0 (λ same. omega (arith, same, below)))) (so_far.parts k below))
-          (subst (IsParted entries boundary) (sym (get_or-set_same before boundary count 0 (omega (arith, so_far.all, inside)))) c.count_before.ensures);
-    }
+abbrev none : Entry
+none = record { boundary = 0; used = 0; potential = 0 }
+
+pub loop-index-init : goal.loop-index-init
+loop-index-init c = none_numbered c.args.all.now 2304 refl
+
+pub overflow_cast-numbers : goal.overflow_cast-numbers
+overflow_cast-numbers c = omega (arith, number_small c.args.all.now c.requires c.loop-index.index none c.loop-index-test.true)
+
+pub loop-index-preserved : goal.loop-index-preserved
+loop-index-preserved c = one_numbered c.args.all.now c.requires c.loop-index.index c.place.result none c.loop-index.numbers c.loop-index-test.true c.place.ensures c.loop-index.invariant

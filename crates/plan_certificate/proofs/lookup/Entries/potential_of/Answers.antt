@@ -1,11 +1,11 @@
-use Rattle.std.proofs.Common.{◌≡◌, ℕ, ◌+◌, ◌*◌, List, Option, sym, ap, ◌∙◌, arith}
+use Rattle.std.proofs.Common.{ℕ, ◌-◌, ◌<◌, List, Option, Some, get_or, sym, ap, ◌∙◌, arith}
 use Rattle.std.specs.List.{find}
 use Rattle.std.specs.Option.{option_map}
 use Rattle.field_tables.specs.LaneSets.{byte_of}
 use Rattle.plan_certificate.specs.declared.certificate.Entry.{Entry}
 use Rattle.plan_certificate.specs.States.{state_place}
 use Rattle.plan_certificate.specs.Verdicts.{potential_of}
-use Rattle.plan_certificate.proofs.Lookups.{is_there, level_finds, level_rises, none_past, parts_rise}
+use Rattle.plan_certificate.proofs.Lookups.{is_there, none_past, not_numbered, numbered}
 use Rattle.plan_certificate.proofs.lookup.Entries.potential_of.Goals as goal
 
 abbrev told : Option Entry → Option ℕ
@@ -21,33 +21,22 @@ returns-then-state-gt-HOST_LANES c =
     let none = none_past c.self.inside.all.now c.self.invariant.states state.boundary (byte_of state.used) c.if-state-gt-HOST_LANES.true in
     sym (ap (λ (entries : List Entry). told_at entries (state_place state)) (sym c.self.view_is) ∙ ap told none)
 
-pub slice_bounds-potential_with-count : goal.slice_bounds-potential_with-count
-slice_bounds-potential_with-count c =
-    let boundary = c.from-boundary.result in
-    let parts = c.self.invariant.parts in
-    parts_rise c.self.inside.all.now c.self.invariant.states boundary _ _ (parts boundary (omega arith)) (parts (boundary + 1) (omega arith))
-
-pub slice_bounds-potential_with-start : goal.slice_bounds-potential_with-start
-slice_bounds-potential_with-start c =
-    let boundary = c.from-boundary.result in
-    let parts = c.self.invariant.parts in
-    let first = parts boundary (omega arith) in
-    let end = parts (boundary + 1) (omega arith) in
-    let rise = parts_rise c.self.inside.all.now c.self.invariant.states boundary _ _ first end in
-    omega (arith, first.within, end.within, rise)
-
-pub potential_with-requires : goal.potential_with-requires
-potential_with-requires c =
-    let boundary = c.from-boundary.result in
-    let parts = c.self.invariant.parts in
-    level_rises c.self.inside.all.now c.self.invariant.states boundary _ _ (parts boundary (omega arith)) (parts (boundary + 1) (omega arith))
-
-pub returns : goal.returns
+pub returns-in-0 : goal.returns-in-0
 unfolding potential_of
-returns c =
-    let boundary = c.from-boundary.result in
-    let used = c.byte.result in
-    let parts = c.self.invariant.parts in
-    let finds = level_finds c.self.inside.all.now c.self.invariant.states boundary _ _ (parts boundary (omega arith)) (parts (boundary + 1) (omega arith)) used (omega arith) in
-    let place : 256 * boundary + used ≡ state_place c.args.state = omega (arith, c.from-boundary.ensures, c.byte.ensures.byte) in
-    c.potential_with.ensures ∙ ap told finds ∙ ap (λ (entries : List Entry). told_at entries (256 * boundary + used)) c.self.view_is ∙ ap (told_at c.args.self.now) place
+returns-in-0 c =
+    let none = not_numbered c.self.inside.all.now c.self.inside.numbers c.self.invariant c.place.result c.in-0.is in
+    sym (ap told none)
+    ∙ ap (λ (entries : List Entry). told_at entries c.place.result) c.self.view_is
+    ∙ ap (told_at c.args.self.now) c.place.ensures
+
+pub returns-in_default : goal.returns-in_default
+unfolding potential_of
+returns-in_default c =
+    let e : Entry = record { boundary = 0; used = 0; potential = 0 } in
+    let numbers = c.self.inside.numbers in
+    let some : 0 < get_or numbers c.place.result 0 = omega (arith, c.in_default) in
+    let found = numbered c.self.inside.all.now numbers c.self.invariant c.place.result e some in
+    ap (λ (n : ℕ). told (Some (get_or c.self.inside.all.now (n - 1) e))) c.from.ensures
+    ∙ sym (ap told found)
+    ∙ ap (λ (entries : List Entry). told_at entries c.place.result) c.self.view_is
+    ∙ ap (told_at c.args.self.now) c.place.ensures
