@@ -20,3 +20,4 @@ mod FirstLaws
 mod ReadOffs
 mod PlansReadOff
 mod ReachedEntries
+mod CertifiedPlans

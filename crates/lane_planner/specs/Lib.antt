@@ -1,3 +1,4 @@
+pub mod CertifiedPlans
 pub mod FirstBest
 pub mod Gains
 pub mod Marks

@@ -7,6 +7,8 @@ mod gains;
 pub mod laws;
 mod planner;
 mod reached;
+mod written;
 
 pub use first::first_best;
 pub use planner::{first_plan, plan, plan_keeping};
+pub use written::certificate_text;

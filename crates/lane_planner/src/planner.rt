@@ -4,12 +4,13 @@ ghost use Rattle.plan_certificate.specs.declared.state.State.{State};
 ghost use Rattle.plan_certificate.specs.Paths.{path_weight};
 ghost use Rattle.plan_certificate.specs.Plans.{IsAdmissible, IsBest};
 ghost use Rattle.plan_certificate.specs.ReachedStates.{IsReached};
-ghost use Rattle.plan_certificate.specs.Certificates.{IsGood, state_of};
+ghost use Rattle.plan_certificate.specs.Certificates.{Claim, IsGood, state_of};
 ghost use Rattle.plan_certificate.specs.Verdicts.{verdict};
 ghost use Rattle.plan_certificate.specs.declared.verdict.Verdict.TheVariants as verdicts;
+ghost use Rattle.lane_planner.specs.CertifiedPlans.{IsCertified};
 ghost use Rattle.lane_planner.specs.FirstBest.{IsFirstBest};
 ghost use Rattle.lane_planner.specs.Gains.{IsGain};
-ghost use Rattle.lane_planner.specs.Tables.{AreEntries, HasGains, IsReadOff};
+ghost use Rattle.lane_planner.specs.Tables.{AreEntries, HasGains, IsReadOff, entry_at};
 
 use crate::choices::chosen;
 use crate::gains::put_gains;
@@ -63,6 +64,7 @@ pub fn plan_keeping(advert: &Advert, weights: &Weights, kept: &Plan) -> Certific
 /// The plan of `plan_keeping`, without its certificate.
 pub fn first_plan(advert: &Advert, weights: &Weights, kept: &Plan) -> Plan
     requires { IsAdmissible advert.now kept.now }
+    ensures certified { (certificate : Claim) × IsCertified advert.now weights.now kept.now certificate × (certificate.paths ≡ result) }
     ensures first { IsFirstBest advert.now weights.now kept.now result }
     ensures rising { AllPairs (λ path later. path.host < later.host) result }
 {
@@ -73,8 +75,8 @@ pub fn first_plan(advert: &Advert, weights: &Weights, kept: &Plan) -> Plan
     read_off(advert, weights, kept, &table)
 }
 
-// The plan that the gains lead to, from the start upwards.
-fn read_off(advert: &Advert, weights: &Weights, kept: &[Path], table: &[u64]) -> Plan
+/// The plan that the gains lead to, from the start upwards.
+pub fn read_off(advert: &Advert, weights: &Weights, kept: &[Path], table: &[u64]) -> Plan
     requires kept { IsAdmissible advert.now kept.now }
     requires gains { HasGains advert.now weights.now kept.now 0 table.now }
     ensures { IsReadOff advert.now weights.now kept.now table.now result }
@@ -103,14 +105,23 @@ fn entries_of(marks: &[bool], table: &[u64]) -> ArrayVec<Entry, STATES>
     let mut entries = ArrayVec::new();
     for place in 0..STATES {
         if marks[place] {
-            entries.push(Entry {
-                boundary: (place / 256) as u8,
-                used: (place % 256) as u8,
-                potential: table[place],
-            });
+            entries.push(entry_at(table, place));
         }
     }
     entries
+}
+
+/// The entry of the state at a place.
+pub fn entry_at(table: &[u64], place: usize) -> Entry
+    requires table { length table.now ≡ STATES }
+    requires place { place < STATES }
+    ensures { result ≡ entry_at table.now place }
+{
+    Entry {
+        boundary: (place / 256) as u8,
+        used: (place % 256) as u8,
+        potential: table[place],
+    }
 }
 
 fn copy_of(plan: &Plan) -> Plan

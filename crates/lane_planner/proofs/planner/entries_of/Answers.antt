@@ -1,4 +1,4 @@
-use Rattle.std.proofs.Common.{◌≡◌, ◌+◌, ◌++◌, ◌∷◌, [], ℕ, sym, subst, ◌∙◌}
+use Rattle.std.proofs.Common.{◌≡◌, ◌+◌, ◌++◌, ◌∷◌, [], ℕ, sym, subst, ap, ◌∙◌}
 use Rattle.lane_planner.specs.Tables.{AreEntries, entry_at}
 use Rattle.lane_planner.proofs.ReachedEntries.{no_entry_more, one_entry_more}
 use Rattle.lane_planner.proofs.planner.entries_of.Goals as goal
@@ -11,7 +11,7 @@ loop-place-preserved c =
     let place : ℕ = c.loop-place.place in
     elim c.if-marks-place.branch [
       | then-marks-place w ↦
-          let entries : c.if-marks-place.entries.items ≡ c.loop-place.entries.items ++ entry_at table place ∷ [] = (λ i. (w.entries-is i).items) ∙ w.push.ensures.items in
+          let entries : c.if-marks-place.entries.items ≡ c.loop-place.entries.items ++ entry_at table place ∷ [] = (λ i. (w.entries-is i).items) ∙ w.push.ensures.items ∙ ap (λ entry. c.loop-place.entries.items ++ entry ∷ []) w.entry_at.ensures in
           subst (AreEntries marks table (place + 1)) (sym entries) (one_entry_more marks table place c.loop-place.entries.items c.loop-place.invariant c.loop-place-test.true w.if-marks-place.true)
       | else-marks-place w ↦
           let entries : c.if-marks-place.entries.items ≡ c.loop-place.entries.items = λ i. (w.entries-is i).items in

@@ -1,7 +1,10 @@
-use Rattle.std.proofs.Common.{◌≡◌, List, sym, subst}
+use Rattle.std.proofs.Common.{◌≡◌, List, refl, sym, subst, arith}
 use Rattle.plan_certificate.specs.declared.path.Path.{Path}
 use Rattle.plan_certificate.specs.Plans.{AreAllowed, IsAdmissible}
 use Rattle.lane_planner.specs.FirstBest.{IsFirstBest}
+use Rattle.lane_planner.specs.Marks.{MarksReached}
+use Rattle.lane_planner.specs.Tables.{HasGains, IsReadOff}
+use Rattle.lane_planner.proofs.CertifiedPlans.{certified, claim, entries_upto}
 use Rattle.lane_planner.proofs.PlansReadOff.{read_off_is_first}
 use Rattle.lane_planner.proofs.planner.first_plan.Goals as goal
 
@@ -19,6 +22,21 @@ pub read_off-requires-clause-kept : goal.read_off-requires-clause-kept
 read_off-requires-clause-kept c =
     let same : c.as_slice-kept.result.now ≡ c.args.kept.now = (let read = c.as_slice-kept.ensures.value in let seen = c.kept.view_is in cc) in
     subst (IsAdmissible c.args.advert.now) (sym same) c.requires
+
+pub returns-clause-certified : goal.returns-clause-certified
+returns-clause-certified c =
+    let advert = c.args.advert.now in
+    let weights = c.args.weights.now in
+    let kept : List Path = c.args.kept.now in
+    let marks = c.reached-marks.result in
+    let table = c.put_gains.new.table in
+    let paths : List Path = c.read_off.result in
+    let same : c.as_slice-kept.result.now ≡ kept = (let read = c.as_slice-kept.ensures.value in let seen = c.kept.view_is in cc) in
+    let reached = subst (λ (l : List Path). MarksReached advert weights l marks) same c.reached-marks.ensures in
+    let has = subst (λ (l : List Path). HasGains advert weights l 0 table) same c.put_gains.ensures in
+    let off = subst (λ (l : List Path). IsReadOff advert weights l table paths) same c.read_off.ensures in
+    let entries = entries_upto marks table 2304 (omega arith) in
+    (claim advert weights kept paths marks table entries.0 c.requires reached has off entries.1, certified advert weights kept paths marks table entries.0 c.requires reached has off entries.1, refl)
 
 pub returns-clause-first : goal.returns-clause-first
 returns-clause-first c =
