@@ -1,77 +1,93 @@
-ghost use Rattle.std.specs.Prelude.{◌≡◌, ◌++◌, ◌∷◌, [], Some, IfOk, OnOk};
-ghost use Rattle.std.specs.String.{string_bytes};
+ghost use Rattle.std.specs.Prelude.{◌≡◌, ◌++◌, ◌∷◌, [], IfOk, OnOk, codes};
+ghost use Rattle.std.specs.Fmt.{decimal};
 ghost use Rattle.text_lines.specs.Lines.{text_of};
+ghost use Rattle.bus_model.specs.DeviceName.{device_name};
+ghost use Rattle.reports.specs.Shown.{spaced_bytes};
 ghost use Rattle.reports.specs.Trace.{op_text, reply_text, step_line, step_text, trace_lines};
 
-use crate::shown::SpacedBytes;
-use bus_model::{Op, Reply, Step};
+use bus_model::{Dev, Op, Reply, Step};
+use itoa::Buffer;
 use std::alloc::{AllocError, Global};
-use std::fmt::{self, Write};
+use text_lines::HexByte;
 
 /// The steps made on a bus, a line each, numbered from 1.
 pub fn trace_text(alloc: Global, steps: &[Step]) -> Result<Vec<u8>, AllocError>
     ensures { IfOk result (λ text. text.items ≡ text_of (trace_lines steps.now)) }
 {
-    let mut text = String::new(alloc);
+    let mut text = Vec::new(alloc);
     for (index, step) in steps.iter().enumerate() {
         push_step(&mut text, index + 1, step)?;
     }
-    Ok(text.into_bytes())
+    Ok(text)
 }
 
-#[tactic(auto, unfolding(crate::specs::Trace::step_line))]
-fn push_step(text: &mut String, number: usize, step: &Step) -> Result<(), AllocError>
-    ensures { OnOk result (string_bytes text.new ≡ string_bytes text.old ++ (step_line number step.now ++ 10 ∷ [])) }
+#[tactic(auto, unfolding(crate::specs::Trace::step_line, crate::specs::Trace::step_text))]
+fn push_step(text: &mut Vec<u8>, number: usize, step: &Step) -> Result<(), AllocError>
+    ensures { OnOk result (text.new.items ≡ text.old.items ++ (step_line number step.now ++ 10 ∷ [])) }
 {
-    let step = ShownStep(step);
-    writeln!(text, "{number} {step}")
+    push_number(text, number)?;
+    text.extend_from_slice(b" ")?;
+    push_op(text, &step.op)?;
+    text.extend_from_slice(b" =")?;
+    push_reply(text, &step.reply)?;
+    text.extend_from_slice(b"\n")?;
+    Ok(())
 }
 
-#[derive(Clone, Copy)]
-struct ShownStep<'a>(&'a Step);
-
-impl fmt::Display for ShownStep<'_> {
-    ghost output = { λ shown. Some (step_text shown.0.now) };
-
-    #[tactic(auto, unfolding(crate::specs::Trace::step_text))]
-    fn fmt<W: fmt::Write>(&self, f: &mut fmt::Formatter<W>) -> fmt::Result {
-        let (op, reply) = (ShownOp(&self.0.op), ShownReply(&self.0.reply));
-        write!(f, "{op} ={reply}")
-    }
-}
-
-#[derive(Clone, Copy)]
-struct ShownOp<'a>(&'a Op);
-
-impl fmt::Display for ShownOp<'_> {
-    ghost output = { λ shown. Some (op_text shown.0.now) };
-
-    fn fmt<W: fmt::Write>(&self, f: &mut fmt::Formatter<W>) -> fmt::Result {
-        match self.0 {
-            Op::Fetch { dev, offset, count } => write!(f, "fetch {dev} {offset} {count}"),
-            Op::Store { dev, offset, bytes } => {
-                let bytes = SpacedBytes(bytes);
-                write!(f, "store {dev} {offset}{bytes}")
-            }
+fn push_op(text: &mut Vec<u8>, op: &Op) -> Result<(), AllocError>
+    ensures { OnOk result (text.new.items ≡ text.old.items ++ op_text op.now) }
+{
+    match op {
+        Op::Fetch { dev, offset, count } => {
+            text.extend_from_slice(b"fetch ")?;
+            push_place(text, *dev, *offset)?;
+            text.extend_from_slice(b" ")?;
+            push_number(text, usize::from(*count))
+        }
+        Op::Store { dev, offset, bytes } => {
+            text.extend_from_slice(b"store ")?;
+            push_place(text, *dev, *offset)?;
+            push_bytes(text, bytes.as_slice())
         }
     }
 }
 
 // With a space before it.
-#[derive(Clone, Copy)]
-struct ShownReply<'a>(&'a Reply);
-
-impl fmt::Display for ShownReply<'_> {
-    ghost output = { λ shown. Some (reply_text shown.0.now) };
-
-    fn fmt<W: fmt::Write>(&self, f: &mut fmt::Formatter<W>) -> fmt::Result {
-        match self.0 {
-            Reply::Bytes(bytes) => {
-                let bytes = SpacedBytes(bytes);
-                write!(f, "{bytes}")
-            }
-            Reply::Done => write!(f, " done"),
-            Reply::Refused => write!(f, " refused"),
-        }
+fn push_reply(text: &mut Vec<u8>, reply: &Reply) -> Result<(), AllocError>
+    ensures { OnOk result (text.new.items ≡ text.old.items ++ reply_text reply.now) }
+{
+    match reply {
+        Reply::Bytes(bytes) => push_bytes(text, bytes.as_slice()),
+        Reply::Done => text.extend_from_slice(b" done"),
+        Reply::Refused => text.extend_from_slice(b" refused"),
     }
+}
+
+// A device and an address.
+fn push_place(text: &mut Vec<u8>, dev: Dev, offset: u8) -> Result<(), AllocError>
+    ensures { OnOk result (text.new.items ≡ text.old.items ++ (device_name dev ++ (codes " " ++ decimal offset))) }
+{
+    match dev {
+        Dev::A0 => text.extend_from_slice(b"A0 ")?,
+        Dev::A2 => text.extend_from_slice(b"A2 ")?,
+    }
+    push_number(text, usize::from(offset))
+}
+
+// In hexadecimal, each with a space before it.
+#[tactic(auto, unfolding(crate::specs::Shown::spaced_bytes))]
+fn push_bytes(text: &mut Vec<u8>, bytes: &[u8]) -> Result<(), AllocError>
+    ensures { OnOk result (text.new.items ≡ text.old.items ++ spaced_bytes bytes.now) }
+{
+    for byte in bytes {
+        let [high, low] = HexByte(*byte).digits();
+        text.extend_from_slice(&[b' ', high, low])?;
+    }
+    Ok(())
+}
+
+fn push_number(text: &mut Vec<u8>, number: usize) -> Result<(), AllocError>
+    ensures { OnOk result (text.new.items ≡ text.old.items ++ decimal number) }
+{
+    text.extend_from_slice(Buffer::new().format(number).as_bytes())
 }
