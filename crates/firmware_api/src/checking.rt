@@ -42,8 +42,9 @@ fn judged(halves: &[Half], weights: &[u32; 256], text: &[u8]) -> Result<Judgemen
     ensures best { IfOk result (λ judged. judged.reason ≡ 0 → IsShownBest halves.now weights.now text.now) }
 {
     let advert = read_advert(halves)?;
-    match Certificate::<STATES>::read(text) {
-        Ok(certificate) => {
+    let mut certificate = Certificate::<STATES>::blank();
+    match certificate.take(text) {
+        Ok(()) => {
             let verdict = check(&advert, &Weights::of_table(weights), &certificate);
             Ok(judgement_of(verdict))
         }

@@ -1,8 +1,10 @@
-ghost use Rattle.std.specs.Prelude.{◌≡◌, ◌++◌, ◌∷◌, [], ℕ, List, IfOk, OnOk};
+ghost use Rattle.std.specs.Prelude.{◌≡◌, ◌≢◌, ◌++◌, ◌∷◌, [], ℕ, List, IfErr, IfOk, Ok, OnOk};
+ghost use Rattle.applications.specs.WeightFaults.{IsAnswer};
 ghost use Rattle.text_lines.specs.Lines.{text_of};
 ghost use Rattle.plan_certificate.specs.Certificates.{IsGood};
 ghost use Rattle.command_line.specs.CheckCommand.{IsCheckAnswer, SaysFirst, TellsGood, first_line, kept_lines};
-ghost use Rattle.command_line.specs.Runs.{IsAnswerTo, IsCommandRun};
+ghost use Rattle.command_line.specs.PlanningInputs.{IsAdvertText};
+ghost use Rattle.command_line.specs.Runs.{IsAnswerTo, IsCommandRun, IsOwnAnswer, answer_of};
 
 use super::command::{Command, run};
 use super::planning_inputs::read_advert;
@@ -35,24 +37,40 @@ impl Command for CheckCommand {
     }
 
     fn answer(&self, alloc: Global, parts: &[&[u8]]) -> Result<Told, Fault> {
-        let (image, weights, certificate) = (parts[0], parts[1], parts[2]);
-        let advert = read_advert(image)?;
-        let weights = Weights::read(alloc, weights)?;
-        // By reference, since a certificate has room for all states.
-        match &Certificate::<STATES>::read(certificate) {
-            Ok(certificate) => match plan_certificate::check(&advert, &weights, certificate) {
-                Verdict::Good => Ok(Told {
-                    text: self.good_text(alloc, &advert, &weights, certificate)?,
-                    fault: None,
-                }),
-                Verdict::Bad(reason, number) => Err(Fault::Bad(reason, number)),
-            },
-            Err(fault) => Err(Fault::Certificate(*fault)),
-        }
+        let advert = read_advert(parts[0])?;
+        let weights = Weights::read(alloc, parts[1])?;
+        self.judged(alloc, &advert, &weights, parts[2])
     }
 }
 
 impl CheckCommand {
+    // What is told of the certificate. A function of its own, since a certificate has room for all states, which is blanked
+    // where the function begins.
+    #[inline(never)]
+    fn judged(
+        self,
+        alloc: Global,
+        advert: &Advert,
+        weights: &Weights,
+        text: &[u8],
+    ) -> Result<Told, Fault>
+        ensures answer { (image listed : List ℕ) → IsAdvertText image advert.now → IsAnswer listed (Ok weights.now)
+            → IsOwnAnswer (IsCheckAnswer self) (image ∷ listed ∷ text.now ∷ []) (answer_of result) }
+        ensures read { IfErr result (λ fault. fault ≢ Fault.Io) }
+    {
+        let mut read = Certificate::<STATES>::blank();
+        match read.take(text) {
+            Ok(()) => match plan_certificate::check(advert, weights, &read) {
+                Verdict::Good => Ok(Told {
+                    text: self.good_text(alloc, advert, weights, &read)?,
+                    fault: None,
+                }),
+                Verdict::Bad(reason, number) => Err(Fault::Bad(reason, number)),
+            },
+            Err(fault) => Err(Fault::Certificate(fault)),
+        }
+    }
+
     // What is told of a good certificate.
     fn good_text(
         self,

@@ -11,6 +11,7 @@ use crate::output::StoppingWriter;
 use crate::status::Status;
 use crate::told::Told;
 use applications::Weights;
+use lane_planner::certificate_text;
 use std::alloc::Global;
 use std::io::{Read, Write};
 
@@ -34,7 +35,7 @@ impl Command for PlanCommand {
         let weights = Weights::read(alloc, parts[1])?;
         let kept = read_kept(&advert, kept_part(self.keeps, parts))?;
         Ok(Told {
-            text: lane_planner::plan_keeping(&advert, &weights, &kept).write(alloc)?,
+            text: certificate_text(alloc, &advert, &weights, &kept)?,
             fault: None,
         })
     }

@@ -14,6 +14,7 @@ use crate::fault::Fault;
 use applications::{Advert, Weights};
 use bus_model::{Script, ScriptBus};
 use control_sets::{Activated, ProvisionFault, Provisioned, activate, provision_keeping};
+use lane_planner::first_plan;
 use plan_certificate::Plan;
 use sim_module::{Delays, SimModule};
 use std::alloc::Global;
@@ -64,7 +65,7 @@ pub fn set_up(
     let kept = read_kept(&advert, kept)?;
     let script = Script::read(script)?;
     let module = SimModule::new(&image, delays())?;
-    let plan = lane_planner::plan_keeping(&advert, &weights, &kept).plan;
+    let plan = first_plan(&advert, &weights, &kept);
     let bus = ScriptBus::new(alloc, module, script, ROOM)?;
     Ok(Session {
         advert,

@@ -76,19 +76,20 @@ returns-clause-answer c =
     let memory = c.in_ok-image.image in
     let given = c.delays.result in
     let told : IsAdvertText c.args.image.now c.in_ok-image.advert = record { memory = memory; is_module = c.in_ok-image.ensures } in
-    let all = c.plan_keeping.ensures in
+    let certified = c.first_plan-plan.ensures.certified in
+    let all = certified.1 in
     let starts = module_starts c.in_ok-module.module (start memory given) (start_fault memory given) c.in_ok-module.ensures in
     record {
       set_up = record {
-        certificate = c.plan_keeping.result;
-        given = is_given c.args.image.now c.args.weights.now c.args.kept.now c.in_ok-image.advert c.in_ok-weights.weights c.in_ok-kept.kept c.plan_keeping.result
-            all.kept told c.in_ok-weights.ensures.answer c.in_ok-kept.ensures all.good all.best all.first all.rising all.gains all.states all.judged;
+        certificate = certified.0;
+        given = is_given c.args.image.now c.args.weights.now c.args.kept.now c.in_ok-image.advert c.in_ok-weights.weights c.in_ok-kept.kept certified.0
+            all.keeps told c.in_ok-weights.ensures.answer c.in_ok-kept.ensures all.good all.best all.first all.rising all.gains all.states all.judged;
         script = c.in_ok-script.script;
         is_script = c.in_ok-script.ensures.ok;
         starts = ap (λ (d : Delays). start_fault memory d) (sym c.delays.ensures) ∙ starts.0;
       };
       advert = refl;
-      plan = ap (λ (certificate : Claim). certificate.paths) c.plan.view_is;
-      kept = sym all.kept;
+      plan = sym certified.2;
+      kept = sym all.keeps;
       bus = ap seen_at c.in_ok-bus.ensures ∙ ap (λ (m : SimModule). bus_with c.in_ok-script.script m) (starts.1 ∙ ap (λ (d : Delays). start memory d) c.delays.ensures);
     }

@@ -1,0 +1,48 @@
+use Rattle.std.proofs.Common.{refl, sym, subst, ◌∷◌, [], Err, IfErr, OnOk}
+use Rattle.text_lines.specs.Lines.{lines_of}
+use Rattle.plan_certificate.specs.declared.state.TheConstants.{STATES}
+use Rattle.plan_certificate.specs.CertificateFaults.{IsFirstFault}
+use Rattle.plan_certificate.specs.CertificateText.{IsTextOf}
+use Rattle.plan_certificate.specs.declared.verdict.Verdict.TheVariants.{Bad}
+use Rattle.command_line.specs.CheckCommand.{IsCheckAnswer, IsGoodAnswer, IsJudged}
+use Rattle.command_line.specs.declared.fault.Fault.TheVariants.{Certificate}
+use Rattle.command_line.proofs.commands.check_command.CheckCommand.judged.Goals as goal
+
+pub returns-in-Err-clause-answer : goal.returns-in-Err-clause-answer
+returns-in-Err-clause-answer c = λ image listed is_advert are_weights.
+    let text = c.args.text.now in
+    let first : IsFirstFault STATES (lines_of text) c.in-Err.fault = subst (λ r. IfErr r (IsFirstFault STATES (lines_of text))) c.in-Err.is c.take.ensures.err in
+    let is : IsCheckAnswer c.args.self (image ∷ listed ∷ text ∷ []) (Err (Certificate c.in-Err.fault)) = ((c.args.advert.now, is_advert), (c.args.weights.now, are_weights), first) in
+    is
+
+pub returns-in_ok-good_text-in-Good-clause-answer : goal.returns-in_ok-good_text-in-Good-clause-answer
+returns-in_ok-good_text-in-Good-clause-answer c = λ image listed is_advert are_weights.
+    let text = c.args.text.now in
+    let good : IsGoodAnswer c.args.self image listed text c.in_ok-good_text-in-Good.field-0.items = record {
+      judged = record {
+        advert = c.args.advert.now;
+        weights = c.args.weights.now;
+        certificate = c.take.new.self;
+        is_advert = is_advert;
+        are_weights = are_weights;
+        is_certificate = subst (λ r. OnOk r (IsTextOf STATES (lines_of text) c.take.new.self)) c.in-Ok.is c.take.ensures.ok;
+        is_verdict = sym c.in-Good.ensures.verdict;
+      };
+      is_best = c.in-Good.ensures.best refl;
+      told = c.in_ok-good_text-in-Good.ensures;
+    } in
+    good
+
+pub returns-in-Bad-clause-answer : goal.returns-in-Bad-clause-answer
+returns-in-Bad-clause-answer c = λ image listed is_advert are_weights.
+    let text = c.args.text.now in
+    let bad : IsJudged image listed text (Bad c.in-Bad.reason c.in-Bad.number) = record {
+      advert = c.args.advert.now;
+      weights = c.args.weights.now;
+      certificate = c.take.new.self;
+      is_advert = is_advert;
+      are_weights = are_weights;
+      is_certificate = subst (λ r. OnOk r (IsTextOf STATES (lines_of text) c.take.new.self)) c.in-Ok.is c.take.ensures.ok;
+      is_verdict = sym c.in-Bad.ensures.verdict;
+    } in
+    bad
