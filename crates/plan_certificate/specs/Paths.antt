@@ -43,14 +43,6 @@ is_within first count = nat_le 1 first && nat_le (first + count) 9
 abbrev pub is_run : Lanes → ℕ → ℕ → Bool
 is_run starts first count = is_within first count && set.contains starts first
 
--- a path of the Application may begin at the host lane
-abbrev pub may_begin : App → ℕ → Bool
-may_begin app host = is_usable app && is_run app.host_starts host app.host_lanes
-
--- and at the media lane, and takes none that is unsupported
-abbrev pub may_take : Advertised → App → ℕ → Bool
-may_take advert app media = is_run app.media_starts media app.media_lanes && is_disjoint (run_of media app.media_lanes) advert.unsupported
-
 -- a path that the module can carry
 unfoldable pub is_allowed : Advertised → Path → Bool
 is_allowed advert path =
@@ -58,6 +50,16 @@ is_allowed advert path =
     && is_run (app_of advert path).host_starts path.host (app_of advert path).host_lanes
     && is_run (app_of advert path).media_starts path.media (app_of advert path).media_lanes
     && is_disjoint (media_lanes advert path) advert.unsupported
+
+-- a path of the Application may begin at the host lane
+abbrev pub may_begin : App → ℕ → Bool
+may_begin app host = is_usable app && is_run app.host_starts host app.host_lanes
+
+-- and take media lanes from this one on, none of them unsupported
+abbrev pub may_take : Advertised → App → ℕ → Bool
+may_take advert app media =
+    is_run app.media_starts media app.media_lanes
+    && is_disjoint (run_of media app.media_lanes) advert.unsupported
 
 abbrev pub path_weight : Advertised → HostWeights → Path → ℕ
 path_weight advert weights path = weight_at weights (app_of advert path).host_id
