@@ -6,7 +6,7 @@ use Rattle.std.specs.declared.cmp.Ordering.TheVariants.{Less}
 use Rattle.paged_memory.specs.declared.key.Key.{Key}
 use Rattle.paged_memory.specs.declared.fault.ImageFault.{ImageFault}
 use Rattle.paged_memory.specs.declared.fault.ImageFault.TheVariants.{BadHeader, BadLine, OutOfOrder, TooManyPages, NoEnd, AfterEnd}
-use Rattle.paged_memory.specs.Images.{Memory}
+use Rattle.paged_memory.specs.Images.{Memory, most_pages}
 use Rattle.paged_memory.specs.KeyOrder.{key_cmp}
 use Rattle.paged_memory.specs.ImageText.{header, end_line, page_line, page_lines, IsEntry, IsImage, IsTextOf}
 
@@ -38,7 +38,7 @@ abbrev pub IsLineFault : Memory → List ℕ → ImageFault → Type 0
 IsLineFault memory line fault = (line ≢ end_line) × (
     FirstOf (¬ ((key : Key) × (page : List ℕ) × IsPageLine line key page)) (BadLine (next_number memory))
     (FirstOf ((key : Key) × (page : List ℕ) × IsPageLine line key page × ¬ (IsAboveAll memory key)) (OutOfOrder (next_number memory))
-    (FirstOf (finmap.len memory ≡ 16) TooManyPages NoFault)) fault)
+    (FirstOf (finmap.len memory ≡ most_pages) TooManyPages NoFault)) fault)
 
 abbrev pub IsFaultAfter : List (List ℕ) → ImageFault → Type 0
 IsFaultAfter lines fault = (memory : Memory) × (line : List ℕ) × (rest : List (List ℕ)) × Begins lines memory (line ∷ rest) × IsLineFault memory line fault

@@ -10,7 +10,7 @@ use Rattle.paged_memory.specs.declared.key.Half.{Half}
 use Rattle.paged_memory.specs.declared.key.Half.TheVariants.{Lower, Upper}
 use Rattle.paged_memory.specs.declared.key.Key.{Key}
 use Rattle.paged_memory.specs.KeyOrder.{key_cmp}
-use Rattle.paged_memory.specs.Images.{Memory}
+use Rattle.paged_memory.specs.Images.{Memory, most_pages}
 
 unfoldable pub header : List ℕ
 header = codes "module-image 1"
@@ -56,15 +56,15 @@ pub record IsEntry (key : Key) (page : List ℕ) : Type 0 where
   pub key_fits : IsKey key
   pub page_fits : IsPage page
 
--- at most 16 such pages by rising keys
+-- such pages by rising keys, no more than there may be
 pub record AreEntries (entries : List (Key × List ℕ)) : Type 0 where
   pub sorted : IsTrue (finmap.is_sorted key_cmp entries)
-  pub room : length entries ≤ 16
+  pub room : length entries ≤ most_pages
   pub each : AllByRecursion (λ entry. IsEntry entry.0 entry.1) entries
 
--- what an image holds: at most 16 such pages
+-- what an image holds: such pages, no more than there may be
 pub record IsImage (memory : Memory) : Type 0 where
-  pub room : finmap.len memory ≤ 16
+  pub room : finmap.len memory ≤ most_pages
   pub each : AllByRecursion (λ entry. IsEntry entry.0 entry.1) (finmap.entries memory)
 
 -- these lines are the text of an image

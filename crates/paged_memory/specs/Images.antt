@@ -10,6 +10,10 @@ use Rattle.paged_memory.specs.KeyOrder.{key_cmp}
 abbrev pub Memory : Type 0
 Memory = map.FinMap key_cmp (List ℕ)
 
+-- how many pages the image of a memory has at most
+abbrev pub most_pages : ℕ
+most_pages = 16
+
 -- the key of the half that shows an address of a device while a page of bank 0 is selected
 abbrev pub key_at : Dev → ℕ → ℕ → Key
 key_at dev page address = if nat_lt address 128 then lower_key dev else upper_key dev 0 page

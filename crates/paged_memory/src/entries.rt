@@ -9,6 +9,7 @@ ghost use Rattle.std.specs.Option.{option_copied};
 ghost use Rattle.std.specs.FinMap.Entries.{put};
 ghost use Rattle.paged_memory.specs.declared.key.Key.{Key};
 ghost use Rattle.paged_memory.specs.KeyOrder.{key_cmp};
+ghost use Rattle.paged_memory.specs.Images.{most_pages};
 
 use crate::image::MAX_PAGES;
 use crate::key::Key;
@@ -51,7 +52,7 @@ pub fn page_at(entries: &[(Key, Page)], key: Key) -> Option<&Page>
 pub fn put_entry(entries: &mut ArrayVec<(Key, Page), MAX_PAGES>, key: Key, page: Page) -> bool
     requires { IsTrue (is_sorted key_cmp entries.old.items) }
     ensures put { OnTrue result (entries.new.items ≡ put key_cmp key page entries.old.items) }
-    ensures full { (result ≡ false) ↔ ((length entries.old.items ≡ MAX_PAGES) × (find key_cmp key entries.old.items ≡ None)) }
+    ensures full { (result ≡ false) ↔ ((length entries.old.items ≡ most_pages) × (find key_cmp key entries.old.items ≡ None)) }
     ensures same { OnFalse result (entries.new ≡ entries.old) }
 {
     match place_of(entries, key) {

@@ -39,7 +39,7 @@ impl Image {
     ghost use Rattle.std.specs.Option.{option_copied};
     ghost use Rattle.std.specs.FinMap as map;
     ghost use Rattle.paged_memory.specs.KeyOrder.{key_cmp};
-    ghost use Rattle.paged_memory.specs.Images.{byte_at};
+    ghost use Rattle.paged_memory.specs.Images.{byte_at, most_pages};
     ghost use Rattle.paged_memory.specs.ImageText.{IsImage};
 
     /// The image with no page.
@@ -89,7 +89,7 @@ impl Image {
     /// Puts a page under a key, in the place of the page that was there. A refusal changes nothing.
     pub fn put(&mut self, key: Key, page: Page) -> Result<(), ImageFault>
         ensures ok { OnOk result (self.new ≡ map.insert self.old key page) }
-        ensures refused { IsErr result ↔ ((map.len self.old ≡ MAX_PAGES) × (map.contains_key self.old key ≡ false)) }
+        ensures refused { IsErr result ↔ ((map.len self.old ≡ most_pages) × (map.contains_key self.old key ≡ false)) }
         ensures fault { IfErr result (λ fault. fault ≡ ImageFault.TooManyPages) }
         ensures err { OnErr result (self.new ≡ self.old) }
         ensures image { IsImage self.new }

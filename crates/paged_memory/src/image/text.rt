@@ -6,7 +6,7 @@ ghost use Rattle.std.specs.FinMap as finmap;
 ghost use Rattle.std.specs.declared.cmp.Ordering.TheVariants.{Less};
 ghost use Rattle.text_lines.specs.Lines.{lines_of, text_of};
 ghost use Rattle.paged_memory.specs.declared.key.Key.{Key};
-ghost use Rattle.paged_memory.specs.declared.image.TheConstants.{MAX_PAGES};
+ghost use Rattle.paged_memory.specs.Images.{most_pages};
 ghost use Rattle.paged_memory.specs.declared.page.TheConstants.{PAGE_LEN};
 ghost use Rattle.paged_memory.specs.KeyOrder.{key_cmp};
 ghost use Rattle.paged_memory.specs.ImageText.{header, end_line, page_line, image_lines, IsEntry, IsImage, IsTextOf};
@@ -111,7 +111,7 @@ fn take_line(entries: &mut ArrayVec<(Key, Page), MAX_PAGES>, line: &[u8]) -> Res
     requires sorted { IsTrue (finmap.is_sorted key_cmp entries.old.items) }
     requires goes_on { line.now ≢ end_line }
     ensures sorted { OnOk result (IsTrue (finmap.is_sorted key_cmp entries.new.items)) }
-    ensures room { OnOk result (length entries.new.items ≤ MAX_PAGES) }
+    ensures room { OnOk result (length entries.new.items ≤ most_pages) }
     ensures added { OnOk result ((key : Key) × (page : List ℕ) × IsPageLine line.now key page × (entries.new.items ≡ entries.old.items ++ (key, page) ∷ [])) }
     ensures fault { IfErr result (IsLineFault (finmap.from_sorted entries.old.items) line.now) }
 {
