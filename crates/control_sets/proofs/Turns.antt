@@ -24,7 +24,7 @@ use Rattle.control_sets.specs.declared.procedures.next.Next.TheVariants.{Do, Don
 use Rattle.control_sets.specs.declared.procedures.procedure.Procedure.{Procedure}
 use Rattle.bus_model.specs.Operations.{Answers}
 use Rattle.control_sets.specs.Pages.{History}
-use Rattle.control_sets.specs.declared.procedures.registers.TheConstants.{MAX_STEPS}
+use Rattle.control_sets.specs.OutcomeAnswers.{most_steps}
 use Rattle.control_sets.specs.Procedures.{all_apart, judgement_at, next_operation}
 use Rattle.control_sets.specs.Selections.{judgement_by, operation_by, selection_after}
 use Rattle.control_sets.specs.Asking.{IsReplyTo, next_after, next_for, next_with, step_with}
@@ -50,12 +50,12 @@ at_start tasks = begun tasks (record { steps = 0; selection = Unknown }) refl (t
 pub record Awaits (tasks : List Task) (met : ℕ) (session : Session) (fault : Option ProvisionFault) (reply : Reply) (task : Task) : Type 0 where
   pub working : fault ≡ None
   pub more : met < length tasks
-  pub fewer : session.steps < MAX_STEPS
+  pub fewer : session.steps < most_steps
   pub answers : Answers (operation_by session.selection task) reply
   pub asks : next_after fault session (slice_get tasks met) ≡ Do (operation_by session.selection task)
 
-awaits_for : (session : Session) (task : Task) (reply : Reply) (few : Bool) → nat_lt session.steps MAX_STEPS ≡ few → IsReplyTo (if few then Do (operation_by session.selection task) else Done (Err GaveUp)) reply →
-    (session.steps < MAX_STEPS) × Answers (operation_by session.selection task) reply × (next_for session task ≡ Do (operation_by session.selection task))
+awaits_for : (session : Session) (task : Task) (reply : Reply) (few : Bool) → nat_lt session.steps most_steps ≡ few → IsReplyTo (if few then Do (operation_by session.selection task) else Done (Err GaveUp)) reply →
+    (session.steps < most_steps) × Answers (operation_by session.selection task) reply × (next_for session task ≡ Do (operation_by session.selection task))
 awaits_for session task reply true e answers = (ltb-true _ _ e, answers, ap (λ (b : Bool). if b then Do (operation_by session.selection task) else Done (Err GaveUp)) e)
 awaits_for session task reply false e answers = absurd answers
 
@@ -65,7 +65,7 @@ awaits_with tasks met d session (Some fault) reply found e answers = absurd answ
 awaits_with tasks met d session None reply None e answers = absurd answers
 awaits_with tasks met d session None reply (Some task) e answers =
     let same : get_or tasks met d ≡ task = get_or_from_slice_get tasks met task d e in
-    let parts = awaits_for session task reply (nat_lt session.steps MAX_STEPS) refl answers in
+    let parts = awaits_for session task reply (nat_lt session.steps most_steps) refl answers in
     record {
       working = refl;
       more = slice_get_within tasks met task e;
@@ -77,13 +77,13 @@ awaits_with tasks met d session None reply (Some task) e answers =
 pub awaits : (procedure : Procedure) (d : Task) (reply : Reply) → IsReplyTo (next procedure) reply → Awaits (tasks_of procedure.work) procedure.met procedure.session procedure.fault reply (get_or (tasks_of procedure.work) procedure.met d)
 awaits procedure d reply answers = awaits_with (tasks_of procedure.work) procedure.met d procedure.session procedure.fault reply (slice_get (tasks_of procedure.work) procedure.met) refl answers
 
-next_of : (tasks earlier later : List Task) (task : Task) (old new : Session) (step : Step) (before : History) → Tells BankAndPage old.selection before → tasks ≡ earlier ++ task ∷ later → all_apart tasks ≡ true → old.steps < MAX_STEPS → Answers step.op step.reply →
+next_of : (tasks earlier later : List Task) (task : Task) (old new : Session) (step : Step) (before : History) → Tells BankAndPage old.selection before → tasks ≡ earlier ++ task ∷ later → all_apart tasks ≡ true → old.steps < most_steps → Answers step.op step.reply →
     step.op ≡ operation_by old.selection task → new.steps ≡ old.steps + 1 → new.selection ≡ selection_after old.selection step → IsNext earlier later task old new step before
 next_of tasks earlier later task old new step before told split apart more answers done count selection =
     let silent = silent_next old.selection step before task earlier later told (subst (λ tasks. all_apart tasks ≡ true) split apart) done in
     record { done = done; selection = selection; count = count; more = more; answers = answers; silent_before = silent.0; silent_after = silent.1 }
 
-module _ (tasks : List Task) (history : History) (met : ℕ) (d : Task) (session session' : Session) (step : Step) (apart : all_apart tasks ≡ true) (more : met < length tasks) (fewer : session.steps < MAX_STEPS)
+module _ (tasks : List Task) (history : History) (met : ℕ) (d : Task) (session session' : Session) (step : Step) (apart : all_apart tasks ≡ true) (more : met < length tasks) (fewer : session.steps < most_steps)
     (answers : Answers step.op step.reply)
     (come : UnderWay tasks (take met tasks) (drop met tasks) session history)
     (done : step.op ≡ operation_by session.selection (get_or tasks met d)) (count : session'.steps ≡ session.steps + 1) (selection : session'.selection ≡ selection_after session.selection step) where
@@ -123,7 +123,7 @@ fault_told NotYet = None
 fault_told (Fails fault) = Some fault
 
 told_with : (tasks : List Task) (history : History) (met : ℕ) (d : Task) (session session' : Session) (step : Step) (judged : Judgement) → judged ≡ judgement_at (get_or tasks met d) step history →
-    all_apart tasks ≡ true → met < length tasks → session.steps < MAX_STEPS → Answers step.op step.reply → UnderWay tasks (take met tasks) (drop met tasks) session history →
+    all_apart tasks ≡ true → met < length tasks → session.steps < most_steps → Answers step.op step.reply → UnderWay tasks (take met tasks) (drop met tasks) session history →
     step.op ≡ operation_by session.selection (get_or tasks met d) → session'.steps ≡ session.steps + 1 → session'.selection ≡ selection_after session.selection step →
     HasCome tasks (step ∷ history) (met_after judged met) session' (fault_told judged)
 told_with tasks history met d session session' step Met e apart more fewer answers come done count selection = told_met tasks history met d session session' step apart more fewer answers come done count selection (sym e)
@@ -172,7 +172,7 @@ pub awaits_by : (old : Procedure) (task : Task) (reply : Reply) → Some task �
 awaits_by old task reply e answers =
     subst (λ (t : Task). Awaits (tasks_of old.work) old.met old.session old.fault reply t) (get_or_from_slice_get (tasks_of old.work) old.met task task (sym e)) (awaits old task reply answers)
 
-follows_for : (tasks : List Task) (history : History) (met : ℕ) (task : Task) (session : Session) (few : Bool) → nat_lt session.steps MAX_STEPS ≡ few →
+follows_for : (tasks : List Task) (history : History) (met : ℕ) (task : Task) (session : Session) (few : Bool) → nat_lt session.steps most_steps ≡ few →
     UnderWay tasks (take met tasks) (task ∷ drop (suc met) tasks) session history → Follows tasks history (if few then Do (operation_by session.selection task) else Done (Err GaveUp))
 follows_for tasks history met task session true e u = record {
   each = u.each;
@@ -197,7 +197,7 @@ follows_with : (tasks : List Task) (history : History) (met : ℕ) (session : Se
     HasCome tasks history met session fault → Follows tasks history (next_after fault session found)
 follows_with tasks history met session (Some fault) found e failed = record { each = failed.each; answers = failed.answers; few = failed.few; answered = inl failed.ends }
 follows_with tasks history met session None (Some task) e u =
-    follows_for tasks history met task session (nat_lt session.steps MAX_STEPS) refl
+    follows_for tasks history met task session (nat_lt session.steps most_steps) refl
     (subst (λ task. UnderWay tasks (take met tasks) (task ∷ drop (suc met) tasks) session history) (get_or_from_slice_get tasks met task task e) (here tasks met task session history (slice_get_within tasks met task e) u))
 follows_with tasks history met session None None e u =
     let u' : UnderWay tasks (take met tasks) [] session history = subst (λ later. UnderWay tasks (take met tasks) later session history) (drop_all met tasks (past tasks met e)) u in

@@ -11,7 +11,7 @@ use Rattle.control_sets.specs.declared.procedures.judgement.Judgement.TheVariant
 use Rattle.control_sets.specs.declared.fault.ProvisionFault.{ProvisionFault}
 use Rattle.bus_model.specs.Operations.{Answers}
 use Rattle.control_sets.specs.Pages.{History}
-use Rattle.control_sets.specs.declared.procedures.registers.TheConstants.{MAX_STEPS}
+use Rattle.control_sets.specs.OutcomeAnswers.{most_steps}
 use Rattle.control_sets.specs.Procedures.{EachGoesOn, EachIsNext, EndsFirst, fault_after, fault_by, fault_in, in_hand, is_met, judgement_at, next_operation, was_met}
 use Rattle.control_sets.specs.Selections.{operation_by, selection_after}
 use Rattle.paged_memory.specs.declared.paging.Paging.TheVariants.{BankAndPage}
@@ -44,7 +44,7 @@ pub record IsNext (earlier later : List Task) (task : Task) (old new : Session) 
   pub done : step.op ≡ operation_by old.selection task
   pub selection : new.selection ≡ selection_after old.selection step
   pub count : new.steps ≡ old.steps + 1
-  pub more : old.steps < MAX_STEPS
+  pub more : old.steps < most_steps
   pub answers : Answers step.op step.reply
   pub silent_before : Silent step before earlier
   pub silent_after : Silent step before later

@@ -6,11 +6,11 @@ use Rattle.bus_model.specs.declared.operation.Step.{Step}
 use Rattle.bus_model.specs.Operations.{Answers}
 use Rattle.control_sets.specs.declared.fault.ProvisionFault.{ProvisionFault}
 use Rattle.control_sets.specs.declared.fault.ProvisionFault.TheVariants.{GaveUp}
-use Rattle.control_sets.specs.declared.procedures.registers.TheConstants.{MAX_STEPS}
 use Rattle.control_sets.specs.declared.procedures.next.Next.{Next}
 use Rattle.control_sets.specs.declared.procedures.next.Next.TheVariants.{Do, Done}
 use Rattle.control_sets.specs.declared.procedures.session.Session.{Session}
 use Rattle.control_sets.specs.declared.procedures.task.Task.{Task}
+use Rattle.control_sets.specs.OutcomeAnswers.{most_steps}
 use Rattle.control_sets.specs.Selections.{operation_by}
 
 -- the step with this operation and this reply
@@ -18,7 +18,7 @@ abbrev pub step_with : Op → Reply → Step
 step_with op reply = record { op = op; reply = reply }
 
 abbrev pub next_for : Session → Task → Next
-next_for session task = if nat_lt session.steps MAX_STEPS then Do (operation_by session.selection task) else Done (Err GaveUp)
+next_for session task = if nat_lt session.steps most_steps then Do (operation_by session.selection task) else Done (Err GaveUp)
 
 -- for the task in hand, where there is one
 abbrev pub next_with : Session → Option Task → Next

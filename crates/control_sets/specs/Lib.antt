@@ -21,4 +21,4 @@ pub mod OutcomeOfProvisioning
 pub mod OutcomeOfActivation
 pub mod OutcomeSuccess
 pub mod OutcomeExamples
-pub mod OtherLanes
+pub mod StoredBits

@@ -1,5 +1,5 @@
--- Which answer some steps have, of a call whose single steps end it in answers: the first that comes, or none within 4,096
--- steps, or none before the bus's list is full. (docs/bus.md, "Outcomes")
+-- Which answer some steps have, of a call whose single steps end it in answers: the first that comes, or none within as many
+-- steps as it may make, or none before the bus's list is full. (docs/bus.md, "Outcomes")
 use Rattle.std.specs.Prelude.{◌≡◌, ◌⊎◌, ◌<◌, ◌≤◌, ℕ, ◌∷◌, length, Result, Err, IfOk}
 use Rattle.std.specs.List.{AllByRecursion}
 use Rattle.bus_model.specs.declared.bus.BusFault.TheVariants.{TraceFull}
@@ -7,6 +7,10 @@ use Rattle.bus_model.specs.declared.operation.Step.{Step}
 use Rattle.control_sets.specs.declared.fault.ProvisionFault.{ProvisionFault}
 use Rattle.control_sets.specs.declared.fault.ProvisionFault.TheVariants.{GaveUp, Bus}
 use Rattle.control_sets.specs.Pages.{History}
+
+-- how many steps a call makes at most
+abbrev pub most_steps : ℕ
+most_steps = 4096
 
 -- the number of steps made, or the fault
 abbrev pub Answer : Type 0
@@ -27,17 +31,17 @@ pub record EndsIn (Ends : Answer → Step → Type 0) (history : History) (answe
 -- all steps that a call may make were made, and none ends in an answer
 pub record GivesUp (Ends : Answer → Step → Type 0) (history : History) (answer : Answer) : Type 0 where
   pub fault : answer ≡ Err GaveUp
-  pub all : length history ≡ 4096
+  pub all : length history ≡ most_steps
   pub none : NoneEnds Ends history
 
 -- the bus's list is full before that, and no step ends in an answer
 pub record FillsList (Ends : Answer → Step → Type 0) (full : Type 0) (history : History) (answer : Answer) : Type 0 where
   pub fault : answer ≡ Err (Bus TraceFull)
   pub is_full : full
-  pub fewer : length history < 4096
+  pub fewer : length history < most_steps
   pub none : NoneEnds Ends history
 
 pub record IsAnswer (Ends : Answer → Step → Type 0) (full : Type 0) (history : History) (answer : Answer) : Type 0 where
-  pub at_most : length history ≤ 4096
+  pub at_most : length history ≤ most_steps
   pub counted : IfOk answer (λ steps. steps ≡ length history)
   pub answered : EndsIn Ends history answer ⊎ (GivesUp Ends history answer ⊎ FillsList Ends full history answer)

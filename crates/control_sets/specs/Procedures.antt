@@ -10,12 +10,12 @@ use Rattle.bus_model.specs.Operations.{Answers}
 use Rattle.bus_model.specs.Runs.{IsFull, Ran, Rules, Seen}
 use Rattle.control_sets.specs.declared.fault.ProvisionFault.{ProvisionFault}
 use Rattle.control_sets.specs.declared.fault.ProvisionFault.TheVariants.{GaveUp, Bus}
-use Rattle.control_sets.specs.declared.procedures.registers.TheConstants.{MAX_STEPS}
 use Rattle.control_sets.specs.declared.procedures.task.Task.{Task}
 use Rattle.control_sets.specs.declared.procedures.judgement.Judgement.{Judgement}
 use Rattle.control_sets.specs.declared.procedures.judgement.Judgement.TheVariants.{Met, NotYet, Fails}
 use Rattle.bus_model.specs.SameOperation.{same_op}
 use Rattle.control_sets.specs.Pages.{History, selection, read_selection, confirms, is_open}
+use Rattle.control_sets.specs.OutcomeAnswers.{most_steps}
 use Rattle.control_sets.specs.Tasks.{operation, page_of}
 use Rattle.control_sets.specs.Judgements.{judgement}
 
@@ -121,14 +121,14 @@ all_apart (task ∷ later) = list_all (λ other. are_apart task other && are_apa
 -- as many steps were made as may be
 pub record GivesUp (tasks : List Task) (history : History) (answer : Result ℕ ProvisionFault) : Type 0 where
   pub fault : answer ≡ Err GaveUp
-  pub all : length history ≡ MAX_STEPS
+  pub all : length history ≡ most_steps
   pub goes_on : EachGoesOn tasks history
 
 -- these steps end in the answer
 pub record HasEnded (tasks : List Task) (history : History) (answer : Result ℕ ProvisionFault) : Type 0 where
   pub each : EachIsNext tasks history
   pub answers : EachAnswers history
-  pub few : length history ≤ MAX_STEPS
+  pub few : length history ≤ most_steps
   pub answered : EndsFirst tasks history answer ⊎ GivesUp tasks history answer
 
 -- the bus's list is full, and the steps end in no answer
@@ -137,7 +137,7 @@ pub record RunsOut {S : Type 0} (tasks : List Task) (after : Seen S) (history : 
   pub answers : EachAnswers history
   pub fault : answer ≡ Err (Bus TraceFull)
   pub full : IsFull after
-  pub fewer : length history < MAX_STEPS
+  pub fewer : length history < most_steps
   pub goes_on : EachGoesOn tasks history
 
 -- how a procedure ends on a bus that is seen so afterwards

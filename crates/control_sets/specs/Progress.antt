@@ -5,7 +5,6 @@ use Rattle.std.specs.List.{list_all}
 use Rattle.std.specs.Option.{option_map}
 use Rattle.bus_model.specs.declared.operation.Op.{Op}
 use Rattle.control_sets.specs.declared.fault.ProvisionFault.{ProvisionFault}
-use Rattle.control_sets.specs.declared.procedures.registers.TheConstants.{MAX_STEPS}
 use Rattle.control_sets.specs.declared.procedures.task.Task.{Task}
 use Rattle.paged_memory.specs.declared.paging.Paging.TheVariants.{BankAndPage}
 use Rattle.paged_memory.specs.KnownPages.{Tells}
@@ -16,6 +15,7 @@ use Rattle.control_sets.specs.declared.procedures.procedure.Work.{Work}
 use Rattle.control_sets.specs.declared.procedures.procedure.Work.TheVariants.{Provisioning, Activation}
 use Rattle.control_sets.specs.declared.procedures.procedure.Procedure.{Procedure}
 use Rattle.control_sets.specs.Pages.{History}
+use Rattle.control_sets.specs.OutcomeAnswers.{most_steps}
 use Rattle.control_sets.specs.Tasks.{provisioning, activation}
 use Rattle.control_sets.specs.Procedures.{EachAnswers, EachGoesOn, EachIsNext, EndsFirst, HasEnded, all_apart, fault_after, in_hand, next_operation, was_met}
 use Rattle.control_sets.specs.Asking.{next_after}
@@ -30,7 +30,7 @@ next procedure = next_after procedure.fault procedure.session (slice_get (tasks_
 
 -- the steps that a procedure may still make
 abbrev pub steps_left : Procedure → ℕ
-steps_left procedure = MAX_STEPS - procedure.session.steps
+steps_left procedure = most_steps - procedure.session.steps
 
 -- no fewer of the steps end in an answer
 abbrev pub BeforeGoesOn : List Task → History → Type 0
@@ -43,7 +43,7 @@ pub record UnderWay (tasks earlier later : List Task) (session : Session) (histo
   pub each : EachIsNext tasks history
   pub answers : EachAnswers history
   pub count : length history ≡ session.steps
-  pub few : session.steps ≤ MAX_STEPS
+  pub few : session.steps ≤ most_steps
   pub told : Tells BankAndPage session.selection history
   pub met : list_all (λ task. was_met task history) earlier ≡ true
   pub unmet : list_all (λ task. not (was_met task history)) later ≡ true
@@ -54,7 +54,7 @@ pub record UnderWay (tasks earlier later : List Task) (session : Session) (histo
 pub record HasFailed (tasks : List Task) (history : History) (fault : ProvisionFault) : Type 0 where
   pub each : EachIsNext tasks history
   pub answers : EachAnswers history
-  pub few : length history ≤ MAX_STEPS
+  pub few : length history ≤ most_steps
   pub ends : EndsFirst tasks history (Err fault)
 
 abbrev pub HasCome : List Task → History → ℕ → Session → Option ProvisionFault → Type 0
@@ -73,7 +73,7 @@ pub record GoesOnBy (tasks : List Task) (history : History) (op : Op) : Type 0 w
   pub answers : EachAnswers history
   pub next : option_map (next_operation history) (in_hand tasks history) ≡ Some op
   pub goes_on : EachGoesOn tasks history
-  pub fewer : length history < MAX_STEPS
+  pub fewer : length history < most_steps
 
 -- what comes after these steps
 abbrev pub Follows : List Task → History → Next → Type 0

@@ -10,24 +10,22 @@ ghost use Rattle.control_sets.specs.LanesOfPaths.{IsOnLane, TakesWhatAgrees};
 ghost use Rattle.control_sets.specs.PlanPaths.{AreHostPathsOf};
 ghost use Rattle.bus_model.specs.declared.bus.BusFault.TheVariants.{TraceFull};
 ghost use Rattle.bus_model.specs.declared.operation.Step.{Step};
-ghost use Rattle.field_tables.specs.LaneSets.{byte_of, every_lane, Lanes};
+ghost use Rattle.field_tables.specs.LaneSets.{byte_of, every_lane, Lanes, run_of};
 ghost use Rattle.control_sets.specs.declared.fault.ProvisionFault.TheVariants.{ActiveDiffers, Bus, GaveUp, ModuleState, Reserved, StagedDiffers};
 ghost use Rattle.bus_model.specs.SameOperation.{same_op};
 ghost use Rattle.control_sets.specs.Pages.{read_selection, selection, History};
 ghost use Rattle.control_sets.specs.OutcomeSteps.{Gives, IsAccepted, IsAnswered, Stands};
 ghost use Rattle.control_sets.specs.OutcomeOperations.{apply, control_page, read_active, read_module_state, read_path_states, read_staged, read_statuses, stage, status_page};
-ghost use Rattle.control_sets.specs.OutcomeExamples.{almost_pairs, gave, low_power, on_controls, on_status_at_once, other_bank, pairs, ready, refused, refused_reads, refused_selection, repeated_selection, took};
+ghost use Rattle.control_sets.specs.OutcomeExamples.{activated, almost_pairs, gave, low_power, on_controls, on_status_at_once, other_bank, pairs, provisioned, provisioned_beside_reserved_codes, ready, refused, refused_reads, refused_selection, repeated_selection, took};
 ghost use Rattle.control_sets.specs.Tasks.{activation, provisioning};
 ghost use Rattle.control_sets.specs.Procedures.{HasEnded};
-ghost use Rattle.control_sets.specs.OutcomeAnswers.{Answer};
+ghost use Rattle.control_sets.specs.OutcomeAnswers.{Answer, most_steps};
 ghost use Rattle.control_sets.specs.OutcomeOfProvisioning.{IsProvisioning};
 ghost use Rattle.control_sets.specs.OutcomeOfActivation.{IsActivation, release};
 ghost use Rattle.control_sets.specs.OutcomeCodes.{IsOf, IsReservedPathState};
 ghost use Rattle.datapath_states.specs.Lanes.{code_in};
 ghost use Rattle.control_sets.specs.OutcomeSuccess.{ReadsActive};
-ghost use Rattle.control_sets.specs.OtherLanes.{LeavesOthers};
-
-use applications::MAX_APPS;
+ghost use Rattle.control_sets.specs.StoredBits.{HasBitsOf, LeavesOthers};
 
 /// Of control bytes that are host paths, each path takes the lanes that agree with its first one, and each lane with an
 /// AppSelCode other than 0 is in one of them.
@@ -41,10 +39,10 @@ pub fn lanes_that_agree_are_a_path()
 /// enough that its Applications are numbered in order and at most 15, as `Advert::apps` ensures.
 pub fn plans_are_read_back()
     ensures right { (advert : Advertised) (paths : List Path) →
-        InOrder advert.apps → length advert.apps ≤ MAX_APPS → IsAdmissible advert paths →
+        InOrder advert.apps → length advert.apps ≤ 15 → IsAdmissible advert paths →
         wrong_lane (control_bytes advert paths) ≡ None }
     ensures paths { (advert : Advertised) (paths : List Path) →
-        InOrder advert.apps → length advert.apps ≤ MAX_APPS → IsAdmissible advert paths →
+        InOrder advert.apps → length advert.apps ≤ 15 → IsAdmissible advert paths →
         AreHostPathsOf advert paths (host_paths (control_bytes advert paths)) }
 {}
 
@@ -54,10 +52,12 @@ pub fn a_success_was_read()
         IsProvisioning control lanes (made ≡ room) history (Ok steps) → ReadsActive control history }
 {}
 
-/// No store of provisioning, accepted or refused, sets the DPDeinit bit or the ApplyDPInit bit of a lane that it leaves
-/// alone.
-pub fn other_lanes_are_left()
-    ensures { (control : List ℕ) (lanes : Lanes) (made room : ℕ) (history : History) (answer : Answer) →
+/// Each store of provisioning to DPDeinit and to ApplyDPInit, accepted or refused, has the bits of its lanes, and no others.
+/// So it sets no bit of another lane; a DPDeinit bit of another lane that was set it clears.
+pub fn bits_are_those_of_the_lanes()
+    ensures each { (control : List ℕ) (lanes : Lanes) (made room : ℕ) (history : History) (answer : Answer) →
+        IsProvisioning control lanes (made ≡ room) history answer → AllByRecursion (HasBitsOf lanes) history }
+    ensures others { (control : List ℕ) (lanes : Lanes) (made room : ℕ) (history : History) (answer : Answer) →
         IsProvisioning control lanes (made ≡ room) history answer → AllByRecursion (LeavesOthers lanes) history }
 {}
 
@@ -107,7 +107,7 @@ pub fn what_provisioning_refuses()
     ensures room_left { (control : List ℕ) (lanes : Lanes) (made room : ℕ) (history : History) → made ≢ room →
         ¬ (IsProvisioning control lanes (made ≡ room) history (Err (Bus TraceFull))) }
     ensures too_many_steps { (control : List ℕ) (lanes : Lanes) (made room : ℕ) (history : History)
-        (answer : Answer) → 4096 < length history →
+        (answer : Answer) → most_steps < length history →
         ¬ (IsProvisioning control lanes (made ≡ room) history answer) }
     ensures store_before_ready { (control : List ℕ) (lanes : Lanes) (made room : ℕ) (answer : Answer) →
         let history = took (selection control_page) ∷ refused read_module_state ∷ [] in
@@ -148,7 +148,8 @@ pub fn what_activation_refuses()
         ¬ (IsActivation control lanes (made ≡ room) (took (selection control_page) ∷ ready ∷ []) answer) }
 {}
 
-/// Steps and answers that are provisioning and activation, where the bus has room for so many steps as there are.
+/// Steps and answers that are provisioning and activation: those that end as the bus's list is full, where it has room for so
+/// many steps as there are, the others on every bus.
 pub fn what_procedures_may_do()
     ensures no_room { (room : ℕ) → IsProvisioning pairs every_lane (room ≡ room) [] (Err (Bus TraceFull)) }
     ensures low_power { (made room : ℕ) →
@@ -159,7 +160,7 @@ pub fn what_procedures_may_do()
     ensures reserved_state { (made room : ℕ) →
         IsProvisioning pairs every_lane (made ≡ room) (gave read_module_state (0x0E ∷ []) ∷ []) (Err (Reserved 7)) }
     ensures given_up { (made room : ℕ) →
-        IsProvisioning pairs every_lane (made ≡ room) (refused_reads 4096) (Err GaveUp) }
+        IsProvisioning pairs every_lane (made ≡ room) (refused_reads most_steps) (Err GaveUp) }
     ensures selected { (room : ℕ) →
         IsProvisioning pairs every_lane (room ≡ room) on_controls (Err (Bus TraceFull)) }
     ensures refused_selection { (room : ℕ) →
@@ -168,8 +169,13 @@ pub fn what_procedures_may_do()
         IsProvisioning pairs every_lane (room ≡ room) repeated_selection (Err (Bus TraceFull)) }
     ensures other_bank { (room : ℕ) →
         IsProvisioning pairs every_lane (room ≡ room) other_bank (Err (Bus TraceFull)) }
+    ensures provisioned { (made room : ℕ) →
+        IsProvisioning pairs every_lane (made ≡ room) provisioned (Ok 17) }
+    ensures provisioned_beside_reserved_codes { (made room : ℕ) →
+        IsProvisioning pairs (run_of 5 4) (made ≡ room) provisioned_beside_reserved_codes (Ok 17) }
     ensures activation_without_room { (room : ℕ) →
         IsActivation pairs every_lane (room ≡ room) on_status_at_once (Err (Bus TraceFull)) }
     ensures active_differs { (made room : ℕ) →
         IsActivation pairs every_lane (made ≡ room) (gave read_active almost_pairs ∷ on_status_at_once) (Err (ActiveDiffers 2)) }
+    ensures activated { (made room : ℕ) → IsActivation pairs every_lane (made ≡ room) activated (Ok 11) }
 {}

@@ -21,6 +21,7 @@ pub struct Session {
 impl Session {
     ghost use Rattle.control_sets.specs.Selections.{judgement_by, operation_by, selection_after};
     ghost use Rattle.control_sets.specs.Asking.{IfDo, next_with, step_with};
+    ghost use Rattle.control_sets.specs.OutcomeAnswers.{most_steps};
 
     /// What is wanted for the task, where there is one.
     pub fn next(&self, task: Option<Task>) -> Next
@@ -45,7 +46,7 @@ impl Session {
     /// Takes the reply to the operation for the task, and says what it says of the task.
     pub fn take(&mut self, task: &Task, reply: &Reply) -> Judgement
         requires answers { Answers (operation_by self.old.selection task.now) reply.now }
-        requires fewer { self.old.steps < MAX_STEPS }
+        requires fewer { self.old.steps < most_steps }
         ensures judgement { result ≡ judgement_by self.old.selection task.now reply.now }
         ensures steps { self.new.steps ≡ self.old.steps + 1 }
         ensures selection { let made = step_with (operation_by self.old.selection task.now) reply.now in

@@ -1,5 +1,6 @@
 use Rattle.std.proofs.Common.{◌≡◌, refl}
 use Rattle.control_sets.proofs.OutcomeAdmissions.{active_is_another, bank_was_another, controls_selected, given_up, in_low_power, in_no_state, none_made, read_after_refusals, selection_was_refused, selection_was_repeated, status_selected}
+use Rattle.control_sets.proofs.OutcomeSuccesses.{all_activated, all_provisioned, provisioned_beside}
 use Rattle.control_sets.proofs.laws.what_procedures_may_do.Goals as goal
 
 pub returns-clause-no_room : goal.returns-clause-no_room
@@ -34,3 +35,12 @@ returns-clause-activation_without_room c room = status_selected (room ≡ room) 
 
 pub returns-clause-given_up : goal.returns-clause-given_up
 returns-clause-given_up c made room = given_up (made ≡ room)
+
+pub returns-clause-provisioned : goal.returns-clause-provisioned
+returns-clause-provisioned c made room = all_provisioned (made ≡ room)
+
+pub returns-clause-provisioned_beside_reserved_codes : goal.returns-clause-provisioned_beside_reserved_codes
+returns-clause-provisioned_beside_reserved_codes c made room = provisioned_beside (made ≡ room)
+
+pub returns-clause-activated : goal.returns-clause-activated
+returns-clause-activated c made room = all_activated (made ≡ room)

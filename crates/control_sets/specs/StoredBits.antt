@@ -1,5 +1,5 @@
--- What stores say of lanes that a procedure has to leave alone. (docs/bus.md, "Outcomes"; OIF-CMIS-05.0, DPDeinit and
--- ApplyDPInit of page 10h)
+-- Which lanes the stores of a procedure tell to DPDeinit and to ApplyDPInit. (docs/bus.md, "Outcomes"; OIF-CMIS-05.0,
+-- DPDeinit and ApplyDPInit of page 10h)
 use Rattle.std.specs.Prelude.{◌≡◌, ◌⊎◌, ℕ, ◌-◌, false, nat_le, Option, Some, None, if◌then◌else◌, slice_get}
 use Rattle.std.specs.FinSet as set
 use Rattle.bus_model.specs.declared.operation.Op.{Op}
@@ -13,7 +13,14 @@ abbrev pub byte_for : ℕ → Op → Option ℕ
 byte_for address (Store dev offset bytes) = if nat_le offset address then slice_get bytes.items (address - offset) else None
 byte_for address (Fetch dev offset count) = None
 
+-- the operation has these bits for DPDeinit or for ApplyDPInit
+abbrev pub Sets : ℕ → Op → Type 0
+Sets bits op = (byte_for 128 op ≡ Some bits) ⊎ (byte_for 143 op ≡ Some bits)
+
+-- whatever became of the step: the bit of each of these lanes is set where it has bits, and the bit of each other lane is clear
+abbrev pub HasBitsOf : Lanes → Step → Type 0
+HasBitsOf lanes step = (bits lane : ℕ) → Sets bits step.op → IsLane lane → set.contains (lanes_in bits) lane ≡ set.contains lanes lane
+
 -- whatever became of it, the step sets no DPDeinit bit and no ApplyDPInit bit of a lane outside of these
 abbrev pub LeavesOthers : Lanes → Step → Type 0
-LeavesOthers lanes step =
-    (bits lane : ℕ) → (byte_for 128 step.op ≡ Some bits) ⊎ (byte_for 143 step.op ≡ Some bits) → IsLane lane → set.contains lanes lane ≡ false → set.contains (lanes_in bits) lane ≡ false
+LeavesOthers lanes step = (bits lane : ℕ) → Sets bits step.op → IsLane lane → set.contains lanes lane ≡ false → set.contains (lanes_in bits) lane ≡ false

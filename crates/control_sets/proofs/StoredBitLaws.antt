@@ -1,18 +1,15 @@
--- Provisioning stores no bit of a lane that it leaves alone.
+-- Provisioning stores the bits of its lanes, and no others.
 use Rattle.std.proofs.Common.{◌≡◌, ◌⊎◌, inl, inr, ℕ, Some, None, List, [], ◌∷◌, refl, sym, ap, ◌∙◌}
 use Rattle.std.specs.FinSet as set
 use Rattle.std.specs.List.{AllByRecursion}
 use Rattle.bus_model.specs.declared.operation.Op.{Op}
 use Rattle.bus_model.specs.declared.operation.Step.{Step}
 use Rattle.field_tables.specs.LaneSets.{Lanes, byte_of, lanes_in}
-use Rattle.control_sets.specs.OtherLanes.{LeavesOthers, byte_for}
+use Rattle.control_sets.specs.StoredBits.{HasBitsOf, LeavesOthers, Sets, byte_for}
 use Rattle.control_sets.specs.OutcomeOfProvisioning.{IsProvisioningStep}
 use Rattle.control_sets.specs.OutcomeOperations.{apply, control_page, read_active, read_module_state, read_path_states, read_staged, read_statuses, set_deinit, stage, status_page}
 use Rattle.control_sets.specs.Pages.{EachStep, History, read_selection, selection}
 use Rattle.control_sets.proofs.LaneBits.{in_byte_of}
-
-abbrev Sets : ℕ → Op → Type 0
-Sets bits op = (byte_for 128 op ≡ Some bits) ⊎ (byte_for 143 op ≡ Some bits)
 
 -- an operation that has no byte for either address
 stores_none : (op other : Op) (bits : ℕ) → op ≡ other → byte_for 128 other ≡ None → byte_for 143 other ≡ None → Sets bits op → ⊥
@@ -43,10 +40,15 @@ module _ (control : List ℕ) (lanes : Lanes) where
   mask_of step before bits (inr (inr (inr (inr (inr (inl is))), confirmed))) sets = mask_alone step.op bits (byte_of lanes) (inr is) sets
   mask_of step before bits (inr (inr (inr (inr (inr (inr none))), confirmed))) sets = absurd none
 
-  leaves : (step : Step) (before : History) → IsProvisioningStep control lanes step before → LeavesOthers lanes step
-  leaves step before shaped bits lane sets within outside =
-      ap (λ (byte : ℕ). set.contains (lanes_in byte) lane) (mask_of step before bits shaped sets) ∙ in_byte_of lanes lane within ∙ outside
+  bits_of : (step : Step) (before : History) → IsProvisioningStep control lanes step before → HasBitsOf lanes step
+  bits_of step before shaped bits lane sets within =
+      ap (λ (byte : ℕ). set.contains (lanes_in byte) lane) (mask_of step before bits shaped sets) ∙ in_byte_of lanes lane within
 
-  pub others_left : (history : History) → EachStep (IsProvisioningStep control lanes) history → AllByRecursion (LeavesOthers lanes) history
-  others_left [] shape = tt
-  others_left (step ∷ before) shape = (leaves step before shape.0, others_left before shape.1)
+  pub each_has_bits : (history : History) → EachStep (IsProvisioningStep control lanes) history → AllByRecursion (HasBitsOf lanes) history
+  each_has_bits [] shape = tt
+  each_has_bits (step ∷ before) shape = (bits_of step before shape.0, each_has_bits before shape.1)
+
+-- so none of a lane that it leaves alone
+pub others_left : (lanes : Lanes) (history : History) → AllByRecursion (HasBitsOf lanes) history → AllByRecursion (LeavesOthers lanes) history
+others_left lanes [] each = tt
+others_left lanes (step ∷ before) each = (λ bits lane sets within outside. each.0 bits lane sets within ∙ outside, others_left lanes before each.1)
