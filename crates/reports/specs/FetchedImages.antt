@@ -7,6 +7,7 @@ use Rattle.bus_model.specs.declared.bus.BusFault.TheVariants.{TraceFull}
 use Rattle.bus_model.specs.declared.operation.Op.{Op}
 use Rattle.bus_model.specs.declared.operation.Op.TheVariants.{Fetch, Store}
 use Rattle.bus_model.specs.declared.operation.Step.{Step}
+use Rattle.control_sets.specs.OutcomeAnswers.{most_steps}
 use Rattle.control_sets.specs.OutcomeSteps.{Gives, IsAccepted}
 use Rattle.paged_memory.specs.declared.key.Key.{Key}
 use Rattle.paged_memory.specs.declared.paging.Paging.{Paging}
@@ -74,14 +75,14 @@ IsUnfinished history = (image : Memory) → ¬ (IsImageOf history image)
 -- what is answered: the image, or that it isn't finished after all steps that may be made, or on a full list of steps
 abbrev pub IsAnswered : Type 0 → History → Result Memory ReportFault → Type 0
 IsAnswered full history (Ok image) = IsImageOf history image
-IsAnswered full history (Err GaveUp) = (length history ≡ 4096) × IsUnfinished history
-IsAnswered full history (Err (Bus fault)) = (fault ≡ TraceFull) × full × (length history < 4096) × IsUnfinished history
+IsAnswered full history (Err GaveUp) = (length history ≡ most_steps) × IsUnfinished history
+IsAnswered full history (Err (Bus fault)) = (fault ≡ TraceFull) × full × (length history < most_steps) × IsUnfinished history
 -- the faults of reports don't come
 IsAnswered full history (Err fault) = ⊥
 
 -- these steps and this answer are the reading of an image; full says that the bus's list is full after them
 pub record IsFetching (full : Type 0) (history : History) (answer : Result Memory ReportFault) : Type 0 where
-  pub at_most : length history ≤ 4096
+  pub at_most : length history ≤ most_steps
   -- each step finds the image unfinished
   pub brief : EachStep (λ step before. IsUnfinished before) history
   pub answered : IsAnswered full history answer

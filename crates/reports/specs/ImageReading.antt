@@ -5,7 +5,7 @@ use Rattle.bus_model.specs.declared.operation.Op.{Op}
 use Rattle.bus_model.specs.declared.operation.Reply.{Reply}
 use Rattle.bus_model.specs.declared.operation.Reply.TheVariants.{Bytes, Done, Refused}
 use Rattle.bus_model.specs.Operations.{Answers}
-use Rattle.control_sets.specs.declared.procedures.registers.TheConstants.{MAX_STEPS}
+use Rattle.control_sets.specs.OutcomeAnswers.{most_steps}
 use Rattle.paged_memory.specs.declared.paging.Selected.TheVariants.{Unknown, Open}
 use Rattle.paged_memory.specs.KnownPages.{is_awaited, is_known, missing_page, selection_read, wanted}
 use Rattle.reports.specs.declared.fetching.reading.Next.{Next}
@@ -27,7 +27,7 @@ wanted_for reading region = wanted (paging_of reading.image) reading.selected (p
 
 abbrev pub next_for : Reading → Option Region → Next
 next_for reading None = Complete
-next_for reading (Some region) = if nat_lt reading.steps MAX_STEPS then Do (wanted_for reading region) else GiveUp
+next_for reading (Some region) = if nat_lt reading.steps most_steps then Do (wanted_for reading region) else GiveUp
 
 abbrev pub next : Reading → Next
 next reading = next_for reading (in_hand reading)
