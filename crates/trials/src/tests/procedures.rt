@@ -32,7 +32,7 @@ fn driven<D: Device + Drop>(
     Ok(None)
 }
 
-// Lanes 1 to 4 are left as they are: their data paths are up, and no status is theirs.
+// Lanes 1 to 4 are in no apply: their data paths are up, and no status is theirs. Their DPDeinit bits are stored as 0.
 #[test]
 fn other_lanes_are_not_looked_at(rt: HostRuntime) -> Result<(), Fail> {
     let staged = with_run(image()?, upper(0, 0x10), 145, &PAIRS)?;
