@@ -32,7 +32,7 @@ enum dovecounter_status {
     DOVECOUNTER_NO_PLACE = 2,        /* of some half: another device than 0xA0 and 0xA2, or upper above 1, or upper 0 with a
                                         bank or a page other than 0 */
     DOVECOUNTER_ABSENT = 14,         /* AD4: device 0xA0 has no lower half, or no page 00h or 01h of bank 0 */
-    DOVECOUNTER_NOT_CMIS = 11,       /* AD1: the identifier, byte 0, is none of a CMIS module */
+    DOVECOUNTER_NOT_CMIS = 11,       /* AD1: the identifier, byte 0, is none of 0x18, 0x19 and 0x1E */
     DOVECOUNTER_REVISION = 12,       /* AD2: the CMIS revision, byte 1, is of a major number other than 4 and 5 */
     DOVECOUNTER_NOT_EIGHT_LANES = 16, /* AD6: the module has other than eight lanes */
     DOVECOUNTER_FLAT_MEMORY = 13,    /* AD3: the module has no pages but 00h */
@@ -57,7 +57,7 @@ enum dovecounter_status {
 
 /* 128 bytes of a module's memory, and where they stand. */
 struct dovecounter_half {
-    uint8_t device; /* the address on the bus, 0xA0 or 0xA2 */
+    uint8_t device; /* the address on the bus in its 8-bit form, 0xA0 or 0xA2; in the 7-bit form 0x50 or 0x51 */
     uint8_t upper;  /* 0 for the addresses 0 to 127, 1 for 128 to 255 */
     uint8_t bank;   /* 0 where upper is 0 */
     uint8_t page;   /* 0 where upper is 0 */
@@ -150,8 +150,10 @@ struct dovecounter_procedure {
 };
 
 /* Begins to make the control bytes of host lanes 1 to 8 active: those of a plan. The data paths of `lanes` are taken down
-   first, and the bytes are applied to them: `outside` of the plan, which is 0xFF, all lanes, where nothing is kept. Other lanes
-   are left as they are, and their active bytes have to be those of the plan already. Writes *procedure. */
+   first, and the bytes are applied to them: `outside` of the plan, which is 0xFF, all lanes, where nothing is kept. No other lane is
+   taken down or applied, but its DPDeinit bit is stored as 0: one that is up stays up, and one that the host held down begins to
+   come up. The bytes of other lanes in the Active Control Set have to be those of the plan already. Nobody else may use the module
+   meanwhile: no driver, no other process, no second master of the bus. Writes *procedure. */
 void dovecounter_provision(const uint8_t control[8], uint8_t lanes, struct dovecounter_procedure *procedure);
 
 /* Begins to bring up the data paths of `lanes`, those of a plan whose control bytes are active, and to take down those of all
@@ -163,7 +165,7 @@ enum dovecounter_kind { DOVECOUNTER_FETCH = 0, DOVECOUNTER_STORE = 1 };
 /* What is to be done on the bus. */
 struct dovecounter_operation {
     uint8_t kind;     /* DOVECOUNTER_FETCH or DOVECOUNTER_STORE */
-    uint8_t device;   /* the address on the bus, 0xA0 */
+    uint8_t device;   /* the address on the bus in its 8-bit form, 0xA0; in the 7-bit form 0x50 */
     uint8_t offset;   /* the address of the first byte */
     uint8_t count;    /* how many bytes are fetched or stored, 1 to 8 */
     uint8_t bytes[8]; /* those that are stored; zeros behind them, and for a fetch */
