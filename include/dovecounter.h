@@ -181,7 +181,9 @@ enum dovecounter_outcome {
 };
 
 /* Tells the procedure what came of that, once; with DOVECOUNTER_FETCHED also the bytes, as many as were asked for. A refused
-   operation is asked for again, up to 4096 operations in all. Writes *procedure. */
+   operation is asked for again, up to 4096 operations in all. A module may take seconds to minutes for a state that is awaited, and
+   at 400 kHz 4096 operations are over much sooner: wait between operations that are asked for again. After PV4 the procedure may be
+   begun again. Writes *procedure. */
 uint32_t dovecounter_reply(struct dovecounter_procedure *procedure, uint8_t outcome, const uint8_t *bytes,
                            size_t byte_count);
 
