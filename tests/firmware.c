@@ -4,6 +4,7 @@
 
 #include <stddef.h>
 #include <stdio.h>
+#include <stdlib.h>
 #include <string.h>
 
 static int failures;
@@ -131,6 +132,13 @@ static void try_advertisement(void) {
     expect("host starts", 1, advertisement.applications[0].host_starts);
     expect("media starts", 1, advertisement.applications[0].media_starts);
     expect_same("behind the last Application", &none, &advertisement.applications[1], sizeof none);
+
+    memcpy(halves[0].bytes + 86, "\x0D\x14\x21\x55\xFF", 5);
+    halves[2].bytes[176 - 128] = 0x0F;
+    set_sum(&halves[2], 130, 254, 255);
+    dovecounter_advertisement(halves, 3, &advertisement);
+    expect("host starts of pairs", 0x55, advertisement.applications[0].host_starts);
+    expect("media starts of pairs", 0x0F, advertisement.applications[0].media_starts);
 }
 
 static void try_plan(struct dovecounter_plan *plan) {
@@ -338,7 +346,11 @@ static void fetch(const struct module *module, uint8_t offset, uint8_t bytes[8])
 static struct dovecounter_fault carry_out(struct module *module, struct dovecounter_procedure *procedure) {
     struct dovecounter_operation operation;
     struct dovecounter_answer answer;
-    while (dovecounter_next(procedure, &operation) == DOVECOUNTER_DONE) {
+    for (int made = 0; dovecounter_next(procedure, &operation) == DOVECOUNTER_DONE; made++) {
+        if (made == 5000) {
+            expect("operations at most", 4096, 5000);
+            exit(1);
+        }
         int fetches = operation.kind == DOVECOUNTER_FETCH;
         uint8_t bytes[8];
         if (fetches)

@@ -1,7 +1,10 @@
 // What an apply says of the lanes.
 use super::modules::{
-    FOURS, PAIRS, Row, first_wrong, module, module_of, pass, read, select, write,
+    FOURS, PAIRS, Row, first_wrong, image, module, module_of, pass, read, select, write,
 };
+use bus_model::Dev;
+use paged_memory::Key;
+use sample_modules::with;
 use sim_module::SimModule;
 use std::test::Fail;
 
@@ -36,6 +39,19 @@ fn each_refusal_has_its_code(rt: HostRuntime) -> Result<(), Fail> {
         apply(&mut module, staged, *mask);
         let found = statuses(&mut module);
         assert_eq!(rt; found, *wanted, "{wanted:?}");
+    }
+    Ok(())
+}
+
+// Registers have host lanes alone, and yet an Application of no media lanes is none that can be used.
+#[test]
+fn an_application_needs_media_lanes(rt: HostRuntime) -> Result<(), Fail> {
+    for (counts, code) in [(0x20, 0x33), (0x29, 0x33), (0x21, 0xCC), (0x28, 0xCC)] {
+        let changed = with(image()?, Key::lower(Dev::A0), &[(92, counts)])?;
+        let mut module = SimModule::new(&changed, FOURS)?;
+        apply(&mut module, &[0x20, 0x20], 0x03);
+        let [first, ..] = statuses(&mut module);
+        assert_eq!(rt; first, code, "{counts}");
     }
     Ok(())
 }

@@ -1,6 +1,8 @@
 // How lanes move by ticks.
 use super::modules::{FOURS, PAIRS, Row, first_wrong, image, module_of, pass, read, select, write};
-use bus_model::{Dev, Device};
+use super::plans::bus_of;
+use arrayvec::ArrayVec;
+use bus_model::{Bus, Dev, Device, Op, Reply};
 use datapath_states::PathState;
 use paged_memory::Key;
 use sample_modules::with;
@@ -26,6 +28,30 @@ fn course(module: &mut SimModule) -> [PathState; 6] {
         *state = first;
     }
     states
+}
+
+// A directive may say more ticks than any delay has. The first transaction takes one, which leaves DPDeactivated; DPInit takes a
+// thousand.
+#[test]
+fn each_tick_of_a_script_counts(rt: HostRuntime) -> Result<(), Fail> {
+    let slow = Delays { init: 1000, ..ONES };
+    for (script, states) in [
+        (b"ok 1\ntick 999\n".as_slice(), [0x22; 4]),
+        (b"ok 1\ntick 1000\n".as_slice(), [0x77; 4]),
+        (b"ok 1\ntick 1001\n".as_slice(), [0x55; 4]),
+    ] {
+        let mut bus = bus_of(rt.alloc(), module_of(PAIRS, slow)?, script, 2)?;
+        let selected = ArrayVec::try_from([0x00, 0x11].as_slice());
+        let op = Op::Store {
+            dev: Dev::A0,
+            offset: 126,
+            bytes: selected.ok().ok_or("too many bytes")?,
+        };
+        assert_eq!(rt; bus.transact(op)?, Reply::Done);
+        let told = bus.fetch(Dev::A0, 128, 4)?;
+        assert_eq!(rt; told, ArrayVec::try_from(states.as_slice()).ok());
+    }
+    Ok(())
 }
 
 #[test]

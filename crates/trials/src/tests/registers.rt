@@ -1,5 +1,5 @@
 // What is read and stored at the addresses of a module.
-use super::modules::{FOURS, PAIRS, Row, first_wrong, image, module, upper};
+use super::modules::{FOURS, PAIRS, Row, first_wrong, image, module, read, select, upper};
 use arrayvec::ArrayVec;
 use bus_model::{Bus, Dev, Device, Script, ScriptBus};
 use sample_modules::{with, with_run};
@@ -42,6 +42,19 @@ fn a_fetch_clears_the_latched_bytes_that_it_read(rt: HostRuntime) -> Result<(), 
         (0, 8, &[], &[0; 3]),
     ];
     assert_eq!(rt; first_wrong(&mut module, rows), None);
+    Ok(())
+}
+
+#[test]
+fn a_fetch_of_a_whole_half_clears_all_of_them(rt: HostRuntime) -> Result<(), Fail> {
+    let flagged = with_run(image()?, upper(0, 0x11), 134, &[0xFF; 19])?;
+    let mut module = SimModule::new(&flagged, FOURS)?;
+    let lower: [[u8; 128]; 2] = [read(&mut module, 0), read(&mut module, 0)];
+    assert_eq!(rt; (lower[0][9], lower[1][9]), (0x04, 0x00));
+    select(&mut module, 0x11);
+    let page: [[u8; 128]; 2] = [read(&mut module, 128), read(&mut module, 128)];
+    assert!(rt; page[0][6..25] == [0xFF; 19]);
+    assert!(rt; page[1][6..25] == [0x00; 19]);
     Ok(())
 }
 

@@ -119,6 +119,15 @@ fn selects_a_page_alone_or_nothing(rt: HostRuntime) -> Result<(), Fail> {
     let rows: &[Row] = &[(126, &[0x00, 0x02], Some([0x00, 0x00, 0xa0]))];
     assert_eq!(rt; first_wrong(rt.alloc(), &sff_8472, rows)?, None);
 
+    // An identifier that is neither one's selects a bank and a page.
+    let unknown = image(&[
+        (Key::lower(Dev::A0), 0x0b),
+        (Key::upper(Dev::A0, 0, 0x00), 0xa0),
+        (Key::upper(Dev::A0, 1, 0x02), 0xc2),
+    ])?;
+    let rows: &[Row] = &[(126, &[0x01, 0x02], Some([0x01, 0x02, 0xc2]))];
+    assert_eq!(rt; first_wrong(rt.alloc(), &unknown, rows)?, None);
+
     let diagnostics = image(&[
         (Key::lower(Dev::A2), 0x00),
         (Key::upper(Dev::A2, 0, 0x00), 0xe0),
@@ -132,6 +141,56 @@ fn selects_a_page_alone_or_nothing(rt: HostRuntime) -> Result<(), Fail> {
     let no_lower_half = image(&[(Key::upper(Dev::A0, 0, 0x00), 0xa0)])?;
     let rows: &[Row] = &[(127, &[0x00], None)];
     assert_eq!(rt; first_wrong(rt.alloc(), &no_lower_half, rows)?, None);
+    Ok(())
+}
+
+// What is stored on device A2 selects nothing on A0.
+#[test]
+fn each_device_selects_for_itself(rt: HostRuntime) -> Result<(), Fail> {
+    let mut both = image(&paths())?;
+    both.put(Key::lower(Dev::A2), Page::from([0xe0; 128]))?;
+    both.put(Key::upper(Dev::A2, 0, 0x00), Page::from([0xe1; 128]))?;
+    let mut window = Window::<16>::of(&both)?;
+    assert!(rt; window.store(Dev::A2, 126, &[0x00, 0x11]));
+    let selected = window.fetch(Dev::A0, 126, 2);
+    assert_eq!(rt; selected, ArrayVec::try_from([0x00, 0x00].as_slice()).ok());
+    let shown = window.fetch(Dev::A0, 128, 1);
+    assert_eq!(rt; shown, ArrayVec::try_from([0xa0].as_slice()).ok());
+    Ok(())
+}
+
+// Page 91h is not page 11h.
+#[test]
+fn a_page_has_eight_bits(rt: HostRuntime) -> Result<(), Fail> {
+    let mut high = image(&paths())?;
+    high.put(Key::upper(Dev::A0, 0, 0x91), Page::from([0x19; 128]))?;
+    let rows: &[Row] = &[
+        (126, &[0x00, 0x91], Some([0x00, 0x91, 0x19])),
+        (126, &[0x00, 0x11], Some([0x00, 0x11, 0xb1])),
+        (127, &[0x90], Some([0x00, 0x00, 0xa0])),
+    ];
+    assert_eq!(rt; first_wrong(rt.alloc(), &high, rows)?, None);
+    Ok(())
+}
+
+#[test]
+fn a_byte_is_of_its_device(rt: HostRuntime) -> Result<(), Fail> {
+    let both = image(&[
+        (Key::lower(Dev::A0), 0x03),
+        (Key::upper(Dev::A0, 0, 0x02), 0xa2),
+        (Key::lower(Dev::A2), 0xe0),
+        (Key::upper(Dev::A2, 0, 0x02), 0xe2),
+    ])?;
+    for (device, page, offset, byte) in [
+        (Dev::A0, 0x02, 0, Some(0x03)),
+        (Dev::A0, 0x02, 128, Some(0xa2)),
+        (Dev::A2, 0x02, 0, Some(0xe0)),
+        (Dev::A2, 0x02, 128, Some(0xe2)),
+        (Dev::A2, 0x00, 127, Some(0x00)),
+        (Dev::A2, 0x00, 128, None),
+    ] {
+        assert_eq!(rt; both.byte(device, page, offset), byte, "{page} {offset}");
+    }
     Ok(())
 }
 
@@ -179,6 +238,22 @@ fn refuses_a_broken_shape_before_a_full_list(rt: HostRuntime) -> Result<(), Fail
     }
     let full = bus.transact(store(255, &[1]));
     assert_eq!(rt; full.err(), Some(BusFault::TraceFull));
+    Ok(())
+}
+
+// A list may be longer than two procedures need.
+#[test]
+fn a_list_has_the_room_that_is_asked_for(rt: HostRuntime) -> Result<(), Fail> {
+    let image = image(&paths())?;
+    for room in [8193, 10000] {
+        let window = Window::<16>::of(&image)?;
+        let mut bus = ScriptBus::new(rt.alloc(), window, Script::read(b"")?, room)?;
+        for _ in 0..room {
+            assert!(rt; bus.transact(fetch(0, 1)).is_ok());
+        }
+        assert_eq!(rt; bus.steps().len(), room);
+        assert_eq!(rt; bus.transact(fetch(0, 1)).err(), Some(BusFault::TraceFull));
+    }
     Ok(())
 }
 
