@@ -1,7 +1,6 @@
 pub mod Numbered
 pub mod RaisedFlags
 pub mod TextsOfLines
-pub mod MonitorTexts
 pub mod RegionLaws
 pub mod FetchSteps
 pub mod FetchUnderWay
@@ -14,3 +13,6 @@ pub mod SameApps
 pub mod SameMonitors
 pub mod SameFlags
 pub mod FetchedReports
+pub mod RowsFit
+pub mod SameRows
+pub mod SameFlagRows

@@ -1,21 +1,19 @@
 -- The states of a CMIS module and of its lanes, and the flags that it raises. (docs/formats.md, "flags"; OIF-CMIS-05.0,
 -- "Global Status Information" and "Module-Level Flags" of lower memory; of page 11h the data path states, the
 -- lane-specific flags and "Configuration Command Status")
-use Rattle.std.specs.Prelude.{ℕ, ◌+◌, ◌==◌, ◌&&◌, Bool, if◌then◌else◌, List, [], ◌∷◌, ◌++◌, map, codes}
-use Rattle.std.specs.List.{flat_map, range_with_len}
+use Rattle.std.specs.Prelude.{ℕ, Bool, if◌then◌else◌, List, [], ◌∷◌, ◌++◌, map, codes}
+use Rattle.std.specs.List.{range_with_len}
 use Rattle.paged_memory.specs.Images.{Memory}
-use Rattle.field_tables.specs.declared.field.Field.{Field}
 use Rattle.field_tables.specs.declared.field.Field.TheVariants as fields
-use Rattle.field_tables.specs.declared.readings.Levels.{Levels}
-use Rattle.field_tables.specs.FieldRows.{row_of}
-use Rattle.field_tables.specs.Readings.{all_bits, bit_at, is_of_bytes, number, number_at}
+use Rattle.field_tables.specs.Readings.{number, number_at}
 use Rattle.reports.specs.declared.flag.Flag.{Flag}
-use Rattle.reports.specs.declared.flag.FlagName.{FlagName}
+use Rattle.reports.specs.declared.flag.Condition.TheVariants as conditions
 use Rattle.reports.specs.declared.flag.FlagName.TheVariants.{Holds, Passed}
 use Rattle.reports.specs.declared.flag.Level.TheVariants.{HighAlarm, LowAlarm, HighWarning, LowWarning}
-use Rattle.reports.specs.declared.flag.Condition.TheVariants.{PathStateChanged, TxFailure, TxLos, TxLol, TxEqFail, RxLos, RxLol}
+use Rattle.reports.specs.declared.flag_rows.FlagRow.{FlagRow}
 use Rattle.reports.specs.declared.quantity.Quantity.TheVariants.{Temperature, Vcc, TxPower, TxBias, RxPower}
-use Rattle.reports.specs.Flags.{flag_lines, of_lanes, of_levels, of_module, raised}
+use Rattle.reports.specs.FlagRows.{of_paged_lanes, past_limits, rows_flags}
+use Rattle.reports.specs.Flags.{flag_lines, raised}
 use Rattle.reports.specs.Lines.{line}
 use Rattle.reports.specs.Families.{is_flat, unless_flat}
 use Rattle.reports.specs.States.{lane_codes_text, module_state_text}
@@ -30,52 +28,35 @@ state_line memory lane = line (codes "lane") (lane_codes_text lane (number_at me
 abbrev pub lane_states : Memory → List (List ℕ)
 lane_states memory = map (state_line memory) (range_with_len 1 8)
 
--- four flags of the module, from this one on
-abbrev pub module_levels : Memory → ℕ → Levels Bool
-module_levels memory first = record {
-  high_alarm = bit_at memory fields.CModuleFlag first;
-  low_alarm = bit_at memory fields.CModuleFlag (first + 1);
-  high_warning = bit_at memory fields.CModuleFlag (first + 2);
-  low_warning = bit_at memory fields.CModuleFlag (first + 3);
-}
-
-abbrev pub module_flags : Memory → List (FlagName × Bool)
-module_flags memory = of_levels Temperature (module_levels memory 1) ++ of_levels Vcc (module_levels memory 5)
-
--- the flags of lanes, each with the field that has it, by rising byte
-unfoldable pub lane_flags : List (FlagName × Field)
-lane_flags =
-    (Holds PathStateChanged, fields.CPathStateChanged)
-    ∷ (Holds TxFailure, fields.CTxFailure)
-    ∷ (Holds TxLos, fields.CTxLos)
-    ∷ (Holds TxLol, fields.CTxLol)
-    ∷ (Holds TxEqFail, fields.CTxEqFail)
-    ∷ (Passed TxPower HighAlarm, fields.CTxPowerHighAlarm)
-    ∷ (Passed TxPower LowAlarm, fields.CTxPowerLowAlarm)
-    ∷ (Passed TxPower HighWarning, fields.CTxPowerHighWarning)
-    ∷ (Passed TxPower LowWarning, fields.CTxPowerLowWarning)
-    ∷ (Passed TxBias HighAlarm, fields.CTxBiasHighAlarm)
-    ∷ (Passed TxBias LowAlarm, fields.CTxBiasLowAlarm)
-    ∷ (Passed TxBias HighWarning, fields.CTxBiasHighWarning)
-    ∷ (Passed TxBias LowWarning, fields.CTxBiasLowWarning)
-    ∷ (Holds RxLos, fields.CRxLos)
-    ∷ (Holds RxLol, fields.CRxLol)
-    ∷ (Passed RxPower HighAlarm, fields.CRxPowerHighAlarm)
-    ∷ (Passed RxPower LowAlarm, fields.CRxPowerLowAlarm)
-    ∷ (Passed RxPower HighWarning, fields.CRxPowerHighWarning)
-    ∷ (Passed RxPower LowWarning, fields.CRxPowerLowWarning)
+abbrev lane_rows : List FlagRow
+lane_rows =
+    of_paged_lanes (Holds conditions.PathStateChanged) fields.CPathStateChanged
+    ∷ of_paged_lanes (Holds conditions.TxFailure) fields.CTxFailure
+    ∷ of_paged_lanes (Holds conditions.TxLos) fields.CTxLos
+    ∷ of_paged_lanes (Holds conditions.TxLol) fields.CTxLol
+    ∷ of_paged_lanes (Holds conditions.TxEqFail) fields.CTxEqFail
+    ∷ of_paged_lanes (Passed TxPower HighAlarm) fields.CTxPowerHighAlarm
+    ∷ of_paged_lanes (Passed TxPower LowAlarm) fields.CTxPowerLowAlarm
+    ∷ of_paged_lanes (Passed TxPower HighWarning) fields.CTxPowerHighWarning
+    ∷ of_paged_lanes (Passed TxPower LowWarning) fields.CTxPowerLowWarning
+    ∷ of_paged_lanes (Passed TxBias HighAlarm) fields.CTxBiasHighAlarm
+    ∷ of_paged_lanes (Passed TxBias LowAlarm) fields.CTxBiasLowAlarm
+    ∷ of_paged_lanes (Passed TxBias HighWarning) fields.CTxBiasHighWarning
+    ∷ of_paged_lanes (Passed TxBias LowWarning) fields.CTxBiasLowWarning
+    ∷ of_paged_lanes (Holds conditions.RxLos) fields.CRxLos
+    ∷ of_paged_lanes (Holds conditions.RxLol) fields.CRxLol
+    ∷ of_paged_lanes (Passed RxPower HighAlarm) fields.CRxPowerHighAlarm
+    ∷ of_paged_lanes (Passed RxPower LowAlarm) fields.CRxPowerLowAlarm
+    ∷ of_paged_lanes (Passed RxPower HighWarning) fields.CRxPowerHighWarning
+    ∷ of_paged_lanes (Passed RxPower LowWarning) fields.CRxPowerLowWarning
     ∷ []
 
--- eight bits, one for each lane
-abbrev pub is_of_lanes : FlagName × Field → Bool
-is_of_lanes (name, field) = is_of_bytes (row_of field) && (row_of field).count == 8
-
--- such a flag of each lane, and whether it is raised
-abbrev pub in_lanes : Memory → FlagName × Field → List (Flag × Bool)
-in_lanes memory (name, field) = of_lanes (name, all_bits memory field)
+-- those of the module stand first
+unfoldable pub flag_rows : List FlagRow
+flag_rows = past_limits Temperature fields.CModuleFlag 1 ++ (past_limits Vcc fields.CModuleFlag 5 ++ lane_rows)
 
 unfoldable pub all_flags : Memory → List (Flag × Bool)
-all_flags memory = map of_module (module_flags memory) ++ (if is_flat memory then [] else flat_map (in_lanes memory) lane_flags)
+all_flags memory = rows_flags memory (is_flat memory) flag_rows
 
 abbrev pub state_lines : Memory → List (List ℕ)
 state_lines memory = line (codes "state") (module_state_text (number memory fields.CModuleState)) ∷ (if is_flat memory then [] else lane_states memory)

@@ -2,13 +2,7 @@
 -- lane-specific flags of page 11h; SFF-8636, "Interrupt Flags"; SFF-8472, "Alarm and Warning Flag Bits")
 use Rattle.std.specs.Prelude.{ℕ, Bool, List, [], ◌∷◌, ◌++◌, map, filter, Option, Some, None, codes}
 use Rattle.std.specs.Fmt.{decimal}
-use Rattle.std.specs.List.{enumerate_from}
-use Rattle.field_tables.specs.declared.readings.Levels.{Levels}
 use Rattle.reports.specs.declared.flag.Flag.{Flag}
-use Rattle.reports.specs.declared.flag.FlagName.{FlagName}
-use Rattle.reports.specs.declared.flag.FlagName.TheVariants as flag
-use Rattle.reports.specs.declared.flag.Level.TheVariants.{HighAlarm, LowAlarm, HighWarning, LowWarning}
-use Rattle.reports.specs.declared.quantity.Quantity.{Quantity}
 use Rattle.reports.specs.Lines.{line}
 use Rattle.reports.specs.FlagNames.{flag_name}
 
@@ -21,23 +15,6 @@ flag_text f = flag_name f.name ++ lane_suffix f.lane
 
 abbrev pub flag_line : Flag → List ℕ
 flag_line f = line (codes "flag") (flag_text f)
-
--- a flag of the whole module, and whether it is raised
-abbrev pub of_module : FlagName × Bool → Flag × Bool
-of_module (name, is_raised) = (record { name = name; lane = None }, is_raised)
-
--- the flag of each lane, lane 1 first, and whether it is raised
-abbrev pub of_lanes : FlagName × List Bool → List (Flag × Bool)
-of_lanes (name, lanes) = map (λ (l : ℕ × Bool). (record { name = name; lane = Some l.0 }, l.1)) (enumerate_from 1 lanes)
-
--- the flags of what is measured, in the order of the levels
-unfoldable pub of_levels : {A : Type 0} → Quantity → Levels A → List (FlagName × A)
-of_levels quantity levels =
-    (flag.Passed quantity HighAlarm, levels.high_alarm)
-    ∷ (flag.Passed quantity LowAlarm, levels.low_alarm)
-    ∷ (flag.Passed quantity HighWarning, levels.high_warning)
-    ∷ (flag.Passed quantity LowWarning, levels.low_warning)
-    ∷ []
 
 -- those that are raised
 abbrev pub raised : List (Flag × Bool) → List Flag

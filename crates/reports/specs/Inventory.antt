@@ -2,9 +2,7 @@
 use Rattle.std.specs.Prelude.{ℕ, List, Option}
 use Rattle.std.specs.Option.{option_or}
 use Rattle.paged_memory.specs.Images.{Memory}
-use Rattle.sff8636_map.specs.Identity as sff8636
 use Rattle.sff8636_map.specs.Refusals as sff8636_refusals
-use Rattle.sff8472_map.specs.Identity as sff8472
 use Rattle.sff8472_map.specs.Refusals as sff8472_refusals
 use Rattle.reports.specs.CmisInventory as cmis
 use Rattle.reports.specs.declared.family.Family.{Family}
@@ -21,8 +19,8 @@ fault_in Sff8472 memory = of_sff (sff8472_refusals.module_fault memory)
 
 abbrev pub lines_in : Family → Memory → List (List ℕ)
 lines_in Cmis memory = cmis.inventory_lines memory
-lines_in Sff8636 memory = qsfp_lines (sff8636.identity_of memory)
-lines_in Sff8472 memory = sfp_lines (sff8472.identity_of memory)
+lines_in Sff8636 memory = qsfp_lines memory
+lines_in Sff8472 memory = sfp_lines memory
 
 unfoldable pub inventory_fault : Memory → Option ReportFault
 inventory_fault memory = option_or (module_fault memory) (fault_in (family_of memory) memory)

@@ -12,7 +12,6 @@ pub mod Families
 pub mod CmisFlags
 pub mod SffFlags
 pub mod Warned
-pub mod Maker
 pub mod CmisInventory
 pub mod SffInventory
 pub mod Inventory
@@ -24,3 +23,8 @@ pub mod Regions
 pub mod ImageReading
 pub mod FetchedImages
 pub mod SameReports
+pub mod Entries
+pub mod EntryText
+pub mod Rows
+pub mod RowTables
+pub mod FlagRows

@@ -1,54 +1,76 @@
 -- What a module of SFF-8636 or SFF-8472 warns of. (docs/formats.md, "flags"; SFF-8636, "Interrupt Flags"; SFF-8472, "Alarm
 -- and Warning Flag Bits")
-use Rattle.std.specs.Prelude.{ℕ, Bool, List, [], ◌∷◌, ◌++◌, map}
-use Rattle.std.specs.List.{flat_map}
-use Rattle.field_tables.specs.declared.readings.Levels.{Levels}
-use Rattle.sff8636_map.specs.declared.flags.Flags as qsfp
-use Rattle.sff8472_map.specs.declared.flags.Flags as sfp
+use Rattle.std.specs.Prelude.{ℕ, ◌+◌, Bool, false, List, [], ◌∷◌, ◌++◌}
+use Rattle.paged_memory.specs.Images.{Memory}
 use Rattle.reports.specs.declared.flag.Flag.{Flag}
+use Rattle.reports.specs.declared.flag.Condition.TheVariants as conditions
 use Rattle.reports.specs.declared.flag.FlagName.{FlagName}
-use Rattle.reports.specs.declared.flag.FlagName.TheVariants as flag
-use Rattle.reports.specs.declared.flag.Condition.TheVariants.{TxLos, RxLos, TxFault, TxLol, RxLol}
+use Rattle.reports.specs.declared.flag.FlagName.TheVariants.{Holds, Passed}
+use Rattle.reports.specs.declared.flag.Level.TheVariants.{HighAlarm, LowAlarm, HighWarning, LowWarning}
+use Rattle.reports.specs.declared.flag_rows.FlagRow.{FlagRow}
+use Rattle.reports.specs.declared.quantity.Quantity.{Quantity}
 use Rattle.reports.specs.declared.quantity.Quantity.TheVariants.{Temperature, Vcc, TxPower, TxBias, RxPower}
-use Rattle.reports.specs.Flags.{flag_lines, of_lanes, of_levels, of_module, raised}
-use Rattle.reports.specs.Monitors.{each_level}
+use Rattle.field_tables.specs.declared.field.Field.{Field}
+use Rattle.field_tables.specs.declared.field.Field.TheVariants as fields
+use Rattle.reports.specs.FlagRows.{of_lanes, of_module, of_one_lane, past_limits, rows_flags}
+use Rattle.reports.specs.Flags.{flag_lines, raised}
 
-unfoldable pub qsfp_conditions : qsfp.Flags → List (FlagName × List Bool)
-qsfp_conditions flags =
-    (flag.Holds TxLos, flags.tx_los)
-    ∷ (flag.Holds RxLos, flags.rx_los)
-    ∷ (flag.Holds TxFault, flags.tx_fault)
-    ∷ (flag.Holds TxLol, flags.tx_lol)
-    ∷ (flag.Holds RxLol, flags.rx_lol)
+abbrev qsfp_lane_rows : List FlagRow
+qsfp_lane_rows =
+    of_lanes (Holds conditions.TxLos) fields.QTxLos
+    ∷ of_lanes (Holds conditions.RxLos) fields.QRxLos
+    ∷ of_lanes (Holds conditions.TxFault) fields.QTxFault
+    ∷ of_lanes (Holds conditions.TxLol) fields.QTxLol
+    ∷ of_lanes (Holds conditions.RxLol) fields.QRxLol
+    ∷ of_lanes (Passed RxPower HighAlarm) fields.QRxPowerHighAlarm
+    ∷ of_lanes (Passed RxPower LowAlarm) fields.QRxPowerLowAlarm
+    ∷ of_lanes (Passed RxPower HighWarning) fields.QRxPowerHighWarning
+    ∷ of_lanes (Passed RxPower LowWarning) fields.QRxPowerLowWarning
+    ∷ of_lanes (Passed TxBias HighAlarm) fields.QTxBiasHighAlarm
+    ∷ of_lanes (Passed TxBias LowAlarm) fields.QTxBiasLowAlarm
+    ∷ of_lanes (Passed TxBias HighWarning) fields.QTxBiasHighWarning
+    ∷ of_lanes (Passed TxBias LowWarning) fields.QTxBiasLowWarning
+    ∷ of_lanes (Passed TxPower HighAlarm) fields.QTxPowerHighAlarm
+    ∷ of_lanes (Passed TxPower LowAlarm) fields.QTxPowerLowAlarm
+    ∷ of_lanes (Passed TxPower HighWarning) fields.QTxPowerHighWarning
+    ∷ of_lanes (Passed TxPower LowWarning) fields.QTxPowerLowWarning
     ∷ []
 
-unfoldable pub qsfp_flags : qsfp.Flags → List (Flag × Bool)
-qsfp_flags flags =
-    map of_module (of_levels Temperature flags.temperature)
-    ++ map of_module (of_levels Vcc flags.vcc)
-    ++ flat_map of_lanes (qsfp_conditions flags)
-    ++ flat_map of_lanes (of_levels RxPower flags.rx_power)
-    ++ flat_map of_lanes (of_levels TxBias flags.tx_bias)
-    ++ flat_map of_lanes (of_levels TxPower flags.tx_power)
+unfoldable pub qsfp_rows : List FlagRow
+qsfp_rows = past_limits Temperature fields.QTempFlag 1 ++ (past_limits Vcc fields.QVccFlag 1 ++ qsfp_lane_rows)
 
-abbrev pub sff8636_lines : qsfp.Flags → List (List ℕ)
-sff8636_lines flags = flag_lines (raised (qsfp_flags flags))
+unfoldable pub qsfp_flags : Memory → List (Flag × Bool)
+qsfp_flags memory = rows_flags memory false qsfp_rows
 
--- the flags of a module's only lane
-abbrev pub of_lane_1 : Levels Bool → Levels (List Bool)
-of_lane_1 levels = each_level (λ (is_raised : Bool). is_raised ∷ []) levels
+abbrev pub sff8636_lines : Memory → List (List ℕ)
+sff8636_lines memory = flag_lines (raised (qsfp_flags memory))
 
-unfoldable pub sfp_conditions : sfp.Flags → List (FlagName × List Bool)
-sfp_conditions flags = (flag.Holds TxFault, flags.tx_fault ∷ []) ∷ (flag.Holds RxLos, flags.rx_los ∷ []) ∷ []
+-- of a value: two alarms, then two warnings, which stand in the same bits of another field
+abbrev of_value : (FlagName → Field → ℕ → FlagRow) → Quantity → Field → Field → ℕ → List FlagRow
+of_value of quantity alarms warnings first =
+    of (Passed quantity HighAlarm) alarms first
+    ∷ of (Passed quantity LowAlarm) alarms (first + 1)
+    ∷ of (Passed quantity HighWarning) warnings first
+    ∷ of (Passed quantity LowWarning) warnings (first + 1)
+    ∷ []
 
-unfoldable pub sfp_flags : sfp.Flags → List (Flag × Bool)
-sfp_flags flags =
-    map of_module (of_levels Temperature flags.temperature)
-    ++ map of_module (of_levels Vcc flags.vcc)
-    ++ flat_map of_lanes (of_levels TxBias (of_lane_1 flags.tx_bias))
-    ++ flat_map of_lanes (of_levels TxPower (of_lane_1 flags.tx_power))
-    ++ flat_map of_lanes (of_levels RxPower (of_lane_1 flags.rx_power))
-    ++ flat_map of_lanes (sfp_conditions flags)
+abbrev sfp_signal_rows : List FlagRow
+sfp_signal_rows =
+    of_one_lane (Holds conditions.TxFault) fields.STxFault 1
+    ∷ of_one_lane (Holds conditions.RxLos) fields.SRxLos 1
+    ∷ []
 
-abbrev pub sff8472_lines : sfp.Flags → List (List ℕ)
-sff8472_lines flags = flag_lines (raised (sfp_flags flags))
+unfoldable pub sfp_rows : List FlagRow
+sfp_rows =
+    of_value of_module Temperature fields.SAlarms fields.SWarnings 1
+    ++ (of_value of_module Vcc fields.SAlarms fields.SWarnings 3
+    ++ (of_value of_one_lane TxBias fields.SAlarms fields.SWarnings 5
+    ++ (of_value of_one_lane TxPower fields.SAlarms fields.SWarnings 7
+    ++ (of_value of_one_lane RxPower fields.SRxAlarms fields.SRxWarnings 1
+    ++ sfp_signal_rows))))
+
+unfoldable pub sfp_flags : Memory → List (Flag × Bool)
+sfp_flags memory = rows_flags memory false sfp_rows
+
+abbrev pub sff8472_lines : Memory → List (List ℕ)
+sff8472_lines memory = flag_lines (raised (sfp_flags memory))

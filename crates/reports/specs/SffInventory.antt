@@ -1,29 +1,44 @@
 -- What a module of SFF-8636 or SFF-8472 is. (docs/formats.md, "inventory"; SFF-8636, "Upper Page 00h"; SFF-8472, "Serial
 -- ID: Data Fields")
-use Rattle.std.specs.Prelude.{ℕ, Bool, List, [], ◌∷◌, ◌++◌, codes}
-use Rattle.sff8636_map.specs.declared.identity.Identity as qsfp
-use Rattle.sff8472_map.specs.declared.identity.Identity as sfp
-use Rattle.reports.specs.Lines.{line}
-use Rattle.reports.specs.Maker.{maker_lines}
-use Rattle.reports.specs.Shown.{byte_code, sum_word}
+use Rattle.std.specs.Prelude.{ℕ, false, List, [], ◌∷◌, codes}
+use Rattle.paged_memory.specs.Images.{Memory}
+use Rattle.field_tables.specs.declared.field.Field.TheVariants as fields
+use Rattle.field_tables.specs.declared.field.Sum.TheVariants as sums
+use Rattle.field_tables.specs.declared.field.TextField.TheVariants as texts
+use Rattle.reports.specs.Rows.{Row, Word, Code, Text, Oui, Right, always, rows_lines}
 
-unfoldable pub sum_lines : ℕ → Bool → Bool → List (List ℕ)
-sum_lines connector base ext =
-    line (codes "connector") (byte_code connector)
-    ∷ line (codes "sum-base") (sum_word base)
-    ∷ line (codes "sum-ext") (sum_word ext)
+unfoldable pub qsfp_rows : List Row
+qsfp_rows =
+    always (codes "family") (Word (codes "SFF-8636"))
+    ∷ always (codes "identifier") (Code fields.QIdentifier)
+    ∷ always (codes "vendor") (Text texts.QVendor)
+    ∷ always (codes "oui") (Oui fields.QOui)
+    ∷ always (codes "part") (Text texts.QPart)
+    ∷ always (codes "part-revision") (Text texts.QPartRevision)
+    ∷ always (codes "serial") (Text texts.QSerial)
+    ∷ always (codes "date") (Text texts.QDate)
+    ∷ always (codes "connector") (Code fields.QConnector)
+    ∷ always (codes "sum-base") (Right sums.QSumBase)
+    ∷ always (codes "sum-ext") (Right sums.QSumExt)
     ∷ []
 
-unfoldable pub qsfp_lines : qsfp.Identity → List (List ℕ)
-qsfp_lines identity =
-    line (codes "family") (codes "SFF-8636")
-    ∷ line (codes "identifier") (byte_code identity.identifier)
-    ∷ maker_lines identity.vendor.items identity.oui identity.part.items identity.part_revision.items identity.serial.items identity.date.items
-    ++ sum_lines identity.connector identity.sum_base identity.sum_ext
+unfoldable pub qsfp_lines : Memory → List (List ℕ)
+qsfp_lines memory = rows_lines memory false qsfp_rows
 
-unfoldable pub sfp_lines : sfp.Identity → List (List ℕ)
-sfp_lines identity =
-    line (codes "family") (codes "SFF-8472")
-    ∷ line (codes "identifier") (byte_code identity.identifier)
-    ∷ maker_lines identity.vendor.items identity.oui identity.part.items identity.part_revision.items identity.serial.items identity.date.items
-    ++ sum_lines identity.connector identity.sum_base identity.sum_ext
+unfoldable pub sfp_rows : List Row
+sfp_rows =
+    always (codes "family") (Word (codes "SFF-8472"))
+    ∷ always (codes "identifier") (Code fields.SIdentifier)
+    ∷ always (codes "vendor") (Text texts.SVendor)
+    ∷ always (codes "oui") (Oui fields.SOui)
+    ∷ always (codes "part") (Text texts.SPart)
+    ∷ always (codes "part-revision") (Text texts.SPartRevision)
+    ∷ always (codes "serial") (Text texts.SSerial)
+    ∷ always (codes "date") (Text texts.SDate)
+    ∷ always (codes "connector") (Code fields.SConnector)
+    ∷ always (codes "sum-base") (Right sums.SSumBase)
+    ∷ always (codes "sum-ext") (Right sums.SSumExt)
+    ∷ []
+
+unfoldable pub sfp_lines : Memory → List (List ℕ)
+sfp_lines memory = rows_lines memory false sfp_rows

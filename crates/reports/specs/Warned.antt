@@ -2,9 +2,7 @@
 use Rattle.std.specs.Prelude.{ℕ, List, Option}
 use Rattle.std.specs.Option.{option_or}
 use Rattle.paged_memory.specs.Images.{Memory}
-use Rattle.sff8636_map.specs.Flags as sff8636
 use Rattle.sff8636_map.specs.Refusals as sff8636_refusals
-use Rattle.sff8472_map.specs.Flags as sff8472
 use Rattle.sff8472_map.specs.Refusals as sff8472_refusals
 use Rattle.reports.specs.CmisFlags as cmis
 use Rattle.reports.specs.SffFlags as sff
@@ -21,8 +19,8 @@ fault_in Sff8472 memory = of_sff (sff8472_refusals.flags_fault memory)
 
 abbrev pub lines_in : Family → Memory → List (List ℕ)
 lines_in Cmis memory = cmis.flags_lines memory
-lines_in Sff8636 memory = sff.sff8636_lines (sff8636.flags_of memory)
-lines_in Sff8472 memory = sff.sff8472_lines (sff8472.flags_of memory)
+lines_in Sff8636 memory = sff.sff8636_lines memory
+lines_in Sff8472 memory = sff.sff8472_lines memory
 
 unfoldable pub flags_fault : Memory → Option ReportFault
 flags_fault memory = option_or (module_fault memory) (fault_in (family_of memory) memory)

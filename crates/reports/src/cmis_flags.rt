@@ -1,23 +1,21 @@
-ghost use Rattle.std.specs.Prelude.{◌≡◌, ◌++◌, ◌∷◌, [], ◌≤◌, IfOk, IsTrue, OnOk};
-ghost use Rattle.std.specs.List.{flat_map, list_all};
+ghost use Rattle.std.specs.Prelude.{◌≡◌, ◌++◌, ◌∷◌, [], ◌≤◌, OnOk};
 ghost use Rattle.text_lines.specs.Lines.{text_of};
-ghost use Rattle.reports.specs.CmisFlags as spec;
-ghost use Rattle.reports.specs.CmisFlags.{all_flags, flag_pages, flags_lines, in_lanes, is_of_lanes, lane_states, module_levels, state_line, state_lines};
-ghost use Rattle.reports.specs.Flags.{raised};
+ghost use Rattle.reports.specs.CmisFlags.{flag_pages, flags_lines, lane_states, state_line, state_lines};
 ghost use Rattle.reports.specs.Families.{absent_page};
 ghost use Rattle.reports.specs.Lines.{Reports};
 
 use crate::family::{absent_page, is_flat};
 use crate::fault::ReportFault;
-use crate::flag::{Condition, Flag, FlagName, Level};
-use crate::quantity::Quantity;
-use crate::raised::{of_levels, push_flag_lines, push_in_lanes, push_module_flags};
+use crate::flag_rows::raised_flags;
+use crate::raised::push_flag_lines;
 use crate::report::Report;
 use crate::shown_state::{LaneCodes, ModuleStateCode};
-use field_tables::{Field, Levels, all_bits, bit_at, number, number_at};
+use crate::tables;
+use field_tables::{Field, number, number_at};
 use paged_memory::Image;
 use std::alloc::{AllocError, Global};
 
+#[tactic(auto, unfolding(crate::specs::CmisFlags::all_flags))]
 /// The state of the module and of its lanes, and the flags that are raised, line by line.
 pub fn flags(alloc: Global, image: &Image) -> Result<Vec<u8>, ReportFault>
     ensures { Reports (absent_page (flag_pages image.now) image.now) (flags_lines image.now) result }
@@ -27,7 +25,7 @@ pub fn flags(alloc: Global, image: &Image) -> Result<Vec<u8>, ReportFault>
     }
     let mut report = Report::new(alloc);
     push_states(&mut report, image)?;
-    let flags = raised_flags(alloc, image)?;
+    let flags = raised_flags(alloc, image, is_flat(image), tables::cmis_flags())?;
     push_flag_lines(&mut report, &flags)?;
     Ok(report.into_bytes())
 }
@@ -71,81 +69,4 @@ fn push_lane_state(report: &mut Report, image: &Image, lane: u8) -> Result<(), A
         status,
     };
     report.line("lane", codes)
-}
-
-#[tactic(auto, using(crate::proofs::RaisedFlags::raised_append), unfolding(crate::specs::CmisFlags::all_flags))]
-fn raised_flags(alloc: Global, image: &Image) -> Result<Vec<Flag>, AllocError>
-    ensures { IfOk result (λ flags. flags.items ≡ raised (all_flags image.now)) }
-{
-    let mut flags = Vec::new(alloc);
-    let temperature = module_levels(image, 1);
-    push_module_flags(&mut flags, &of_levels(Quantity::Temperature, temperature))?;
-    let vcc = module_levels(image, 5);
-    push_module_flags(&mut flags, &of_levels(Quantity::Vcc, vcc))?;
-    if !is_flat(image) {
-        push_lane_flags(&mut flags, image, lane_flags())?;
-    }
-    Ok(flags)
-}
-
-// Four flags of the module, from this one on.
-fn module_levels(image: &Image, first: u8) -> Levels<bool>
-    requires from_one { 1 ≤ first }
-    requires to_five { first ≤ 5 }
-    ensures { result ≡ module_levels image.now first }
-{
-    Levels {
-        high_alarm: bit_at(image, Field::CModuleFlag, first),
-        low_alarm: bit_at(image, Field::CModuleFlag, first + 1),
-        high_warning: bit_at(image, Field::CModuleFlag, first + 2),
-        low_warning: bit_at(image, Field::CModuleFlag, first + 3),
-    }
-}
-
-#[tactic(auto, using(crate::proofs::RaisedFlags::raised_append))]
-fn push_lane_flags(
-    flags: &mut Vec<Flag>,
-    image: &Image,
-    table: &[(FlagName, Field)],
-) -> Result<(), AllocError>
-    requires { IsTrue (list_all is_of_lanes table.now) }
-    ensures { OnOk result (flags.new.items ≡ flags.old.items ++ raised (flat_map (in_lanes image.now) table.now)) }
-{
-    for (name, field) in table {
-        push_in_lanes(flags, *name, &all_bits::<8>(image, *field))?;
-    }
-    Ok(())
-}
-
-// The flags of lanes, each with the field that has its eight bits, by rising byte.
-#[tactic(auto, unfolding(crate::specs::CmisFlags::lane_flags))]
-fn lane_flags() -> &'static [(FlagName, Field)]
-    ensures table { result.now ≡ spec.lane_flags }
-    ensures fits { IsTrue (list_all is_of_lanes result.now) }
-{
-    use FlagName::{Holds, Passed};
-    use Level::{HighAlarm, HighWarning, LowAlarm, LowWarning};
-    use Quantity::{RxPower, TxBias, TxPower};
-    use Condition::{PathStateChanged, RxLol, RxLos, TxEqFail, TxFailure, TxLol, TxLos};
-    &[
-        (Holds(PathStateChanged), Field::CPathStateChanged),
-        (Holds(TxFailure), Field::CTxFailure),
-        (Holds(TxLos), Field::CTxLos),
-        (Holds(TxLol), Field::CTxLol),
-        (Holds(TxEqFail), Field::CTxEqFail),
-        (Passed(TxPower, HighAlarm), Field::CTxPowerHighAlarm),
-        (Passed(TxPower, LowAlarm), Field::CTxPowerLowAlarm),
-        (Passed(TxPower, HighWarning), Field::CTxPowerHighWarning),
-        (Passed(TxPower, LowWarning), Field::CTxPowerLowWarning),
-        (Passed(TxBias, HighAlarm), Field::CTxBiasHighAlarm),
-        (Passed(TxBias, LowAlarm), Field::CTxBiasLowAlarm),
-        (Passed(TxBias, HighWarning), Field::CTxBiasHighWarning),
-        (Passed(TxBias, LowWarning), Field::CTxBiasLowWarning),
-        (Holds(RxLos), Field::CRxLos),
-        (Holds(RxLol), Field::CRxLol),
-        (Passed(RxPower, HighAlarm), Field::CRxPowerHighAlarm),
-        (Passed(RxPower, LowAlarm), Field::CRxPowerLowAlarm),
-        (Passed(RxPower, HighWarning), Field::CRxPowerHighWarning),
-        (Passed(RxPower, LowWarning), Field::CRxPowerLowWarning),
-    ]
 }

@@ -125,6 +125,23 @@ impl fmt::Display for Text {
     }
 }
 
+/// The same of bytes that stay where they are.
+#[derive(Clone, Copy)]
+pub struct TextIn<'a>(pub &'a [u8]);
+
+impl fmt::Display for TextIn<'_> {
+    ghost output = { λ shown. Some (printable shown.0.now) };
+
+    #[tactic(auto, unfolding(crate::specs::Shown::printable))]
+    fn fmt<W: fmt::Write>(&self, f: &mut fmt::Formatter<W>) -> fmt::Result {
+        for byte in trimmed(self.0) {
+            let letter = shown_byte(*byte);
+            write!(f, "{letter}")?;
+        }
+        Ok(())
+    }
+}
+
 fn trimmed(bytes: &[u8]) -> &[u8]
     ensures { result.now ≡ trimmed bytes.now }
 {
@@ -141,7 +158,7 @@ fn is_padding(byte: u8) -> bool
     byte == b' ' || byte == 0
 }
 
-fn shown_byte(byte: u8) -> char
+pub fn shown_byte(byte: u8) -> char
     ensures letter { result ≡ shown_byte byte }
     ensures ascii { result < 128 }
 {

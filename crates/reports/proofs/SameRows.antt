@@ -1,0 +1,190 @@
+-- Memories that agree in halves have the same of each row that reads of these halves alone, which a test of rows tells.
+use Rattle.std.proofs.Common.{◌≡◌, inl, inr, ℕ, zero, suc, ◌≤◌, ◌∙◌, sym, ◌+◌, ◌*◌, ◌^◌, ◌==◌, ◌&&◌, ◌||◌, Bool, true, false, List, [], ◌∷◌, ◌++◌, map, Option, Some, None, refl, ap, subst, if◌then◌else◌, nat_le, arith}
+use Rattle.std.proofs.lemmas.Bool.{and_parts, false≢true, not-true, or_cases, true≢false}
+use Rattle.std.proofs.lemmas.Bool.Decides.{nat_tests}
+use Rattle.std.specs.Prelude.{ℤ, pos, ◌*ℤ◌, codes, not}
+use Rattle.std.specs.List.{AllByRecursion, flat_map, list_all, list_any, range_with_len}
+use Rattle.std.specs.Ordering.{eq_by_cmp}
+use Rattle.paged_memory.specs.declared.key.Key.{Key}
+use Rattle.paged_memory.specs.Images.{Memory}
+use Rattle.paged_memory.specs.KeyOrder.{key_cmp}
+use Rattle.field_tables.specs.declared.field.Field.{Field}
+use Rattle.field_tables.specs.declared.readings.Levels.{Levels}
+use Rattle.field_tables.specs.FieldRows.{row_of}
+use Rattle.field_tables.specs.FieldValues.{field_key}
+use Rattle.field_tables.specs.Readings as readings
+use Rattle.field_tables.specs.Sums.{sum_key}
+use Rattle.field_tables.specs.Texts.{text_key}
+use Rattle.field_tables.specs.Units.{millis_of}
+use Rattle.field_tables.proofs.SameValues.{Agree, is_selection, same_number, same_numbers, same_reading_at, same_sum_right, same_text}
+use Rattle.reports.specs.Entries.{Entry, entry, word, right, number, code, revision, text, oui, amount, lanes, limits}
+use Rattle.reports.specs.EntryText.{entry_lines}
+use Rattle.reports.specs.Rows.{Row, Source, Instead, Word, Either, Code, Revision, Next, Text, Oui, Right, Amount, Length, Lanes, Limits, Nothing, Says, rows_lines, amount_at, applies, decided_entries, deciding, levels_of, row_entries, rows_entries, source_said, times, unit_name, unit_of}
+use Rattle.reports.proofs.RegionLaws.{keys_are}
+
+-- ---- the test
+
+abbrev pub is_among : List Key → Key → Bool
+is_among keys key = list_any (eq_by_cmp key_cmp key) keys
+
+-- a field of so many values or more in these halves
+abbrev field_in : List Key → ℕ → Field → Bool
+field_in keys n field = is_among keys (field_key field) && (not (is_selection field) && nat_le n (row_of field).count)
+
+abbrev power_in : List Key → Option Field → Bool
+power_in keys None = true
+power_in keys (Some field) = field_in keys 1 field
+
+abbrev source_in : List Key → Source → Bool
+source_in keys (Word w) = true
+source_in keys (Either field one other) = field_in keys 1 field
+source_in keys (Code field) = field_in keys 1 field
+source_in keys (Revision field) = field_in keys 1 field
+source_in keys (Next field) = field_in keys 1 field
+source_in keys (Text field) = is_among keys (text_key field)
+source_in keys (Oui field) = field_in keys 1 field
+source_in keys (Right sum) = is_among keys (sum_key sum)
+source_in keys (Amount field) = field_in keys 1 field
+source_in keys (Length base power) = field_in keys 1 base && field_in keys 1 power
+source_in keys (Lanes field power) = field_in keys 1 field && power_in keys power
+source_in keys (Limits field power) = field_in keys 4 field && power_in keys power
+
+abbrev instead_in : List Key → Instead → Bool
+instead_in keys (Nothing field n) = field_in keys 1 field
+instead_in keys (Says field n w) = field_in keys 1 field
+
+-- the row says nothing of a module that is flat or not, or reads of these halves alone
+abbrev pub row_in : Bool → List Key → Row → Bool
+row_in flat keys row = (row.paged && flat) || (list_all (instead_in keys) row.instead && source_in keys row.source)
+
+-- ---- what it says
+
+pub agree_among : (a b : Memory) (keys : List Key) → AllByRecursion (λ key. Agree a b key) keys → (key : Key) → is_among keys key ≡ true → Agree a b key
+agree_among a b [] all key e = absurd (false≢true e)
+agree_among a b (first ∷ keys) all key e =
+    elim (or_cases (eq_by_cmp key_cmp key first) (is_among keys key) e) [
+      | inl same ↦ subst (Agree a b) (sym (keys_are key first same)) all.0
+      | inr later ↦ agree_among a b keys all.1 key later
+    ]
+
+module _ (a b : Memory) (keys : List Key) (all : AllByRecursion (λ key. Agree a b key) keys) where
+  field_agrees : (field : Field) (n : ℕ) → field_in keys n field ≡ true → Agree a b (field_key field)
+  field_agrees field n e = agree_among a b keys all (field_key field) (and_parts (is_among keys (field_key field)) (not (is_selection field) && nat_le n (row_of field).count) e).0
+
+  field_other : (field : Field) (n : ℕ) → field_in keys n field ≡ true → is_selection field ≡ false
+  field_other field n e =
+      let parts = and_parts (is_among keys (field_key field)) (not (is_selection field) && nat_le n (row_of field).count) e in
+      not-true (is_selection field) (and_parts (not (is_selection field)) (nat_le n (row_of field).count) parts.1).0
+
+  field_counted : (field : Field) (n : ℕ) → field_in keys n field ≡ true → nat_le n (row_of field).count ≡ true
+  field_counted field n e =
+      let parts = and_parts (is_among keys (field_key field)) (not (is_selection field) && nat_le n (row_of field).count) e in
+      (and_parts (not (is_selection field)) (nat_le n (row_of field).count) parts.1).1
+
+  number_same : (field : Field) → field_in keys 1 field ≡ true → readings.number a field ≡ readings.number b field
+  number_same field e = same_number a b field (field_agrees field 1 e) (field_other field 1 e) (field_counted field 1 e)
+
+  times_same : (steps : ℤ) (power : Option Field) → power_in keys power ≡ true → times a steps power ≡ times b steps power
+  times_same steps None e = refl
+  times_same steps (Some power) e = let same = number_same power e in λ i. steps *ℤ pos (2 ^ same i)
+
+  amount_same : (field : Field) (power : Option Field) (n i : ℕ) → field_in keys n field ≡ true → power_in keys power ≡ true → 1 ≤ i → i ≤ (row_of field).count → amount_at a field power i ≡ amount_at b field power i
+  unfolding amount_at
+  amount_same field power n i e counts first last =
+      let steps = same_reading_at a b field i (field_agrees field n e) (field_other field n e) first last in
+      (λ j. millis_of (times a (steps j) power) (unit_of field))
+      ∙ ap (λ (steps : ℤ). millis_of steps (unit_of field)) (times_same (readings.reading_at b field i) power counts)
+
+  amounts_same : (field : Field) (power : Option Field) → field_in keys 1 field ≡ true → power_in keys power ≡ true → (first count : ℕ) → 1 ≤ first → first + count ≤ (row_of field).count + 1 →
+      map (amount_at a field power) (range_with_len first count) ≡ map (amount_at b field power) (range_with_len first count)
+  amounts_same field power e counts first zero from to = refl
+  amounts_same field power e counts first (suc count) from to =
+      let here = amount_same field power 1 first e counts from (omega (arith, to)) in
+      let later = amounts_same field power e counts (first + 1) count (omega (arith, from)) (omega (arith, to)) in
+      λ i. here i ∷ later i
+
+  limits_same : (field : Field) (power : Option Field) → field_in keys 4 field ≡ true → power_in keys power ≡ true → levels_of (amount_at a field power) ≡ levels_of (amount_at b field power)
+  limits_same field power e counts =
+      let counted = field_counted field 4 e in
+      let four : 4 ≤ (row_of field).count = grind (arith, nat_tests) in
+      let of = λ (i : ℕ) (first : 1 ≤ i) (last : i ≤ 4). amount_same field power 4 i e counts first (omega (arith, last, four)) in
+      let one = of 1 (omega arith) (omega arith) in
+      let two = of 2 (omega arith) (omega arith) in
+      let three = of 3 (omega arith) (omega arith) in
+      let last = of 4 (omega arith) (omega arith) in
+      λ i. record { high_alarm = one i; low_alarm = two i; high_warning = three i; low_warning = last i }
+
+  source_same : (s : Source) → source_in keys s ≡ true → source_said a s ≡ source_said b s
+  unfolding source_said
+  source_same (Word w) e = refl
+  source_same (Either field one other) e = ap (λ (n : ℕ). word (if n == 1 then one else other)) (number_same field e)
+  source_same (Code field) e = ap (λ (n : ℕ). code n) (number_same field e)
+  source_same (Revision field) e = ap (λ (n : ℕ). revision n) (number_same field e)
+  source_same (Next field) e = ap (λ (n : ℕ). number (n + 1)) (number_same field e)
+  source_same (Text field) e = ap (λ (bytes : List ℕ). text bytes) (same_text a b field (agree_among a b keys all (text_key field) e))
+  source_same (Oui field) e = ap (λ (bytes : List ℕ). oui bytes) (same_numbers a b field (field_agrees field 1 e) (field_other field 1 e))
+  source_same (Right sum) e = ap (λ (is_right : Bool). right is_right) (same_sum_right a b sum (agree_among a b keys all (sum_key sum) e))
+  source_same (Amount field) e =
+      let counted = field_counted field 1 e in
+      ap (λ (millis : ℤ). amount millis (unit_name (unit_of field))) (amount_same field None 1 1 e refl (omega arith) (grind (arith, nat_tests)))
+  source_same (Length base power) e =
+      let parts = and_parts (field_in keys 1 base) (field_in keys 1 power) e in
+      let of = number_same base parts.0 in
+      let tens = number_same power parts.1 in
+      λ i. amount (pos (of i * 100 * 10 ^ tens i)) (codes "m")
+  source_same (Lanes field power) e =
+      let parts = and_parts (field_in keys 1 field) (power_in keys power) e in
+      ap (λ (values : List ℤ). lanes values (unit_name (unit_of field))) (amounts_same field power parts.0 parts.1 1 (row_of field).count (omega arith) (omega arith))
+  source_same (Limits field power) e =
+      let parts = and_parts (field_in keys 4 field) (power_in keys power) e in
+      ap (λ (levels : Levels ℤ). limits levels (unit_name (unit_of field))) (limits_same field power parts.0 parts.1)
+
+  applies_same : (case : Instead) → instead_in keys case ≡ true → applies a case ≡ applies b case
+  applies_same (Nothing field n) e = ap (λ (m : ℕ). m == n) (number_same field e)
+  applies_same (Says field n w) e = ap (λ (m : ℕ). m == n) (number_same field e)
+
+  deciding_same : (cases : List Instead) → list_all (instead_in keys) cases ≡ true → deciding a cases ≡ deciding b cases
+  deciding_same [] e = refl
+  deciding_same (case ∷ cases) e =
+      let parts = and_parts (instead_in keys case) (list_all (instead_in keys) cases) e in
+      let here = applies_same case parts.0 in
+      let later = deciding_same cases parts.1 in
+      λ i. if here i then Some case else later i
+
+  decided_same : (row : Row) (decided : Option Instead) → source_in keys row.source ≡ true → decided_entries a row decided ≡ decided_entries b row decided
+  decided_same row None e = let said = source_same row.source e in λ i. entry row.name (said i) ∷ []
+  decided_same row (Some (Nothing field n)) e = refl
+  decided_same row (Some (Says field n w)) e = refl
+
+  unless : (absent : Bool) (u v : List Entry) → (absent ≡ false → u ≡ v) → (if absent then [] else u) ≡ (if absent then [] else v)
+  unless true u v same = refl
+  unless false u v same = same refl
+
+  read_same : (row : Row) → (list_all (instead_in keys) row.instead && source_in keys row.source) ≡ true → decided_entries a row (deciding a row.instead) ≡ decided_entries b row (deciding b row.instead)
+  read_same row e =
+      let parts = and_parts (list_all (instead_in keys) row.instead) (source_in keys row.source) e in
+      ap (decided_entries a row) (deciding_same row.instead parts.0) ∙ decided_same row (deciding b row.instead) parts.1
+
+  row_same : (flat : Bool) (row : Row) → row_in flat keys row ≡ true → row_entries a flat row ≡ row_entries b flat row
+  unfolding row_entries
+  row_same flat row e =
+      unless (row.paged && flat) (decided_entries a row (deciding a row.instead)) (decided_entries b row (deciding b row.instead)) (λ shown.
+      elim (or_cases (row.paged && flat) (list_all (instead_in keys) row.instead && source_in keys row.source) e) [
+        | inl absent ↦ absurd (true≢false (sym absent ∙ shown))
+        | inr reads ↦ read_same row reads
+      ])
+
+  rows_same : (flat : Bool) (rows : List Row) → list_all (row_in flat keys) rows ≡ true → rows_entries a flat rows ≡ rows_entries b flat rows
+  rows_same flat [] e = refl
+  rows_same flat (row ∷ rows) e =
+      let parts = and_parts (row_in flat keys row) (list_all (row_in flat keys) rows) e in
+      let here = row_same flat row parts.0 in
+      let later = rows_same flat rows parts.1 in
+      λ i. here i ++ later i
+
+  pub lines_same : (flat : Bool) (rows : List Row) → list_all (row_in flat keys) rows ≡ true → rows_lines a flat rows ≡ rows_lines b flat rows
+  lines_same flat rows e = ap (λ (entries : List Entry). flat_map entry_lines entries) (rows_same flat rows e)
+
+-- of modules that are both flat, or neither
+pub by_flat : (a b : Memory) (rows : List Row) (f g : Bool) → f ≡ g → ((flat : Bool) → f ≡ flat → rows_lines a flat rows ≡ rows_lines b flat rows) → rows_lines a f rows ≡ rows_lines b g rows
+by_flat a b rows f g e same = same f refl ∙ ap (λ (flat : Bool). rows_lines b flat rows) e

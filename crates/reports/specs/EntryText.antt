@@ -1,0 +1,42 @@
+-- The text of a report. (docs/formats.md, "Reports" and "Values in reports")
+use Rattle.std.specs.Prelude.{ℕ, ℤ, List, [], ◌∷◌, map}
+use Rattle.std.specs.Fmt.{decimal}
+use Rattle.std.specs.List.{enumerate_from, flat_map}
+use Rattle.hex.specs.Hex.{encode_lower}
+use Rattle.field_tables.specs.declared.readings.Levels.{Levels}
+use Rattle.text_lines.specs.Lines.{text_of}
+use Rattle.reports.specs.Entries.{Entry, Said, word, right, number, code, revision, text, oui, amount, lanes, limits}
+use Rattle.reports.specs.Lines.{line}
+use Rattle.reports.specs.Monitors.{each_level, lane_measure, levels_text}
+use Rattle.reports.specs.declared.shown.Thousandths.{Thousandths}
+use Rattle.reports.specs.Shown as shown
+use Rattle.reports.specs.Shown.{byte_code, measure, printable, sum_word}
+
+-- an amount of a lane
+unfoldable pub lane_line : List ℕ → List ℕ → ℕ → ℤ → List ℕ
+lane_line name unit lane millis = line name (lane_measure lane (measure millis unit))
+
+-- those of the lanes, lane 1 first
+abbrev pub lane_lines : List ℕ → List ℕ → List ℤ → List (List ℕ)
+lane_lines name unit values = map (λ (l : ℕ × ℤ). lane_line name unit l.0 l.1) (enumerate_from 1 values)
+
+abbrev pub in_thousandths : Levels ℤ → Levels Thousandths
+in_thousandths levels = each_level (λ (millis : ℤ). record { 0 = millis }) levels
+
+unfoldable pub said_lines : List ℕ → Said → List (List ℕ)
+said_lines name (word w) = line name w ∷ []
+said_lines name (right is_right) = line name (sum_word is_right) ∷ []
+said_lines name (number n) = line name (decimal n) ∷ []
+said_lines name (code byte) = line name (byte_code byte) ∷ []
+said_lines name (revision byte) = line name (shown.revision byte) ∷ []
+said_lines name (text bytes) = line name (printable bytes) ∷ []
+said_lines name (oui bytes) = line name (encode_lower bytes) ∷ []
+said_lines name (amount millis unit) = line name (measure millis unit) ∷ []
+said_lines name (lanes values unit) = lane_lines name unit values
+said_lines name (limits levels unit) = line name (levels_text (in_thousandths levels)) ∷ []
+
+abbrev pub entry_lines : Entry → List (List ℕ)
+entry_lines e = said_lines e.name e.said
+
+abbrev pub report_text : List Entry → List ℕ
+report_text entries = text_of (flat_map entry_lines entries)

@@ -1,0 +1,167 @@
+-- What the rows of a report say of a module's memory. (docs/formats.md, "Reports")
+use Rattle.std.specs.Prelude.{ℕ, ◌+◌, ◌*◌, ◌^◌, ◌==◌, ◌&&◌, if◌then◌else◌, Bool, true, false, nat_le, ℤ, pos, ◌*ℤ◌, unwrap_or, is_some, List, [], ◌∷◌, Option, Some, None, codes}
+use Rattle.std.specs.List.{find, flat_map, list_all}
+use Rattle.paged_memory.specs.Images.{Memory}
+use Rattle.field_tables.specs.declared.field.Field.{Field}
+use Rattle.field_tables.specs.declared.field.Sum.{Sum}
+use Rattle.field_tables.specs.declared.field.TextField.{TextField}
+use Rattle.field_tables.specs.declared.readings.Levels.{Levels}
+use Rattle.field_tables.specs.declared.units.Unit.{Unit}
+use Rattle.field_tables.specs.declared.units.Unit.TheVariants as units
+use Rattle.field_tables.specs.FieldRows.{row_of}
+use Rattle.field_tables.specs.FieldValues.{of_each}
+use Rattle.field_tables.specs.Readings as readings
+use Rattle.field_tables.specs.Readings.{all_numbers, is_of_bytes, is_sum_right, reading_at}
+use Rattle.field_tables.specs.RowPlaces.{width_by}
+use Rattle.field_tables.specs.Units.{millis_of}
+use Rattle.reports.specs.Entries.{Entry, Said, entry, word, right, number, code, revision, text, oui, amount, lanes, limits}
+use Rattle.reports.specs.EntryText.{entry_lines}
+
+-- ---- rows
+
+-- what is shown of memory, and how
+pub data Source : Type 0 where
+  Word : List ℕ → Source
+  -- the first word where the bit is 1, and else the second
+  Either : Field → List ℕ → List ℕ → Source
+  Code : Field → Source
+  Revision : Field → Source
+  -- the number and one
+  Next : Field → Source
+  Text : TextField → Source
+  Oui : Field → Source
+  -- whether a sum is right
+  Right : Sum → Source
+  -- in the unit of the field
+  Amount : Field → Source
+  -- tenths of a metre, times ten to the power of the second
+  Length : Field → Field → Source
+  -- of each lane, times two to the power of the second where there is one
+  Lanes : Field → Option Field → Source
+  -- of each level
+  Limits : Field → Option Field → Source
+
+-- where a field has this number: nothing, or a word
+pub data Instead : Type 0 where
+  Nothing : Field → ℕ → Instead
+  Says : Field → ℕ → List ℕ → Instead
+
+pub record Row : Type 0 where
+  pub name : List ℕ
+  pub source : Source
+  -- not of a module with flat memory
+  pub paged : Bool
+  -- the first that applies is said in place of the source
+  pub instead : List Instead
+
+-- a line of every module
+abbrev pub always : List ℕ → Source → Row
+always name source = record { name = name; source = source; paged = false; instead = [] }
+
+-- a line of a module with paged memory, in whose place these say a word, or nothing
+abbrev pub if_paged : List ℕ → Source → List Instead → Row
+if_paged name source instead = record { name = name; source = source; paged = true; instead = instead }
+
+-- ---- amounts
+
+-- the unit that the field's row names
+abbrev pub unit_of : Field → Unit
+unit_of field = unwrap_or (row_of field).unit units.ModulePower
+
+-- the unit whose thousandths are printed
+unfoldable pub unit_name : Unit → List ℕ
+unit_name units.Temperature = codes "C"
+unit_name units.Voltage = codes "mV"
+unit_name units.OpticalPower = codes "uW"
+unit_name units.Bias = codes "mA"
+unit_name units.ModulePower = codes "W"
+
+-- steps that count more, by a field that says how often they are doubled
+abbrev pub times : Memory → ℤ → Option Field → ℤ
+times memory steps None = steps
+times memory steps (Some power) = steps *ℤ pos (2 ^ readings.number memory power)
+
+-- value i of a field in thousandths of its unit
+unfoldable pub amount_at : Memory → Field → Option Field → ℕ → ℤ
+amount_at memory field power i = millis_of (times memory (reading_at memory field i) power) (unit_of field)
+
+abbrev pub levels_of : (ℕ → ℤ) → Levels ℤ
+levels_of of = record { high_alarm = of 1; low_alarm = of 2; high_warning = of 3; low_warning = of 4 }
+
+-- in thousandths of a metre
+abbrev pub length_of : Memory → Field → Field → ℤ
+length_of memory base power = pos (readings.number memory base * 100 * 10 ^ readings.number memory power)
+
+-- ---- what rows say
+
+unfoldable pub source_said : Memory → Source → Said
+source_said memory (Word w) = word w
+source_said memory (Either field one other) = word (if readings.number memory field == 1 then one else other)
+source_said memory (Code field) = code (readings.number memory field)
+source_said memory (Revision field) = revision (readings.number memory field)
+source_said memory (Next field) = number (readings.number memory field + 1)
+source_said memory (Text field) = text (readings.text memory field)
+source_said memory (Oui field) = oui (all_numbers memory field)
+source_said memory (Right sum) = right (is_sum_right memory sum)
+source_said memory (Amount field) = amount (amount_at memory field None 1) (unit_name (unit_of field))
+source_said memory (Length base power) = amount (length_of memory base power) (codes "m")
+source_said memory (Lanes field power) = lanes (of_each field (amount_at memory field power)) (unit_name (unit_of field))
+source_said memory (Limits field power) = limits (levels_of (amount_at memory field power)) (unit_name (unit_of field))
+
+-- the field has this number
+abbrev pub applies : Memory → Instead → Bool
+applies memory (Nothing field n) = readings.number memory field == n
+applies memory (Says field n w) = readings.number memory field == n
+
+abbrev pub deciding : Memory → List Instead → Option Instead
+deciding memory cases = find (applies memory) cases
+
+abbrev pub decided_entries : Memory → Row → Option Instead → List Entry
+decided_entries memory row None = entry row.name (source_said memory row.source) ∷ []
+decided_entries memory row (Some (Nothing field n)) = []
+decided_entries memory row (Some (Says field n w)) = entry row.name (word w) ∷ []
+
+unfoldable pub row_entries : Memory → Bool → Row → List Entry
+row_entries memory flat row = if row.paged && flat then [] else decided_entries memory row (deciding memory row.instead)
+
+-- of a module whose memory is flat or not
+abbrev pub rows_entries : Memory → Bool → List Row → List Entry
+rows_entries memory flat rows = flat_map (row_entries memory flat) rows
+
+abbrev pub rows_lines : Memory → Bool → List Row → List (List ℕ)
+rows_lines memory flat rows = flat_map entry_lines (rows_entries memory flat rows)
+
+-- ---- what each row keeps to
+
+-- so many numbers of at most a byte
+abbrev pub is_counted : Field → ℕ → Bool
+is_counted field n = is_of_bytes (row_of field) && (row_of field).count == n
+
+-- one number of at most two bits
+abbrev pub is_power : Field → Bool
+is_power field = is_counted field 1 && nat_le (width_by (row_of field).layout (row_of field).bits) 2
+
+abbrev pub power_fits : Option Field → Bool
+power_fits None = true
+power_fits (Some field) = is_power field
+
+abbrev pub instead_fits : Instead → Bool
+instead_fits (Nothing field n) = is_counted field 1
+instead_fits (Says field n w) = is_counted field 1
+
+abbrev pub source_fits : Source → Bool
+source_fits (Word w) = true
+source_fits (Either field one other) = is_counted field 1
+source_fits (Code field) = is_counted field 1
+source_fits (Revision field) = is_counted field 1
+source_fits (Next field) = is_counted field 1
+source_fits (Text field) = true
+source_fits (Oui field) = is_counted field 3
+source_fits (Right sum) = true
+source_fits (Amount field) = (row_of field).count == 1 && is_some (row_of field).unit
+source_fits (Length base power) = is_counted base 1 && is_power power
+source_fits (Lanes field power) = nat_le (row_of field).count 8 && power_fits power && is_some (row_of field).unit
+source_fits (Limits field power) = (row_of field).count == 4 && power_fits power && is_some (row_of field).unit
+
+abbrev pub row_fits : Row → Bool
+row_fits row = list_all instead_fits row.instead && source_fits row.source

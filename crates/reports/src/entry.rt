@@ -1,0 +1,45 @@
+// What a report says, whatever it is printed as.
+ghost use Rattle.std.specs.Prelude.{◌≡◌, ◌++◌, ◌∷◌, [], OnOk};
+ghost use Rattle.reports.specs.Entries.{entry, said_in, said_of};
+
+use arrayvec::ArrayVec;
+use field_tables::Levels;
+use std::alloc::AllocError;
+
+/// What is said under a name.
+#[derive(Drop)]
+pub enum Said {
+    /// A word of the report's own.
+    Word(&'static str),
+    /// Whether a sum is right.
+    Right(bool),
+    Number(u16),
+    /// A byte that is a code of the standard.
+    Code(u8),
+    Revision(u8),
+    /// The bytes of a text field.
+    Text(ArrayVec<u8, 16>),
+    Oui([u8; 3]),
+    /// Thousandths of a unit.
+    Amount(i64, &'static str),
+    /// The same of each lane, lane 1 first.
+    Lanes(ArrayVec<i64, 8>, &'static str),
+    /// And of each level.
+    Limits(Levels<i64>, &'static str),
+}
+
+/// A name and what is said under it.
+#[derive(Drop)]
+pub struct Entry {
+    pub name: &'static str,
+    pub said: Said,
+}
+
+/// Adds an entry.
+#[tactic(auto, unfolding(crate::specs::Entries::said_in, crate::specs::Entries::entry))]
+pub fn say(entries: &mut Vec<Entry>, name: &'static str, said: Said) -> Result<(), AllocError>
+    ensures { OnOk result (said_in entries.new ≡ said_in entries.old ++ entry name.now (said_of said) ∷ []) }
+{
+    entries.push(Entry { name, said })?;
+    Ok(())
+}

@@ -1,0 +1,48 @@
+// A line of a report as a row: its name, what it shows of a module's memory, and when.
+use field_tables::{Field, Sum, TextField};
+
+/// What is shown of a module's memory, and how.
+#[derive(Clone, Copy)]
+pub enum Source<T> {
+    Word(T),
+    /// The first word where the bit is 1, and else the second.
+    Either(Field, T, T),
+    /// A code of the standard.
+    Code(Field),
+    Revision(Field),
+    /// The number and one.
+    Next(Field),
+    Text(TextField),
+    Oui(Field),
+    /// Whether a sum is right.
+    Right(Sum),
+    /// In the unit of the field.
+    Amount(Field),
+    /// Tenths of a metre, times ten to the power of the second.
+    Length(Field, Field),
+    /// Of each lane, times two to the power of the second where there is one.
+    Lanes(Field, Option<Field>),
+    /// Of each level, as those of lanes.
+    Limits(Field, Option<Field>),
+}
+
+/// Where a field has a number: nothing is said, or this word.
+#[derive(Clone, Copy)]
+pub enum Instead<T> {
+    Nothing(Field, u8),
+    Word(Field, u8, T),
+}
+
+/// A line of a report. Words and lists are parameters, so that tables have names in definitions.
+#[derive(Clone, Copy)]
+pub struct Row<T, I> {
+    pub name: T,
+    pub source: Source<T>,
+    /// Not of a module with flat memory.
+    pub paged: bool,
+    /// The first that applies is said in place of the source.
+    pub instead: I,
+}
+
+/// A row of a table of this crate.
+pub type Line = Row<&'static str, &'static [Instead<&'static str>]>;

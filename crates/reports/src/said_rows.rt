@@ -1,0 +1,242 @@
+// What rows say of a module's memory.
+ghost use Rattle.std.specs.Prelude.{◌≡◌, ◌++◌, ◌<◌, ◌≤◌, ◌≤ℤ◌, ◌^◌, pos, neg_ℤ, FitsSigned, IfOk, IsTrue, OnOk, option_map};
+ghost use Rattle.std.specs.Int.{w64};
+ghost use Rattle.std.specs.List.{list_all};
+ghost use Rattle.field_tables.specs.FieldRows.{row_of};
+ghost use Rattle.field_tables.specs.FieldValues.{of_each};
+ghost use Rattle.field_tables.specs.Readings.{IsWord};
+ghost use Rattle.text_lines.specs.Lines.{text_of};
+ghost use Rattle.reports.specs.Entries.{said_in, said_of};
+ghost use Rattle.reports.specs.RowTables.{case_in, cases_in, row_in, rows_in, source_in};
+ghost use Rattle.reports.specs.Rows as spec;
+ghost use Rattle.reports.specs.Rows.{instead_fits, is_counted, is_power, levels_of, power_fits, row_entries, row_fits, rows_entries, rows_lines, source_fits, source_said};
+
+use crate::entry::{Entry, Said, say};
+use crate::entry_text;
+use crate::row::{Instead, Line, Source};
+use arrayvec::ArrayVec;
+use field_tables::{
+    Field, Levels, Unit, all_numbers, is_sum_right, millis, number, reading_at, row, text,
+};
+use paged_memory::Image;
+use std::alloc::{AllocError, Global};
+
+/// The text of what these rows say of a module, whose memory is flat or not.
+#[tactic(auto, unfolding(crate::specs::Entries::said_in))]
+pub fn rows_text(
+    alloc: Global,
+    image: &Image,
+    flat: bool,
+    rows: &'static [Line],
+) -> Result<Vec<u8>, AllocError>
+    requires { IsTrue (list_all row_fits (rows_in rows.now)) }
+    ensures { IfOk result (λ text. text.items ≡ text_of (rows_lines image.now flat (rows_in rows.now))) }
+{
+    let mut entries = Vec::new(alloc);
+    say_rows(&mut entries, image, flat, rows)?;
+    entry_text::text(alloc, &entries)
+}
+
+/// Adds what these rows say of a module, whose memory is flat or not.
+pub fn say_rows(
+    entries: &mut Vec<Entry>,
+    image: &Image,
+    flat: bool,
+    rows: &'static [Line],
+) -> Result<(), AllocError>
+    requires { IsTrue (list_all row_fits (rows_in rows.now)) }
+    ensures { OnOk result (said_in entries.new ≡ said_in entries.old ++ rows_entries image.now flat (rows_in rows.now)) }
+{
+    for row in rows {
+        say_row(entries, image, flat, row)?;
+    }
+    Ok(())
+}
+
+#[tactic(auto, unfolding(crate::specs::Rows::row_entries))]
+fn say_row(
+    entries: &mut Vec<Entry>,
+    image: &Image,
+    flat: bool,
+    row: &'static Line,
+) -> Result<(), AllocError>
+    requires { IsTrue (row_fits (row_in row.now)) }
+    ensures { OnOk result (said_in entries.new ≡ said_in entries.old ++ row_entries image.now flat (row_in row.now)) }
+{
+    if row.paged && flat {
+        return Ok(());
+    }
+    match deciding(image, row.instead) {
+        Some(Instead::Nothing(..)) => Ok(()),
+        Some(Instead::Word(_, _, word)) => say(entries, row.name, Said::Word(word)),
+        None => say(entries, row.name, said(image, &row.source)),
+    }
+}
+
+// The first that applies.
+fn deciding(
+    image: &Image,
+    instead: &'static [Instead<&'static str>],
+) -> Option<Instead<&'static str>>
+    requires { IsTrue (list_all instead_fits (cases_in instead.now)) }
+    ensures { option_map case_in result ≡ spec.deciding image.now (cases_in instead.now) }
+{
+    for case in instead {
+        if applies(image, case) {
+            return Some(*case);
+        }
+    }
+    None
+}
+
+fn applies(image: &Image, case: &Instead<&'static str>) -> bool
+    requires { IsTrue (instead_fits (case_in case.now)) }
+    ensures { result ≡ spec.applies image.now (case_in case.now) }
+{
+    match *case {
+        Instead::Nothing(field, code) | Instead::Word(field, code, _) => {
+            number(image, field) == code
+        }
+    }
+}
+
+#[tactic(auto, unfolding(crate::specs::Rows::source_said))]
+fn said(image: &Image, source: &Source<&'static str>) -> Said
+    requires { IsTrue (source_fits (source_in source.now)) }
+    ensures { said_of result ≡ source_said image.now (source_in source.now) }
+{
+    match *source {
+        Source::Word(word) => Said::Word(word),
+        Source::Either(field, one, other) => {
+            Said::Word(if number(image, field) == 1 {
+                one
+            } else {
+                other
+            })
+        }
+        Source::Code(field) => Said::Code(number(image, field)),
+        Source::Revision(field) => Said::Revision(number(image, field)),
+        Source::Next(field) => Said::Number(u16::from(number(image, field)) + 1),
+        Source::Text(field) => Said::Text(text(image, field)),
+        Source::Oui(field) => Said::Oui(all_numbers(image, field)),
+        Source::Right(sum) => Said::Right(is_sum_right(image, sum)),
+        Source::Amount(field) => {
+            Said::Amount(amount_at(image, field, None, 1), unit_name(unit_of(field)))
+        }
+        Source::Length(base, power) => Said::Amount(length(image, base, power), "m"),
+        Source::Lanes(field, power) => {
+            Said::Lanes(amounts(image, field, power), unit_name(unit_of(field)))
+        }
+        Source::Limits(field, power) => {
+            Said::Limits(levels(image, field, power), unit_name(unit_of(field)))
+        }
+    }
+}
+
+// Value `index` of a field in thousandths of its unit.
+#[tactic(auto, unfolding(crate::specs::Rows::amount_at))]
+fn amount_at(image: &Image, field: Field, power: Option<Field>, index: u8) -> i64
+    requires first { 1 ≤ index }
+    requires last { index ≤ (row_of field).count }
+    requires power { IsTrue (power_fits power) }
+    ensures value { result ≡ spec.amount_at image.now field power index }
+    ensures fits { FitsSigned w64 result }
+{
+    let steps = times(image, reading_at(image, field, index), power);
+    millis(i64::from(steps), unit_of(field))
+}
+
+fn times(image: &Image, steps: i32, power: Option<Field>) -> i32
+    requires steps { IsWord steps }
+    requires power { IsTrue (power_fits power) }
+    ensures value { result ≡ spec.times image.now steps power }
+    ensures low { neg_ℤ (pos 262144) ≤ℤ result }
+    ensures high { result ≤ℤ pos 524280 }
+{
+    match power {
+        None => steps,
+        Some(field) => steps * two_to(number(image, field)),
+    }
+}
+
+fn two_to(power: u8) -> i32
+    requires { power < 4 }
+    ensures value { result ≡ pos (2 ^ power) }
+    ensures range { (pos 1 ≤ℤ result) × (result ≤ℤ pos 8) }
+{
+    match power {
+        0 => 1,
+        1 => 2,
+        2 => 4,
+        _ => 8,
+    }
+}
+
+fn amounts(image: &Image, field: Field, power: Option<Field>) -> ArrayVec<i64, 8>
+    requires count { (row_of field).count ≤ 8 }
+    requires power { IsTrue (power_fits power) }
+    ensures { result.items ≡ of_each field (spec.amount_at image.now field power) }
+{
+    let mut amounts = ArrayVec::new();
+    for before in 0..row(field).count {
+        amounts.push(amount_at(image, field, power, before + 1));
+    }
+    amounts
+}
+
+fn levels(image: &Image, field: Field, power: Option<Field>) -> Levels<i64>
+    requires count { 4 ≡ (row_of field).count }
+    requires power { IsTrue (power_fits power) }
+    ensures { result ≡ levels_of (spec.amount_at image.now field power) }
+{
+    Levels {
+        high_alarm: amount_at(image, field, power, 1),
+        low_alarm: amount_at(image, field, power, 2),
+        high_warning: amount_at(image, field, power, 3),
+        low_warning: amount_at(image, field, power, 4),
+    }
+}
+
+// In thousandths of a metre.
+fn length(image: &Image, base: Field, power: Field) -> i64
+    requires base { IsTrue (is_counted base 1) }
+    requires power { IsTrue (is_power power) }
+    ensures value { result ≡ spec.length_of image.now base power }
+    ensures fits { FitsSigned w64 result }
+{
+    i64::from(number(image, base)) * 100 * ten_to(number(image, power))
+}
+
+fn ten_to(power: u8) -> i64
+    requires { power < 4 }
+    ensures value { result ≡ pos (10 ^ power) }
+    ensures small { result ≤ℤ pos 1000 }
+{
+    match power {
+        0 => 1,
+        1 => 10,
+        2 => 100,
+        _ => 1000,
+    }
+}
+
+// The unit of a field that has one.
+fn unit_of(field: Field) -> Unit
+    ensures { result ≡ spec.unit_of field }
+{
+    row(field).unit.unwrap_or(Unit::ModulePower)
+}
+
+/// The unit whose thousandths are printed.
+#[tactic(auto, unfolding(crate::specs::Rows::unit_name))]
+fn unit_name(unit: Unit) -> &'static str
+    ensures { result.now ≡ spec.unit_name unit }
+{
+    match unit {
+        Unit::Temperature => "C",
+        Unit::Voltage => "mV",
+        Unit::OpticalPower => "uW",
+        Unit::Bias => "mA",
+        Unit::ModulePower => "W",
+    }
+}

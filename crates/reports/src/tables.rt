@@ -1,0 +1,328 @@
+// The lines of reports. A row: its name, what it shows, of which modules, and what is said instead if a field has a number.
+// The definitions have each table in their own words; that the two are equal is each table's contract.
+ghost use Rattle.std.specs.Prelude.{◌≡◌, IsTrue};
+ghost use Rattle.std.specs.List.{list_all};
+ghost use Rattle.reports.specs.CmisFlags as spec_cmis_flags;
+ghost use Rattle.reports.specs.CmisInventory as spec_cmis_inventory;
+ghost use Rattle.reports.specs.CmisMonitors as spec_cmis_monitors;
+ghost use Rattle.reports.specs.FlagRows.{flag_row_fits};
+ghost use Rattle.reports.specs.RowTables.{rows_in};
+ghost use Rattle.reports.specs.Rows.{row_fits};
+ghost use Rattle.reports.specs.SffFlags as spec_sff_flags;
+ghost use Rattle.reports.specs.SffInventory as spec_sff_inventory;
+ghost use Rattle.reports.specs.SffMonitors as spec_sff_monitors;
+
+use crate::flag::{Condition, FlagName, Level};
+use crate::flag_rows::{FlagPlace, FlagRow};
+use crate::quantity::Quantity;
+use crate::row::{Instead, Line, Row, Source};
+use field_tables::{Field, Sum, TextField};
+
+macro_rules! source {
+    (Word $word:literal) => { Source::Word($word) };
+    (Either $field:ident $one:literal $other:literal) => { Source::Either(Field::$field, $one, $other) };
+    (Text $text:ident) => { Source::Text(TextField::$text) };
+    (Right $sum:ident) => { Source::Right(Sum::$sum) };
+    (Length $base:ident $power:ident) => { Source::Length(Field::$base, Field::$power) };
+    (Lanes $field:ident) => { Source::Lanes(Field::$field, None) };
+    (Lanes $field:ident $power:ident) => { Source::Lanes(Field::$field, Some(Field::$power)) };
+    (Limits $field:ident) => { Source::Limits(Field::$field, None) };
+    (Limits $field:ident $power:ident) => { Source::Limits(Field::$field, Some(Field::$power)) };
+    ($kind:ident $field:ident) => { Source::$kind(Field::$field) };
+}
+
+macro_rules! paged {
+    () => { false };
+    (paged) => { true };
+}
+
+macro_rules! instead {
+    ($field:ident $number:literal) => { Instead::Nothing(Field::$field, $number) };
+    ($field:ident $number:literal $word:literal) => { Instead::Word(Field::$field, $number, $word) };
+}
+
+macro_rules! rows {
+    ($($name:literal: [$($source:tt)*] $($paged:ident)? $([$($instead:tt)*])*;)*) => {
+        &[$(Row {
+            name: $name,
+            source: source!($($source)*),
+            paged: paged!($($paged)?),
+            instead: &[$(instead!($($instead)*)),*],
+        }),*]
+    };
+}
+
+const CMIS_INVENTORY: &[Line] = rows! {
+    "family": [Word "CMIS"];
+    "identifier": [Code CIdentifier];
+    "revision": [Revision CRevision];
+    "memory": [Either CFlatMemory "flat" "paged"];
+    "media-type": [Code CMediaType];
+    "vendor": [Text CVendor];
+    "oui": [Oui COui];
+    "part": [Text CPart];
+    "part-revision": [Text CPartRevision];
+    "serial": [Text CSerial];
+    "date": [Text CDate];
+    "power-class": [Next CPowerClass];
+    "max-power": [Amount CMaxPower];
+    "length": [Length CLengthBase CLengthMultiplier];
+    "connector": [Code CConnector];
+    "technology": [Code CTechnology];
+    "sum-00h": [Right CSum00];
+};
+
+/// What a CMIS module is.
+#[tactic(auto, unfolding(crate::specs::CmisInventory::inventory_rows))]
+pub fn cmis_inventory() -> &'static [Line]
+    ensures rows { rows_in result.now ≡ spec_cmis_inventory.inventory_rows }
+    ensures fit { IsTrue (list_all row_fits (rows_in result.now)) }
+{
+    CMIS_INVENTORY
+}
+
+const CMIS_MONITORS: &[Line] = rows! {
+    "temperature": [Amount CTemperature];
+    "temperature-limits": [Limits CTempLimits] paged;
+    "vcc": [Amount CVcc];
+    "vcc-limits": [Limits CVccLimits] paged;
+    "tx-power": [Lanes CTxPower] paged [CTxPowerMonitor 0 "unsupported"];
+    "tx-power-limits": [Limits CTxPowerLimits] paged [CTxPowerMonitor 0];
+    "tx-bias": [Lanes CTxBias CBiasMultiplier] paged [CTxBiasMonitor 0 "unsupported"] [CBiasMultiplier 3 "reserved"];
+    "tx-bias-limits": [Limits CTxBiasLimits CBiasMultiplier] paged [CTxBiasMonitor 0] [CBiasMultiplier 3];
+    "rx-power": [Lanes CRxPower] paged [CRxPowerMonitor 0 "unsupported"];
+    "rx-power-limits": [Limits CRxPowerLimits] paged [CRxPowerMonitor 0];
+    "sum-02h": [Right CSum02] paged;
+};
+
+/// What a CMIS module measures.
+#[tactic(auto, unfolding(crate::specs::CmisMonitors::monitor_rows))]
+pub fn cmis_monitors() -> &'static [Line]
+    ensures rows { rows_in result.now ≡ spec_cmis_monitors.monitor_rows }
+    ensures fit { IsTrue (list_all row_fits (rows_in result.now)) }
+{
+    CMIS_MONITORS
+}
+
+const QSFP_INVENTORY: &[Line] = rows! {
+    "family": [Word "SFF-8636"];
+    "identifier": [Code QIdentifier];
+    "vendor": [Text QVendor];
+    "oui": [Oui QOui];
+    "part": [Text QPart];
+    "part-revision": [Text QPartRevision];
+    "serial": [Text QSerial];
+    "date": [Text QDate];
+    "connector": [Code QConnector];
+    "sum-base": [Right QSumBase];
+    "sum-ext": [Right QSumExt];
+};
+
+/// What a module of SFF-8636 is.
+#[tactic(auto, unfolding(crate::specs::SffInventory::qsfp_rows))]
+pub fn qsfp_inventory() -> &'static [Line]
+    ensures rows { rows_in result.now ≡ spec_sff_inventory.qsfp_rows }
+    ensures fit { IsTrue (list_all row_fits (rows_in result.now)) }
+{
+    QSFP_INVENTORY
+}
+
+const QSFP_MONITORS: &[Line] = rows! {
+    "temperature": [Amount QTemperature];
+    "temperature-limits": [Limits QTempLimits] paged;
+    "vcc": [Amount QVcc];
+    "vcc-limits": [Limits QVccLimits] paged;
+    "tx-power": [Lanes QTxPower];
+    "tx-power-limits": [Limits QTxPowerLimits] paged;
+    "tx-bias": [Lanes QTxBias];
+    "tx-bias-limits": [Limits QTxBiasLimits] paged;
+    "rx-power": [Lanes QRxPower];
+    "rx-power-limits": [Limits QRxPowerLimits] paged;
+};
+
+/// What a module of SFF-8636 measures.
+#[tactic(auto, unfolding(crate::specs::SffMonitors::qsfp_rows))]
+pub fn qsfp_monitors() -> &'static [Line]
+    ensures rows { rows_in result.now ≡ spec_sff_monitors.qsfp_rows }
+    ensures fit { IsTrue (list_all row_fits (rows_in result.now)) }
+{
+    QSFP_MONITORS
+}
+
+const SFP_INVENTORY: &[Line] = rows! {
+    "family": [Word "SFF-8472"];
+    "identifier": [Code SIdentifier];
+    "vendor": [Text SVendor];
+    "oui": [Oui SOui];
+    "part": [Text SPart];
+    "part-revision": [Text SPartRevision];
+    "serial": [Text SSerial];
+    "date": [Text SDate];
+    "connector": [Code SConnector];
+    "sum-base": [Right SSumBase];
+    "sum-ext": [Right SSumExt];
+};
+
+/// What a module of SFF-8472 is.
+#[tactic(auto, unfolding(crate::specs::SffInventory::sfp_rows))]
+pub fn sfp_inventory() -> &'static [Line]
+    ensures rows { rows_in result.now ≡ spec_sff_inventory.sfp_rows }
+    ensures fit { IsTrue (list_all row_fits (rows_in result.now)) }
+{
+    SFP_INVENTORY
+}
+
+const SFP_MONITORS: &[Line] = rows! {
+    "temperature": [Amount STemperature];
+    "temperature-limits": [Limits STempLimits];
+    "vcc": [Amount SVcc];
+    "vcc-limits": [Limits SVccLimits];
+    "tx-power": [Lanes STxPower];
+    "tx-power-limits": [Limits STxPowerLimits];
+    "tx-bias": [Lanes STxBias];
+    "tx-bias-limits": [Limits STxBiasLimits];
+    "rx-power": [Lanes SRxPower];
+    "rx-power-limits": [Limits SRxPowerLimits];
+    "sum-a2": [Right SSumDmi];
+};
+
+/// What a module of SFF-8472 measures.
+#[tactic(auto, unfolding(crate::specs::SffMonitors::sfp_rows))]
+pub fn sfp_monitors() -> &'static [Line]
+    ensures rows { rows_in result.now ≡ spec_sff_monitors.sfp_rows }
+    ensures fit { IsTrue (list_all row_fits (rows_in result.now)) }
+{
+    SFP_MONITORS
+}
+
+macro_rules! flag_name {
+    ($condition:ident) => { FlagName::Holds(Condition::$condition) };
+    ($quantity:ident $level:ident) => { FlagName::Passed(Quantity::$quantity, Level::$level) };
+}
+
+macro_rules! place {
+    (lanes) => { FlagPlace::Lanes };
+    ($index:literal) => { FlagPlace::Value(None, $index) };
+    ($index:literal lane $lane:literal) => { FlagPlace::Value(Some($lane), $index) };
+}
+
+macro_rules! flag_rows {
+    ($($first:ident $($level:ident)?: [$field:ident $($place:tt)*] $($paged:ident)?;)*) => {
+        &[$(FlagRow {
+            name: flag_name!($first $($level)?),
+            field: Field::$field,
+            place: place!($($place)*),
+            paged: paged!($($paged)?),
+        }),*]
+    };
+}
+
+const CMIS_FLAGS: &[FlagRow] = flag_rows! {
+    Temperature HighAlarm: [CModuleFlag 1];
+    Temperature LowAlarm: [CModuleFlag 2];
+    Temperature HighWarning: [CModuleFlag 3];
+    Temperature LowWarning: [CModuleFlag 4];
+    Vcc HighAlarm: [CModuleFlag 5];
+    Vcc LowAlarm: [CModuleFlag 6];
+    Vcc HighWarning: [CModuleFlag 7];
+    Vcc LowWarning: [CModuleFlag 8];
+    PathStateChanged: [CPathStateChanged lanes] paged;
+    TxFailure: [CTxFailure lanes] paged;
+    TxLos: [CTxLos lanes] paged;
+    TxLol: [CTxLol lanes] paged;
+    TxEqFail: [CTxEqFail lanes] paged;
+    TxPower HighAlarm: [CTxPowerHighAlarm lanes] paged;
+    TxPower LowAlarm: [CTxPowerLowAlarm lanes] paged;
+    TxPower HighWarning: [CTxPowerHighWarning lanes] paged;
+    TxPower LowWarning: [CTxPowerLowWarning lanes] paged;
+    TxBias HighAlarm: [CTxBiasHighAlarm lanes] paged;
+    TxBias LowAlarm: [CTxBiasLowAlarm lanes] paged;
+    TxBias HighWarning: [CTxBiasHighWarning lanes] paged;
+    TxBias LowWarning: [CTxBiasLowWarning lanes] paged;
+    RxLos: [CRxLos lanes] paged;
+    RxLol: [CRxLol lanes] paged;
+    RxPower HighAlarm: [CRxPowerHighAlarm lanes] paged;
+    RxPower LowAlarm: [CRxPowerLowAlarm lanes] paged;
+    RxPower HighWarning: [CRxPowerHighWarning lanes] paged;
+    RxPower LowWarning: [CRxPowerLowWarning lanes] paged;
+};
+
+/// What a CMIS module warns of.
+#[tactic(auto, unfolding(crate::specs::CmisFlags::flag_rows))]
+pub fn cmis_flags() -> &'static [FlagRow]
+    ensures rows { result.now ≡ spec_cmis_flags.flag_rows }
+    ensures fit { IsTrue (list_all flag_row_fits result.now) }
+{
+    CMIS_FLAGS
+}
+
+const QSFP_FLAGS: &[FlagRow] = flag_rows! {
+    Temperature HighAlarm: [QTempFlag 1];
+    Temperature LowAlarm: [QTempFlag 2];
+    Temperature HighWarning: [QTempFlag 3];
+    Temperature LowWarning: [QTempFlag 4];
+    Vcc HighAlarm: [QVccFlag 1];
+    Vcc LowAlarm: [QVccFlag 2];
+    Vcc HighWarning: [QVccFlag 3];
+    Vcc LowWarning: [QVccFlag 4];
+    TxLos: [QTxLos lanes];
+    RxLos: [QRxLos lanes];
+    TxFault: [QTxFault lanes];
+    TxLol: [QTxLol lanes];
+    RxLol: [QRxLol lanes];
+    RxPower HighAlarm: [QRxPowerHighAlarm lanes];
+    RxPower LowAlarm: [QRxPowerLowAlarm lanes];
+    RxPower HighWarning: [QRxPowerHighWarning lanes];
+    RxPower LowWarning: [QRxPowerLowWarning lanes];
+    TxBias HighAlarm: [QTxBiasHighAlarm lanes];
+    TxBias LowAlarm: [QTxBiasLowAlarm lanes];
+    TxBias HighWarning: [QTxBiasHighWarning lanes];
+    TxBias LowWarning: [QTxBiasLowWarning lanes];
+    TxPower HighAlarm: [QTxPowerHighAlarm lanes];
+    TxPower LowAlarm: [QTxPowerLowAlarm lanes];
+    TxPower HighWarning: [QTxPowerHighWarning lanes];
+    TxPower LowWarning: [QTxPowerLowWarning lanes];
+};
+
+/// What a module of SFF-8636 warns of.
+#[tactic(auto, unfolding(crate::specs::SffFlags::qsfp_rows))]
+pub fn qsfp_flags() -> &'static [FlagRow]
+    ensures rows { result.now ≡ spec_sff_flags.qsfp_rows }
+    ensures fit { IsTrue (list_all flag_row_fits result.now) }
+{
+    QSFP_FLAGS
+}
+
+const SFP_FLAGS: &[FlagRow] = flag_rows! {
+    Temperature HighAlarm: [SAlarms 1];
+    Temperature LowAlarm: [SAlarms 2];
+    Temperature HighWarning: [SWarnings 1];
+    Temperature LowWarning: [SWarnings 2];
+    Vcc HighAlarm: [SAlarms 3];
+    Vcc LowAlarm: [SAlarms 4];
+    Vcc HighWarning: [SWarnings 3];
+    Vcc LowWarning: [SWarnings 4];
+    TxBias HighAlarm: [SAlarms 5 lane 1];
+    TxBias LowAlarm: [SAlarms 6 lane 1];
+    TxBias HighWarning: [SWarnings 5 lane 1];
+    TxBias LowWarning: [SWarnings 6 lane 1];
+    TxPower HighAlarm: [SAlarms 7 lane 1];
+    TxPower LowAlarm: [SAlarms 8 lane 1];
+    TxPower HighWarning: [SWarnings 7 lane 1];
+    TxPower LowWarning: [SWarnings 8 lane 1];
+    RxPower HighAlarm: [SRxAlarms 1 lane 1];
+    RxPower LowAlarm: [SRxAlarms 2 lane 1];
+    RxPower HighWarning: [SRxWarnings 1 lane 1];
+    RxPower LowWarning: [SRxWarnings 2 lane 1];
+    TxFault: [STxFault 1 lane 1];
+    RxLos: [SRxLos 1 lane 1];
+};
+
+/// What a module of SFF-8472 warns of.
+#[tactic(auto, unfolding(crate::specs::SffFlags::sfp_rows))]
+pub fn sfp_flags() -> &'static [FlagRow]
+    ensures rows { result.now ≡ spec_sff_flags.sfp_rows }
+    ensures fit { IsTrue (list_all flag_row_fits result.now) }
+{
+    SFP_FLAGS
+}
