@@ -31,11 +31,12 @@ enum dovecounter_status {
     DOVECOUNTER_TOO_MANY_HALVES = 1, /* more than 16 */
     DOVECOUNTER_NO_PLACE = 2,        /* of some half: another device than 0xA0 and 0xA2, or upper above 1, or upper 0 with a
                                         bank or a page other than 0 */
-    DOVECOUNTER_ABSENT = 14,         /* AD4: device 0xA0 has no lower half, or no page 00h or 01h of bank 0 */
     DOVECOUNTER_NOT_CMIS = 11,       /* AD1: the identifier, byte 0, is none of 0x18, 0x19 and 0x1E */
     DOVECOUNTER_REVISION = 12,       /* AD2: the CMIS revision, byte 1, is of a major number other than 4 and 5 */
     DOVECOUNTER_NOT_EIGHT_LANES = 16, /* AD6: the module has other than eight lanes */
     DOVECOUNTER_FLAT_MEMORY = 13,    /* AD3: the module has no pages but 00h */
+    DOVECOUNTER_ABSENT = 14,         /* AD4: device 0xA0 has no page 00h or 01h of bank 0, or no lower half, which is looked
+                                        for before DOVECOUNTER_NOT_CMIS */
     DOVECOUNTER_BAD_SUM = 15,        /* AD5: the sum of page 00h or 01h is wrong */
 
     /* of a certificate's text, the first */

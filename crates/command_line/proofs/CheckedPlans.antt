@@ -16,7 +16,7 @@ use Rattle.plan_certificate.specs.CertificateText.{IsTextOf, line_text, line_wor
 use Rattle.plan_certificate.specs.Verdicts.{verdict}
 use Rattle.plan_certificate.specs.declared.line.Line.{Line}
 use Rattle.plan_certificate.specs.declared.line.Line.TheVariants.{Header, KeptHeader, Weight, KeepLine, PathLine, StateLine, End}
-use Rattle.plan_certificate.specs.declared.state.TheConstants.{STATES}
+use Rattle.plan_certificate.specs.Limits.{most_states}
 use Rattle.plan_certificate.specs.declared.verdict.Verdict.{Verdict}
 use Rattle.plan_certificate.specs.declared.verdict.Verdict.TheVariants.{Good, Bad}
 use Rattle.plan_certificate.proofs.OneAnswer.{same_answer}
@@ -27,7 +27,7 @@ use Rattle.command_line.specs.Limits.{input_limit}
 use Rattle.command_line.specs.Parts.{is_separator_line, parts_of}
 use Rattle.command_line.specs.PlanCommand.{IsPlanAnswer, IsPlanned}
 use Rattle.command_line.specs.PlanningInputs.{IsAdvertText}
-use Rattle.command_line.specs.PlanThenCheck.{first_lines, good_text, input_with, IsCalledGood, IsEnded, IsGoodBehind, IsGoodBehindInput}
+use Rattle.command_line.specs.PlanThenCheck.{first_lines, good_text, input_with, IsCalledGood, IsEnded, IsGoodBehind, IsGoodBehindInput, IsGoodInPlace}
 use Rattle.command_line.specs.Runs.{Answer, IsAnswerTo}
 use Rattle.command_line.specs.declared.fault.Fault.TheVariants as fault
 use Rattle.command_line.proofs.TextBehind.{is_one_part, is_plain, parts_behind}
@@ -57,7 +57,7 @@ are_plain (first ∷ ended) (line ∷ lines) e =
     let plain = is_plain first (λ dashes. is_not_dashes line (sym same ∙ dashes)) in
     All-cons (λ l. is_separator_line l ≡ false) first ended plain (are_plain ended lines cc)
 
-certificate_is_one_part : (text : List ℕ) (certificate : Claim) → IsTextOf STATES (lines_of text) certificate → parts_of text ≡ text ∷ []
+certificate_is_one_part : (text : List ℕ) (certificate : Claim) → IsTextOf most_states (lines_of text) certificate → parts_of text ≡ text ∷ []
 certificate_is_one_part text certificate is = is_one_part text (are_plain (ended_lines text) (lines_in certificate) is.lines_are)
 
 -- ---- a text is read in one way
@@ -78,8 +78,8 @@ not_refused : (text : List ℕ) (listed : HostWeights) (f : WeightsFault) → f 
 not_refused text listed weights.Memory other p q = other refl
 not_refused text listed f other p q = absurd cc
 
-same_claim : (text : List ℕ) (a b : Claim) → IsTextOf STATES (lines_of text) a → IsTextOf STATES (lines_of text) b → a ≡ b
-same_claim text a b p q = let same = same_answer STATES (lines_of text) (Ok a) (Ok b) p q in cc
+same_claim : (text : List ℕ) (a b : Claim) → IsTextOf most_states (lines_of text) a → IsTextOf most_states (lines_of text) b → a ≡ b
+same_claim text a b p q = let same = same_answer most_states (lines_of text) (Ok a) (Ok b) p q in cc
 
 -- ---- what `check` answers to the parts
 
@@ -136,7 +136,7 @@ module _ (image_text weights_text kept_text text : List ℕ) (planned : IsPlanne
   alone command (Ok (told, Some f)) is = absurd is
   alone command (Err (fault.Bad reason number)) is = let good = judged_good (Bad reason number) is in absurd cc
   alone command (Err (fault.Certificate f)) is =
-      let same = same_answer STATES (lines_of text) (Ok planned.certificate) (Err f) planned.read_again is.2 in
+      let same = same_answer most_states (lines_of text) (Ok planned.certificate) (Err f) planned.read_again is.2 in
       absurd cc
   alone command (Err (fault.Weights f)) is = absurd (not_refused weights_text planned.given.weights f is.1.0 planned.given.are_weights is.1.1)
   alone command (Err (fault.Image f)) is =
@@ -205,3 +205,46 @@ pub good_behind : (image listed kept text input : List ℕ) → parts_of input �
 good_behind image listed kept text input cut is =
     let planned : IsPlanned image listed kept text = subst (λ l. IsPlanAnswer true l (Ok (text, None))) cut is.2 in
     record { planned = planned; good = λ other within parts. called_good image listed kept text planned other parts within }
+
+-- ---- kept paths, and the certificate in their place
+
+record Kept (input kept text : List ℕ) : Type 0 where
+  image_text : List ℕ
+  weights_text : List ℕ
+  kept_text : List ℕ
+  own : parts_of input ≡ image_text ∷ weights_text ∷ []
+  last : parts_of kept ≡ kept_text ∷ []
+  planned : IsPlanned image_text weights_text kept_text text
+
+kept_from : (input kept text : List ℕ) (own last : List (List ℕ)) → parts_of input ≡ own → parts_of kept ≡ last → length own ≡ 2
+    → IsPlanAnswer true (own ++ last) (Ok (text, None)) → Kept input kept text
+kept_from input kept text [] last cut behind two is = absurd (omega (arith, two))
+kept_from input kept text (image ∷ []) last cut behind two is = absurd (omega (arith, two))
+kept_from input kept text (image ∷ listed ∷ []) [] cut behind two is = absurd is
+kept_from input kept text (image ∷ listed ∷ []) (own ∷ []) cut behind two is =
+    record { image_text = image; weights_text = listed; kept_text = own; own = cut; last = behind; planned = is }
+kept_from input kept text (image ∷ listed ∷ []) (own ∷ more ∷ rest) cut behind two is = absurd is
+kept_from input kept text (image ∷ listed ∷ more ∷ rest) last cut behind two is = absurd (omega (arith, two))
+
+parts_with : (input text : List ℕ) → IsEnded input → parts_of (input_with input text) ≡ parts_of input ++ parts_of text
+parts_with input text (before, ends) = rw ends (parts_behind before text)
+
+pub good_in_place : (input kept text : List ℕ) → IsEnded input → length (parts_of input) ≡ 2
+    → IsAnswerTo 3 (IsPlanAnswer true) (input_with input kept) (Ok (text, None))
+    → length (input_with input text) ≤ input_limit → IsGoodInPlace input kept text
+good_in_place input kept text ended two is within =
+    let from = kept_from input kept text (parts_of input) (parts_of kept) refl refl two
+      (subst (λ l. IsPlanAnswer true l (Ok (text, None))) (parts_with input kept ended) is.2) in
+    let cut : parts_of (input_with input text) ≡ from.image_text ∷ from.weights_text ∷ text ∷ [] =
+    parts_with input text ended
+    ∙ ap (λ l. l ++ parts_of text) from.own
+    ∙ ap (λ l. from.image_text ∷ from.weights_text ∷ l) (certificate_is_one_part text from.planned.certificate from.planned.read_again) in
+    record {
+      image_text = from.image_text;
+      weights_text = from.weights_text;
+      kept_text = from.kept_text;
+      planned = from.planned;
+      parts_planned = parts_with input kept ended ∙ ap (λ l. l ++ parts_of kept) from.own ∙ ap (λ l. from.image_text ∷ from.weights_text ∷ l) from.last;
+      parts = cut;
+      good = called_good from.image_text from.weights_text from.kept_text text from.planned (input_with input text) cut within;
+    }

@@ -15,7 +15,7 @@ use Rattle.plan_certificate.specs.declared.verdict.Verdict.{Verdict}
 use Rattle.plan_certificate.specs.declared.verdict.Verdict.TheVariants.{Good, Bad}
 use Rattle.lane_planner.specs.FirstBest.{IsFirstBest}
 use Rattle.reports.specs.PlanText.{plan_lines}
-use Rattle.plan_certificate.specs.declared.state.TheConstants.{STATES}
+use Rattle.plan_certificate.specs.Limits.{most_states}
 use Rattle.command_line.specs.declared.commands.check_command.CheckCommand.{CheckCommand}
 use Rattle.command_line.specs.declared.fault.Fault.TheVariants as fault
 use Rattle.command_line.specs.PlanningInputs.{Advertises, IsAdvertText, IsAdvertRefusal, IsWeightsRefusal}
@@ -54,7 +54,7 @@ pub record IsJudged (image_text weights_text certificate_text : List ℕ) (judge
   pub certificate : Claim
   pub is_advert : IsAdvertText image_text advert
   pub are_weights : IsAnswer weights_text (Ok weights)
-  pub is_certificate : IsTextOf STATES (lines_of certificate_text) certificate
+  pub is_certificate : IsTextOf most_states (lines_of certificate_text) certificate
   pub is_verdict : verdict advert weights certificate ≡ judged
 
 -- the certificate is good, so its plan is best among those that hold the kept paths, and the plan is told
@@ -67,7 +67,7 @@ abbrev pub IsCheckAnswer : CheckCommand → List (List ℕ) → Answer → Type 
 IsCheckAnswer command (image ∷ weights ∷ certificate ∷ []) (Ok (text, None)) = IsGoodAnswer command image weights certificate text
 IsCheckAnswer command (image ∷ weights ∷ certificate ∷ []) (Err (fault.Bad reason number)) = IsJudged image weights certificate (Bad reason number)
 IsCheckAnswer command (image ∷ weights ∷ certificate ∷ []) (Err (fault.Certificate f)) =
-    Advertises image × ((listed : HostWeights) × IsAnswer weights (Ok listed)) × IsFirstFault STATES (lines_of certificate) f
+    Advertises image × ((listed : HostWeights) × IsAnswer weights (Ok listed)) × IsFirstFault most_states (lines_of certificate) f
 IsCheckAnswer command (image ∷ weights ∷ certificate ∷ []) (Err (fault.Weights f)) = Advertises image × IsWeightsRefusal weights f
 IsCheckAnswer command (image ∷ weights ∷ certificate ∷ []) (Err f) = IsAdvertRefusal image f
 IsCheckAnswer command parts answer = ⊥

@@ -3,7 +3,7 @@ use Rattle.std.specs.Prelude.{◌≡◌, ℕ, Bool, List, [], ◌∷◌, None, O
 use Rattle.text_lines.specs.Lines.{lines_of, text_of}
 use Rattle.plan_certificate.specs.Certificates.{Claim}
 use Rattle.plan_certificate.specs.CertificateText.{IsTextOf, certificate_lines}
-use Rattle.plan_certificate.specs.declared.state.TheConstants.{STATES}
+use Rattle.plan_certificate.specs.Limits.{most_states}
 use Rattle.command_line.specs.declared.fault.Fault.TheVariants as fault
 use Rattle.command_line.specs.GivenPlan.{IsGiven}
 use Rattle.command_line.specs.KeptParts.{with_kept}
@@ -15,7 +15,7 @@ pub record IsPlanned (image_text weights_text kept_text text : List ℕ) : Type 
   pub certificate : Claim
   pub given : IsGiven image_text weights_text kept_text certificate
   pub told : text ≡ text_of (certificate_lines certificate)
-  pub read_again : IsTextOf STATES (lines_of text) certificate
+  pub read_again : IsTextOf most_states (lines_of text) certificate
 
 -- the answer to the texts of an image, of weights and of kept paths
 abbrev pub IsPlanAnswerTo : List (List ℕ) → Answer → Type 0

@@ -14,9 +14,9 @@ use Rattle.command_line.specs.declared.fault.Fault.TheVariants.{Memory, Io}
 abbrev pub IsEnded : List ℕ → Type 0
 IsEnded text = (before : List ℕ) × (text ≡ before ++ 10 ∷ [])
 
--- an input, a line `---` and a certificate's text
+-- an input, a line `---` and a text behind it
 abbrev pub input_with : List ℕ → List ℕ → List ℕ
-input_with input certificate_text = input ++ (codes "---\n" ++ certificate_text)
+input_with input text = input ++ (codes "---\n" ++ text)
 
 -- the plan is the first of the best, where that is asked for
 abbrev pub first_lines : Bool → List (List ℕ)
@@ -45,5 +45,15 @@ pub record IsGoodBehindInput (input text : List ℕ) : Type 0 where
   pub image_text : List ℕ
   pub weights_text : List ℕ
   pub planned : IsPlanned image_text weights_text [] text
+  pub parts : parts_of (input_with input text) ≡ image_text ∷ weights_text ∷ text ∷ []
+  pub good : IsCalledGood planned (input_with input text)
+
+-- of an input that ends with kept paths: the text is of its plan, keeps them, and in their place is called good
+pub record IsGoodInPlace (input kept text : List ℕ) : Type 0 where
+  pub image_text : List ℕ
+  pub weights_text : List ℕ
+  pub kept_text : List ℕ
+  pub planned : IsPlanned image_text weights_text kept_text text
+  pub parts_planned : parts_of (input_with input kept) ≡ image_text ∷ weights_text ∷ kept_text ∷ []
   pub parts : parts_of (input_with input text) ≡ image_text ∷ weights_text ∷ text ∷ []
   pub good : IsCalledGood planned (input_with input text)

@@ -4,7 +4,6 @@ use Rattle.std.specs.List.{range_with_len}
 use Rattle.field_tables.specs.LaneSets.{byte_of}
 use Rattle.applications.specs.Advertised.{Advertised}
 use Rattle.applications.specs.declared.app.App.{App}
-use Rattle.applications.specs.declared.app.TheConstants.{MAX_APPS}
 use Rattle.firmware_api.specs.declared.advertisement.Advertisement.{Advertisement}
 use Rattle.firmware_api.specs.declared.advertisement.Application.{Application}
 
@@ -39,8 +38,12 @@ application_in None = no_application
 abbrev pub application_at : List App → ℕ → Application
 application_at apps place = application_in (slice_get apps place)
 
+-- AppSelCodes are 1 to 15
+abbrev pub most_applications : ℕ
+most_applications = 15
+
 unfoldable pub applications_of : List App → List Application
-applications_of apps = map (application_at apps) (range_with_len 0 MAX_APPS)
+applications_of apps = map (application_at apps) (range_with_len 0 most_applications)
 
 abbrev pub advertisement_of : Advertised → Advertisement
 advertisement_of advert = record {

@@ -4,7 +4,7 @@ use Rattle.text_lines.specs.Lines.{lines_of}
 use Rattle.applications.specs.Advertised.{Advertised, advertised_by}
 use Rattle.applications.specs.Weights.{HostWeights}
 use Rattle.plan_certificate.specs.declared.fault.CertificateFault.{CertificateFault}
-use Rattle.plan_certificate.specs.declared.state.TheConstants.{STATES}
+use Rattle.plan_certificate.specs.Limits.{most_states}
 use Rattle.plan_certificate.specs.declared.verdict.Verdict.{Verdict}
 use Rattle.plan_certificate.specs.declared.verdict.Verdict.TheVariants.{Good, Bad}
 use Rattle.plan_certificate.specs.declared.verdict.Reason.{Reason}
@@ -18,9 +18,8 @@ use Rattle.firmware_api.specs.declared.checking.Judgement.{Judgement}
 use Rattle.firmware_api.specs.declared.half.Half.{Half}
 use Rattle.firmware_api.specs.declared.status.Refusal.{Refusal}
 use Rattle.firmware_api.specs.declared.status.Refusal.TheVariants.{Certificate}
-use Rattle.firmware_api.specs.declared.status.TheConstants.{DONE}
 use Rattle.firmware_api.specs.Halves.{memory_of, module_refusal}
-use Rattle.firmware_api.specs.Statuses.{status_of}
+use Rattle.firmware_api.specs.Statuses.{done, status_of}
 
 -- the number in its code
 abbrev pub reason_number : Reason → ℕ
@@ -46,7 +45,7 @@ judgement_by advert weights (Err fault) = Err (Certificate fault)
 -- of what the text is read as, which is one alone
 abbrev pub IsTextJudged : Advertised → HostWeights → List ℕ → Result Judgement Refusal → Type 0
 IsTextJudged advert weights text judged =
-    (read : Result Claim CertificateFault) × IsAnswer STATES (lines_of text) read × (judged ≡ judgement_by advert weights read)
+    (read : Result Claim CertificateFault) × IsAnswer most_states (lines_of text) read × (judged ≡ judgement_by advert weights read)
 
 -- refusals of the halves come first
 abbrev pub IsJudged : List Half → HostWeights → List ℕ → Result Judgement Refusal → Type 0
@@ -55,7 +54,7 @@ IsJudged halves weights text judged =
 
 -- what C is told of a result: the judgement, or the refusal's number
 abbrev pub Tells : ℕ → Judgement → Result Judgement Refusal → Type 0
-Tells status after (Ok judged) = (status ≡ DONE) × (after ≡ judged)
+Tells status after (Ok judged) = (status ≡ done) × (after ≡ judged)
 Tells status after (Err refusal) = status ≡ status_of refusal
 
 abbrev pub IsTold : (Result Judgement Refusal → Type 0) → ℕ → Judgement → Type 0
@@ -64,6 +63,6 @@ IsTold Is status after = (judged : Result Judgement Refusal) × Is judged × Tel
 -- the text is that of a certificate which shows that no plan with its kept paths weighs more than its own
 abbrev pub IsShownBest : List Half → HostWeights → List ℕ → Type 0
 IsShownBest halves weights text =
-    (certificate : Claim) × IsTextOf STATES (lines_of text) certificate
+    (certificate : Claim) × IsTextOf most_states (lines_of text) certificate
     × IsGood (advertised_by (memory_of halves)) weights certificate
     × IsBest (advertised_by (memory_of halves)) weights certificate.kept certificate.paths

@@ -1,13 +1,12 @@
 -- The memory of a module whose halves are handed over, and why its Applications are not read. (docs/firmware.md, "Halves";
 -- OIF-CMIS-05.0, "Management Memory Map")
-use Rattle.std.specs.Prelude.{◌==◌, ◌&&◌, ◌||◌, Bool, not, nat_lt, List, length, map, Option, Some, if◌then◌else◌}
+use Rattle.std.specs.Prelude.{◌==◌, ◌&&◌, ◌||◌, Bool, ℕ, not, nat_lt, List, length, map, Option, Some, if◌then◌else◌}
 use Rattle.std.specs.List.{list_all}
 use Rattle.std.specs.Option.{option_map}
 use Rattle.std.specs.FinMap as finmap
 use Rattle.bus_model.specs.declared.device.Dev.{Dev}
 use Rattle.bus_model.specs.declared.device.Dev.TheVariants.{A0, A2}
 use Rattle.paged_memory.specs.declared.key.Key.{Key}
-use Rattle.paged_memory.specs.declared.image.TheConstants.{MAX_PAGES}
 use Rattle.paged_memory.specs.Keys.{lower_key, upper_key}
 use Rattle.paged_memory.specs.Images.{Memory}
 use Rattle.applications.specs.Refusals.{advert_fault}
@@ -32,9 +31,13 @@ key_of half = if half.upper == 0 then lower_key (device_of half) else upper_key 
 unfoldable pub memory_of : List Half → Memory
 memory_of halves = finmap.from_entries (map (λ half. (key_of half, half.bytes)) halves)
 
+-- the most halves of a module
+abbrev pub most_halves : ℕ
+most_halves = 16
+
 -- of the halves themselves, or of the module that has them: the first that applies
 unfoldable pub module_refusal : List Half → Option Refusal
 module_refusal halves =
-    if nat_lt MAX_PAGES (length halves) then Some TooManyHalves
+    if nat_lt most_halves (length halves) then Some TooManyHalves
     else (if not (list_all has_place halves) then Some NoPlace
     else option_map Advert (advert_fault (memory_of halves)))

@@ -2,12 +2,19 @@
 use Rattle.std.specs.Prelude.{ℕ, ◌-◌, ◌==◌, nat_le, List, ◌++◌, length, replicate, Option, Some, None, if◌then◌else◌}
 use Rattle.bus_model.specs.declared.device.Dev.{Dev}
 use Rattle.bus_model.specs.declared.device.Dev.TheVariants.{A0, A2}
-use Rattle.bus_model.specs.declared.operation.TheConstants.{MAX_FETCH, MAX_STORE}
 use Rattle.bus_model.specs.declared.operation.Op.{Op}
 use Rattle.bus_model.specs.declared.operation.Op.TheVariants.{Fetch, Store}
 use Rattle.bus_model.specs.declared.operation.Reply.{Reply}
 use Rattle.bus_model.specs.declared.operation.Reply.TheVariants.{Bytes, Done, Refused}
 use Rattle.firmware_api.specs.declared.operation.Operation.{Operation}
+
+-- the most bytes of a store
+abbrev pub most_stored : ℕ
+most_stored = 8
+
+-- the most bytes of a fetch: those of one half
+abbrev pub most_fetched : ℕ
+most_fetched = 128
 
 -- A0h or A2h
 abbrev pub address_of : Dev → ℕ
@@ -16,11 +23,11 @@ address_of A2 = 162
 
 -- with zeros behind
 abbrev pub padded : List ℕ → List ℕ
-padded bytes = bytes ++ replicate (MAX_STORE - length bytes) 0
+padded bytes = bytes ++ replicate (most_stored - length bytes) 0
 
 abbrev pub operation_of : Op → Operation
 operation_of (Fetch dev offset count) =
-    record { kind = 0; device = address_of dev; offset = offset; count = count; bytes = replicate MAX_STORE 0 }
+    record { kind = 0; device = address_of dev; offset = offset; count = count; bytes = replicate most_stored 0 }
 operation_of (Store dev offset bytes) =
     record { kind = 1; device = address_of dev; offset = offset; count = length bytes.items; bytes = padded bytes.items }
 
@@ -29,5 +36,5 @@ abbrev pub reply_of : ℕ → List ℕ → Option Reply
 reply_of number bytes =
     if number == 0 then Some Refused
     else (if number == 1 then Some Done
-    else (if number == 2 then (if nat_le (length bytes) MAX_FETCH then Some (Bytes (record { items = bytes })) else None)
+    else (if number == 2 then (if nat_le (length bytes) most_fetched then Some (Bytes (record { items = bytes })) else None)
     else None))

@@ -5,7 +5,7 @@ use Rattle.field_tables.specs.LaneSets.{byte_of}
 use Rattle.applications.specs.Advertised.{Advertised, advertised_by}
 use Rattle.applications.specs.Weights.{HostWeights}
 use Rattle.plan_certificate.specs.declared.path.Path.{Path}
-use Rattle.plan_certificate.specs.declared.plan.TheConstants.{MAX_PATHS}
+use Rattle.plan_certificate.specs.Limits.{most_paths}
 use Rattle.plan_certificate.specs.Plans.{plan_weight}
 use Rattle.plan_certificate.specs.Verdicts.{kept_fault}
 use Rattle.lane_planner.specs.FirstBest.{IsFirstBest}
@@ -20,7 +20,7 @@ use Rattle.firmware_api.specs.Halves.{memory_of, module_refusal}
 -- there are more than a plan has, or the module can't carry them together
 abbrev pub kept_refusal : Advertised → List Path → Option Refusal
 kept_refusal advert kept =
-    if nat_lt MAX_PATHS (length kept) then Some TooManyKept
+    if nat_lt most_paths (length kept) then Some TooManyKept
     else option_map (λ number. KeptNotAdmissible) (kept_fault advert kept)
 
 abbrev pub refusal_before : Option Refusal → Option Refusal → Option Refusal
@@ -36,7 +36,7 @@ abbrev pub no_path : Path
 no_path = record { app = 0; host = 0; media = 0 }
 
 abbrev pub paths_of : List Path → List Path
-paths_of paths = paths ++ replicate (MAX_PATHS - length paths) no_path
+paths_of paths = paths ++ replicate (most_paths - length paths) no_path
 
 -- these paths, with their weight, the lanes that they take, those that the kept ones leave, and their control bytes
 abbrev pub lane_plan : Advertised → HostWeights → List Path → List Path → LanePlan

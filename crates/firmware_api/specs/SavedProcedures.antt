@@ -16,9 +16,8 @@ use Rattle.control_sets.specs.Progress as progress
 use Rattle.firmware_api.specs.declared.procedure.Answer.{Answer}
 use Rattle.firmware_api.specs.declared.operation.Operation.{Operation}
 use Rattle.firmware_api.specs.declared.status.Refusal.TheVariants.{Ended, NoProcedure, NoReply, NotEnded}
-use Rattle.firmware_api.specs.declared.status.TheConstants.{DONE}
 use Rattle.firmware_api.specs.Operations.{operation_of}
-use Rattle.firmware_api.specs.Statuses.{status_of}
+use Rattle.firmware_api.specs.Statuses.{done, status_of}
 
 -- these are the numbers of a procedure of these tasks that was told these steps, the newest first
 abbrev pub IsSavedAt : List Task → History → SavedProcedure → Type 0
@@ -31,7 +30,7 @@ asked saved = option_map progress.next (restored saved)
 -- what C is told of that
 abbrev pub IsNextTold : ℕ → Operation → Option Next → Type 0
 IsNextTold status after None = status ≡ status_of NoProcedure
-IsNextTold status after (Some (next.Do op)) = (status ≡ DONE) × (after ≡ operation_of op)
+IsNextTold status after (Some (next.Do op)) = (status ≡ done) × (after ≡ operation_of op)
 IsNextTold status after (Some (next.Done answer)) = status ≡ status_of Ended
 
 -- which status tells of a reply: it is taken exactly where the operation can have it
@@ -40,7 +39,7 @@ IsReplyTold status reply None = status ≡ status_of NoProcedure
 IsReplyTold status reply (Some (next.Done answer)) = status ≡ status_of Ended
 IsReplyTold status None (Some (next.Do op)) = status ≡ status_of NoReply
 IsReplyTold status (Some reply) (Some (next.Do op)) =
-    (Answers op reply → status ≡ DONE) × (¬ (Answers op reply) → status ≡ status_of NoReply)
+    (Answers op reply → status ≡ done) × (¬ (Answers op reply) → status ≡ status_of NoReply)
 
 abbrev pub answer_of : Result ℕ ProvisionFault → Answer
 answer_of (Ok steps) = record { steps = steps; fault = saved_fault None }
@@ -50,4 +49,4 @@ answer_of (Err fault) = record { steps = 0; fault = saved_fault (Some fault) }
 abbrev pub IsAnswerTold : ℕ → Answer → Option Next → Type 0
 IsAnswerTold status after None = status ≡ status_of NoProcedure
 IsAnswerTold status after (Some (next.Do op)) = status ≡ status_of NotEnded
-IsAnswerTold status after (Some (next.Done answer)) = (status ≡ DONE) × (after ≡ answer_of answer)
+IsAnswerTold status after (Some (next.Done answer)) = (status ≡ done) × (after ≡ answer_of answer)

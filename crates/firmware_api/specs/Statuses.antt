@@ -2,20 +2,24 @@
 -- (docs/firmware.md, "Statuses")
 use Rattle.std.specs.Prelude.{ℕ, Option, Some, None, Result, Ok, Err}
 use Rattle.applications.specs.declared.fault.AdvertFault.{AdvertFault}
-use Rattle.applications.specs.declared.fault.AdvertFault.TheVariants.{Absent, NotCmis, Revision, NotEightLanes, FlatMemory, BadSum}
+use Rattle.applications.specs.declared.fault.AdvertFault.TheVariants.{NotCmis, Revision, NotEightLanes, FlatMemory, Absent, BadSum}
 use Rattle.plan_certificate.specs.declared.fault.CertificateFault.{CertificateFault}
 use Rattle.plan_certificate.specs.declared.fault.CertificateFault.TheVariants.{BadLine, OutOfOrder, TooMany, NoEnd}
 use Rattle.firmware_api.specs.declared.status.Refusal.{Refusal}
 use Rattle.firmware_api.specs.declared.status.Refusal.TheVariants.{TooManyHalves, NoPlace, Advert, Certificate, TooManyKept, KeptNotAdmissible, NoProcedure, Ended, NotEnded, NoReply}
-use Rattle.firmware_api.specs.declared.status.TheConstants.{DONE}
 
+-- of a call that did what it is for
+abbrev pub done : ℕ
+done = 0
+
+-- in the order in which they are looked for, but for an absent lower half, which comes first
 abbrev pub advert_status : AdvertFault → ℕ
 advert_status (NotCmis identifier) = 11
 advert_status (Revision revision) = 12
+advert_status (NotEightLanes identifier) = 16
 advert_status FlatMemory = 13
 advert_status (Absent key) = 14
 advert_status (BadSum page) = 15
-advert_status (NotEightLanes identifier) = 16
 
 abbrev pub certificate_status : CertificateFault → ℕ
 certificate_status (BadLine line) = 21
@@ -37,9 +41,9 @@ status_of KeptNotAdmissible = 43
 
 -- a call is refused, or does what it is for
 abbrev pub status_by : Option Refusal → ℕ
-status_by None = DONE
+status_by None = done
 status_by (Some refusal) = status_of refusal
 
 abbrev pub status_in : {A : Type 0} → Result A Refusal → ℕ
-status_in (Ok value) = DONE
+status_in (Ok value) = done
 status_in (Err refusal) = status_of refusal

@@ -2,7 +2,7 @@ ghost use Rattle.std.specs.Prelude.{◌≡◌, ◌≢◌};
 ghost use Rattle.applications.specs.Advertised.{advertised_by};
 ghost use Rattle.firmware_api.specs.Advertisements.{advertisement_of, application_at, application_of, applications_of};
 ghost use Rattle.firmware_api.specs.Halves.{memory_of, module_refusal};
-ghost use Rattle.firmware_api.specs.Statuses.{status_by};
+ghost use Rattle.firmware_api.specs.Statuses.{done, status_by};
 
 use crate::half::{Half, read_advert};
 use crate::status::DONE;
@@ -46,8 +46,8 @@ pub extern "C" fn dovecounter_advertisement(
     advertisement: &mut Advertisement,
 ) -> u32
     ensures status { result ≡ status_by (module_refusal halves.now) }
-    ensures done { result ≡ DONE → advertisement.new ≡ advertisement_of (advertised_by (memory_of halves.now)) }
-    ensures refused { result ≢ DONE → advertisement.new ≡ advertisement.old }
+    ensures done { result ≡ done → advertisement.new ≡ advertisement_of (advertised_by (memory_of halves.now)) }
+    ensures refused { result ≢ done → advertisement.new ≡ advertisement.old }
 {
     match read_advert(halves) {
         Ok(advert) => {

@@ -1,5 +1,6 @@
 ghost use Rattle.std.specs.Prelude.{◌≡◌, ◌≢◌, IfOk};
 ghost use Rattle.firmware_api.specs.Checks.{IsJudged, IsShownBest, IsTold, judgement_of, reason_number};
+ghost use Rattle.firmware_api.specs.Statuses.{done};
 
 use crate::half::{Half, read_advert};
 use crate::status::{DONE, Refusal};
@@ -25,8 +26,8 @@ pub extern "C" fn dovecounter_check(
     judgement: &mut Judgement,
 ) -> u32
     ensures told { IsTold (IsJudged halves.now weights.now text.now) result judgement.new }
-    ensures best { result ≡ DONE → judgement.new.reason ≡ 0 → IsShownBest halves.now weights.now text.now }
-    ensures refused { result ≢ DONE → judgement.new ≡ judgement.old }
+    ensures best { result ≡ done → judgement.new.reason ≡ 0 → IsShownBest halves.now weights.now text.now }
+    ensures refused { result ≢ done → judgement.new ≡ judgement.old }
 {
     match judged(halves, weights, text) {
         Ok(judged) => {

@@ -1,7 +1,7 @@
 ghost use Rattle.std.specs.Prelude.{◌≡◌, ◌≤◌, length, MatchOption, Ok, Err};
 ghost use Rattle.std.specs.List.{list_all};
 ghost use Rattle.applications.specs.Advertised.{advertised_by};
-ghost use Rattle.firmware_api.specs.Halves.{has_place, key_of, memory_of, module_refusal};
+ghost use Rattle.firmware_api.specs.Halves.{has_place, key_of, memory_of, module_refusal, most_halves};
 
 use crate::status::Refusal;
 use applications::Advert;
@@ -73,7 +73,7 @@ fn all_have_places(halves: &[Half]) -> bool
 
 // Of halves at one place the first counts, so the last is put first.
 fn image_of(halves: &[Half]) -> Image
-    requires { length halves.now ≤ MAX_PAGES }
+    requires { length halves.now ≤ most_halves }
     ensures { result ≡ memory_of halves.now }
 {
     let mut image = Image::new();

@@ -3,7 +3,7 @@ ghost use Rattle.applications.specs.Advertised.{advertised_by};
 ghost use Rattle.plan_certificate.specs.Plans.{IsAdmissible};
 ghost use Rattle.firmware_api.specs.Halves.{memory_of};
 ghost use Rattle.firmware_api.specs.Plans.{IsPlanned, kept_refusal, paths_of, plan_refusal};
-ghost use Rattle.firmware_api.specs.Statuses.{status_by, status_in};
+ghost use Rattle.firmware_api.specs.Statuses.{done, status_by, status_in};
 
 use crate::half::{Half, read_advert};
 use crate::status::{DONE, Refusal};
@@ -41,8 +41,8 @@ pub extern "C" fn dovecounter_plan(
     plan: &mut LanePlan,
 ) -> u32
     ensures status { result ≡ status_by (plan_refusal halves.now kept.now) }
-    ensures done { result ≡ DONE → IsPlanned (advertised_by (memory_of halves.now)) weights.now kept.now plan.new }
-    ensures refused { result ≢ DONE → plan.new ≡ plan.old }
+    ensures done { result ≡ done → IsPlanned (advertised_by (memory_of halves.now)) weights.now kept.now plan.new }
+    ensures refused { result ≢ done → plan.new ≡ plan.old }
 {
     match planned(halves, weights, kept) {
         Ok(planned) => {

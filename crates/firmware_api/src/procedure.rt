@@ -13,7 +13,7 @@ ghost use Rattle.control_sets.specs.Progress.{Follows, IsAt};
 ghost use Rattle.control_sets.specs.Tasks.{activation, provisioning};
 ghost use Rattle.firmware_api.specs.SavedProcedures.{IsAnswerTold, IsSavedAt, IsNextTold, IsReplyTold, answer_of, asked};
 ghost use Rattle.firmware_api.specs.Operations.{reply_of};
-ghost use Rattle.firmware_api.specs.Statuses.{status_in};
+ghost use Rattle.firmware_api.specs.Statuses.{done, status_in};
 
 use crate::operation::{Operation, reply_of};
 use crate::status::{DONE, Refusal};
@@ -56,7 +56,7 @@ pub extern "C" fn dovecounter_activate(control: &[u8; 8], lanes: u8, procedure: 
 #[unsafe(no_mangle)]
 pub extern "C" fn dovecounter_next(procedure: &SavedProcedure, operation: &mut Operation) -> u32
     ensures told { IsNextTold result operation.new (asked procedure.now) }
-    ensures refused { result ≢ DONE → operation.new ≡ operation.old }
+    ensures refused { result ≢ done → operation.new ≡ operation.old }
     ensures follows { (tasks : List Task) (history : History) (next : Next) → IsSavedAt tasks history procedure.now →
         asked procedure.now ≡ Some next → Follows tasks history next }
 {
@@ -74,10 +74,10 @@ pub extern "C" fn dovecounter_next(procedure: &SavedProcedure, operation: &mut O
 #[unsafe(no_mangle)]
 pub extern "C" fn dovecounter_reply(procedure: &mut SavedProcedure, reply: u8, bytes: &[u8]) -> u32
     ensures told { IsReplyTold result (reply_of reply bytes.now) (asked procedure.old) }
-    ensures taken { result ≡ DONE → (tasks : List Task) (history : History) (op : Op) (made : Reply) →
+    ensures taken { result ≡ done → (tasks : List Task) (history : History) (op : Op) (made : Reply) →
         IsSavedAt tasks history procedure.old → asked procedure.old ≡ Some (nexts.Do op) →
         reply_of reply bytes.now ≡ Some made → IsSavedAt tasks (step_with op made ∷ history) procedure.new }
-    ensures refused { result ≢ DONE → procedure.new ≡ procedure.old }
+    ensures refused { result ≢ done → procedure.new ≡ procedure.old }
 {
     match told(procedure, reply, bytes) {
         Ok(told) => {
@@ -93,7 +93,7 @@ pub extern "C" fn dovecounter_reply(procedure: &mut SavedProcedure, reply: u8, b
 #[unsafe(no_mangle)]
 pub extern "C" fn dovecounter_answer(procedure: &SavedProcedure, answer: &mut Answer) -> u32
     ensures told { IsAnswerTold result answer.new (asked procedure.now) }
-    ensures refused { result ≢ DONE → answer.new ≡ answer.old }
+    ensures refused { result ≢ done → answer.new ≡ answer.old }
     ensures ended { (tasks : List Task) (history : History) (ended : Result ℕ ProvisionFault) →
         IsSavedAt tasks history procedure.now → asked procedure.now ≡ Some (nexts.Done ended) →
         HasEnded tasks history ended }

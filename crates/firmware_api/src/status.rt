@@ -1,5 +1,5 @@
 ghost use Rattle.std.specs.Prelude.{◌≡◌, ◌≢◌};
-ghost use Rattle.firmware_api.specs.Statuses.{advert_status, certificate_status, status_of};
+ghost use Rattle.firmware_api.specs.Statuses.{advert_status, certificate_status, done, status_of};
 
 use applications::AdvertFault;
 use plan_certificate::CertificateFault;
@@ -36,7 +36,7 @@ impl Refusal {
     /// The number by which C knows it.
     pub fn status(self) -> u32
         ensures status { result ≡ status_of self }
-        ensures refused { result ≢ DONE }
+        ensures refused { result ≢ done }
     {
         match self {
             Refusal::TooManyHalves => 1,
@@ -55,21 +55,21 @@ impl Refusal {
 
 fn advert_status(fault: AdvertFault) -> u32
     ensures status { result ≡ advert_status fault }
-    ensures refused { result ≢ DONE }
+    ensures refused { result ≢ done }
 {
     match fault {
         AdvertFault::NotCmis(_) => 11,
         AdvertFault::Revision(_) => 12,
+        AdvertFault::NotEightLanes(_) => 16,
         AdvertFault::FlatMemory => 13,
         AdvertFault::Absent(_) => 14,
         AdvertFault::BadSum(_) => 15,
-        AdvertFault::NotEightLanes(_) => 16,
     }
 }
 
 fn certificate_status(fault: CertificateFault) -> u32
     ensures status { result ≡ certificate_status fault }
-    ensures refused { result ≢ DONE }
+    ensures refused { result ≢ done }
 {
     match fault {
         CertificateFault::BadLine(_) => 21,

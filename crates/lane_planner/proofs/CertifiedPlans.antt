@@ -8,7 +8,7 @@ use Rattle.applications.specs.Weights.{HostWeights}
 use Rattle.plan_certificate.specs.declared.path.Path.{Path}
 use Rattle.plan_certificate.specs.declared.certificate.Entry.{Entry}
 use Rattle.plan_certificate.specs.declared.line.Line.TheVariants.{StateLine, End}
-use Rattle.plan_certificate.specs.declared.state.TheConstants.{STATES}
+use Rattle.plan_certificate.specs.Limits.{most_states}
 use Rattle.plan_certificate.specs.Plans.{IsAdmissible}
 use Rattle.plan_certificate.specs.Certificates.{Claim, IsBound, IsGood}
 use Rattle.plan_certificate.specs.CertificateText.{IsEntryInRange, IsHead, IsTextOf, line_text, certificate_lines}
@@ -111,10 +111,10 @@ pub plan_text : (advert : Advertised) (weights : HostWeights) (kept paths : List
 plan_text advert weights kept paths marks table head text last admissible reached has off begun adds ended =
     let certificate : Claim = record { weight = get_or table 0 0; kept = kept; paths = paths; entries = adds.entries } in
     let written = whole_text certificate head text last begun.written adds.written ended in
-    let readable = is_readable STATES certificate begun.small begun.kept_in_range begun.paths_in_range adds.in_range adds.are.states begun.few_kept begun.few_paths adds.are.few in
+    let readable = is_readable most_states certificate begun.small begun.kept_in_range begun.paths_in_range adds.in_range adds.are.states begun.few_kept begun.few_paths adds.are.few in
     record {
       certificate = certificate;
       certified = certified advert weights kept paths marks table adds.entries admissible reached has off adds.are;
       written = written;
-      read_back = subst (λ (t : List ℕ). IsTextOf STATES (lines_of t) certificate) (sym written) (written_lines STATES certificate readable);
+      read_back = subst (λ (t : List ℕ). IsTextOf most_states (lines_of t) certificate) (sym written) (written_lines most_states certificate readable);
     }

@@ -14,7 +14,7 @@ use Rattle.plan_certificate.specs.CertificateText.{IsEntryInRange, IsTextOf, cer
 use Rattle.plan_certificate.specs.Verdicts.{verdict}
 use Rattle.plan_certificate.specs.declared.certificate.Entry.{Entry}
 use Rattle.plan_certificate.specs.declared.line.Line.TheVariants.{StateLine}
-use Rattle.plan_certificate.specs.declared.state.TheConstants.{STATES}
+use Rattle.plan_certificate.specs.Limits.{most_states}
 use Rattle.lane_planner.specs.FirstBest.{IsFirstBest}
 use Rattle.lane_planner.specs.Gains.{IsGain}
 use Rattle.lane_planner.specs.Tables.{AreEntries}
@@ -35,7 +35,7 @@ pub record IsPlanText (advert : Advertised) (weights : HostWeights) (kept : List
   pub certificate : Claim
   pub certified : IsCertified advert weights kept certificate
   pub written : text ≡ text_of (certificate_lines certificate)
-  pub read_back : IsTextOf STATES (lines_of text) certificate
+  pub read_back : IsTextOf most_states (lines_of text) certificate
 
 -- the entries of the marked states before a place were added to a text
 pub record AddsEntries (marks : List Bool) (table : List ℕ) (upto : ℕ) (before text : List ℕ) : Type 0 where

@@ -6,14 +6,15 @@ use Rattle.plan_certificate.specs.declared.path.Path.{Path}
 use Rattle.plan_certificate.specs.declared.state.Step.{Step}
 use Rattle.plan_certificate.specs.States.{state_at, state_place, steps_from}
 use Rattle.plan_certificate.specs.ReachedStates.{IsReached}
+use Rattle.plan_certificate.specs.Limits.{most_states}
 
 abbrev pub IsMarked : List Bool → ℕ → Type 0
 IsMarked marks place = slice_index_or marks place false ≡ true
 
 -- exactly the states that steps from the start reach are marked
 pub record MarksReached (advert : Advertised) (weights : HostWeights) (kept : List Path) (marks : List Bool) : Type 0 where
-  pub all : length marks ≡ 2304
-  pub reached : (place : ℕ) → place < 2304 → IsMarked marks place ↔ IsReached advert weights kept (state_at place)
+  pub all : length marks ≡ most_states
+  pub reached : (place : ℕ) → place < most_states → IsMarked marks place ↔ IsReached advert weights kept (state_at place)
 
 -- marked are the ends of these steps, and what was marked before
 pub record MarksEnds (steps : List Step) (marks more : List Bool) : Type 0 where
@@ -24,7 +25,7 @@ pub record MarksEnds (steps : List Step) (marks more : List Bool) : Type 0 where
 
 -- the start is marked, and none that isn't reached; and with each one before a place the ends of its steps
 pub record AreMarks (advert : Advertised) (weights : HostWeights) (kept : List Path) (upto : ℕ) (marks : List Bool) : Type 0 where
-  pub all : length marks ≡ 2304
+  pub all : length marks ≡ most_states
   pub begun : IsMarked marks 0
-  pub sound : (place : ℕ) → place < 2304 → IsMarked marks place → IsReached advert weights kept (state_at place)
+  pub sound : (place : ℕ) → place < most_states → IsMarked marks place → IsReached advert weights kept (state_at place)
   pub closed : (place : ℕ) → place < upto → IsMarked marks place → (step : Step) → Contains (steps_from advert weights kept (state_at place)) step → IsMarked marks (state_place step.end)

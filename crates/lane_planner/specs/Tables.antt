@@ -18,16 +18,17 @@ use Rattle.plan_certificate.specs.Certificates.{HasStates, entry_place}
 use Rattle.lane_planner.specs.FirstBest.{IsOfUse, IsSameOrBefore}
 use Rattle.lane_planner.specs.Gains.{IsGain}
 use Rattle.lane_planner.specs.Marks.{IsMarked}
+use Rattle.plan_certificate.specs.Limits.{most_states}
 
 -- a number for each state; each lane that is still to be decided adds at most a weight of 32 bits
 pub record IsTable (table : List ℕ) : Type 0 where
-  pub all : length table ≡ 2304
-  pub small : (place : ℕ) → place < 2304 → slice_index table place ≤ 4294967295 * (8 - place / 256)
+  pub all : length table ≡ most_states
+  pub small : (place : ℕ) → place < most_states → slice_index table place ≤ 4294967295 * (8 - place / 256)
 
 -- the gains of the reached states from a place on
 pub record HasGains (advert : Advertised) (weights : HostWeights) (kept : List Path) (from : ℕ) (table : List ℕ) : Type 0 where
   pub numbers : IsTable table
-  pub gains : (place : ℕ) → from ≤ place → place < 2304 → IsReached advert weights kept (state_at place) → IsGain advert weights kept (state_at place) (slice_index table place)
+  pub gains : (place : ℕ) → from ≤ place → place < most_states → IsReached advert weights kept (state_at place) → IsGain advert weights kept (state_at place) (slice_index table place)
 
 abbrev pub gain_at : List ℕ → State → ℕ
 gain_at table state = slice_index table (state_place state)

@@ -12,6 +12,7 @@ use Rattle.plan_certificate.specs.declared.certificate.Entry.{Entry}
 use Rattle.plan_certificate.specs.declared.line.Line.{Line}
 use Rattle.plan_certificate.specs.declared.line.Line.TheVariants.{Header, KeptHeader, Weight, KeepLine, PathLine, StateLine, End}
 use Rattle.plan_certificate.specs.Certificates.{Claim, HasStates}
+use Rattle.plan_certificate.specs.Limits.{most_paths}
 
 -- the Application, its first host lane and its first media lane
 abbrev pub path_values : Path → List (List ℕ)
@@ -70,8 +71,8 @@ pub record IsHead (weight : ℕ) (kept paths : List Path) (text : List ℕ) : Ty
   pub small : weight < 2 ^ 64
   pub kept_in_range : AllByRecursion IsPathInRange kept
   pub paths_in_range : AllByRecursion IsPathInRange paths
-  pub few_kept : length kept ≤ 8
-  pub few_paths : length paths ≤ 8
+  pub few_kept : length kept ≤ most_paths
+  pub few_paths : length paths ≤ most_paths
 
 -- the lines of a certificate
 abbrev pub lines_in : Claim → List Line
@@ -95,8 +96,8 @@ pub record IsInRangeAndOrder (certificate : Claim) : Type 0 where
 -- and there are at most 8 kept paths, 8 paths, and so many states
 pub record IsReadable (states : ℕ) (certificate : Claim) : Type 0 where
   pub ordered : IsInRangeAndOrder certificate
-  pub few_kept : length certificate.kept ≤ 8
-  pub few_paths : length certificate.paths ≤ 8
+  pub few_kept : length certificate.kept ≤ most_paths
+  pub few_paths : length certificate.paths ≤ most_paths
   pub few_states : length certificate.entries ≤ states
 
 -- these lines are the text of a readable certificate

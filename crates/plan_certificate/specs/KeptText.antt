@@ -6,6 +6,7 @@ use Rattle.plan_certificate.specs.declared.line.Line.TheVariants.{KeepLine}
 use Rattle.plan_certificate.specs.declared.fault.KeptFault.{KeptFault}
 use Rattle.plan_certificate.specs.declared.fault.KeptFault.TheVariants.{BadLine, TooMany, NotAdmissible}
 use Rattle.plan_certificate.specs.CertificateText.{line_text, IsPathInRange}
+use Rattle.plan_certificate.specs.Limits.{most_paths}
 
 -- as in a certificate's text
 abbrev pub keep_line : Path → List ℕ
@@ -19,7 +20,7 @@ keep_lines kept = map keep_line kept
 
 pub record IsKeptList (kept : List Path) : Type 0 where
   pub each : AllByRecursion IsPathInRange kept
-  pub room : length kept ≤ 8
+  pub room : length kept ≤ most_paths
 
 -- these lines are the text of these kept paths
 pub record IsKeptText (lines : List (List ℕ)) (kept : List Path) : Type 0 where
@@ -29,7 +30,7 @@ pub record IsKeptText (lines : List (List ℕ)) (kept : List Path) : Type 0 wher
 -- what is wrong with the line that follows those of kept paths: it is no such line, or a ninth
 abbrev pub IsKeptLineFault : List Path → List ℕ → KeptFault → Type 0
 IsKeptLineFault kept line (BadLine number) = ((path : Path) → IsPathInRange path → line ≢ keep_line path) × (number ≡ length kept + 1)
-IsKeptLineFault kept line TooMany = ((path : Path) × IsKeepLine line path) × (length kept ≡ 8)
+IsKeptLineFault kept line TooMany = ((path : Path) × IsKeepLine line path) × (length kept ≡ most_paths)
 IsKeptLineFault kept line (NotAdmissible number) = ⊥
 
 -- the lines of kept paths, and then one that is wrong

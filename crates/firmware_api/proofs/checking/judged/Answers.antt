@@ -1,7 +1,7 @@
 use Rattle.std.proofs.Common.{Ok, Err, IfErr, OnOk, sym, subst, ap, ◌∙◌, refl, rules}
 use Rattle.text_lines.specs.Lines.{lines_of}
 use Rattle.applications.specs.Weights.{HostWeights}
-use Rattle.plan_certificate.specs.declared.state.TheConstants.{STATES}
+use Rattle.plan_certificate.specs.Limits.{most_states}
 use Rattle.plan_certificate.specs.CertificateFaults.{IsFirstFault}
 use Rattle.plan_certificate.specs.CertificateText.{IsTextOf}
 use Rattle.plan_certificate.specs.Verdicts.{verdict}
@@ -12,7 +12,7 @@ use Rattle.firmware_api.proofs.checking.judged.Goals as goal
 pub returns-in-Ok-clause-judged : goal.returns-in-Ok-clause-judged
 returns-in-Ok-clause-judged c =
     let text = c.args.text.now in
-    let is_text = subst (λ r. OnOk r (IsTextOf STATES (lines_of text) c.take.new.self)) c.in-Ok.is c.take.ensures.ok in
+    let is_text = subst (λ r. OnOk r (IsTextOf most_states (lines_of text) c.take.new.self)) c.in-Ok.is c.take.ensures.ok in
     let weighed = c.check-verdict.ensures.verdict ∙ ap (λ (weights : HostWeights). verdict c.in_ok-advert.advert weights c.take.new.self) c.of_table.ensures in
     let told : IsTextJudged c.in_ok-advert.advert c.args.weights.now text (Ok c.judgement_of.result) = (Ok c.take.new.self, is_text, ap Ok (c.judgement_of.ensures ∙ ap judgement_of weighed)) in
     search rules
@@ -20,6 +20,6 @@ returns-in-Ok-clause-judged c =
 pub returns-in-Err-clause-judged : goal.returns-in-Err-clause-judged
 returns-in-Err-clause-judged c =
     let text = c.args.text.now in
-    let first = subst (λ r. IfErr r (IsFirstFault STATES (lines_of text))) c.in-Err.is c.take.ensures.err in
+    let first = subst (λ r. IfErr r (IsFirstFault most_states (lines_of text))) c.in-Err.is c.take.ensures.err in
     let told : IsTextJudged c.in_ok-advert.advert c.args.weights.now text (Err (Certificate c.in-Err.fault)) = (Err c.in-Err.fault, first, refl) in
     search rules

@@ -1,6 +1,6 @@
 use Rattle.std.proofs.Common.{refl, sym, subst, ◌∷◌, [], Err, IfErr, OnOk}
 use Rattle.text_lines.specs.Lines.{lines_of}
-use Rattle.plan_certificate.specs.declared.state.TheConstants.{STATES}
+use Rattle.plan_certificate.specs.Limits.{most_states}
 use Rattle.plan_certificate.specs.CertificateFaults.{IsFirstFault}
 use Rattle.plan_certificate.specs.CertificateText.{IsTextOf}
 use Rattle.plan_certificate.specs.declared.verdict.Verdict.TheVariants.{Bad}
@@ -11,7 +11,7 @@ use Rattle.command_line.proofs.commands.check_command.CheckCommand.judged.Goals 
 pub returns-in-Err-clause-answer : goal.returns-in-Err-clause-answer
 returns-in-Err-clause-answer c = λ image listed is_advert are_weights.
     let text = c.args.text.now in
-    let first : IsFirstFault STATES (lines_of text) c.in-Err.fault = subst (λ r. IfErr r (IsFirstFault STATES (lines_of text))) c.in-Err.is c.take.ensures.err in
+    let first : IsFirstFault most_states (lines_of text) c.in-Err.fault = subst (λ r. IfErr r (IsFirstFault most_states (lines_of text))) c.in-Err.is c.take.ensures.err in
     let is : IsCheckAnswer c.args.self (image ∷ listed ∷ text ∷ []) (Err (Certificate c.in-Err.fault)) = ((c.args.advert.now, is_advert), (c.args.weights.now, are_weights), first) in
     is
 
@@ -25,7 +25,7 @@ returns-in_ok-good_text-in-Good-clause-answer c = λ image listed is_advert are_
         certificate = c.take.new.self;
         is_advert = is_advert;
         are_weights = are_weights;
-        is_certificate = subst (λ r. OnOk r (IsTextOf STATES (lines_of text) c.take.new.self)) c.in-Ok.is c.take.ensures.ok;
+        is_certificate = subst (λ r. OnOk r (IsTextOf most_states (lines_of text) c.take.new.self)) c.in-Ok.is c.take.ensures.ok;
         is_verdict = sym c.in-Good.ensures.verdict;
       };
       is_best = c.in-Good.ensures.best refl;
@@ -42,7 +42,7 @@ returns-in-Bad-clause-answer c = λ image listed is_advert are_weights.
       certificate = c.take.new.self;
       is_advert = is_advert;
       are_weights = are_weights;
-      is_certificate = subst (λ r. OnOk r (IsTextOf STATES (lines_of text) c.take.new.self)) c.in-Ok.is c.take.ensures.ok;
+      is_certificate = subst (λ r. OnOk r (IsTextOf most_states (lines_of text) c.take.new.self)) c.in-Ok.is c.take.ensures.ok;
       is_verdict = sym c.in-Bad.ensures.verdict;
     } in
     bad
