@@ -1,7 +1,7 @@
 //! The commands of the command line: what each reads, what it answers to its words and its input, and how a run ends.
 #![tactic(auto)]
 
-mod choice;
+pub mod choice;
 mod commands;
 mod failure;
 mod fault;
