@@ -7,6 +7,7 @@ ghost use Rattle.command_line.specs.Limits.{input_limit, read_limit};
 ghost use Rattle.command_line.specs.Input.{IsReadOf, TakesWithinLimit, AnswersFailure};
 
 mod counted_reader;
+mod one_read;
 mod remembering_reader;
 
 use crate::fault::Fault;

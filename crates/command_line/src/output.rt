@@ -3,6 +3,7 @@ ghost use Rattle.std.specs.Prelude.{◌≡◌, true, Ok, Err};
 ghost use Rattle.command_line.specs.StoppingWriter.{contents_of, writing_failed};
 ghost use Rattle.command_line.specs.Runs.{IsWritten, answer_of};
 
+mod one_write;
 mod stopping_writer;
 
 use crate::fault::Fault;

@@ -3,6 +3,7 @@ ghost use Rattle.std.specs.Io.{ReadsAtMost};
 ghost use Rattle.std.specs.Io.KnownBytes.{ReadConsumes};
 ghost use Rattle.command_line.specs.Limits.{read_limit};
 
+use super::one_read::OneRead;
 use super::remembering_reader::RememberingReader;
 use std::io;
 use std::io::{ErrorKind, Read};
@@ -43,7 +44,7 @@ impl<R> CountedReader<R> {
     }
 }
 
-impl<R: Read> Read for CountedReader<R> {
+impl<R: OneRead> Read for CountedReader<R> {
     ghost use Rattle.command_line.specs.CountedReader.{inner_failed, inner_of, reads_of, reading_failed, remaining_of, IsSpent};
     ghost use Rattle.command_line.specs.Failures.{RemembersFailure};
 
@@ -54,6 +55,7 @@ impl<R: Read> Read for CountedReader<R> {
         ensures bytes { ReadConsumes (remaining_of R.remaining self.old) (remaining_of R.remaining self.new) result buf.new }
         ensures failed { RemembersFailure (reading_failed self.old) (reading_failed self.new) result }
         ensures cause { reading_failed self.new ≡ true → IsSpent self.old ⊎ (inner_failed self.new ≡ true) }
+        ensures once { ¬ (IsSpent self.old) → R.made (inner_of self.old) result buf.new (inner_of self.new) }
         ensures counted { reading_failed self.old ≡ false → reads_of self.new ≡ min (reads_of self.old + 1) read_limit }
         ensures stopped { IsSpent self.old → (inner_of self.new ≡ inner_of self.old) × (reads_of self.new ≡ reads_of self.old) × (reading_failed self.new ≡ true) }
     {

@@ -4,6 +4,7 @@ ghost use Rattle.std.specs.Io.KnownBytes.{ReadConsumes};
 ghost use Rattle.command_line.specs.Failures.{FailsWhere};
 ghost use Rattle.command_line.specs.RememberingReader.{read_of, last_failed, left_of};
 
+use super::one_read::OneRead;
 use crate::failure::has_failed;
 use std::io;
 use std::io::Read;
@@ -34,15 +35,16 @@ impl<R> RememberingReader<R> {
     }
 }
 
-impl<R: Read> Read for RememberingReader<R> {
+impl<R: OneRead> Read for RememberingReader<R> {
     ghost remaining = { left_of R.remaining };
 
     fn read(&mut self, buf: &mut [u8]) -> io::Result<usize>
         ensures bound { ReadsAtMost result buf.new }
         ensures bytes { ReadConsumes (left_of R.remaining self.old) (left_of R.remaining self.new) result buf.new }
         ensures failed { FailsWhere (last_failed self.new) result }
+        ensures once { R.made (read_of self.old) result buf.new (read_of self.new) }
     {
-        let result = self.inner.read(buf);
+        let result = self.inner.read_once(buf);
         self.failed = has_failed(&result);
         result
     }

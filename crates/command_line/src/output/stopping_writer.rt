@@ -5,6 +5,7 @@ ghost use Rattle.command_line.specs.Failures.{IsFailure, RemembersFailure};
 ghost use Rattle.command_line.specs.StoppingWriter.{contents_of, inner_of, writing_failed};
 
 use super::OutputFault;
+use super::one_write::OneWrite;
 use crate::failure::has_failed;
 use std::fmt::Display;
 use std::io;
@@ -78,28 +79,30 @@ impl<W: Write> StoppingWriter<W> {
     }
 }
 
-impl<W: Write> Write for StoppingWriter<W> {
+impl<W: OneWrite> Write for StoppingWriter<W> {
     ghost contents = { contents_of W.contents };
 
     fn write(&mut self, buf: &[u8]) -> io::Result<usize>
         ensures bound { WritesAtMost result buf.now }
         ensures bytes { WriteAppends (contents_of W.contents self.old) (contents_of W.contents self.new) result buf.now }
+        ensures once { writing_failed self.old ≡ false → W.wrote (inner_of self.old) buf.now result (inner_of self.new) }
         ensures failed { RemembersFailure (writing_failed self.old) (writing_failed self.new) result }
         ensures stopped { writing_failed self.old ≡ true → inner_of self.new ≡ inner_of self.old }
     {
         self.ready()?;
-        let result = self.inner.write(buf);
+        let result = self.inner.write_once(buf);
         self.failed = has_failed(&result);
         result
     }
 
     fn flush(&mut self) -> io::Result<()>
         ensures bytes { Keeps (contents_of W.contents self.old) (contents_of W.contents self.new) }
+        ensures once { writing_failed self.old ≡ false → W.flushed (inner_of self.old) result (inner_of self.new) }
         ensures failed { RemembersFailure (writing_failed self.old) (writing_failed self.new) result }
         ensures stopped { writing_failed self.old ≡ true → inner_of self.new ≡ inner_of self.old }
     {
         self.ready()?;
-        let result = self.inner.flush();
+        let result = self.inner.flush_once();
         self.failed = has_failed(&result);
         result
     }
