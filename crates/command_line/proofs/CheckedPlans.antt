@@ -234,7 +234,7 @@ pub good_in_place : (input kept text : List ℕ) → IsEnded input → length (p
     → length (input_with input text) ≤ input_limit → IsGoodInPlace input kept text
 good_in_place input kept text ended two is within =
     let from = kept_from input kept text (parts_of input) (parts_of kept) refl refl two
-      (subst (λ l. IsPlanAnswer true l (Ok (text, None))) (parts_with input kept ended) is.2) in
+    (subst (λ l. IsPlanAnswer true l (Ok (text, None))) (parts_with input kept ended) is.2) in
     let cut : parts_of (input_with input text) ≡ from.image_text ∷ from.weights_text ∷ text ∷ [] =
     parts_with input text ended
     ∙ ap (λ l. l ++ parts_of text) from.own
