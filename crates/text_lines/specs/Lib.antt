@@ -1,5 +1,4 @@
 pub mod Decimal
-pub mod Hexadecimal
 pub mod Lines
 pub mod LinesLeft
 pub mod Words

@@ -1,23 +1,25 @@
 ghost use Rattle.std.specs.Prelude.{ℕ, List, ◌≡◌, ◌≢◌, ◌↔◌, length, [], ◌∷◌, ◌<◌, slice_index, IsTrue, MatchOption, Some};
-ghost use Rattle.std.specs.List.{AllPass};
 ghost use Rattle.hex.specs.Hex.{IsBytes, encode_lower, lower_digits};
-ghost use Rattle.text_lines.specs.Hexadecimal.{is_no_upper};
 
-use hex::decode_to_slice;
 use std::fmt;
 
 /// The `N` bytes that a word of `2 * N` lower-case hexadecimal digits spells, the high half of each byte first.
 pub fn read_hexadecimal<const N: usize>(word: &[u8]) -> Option<[u8; N]>
     ensures { MatchOption result ((bytes : List ℕ) → length bytes ≡ N → IsBytes bytes → word.now ≢ encode_lower bytes) (λ bytes. word.now ≡ encode_lower bytes) }
 {
-    if !has_no_upper(word) {
-        return None;
-    }
     let mut bytes = [0; N];
-    match decode_to_slice(word, &mut bytes) {
-        Ok(()) => Some(bytes),
-        Err(_) => None,
+    let mut rest = word;
+    for byte in bytes.iter_mut() {
+        let [high, low, after @ ..] = rest else {
+            return None;
+        };
+        let Some(spelled) = byte_of(*high, *low) else {
+            return None;
+        };
+        *byte = spelled;
+        rest = after;
     }
+    if rest.is_empty() { Some(bytes) } else { None }
 }
 
 /// The byte that a word of two lower-case hexadecimal digits spells.
@@ -27,10 +29,18 @@ pub fn read_hex_byte(word: &[u8]) -> Option<u8>
     let [high, low] = word else {
         return None;
     };
-    let Some(high) = value_of(*high) else {
+    byte_of(*high, *low)
+}
+
+// The byte that two lower-case hexadecimal digits spell.
+fn byte_of(high: u8, low: u8) -> Option<u8>
+    ensures { MatchOption result ((byte : ℕ) → byte < 256 → high ∷ low ∷ [] ≢ encode_lower (byte ∷ []))
+        (λ byte. (byte < 256) × (high ∷ low ∷ [] ≡ encode_lower (byte ∷ []))) }
+{
+    let Some(high) = value_of(high) else {
         return None;
     };
-    let Some(low) = value_of(*low) else {
+    let Some(low) = value_of(low) else {
         return None;
     };
     Some(16 * high + low)
@@ -45,12 +55,6 @@ fn value_of(digit: u8) -> Option<u8>
         b'a'..=b'f' => Some(digit - b'a' + 10),
         _ => None,
     }
-}
-
-fn has_no_upper(word: &[u8]) -> bool
-    ensures { IsTrue result ↔ AllPass is_no_upper word.now }
-{
-    word.iter().all(|digit| *digit < b'A' || b'F' < *digit)
 }
 
 /// A byte that prints as two lower-case hexadecimal digits.

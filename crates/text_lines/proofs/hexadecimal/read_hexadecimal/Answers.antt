@@ -1,20 +1,27 @@
-use Rattle.std.proofs.Common.{refl, rules}
-use Rattle.std.proofs.lemmas.List.{length-replicate}
-use Rattle.text_lines.specs.Hexadecimal.{is_no_upper}
-use Rattle.text_lines.proofs.HexDigits.{digits_pass, decoded}
+use Rattle.std.proofs.Common.{◌≡◌, ℕ, ◌+◌, ◌-◌, List, length, take, drop, slice_set, sym, subst, rules, arith}
+use Rattle.std.proofs.lemmas.List.{length-drop, length-replicate, take_all}
+use Rattle.std.proofs.lemmas.Bool.Decides.{nat_tests}
+use Rattle.text_lines.proofs.HexWords.{AreRead, all_read, more_left, no_digits, none_read, one_read, too_short}
 use Rattle.text_lines.proofs.hexadecimal.read_hexadecimal.Goals as goal
 
-pub returns-then-not-has_no_upper : goal.returns-then-not-has_no_upper
-returns-then-not-has_no_upper g c = λ bytes len fits spelled.
-    let yes = c.has_no_upper.ensures.1 (rw spelled (digits_pass is_no_upper refl bytes fits)) in
-    search rules
+pub loop-byte-init : goal.loop-byte-init
+loop-byte-init g c = none_read g.row.N c.args.word.now _ (length-replicate g.row.N 0)
 
-pub returns-in-Ok : goal.returns-in-Ok
-returns-in-Ok g c =
-    let lower = c.has_no_upper.ensures.0 c.if-not-has_no_upper.false in
-    rw c.in-Ok.is at (decoded c.args.word.now c.decode_to_slice.new.out _ c.decode_to_slice.result lower c.decode_to_slice.ensures.value)
+pub returns-in_default : goal.returns-in_default
+returns-in_default g c = λ bytes len fits. too_short g.row.N c.args.word.now c.loop-byte.byte-items c.loop-byte.byte-index c.loop-byte.rest.now (omega (arith, c.loop-byte-test.true, c.loop-byte.invariant.len)) c.loop-byte.invariant c.in_default.len_below bytes len
 
-pub returns-in-Err : goal.returns-in-Err
-returns-in-Err g c =
-    let lower = c.has_no_upper.ensures.0 c.if-not-has_no_upper.false in
-    rw c.in-Err.is at (decoded c.args.word.now c.decode_to_slice.new.out g.row.N c.decode_to_slice.result lower (rw length-replicate at c.decode_to_slice.ensures.value))
+pub returns-in_default-byte_of : goal.returns-in_default-byte_of
+returns-in_default-byte_of g c = no_digits g.row.N c.args.word.now c.loop-byte.byte-items c.loop-byte.byte-index c.loop-byte.rest.now (omega (arith, c.loop-byte-test.true, c.loop-byte.invariant.len)) c.loop-byte.invariant c.in_default-byte_of.ensures
+
+pub loop-byte-preserved : goal.loop-byte-preserved
+loop-byte-preserved g c =
+    let rest = c.loop-byte.rest.now in
+    let one = one_read g.row.N c.args.word.now c.loop-byte.byte-items c.loop-byte.byte-index rest (omega (arith, c.loop-byte-test.true, c.loop-byte.invariant.len)) c.loop-byte.invariant c.in-Some.spelled (omega (arith, c.in-len2-up.len_at_least)) c.in-Some.ensures.1 in
+    let after : take (length rest - 2) (drop 2 rest) ≡ drop 2 rest = take_all (length rest - 2) (drop 2 rest) (omega (arith, length-drop 2 rest)) in
+    subst (λ (l : List ℕ). AreRead g.row.N c.args.word.now (slice_set c.loop-byte.byte-items c.loop-byte.byte-index c.in-Some.spelled) (c.loop-byte.byte-index + 1) l) (sym after) one
+
+pub returns-then-is_empty : goal.returns-then-is_empty
+returns-then-is_empty g c = all_read g.row.N c.args.word.now c.loop-byte.byte-items c.loop-byte.byte-index c.loop-byte.rest.now (omega (arith, c.loop-byte-test.false, c.loop-byte.invariant.len)) c.loop-byte.invariant (grind (arith, nat_tests))
+
+pub returns-else-is_empty : goal.returns-else-is_empty
+returns-else-is_empty g c = λ bytes len fits. more_left g.row.N c.args.word.now c.loop-byte.byte-items c.loop-byte.byte-index c.loop-byte.rest.now (omega (arith, c.loop-byte-test.false, c.loop-byte.invariant.len)) c.loop-byte.invariant (λ none. search rules) bytes len
