@@ -1,5 +1,5 @@
 -- Where a key is, or goes, in entries that are in the order of their keys.
-use Rattle.std.proofs.Common.{◌≡◌, ℕ, zero, suc, ◌+◌, ◌<◌, true, cond, List, [], ◌∷◌, ◌++◌, length, get_or, take, drop, set, Some, None, Ordering, refl, sym, ap, ◌∙◌, append_assoc, add-one, arith}
+use Rattle.std.proofs.Common.{◌≡◌, ℕ, zero, suc, ◌+◌, ◌<◌, true, false, cond, List, [], ◌∷◌, ◌++◌, length, get_or, take, drop, set, Some, None, Ordering, refl, sym, ap, ◌∙◌, append_assoc, add-one, arith}
 use Rattle.std.specs.Ordering.{is_lt, is_eq}
 use Rattle.std.specs.Cmp.{IsTotalOrder}
 use Rattle.std.specs.declared.cmp.Ordering.TheVariants.{Less, Equal, Greater}
@@ -13,6 +13,11 @@ pub is_less : (o : Ordering) → is_lt o ≡ true → o ≡ Less
 is_less Less e = refl
 is_less Equal e = absurd cc
 is_less Greater e = absurd cc
+
+pub is_equal : (o : Ordering) → is_eq o ≡ true → o ≡ Equal
+is_equal Less e = absurd cc
+is_equal Equal e = refl
+is_equal Greater e = absurd cc
 
 module _ {K X : Type 0} (R : K → K → Ordering) where
   -- a key below each of the keys is not among them
@@ -73,3 +78,8 @@ module _ {K X : Type 0} (R : K → K → Ordering) (q : K) (es : List (K × X)) 
   pub find_later : R q e.0 ≡ Greater → find R q (drop i es) ≡ find R q es → find R q (drop (i + 1) es) ≡ find R q es
   find_later greater passed =
       ap (λ o. cond (is_eq o) (Some e.1) (find R q (drop (i + 1) es))) (sym greater) ∙ ap (find R q) (sym from_here) ∙ passed
+
+  -- the key is none that was passed
+  pub find_passed : is_eq (R q e.0) ≡ false → find R q (drop i es) ≡ find R q es → find R q (drop (i + 1) es) ≡ find R q es
+  find_passed other passed =
+      ap (λ b. cond b (Some e.1) (find R q (drop (i + 1) es))) (sym other) ∙ ap (find R q) (sym from_here) ∙ passed

@@ -3,6 +3,7 @@ ghost use Rattle.std.specs.Prelude.{◌≡◌, ◌<◌, ◌≤◌, ℕ, List, le
 ghost use Rattle.std.specs.Bool.{OnTrue, OnFalse};
 ghost use Rattle.std.specs.List.{insert};
 ghost use Rattle.std.specs.declared.cmp.Ordering.TheVariants.{Less};
+ghost use Rattle.std.specs.Ordering.{is_eq};
 ghost use Rattle.std.specs.FinMap.{find, is_sorted};
 ghost use Rattle.std.specs.FinMap as map;
 ghost use Rattle.std.specs.Option.{option_copied};
@@ -42,10 +43,18 @@ pub fn page_at(entries: &[(Key, Page)], key: Key) -> Option<&Page>
     requires { IsTrue (is_sorted key_cmp entries.now) }
     ensures { option_copied result ≡ map.get {R = key_cmp} (map.from_sorted entries.now) key }
 {
-    match place_of(entries, key) {
-        Ok(place) => Some(&entries[place].1),
-        Err(_) => None,
+    for (place, entry) in entries.iter().enumerate() {
+        if is_same(key, entry.0) {
+            return Some(&entries[place].1);
+        }
     }
+    None
+}
+
+fn is_same(a: Key, b: Key) -> bool
+    ensures { result ≡ is_eq (key_cmp a b) }
+{
+    a == b
 }
 
 /// Puts an entry in its place, where the key is held or there is room.
