@@ -1,4 +1,4 @@
-ghost use Rattle.std.specs.Prelude.{◌≡◌, ◌≤◌, ◌<◌, ◌+◌, ◌-◌, ◌++◌, ◌⊎◌, length, true, All, AllPairs, Contains, IfSome};
+ghost use Rattle.std.specs.Prelude.{◌≡◌, ◌≤◌, ◌<◌, ◌+◌, ◌-◌, ◌++◌, ◌⊎◌, [], length, true, false, All, AllPairs, Contains, IfSome};
 ghost use Rattle.std.specs.List.{HoldsAt};
 ghost use Rattle.plan_certificate.specs.Paths.{IsLower, is_allowed};
 ghost use Rattle.plan_certificate.specs.Plans.{AreAllowed};
@@ -63,20 +63,27 @@ pub struct Moves {
 }
 
 impl Moves {
+    /// No moves, for others to be listed in their place.
+    pub fn none() -> Self
+        ensures { result ≡ record { boundary = 0; may_stay_free = false; all = record { items = [] }; heaviest = record { items = [] } } }
+    {
+        Moves {
+            boundary: 0,
+            may_stay_free: false,
+            all: ArrayVec::new(),
+            heaviest: ArrayVec::new(),
+        }
+    }
+
     pub fn at(advert: &Advert, weights: &Weights, kept: &[Path], boundary: u8) -> Self
         requires open { boundary < 8 }
         requires kept { AreAllowed advert.now kept.now }
         ensures boundary { result.boundary ≡ boundary }
         ensures moves { AreMoves advert.now weights.now kept.now boundary result.may_stay_free result.all.items result.heaviest.items }
     {
-        let all = moves_at(advert, weights, kept, boundary + 1);
-        let heaviest = heaviest(all.as_slice());
-        Moves {
-            boundary,
-            may_stay_free: may_stay_free(advert, kept, boundary + 1),
-            all,
-            heaviest,
-        }
+        let mut moves = Moves::none();
+        moves.list(advert, weights, kept, boundary);
+        moves
     }
 
     /// Turns to the host lane after another boundary.
@@ -92,9 +99,9 @@ impl Moves {
         }
     }
 
-    // No part of `turn_to`, which would blank tables for the moves at each call.
+    /// Lists the moves at the host lane after a boundary, in the place of others.
     #[inline(never)]
-    fn list(&mut self, advert: &Advert, weights: &Weights, kept: &[Path], boundary: u8)
+    pub fn list(&mut self, advert: &Advert, weights: &Weights, kept: &[Path], boundary: u8)
         requires boundary { boundary < 8 }
         requires kept { AreAllowed advert.now kept.now }
         ensures boundary { self.new.boundary ≡ boundary }
@@ -102,8 +109,8 @@ impl Moves {
     {
         self.boundary = boundary;
         self.may_stay_free = may_stay_free(advert, kept, boundary + 1);
-        self.all = moves_at(advert, weights, kept, boundary + 1);
-        self.heaviest = heaviest(self.all.as_slice());
+        put_moves(&mut self.all, advert, weights, kept, boundary + 1);
+        put_heaviest(&mut self.heaviest, self.all.as_slice());
     }
 }
 
@@ -121,10 +128,27 @@ pub fn moves_at(
     ensures lead_on { All (LeadsOn (host - 1)) result.items }
 {
     let mut moves = ArrayVec::new();
-    for app in advert.apps() {
-        push_moves(&mut moves, advert, weights, kept, host, app.number);
-    }
+    put_moves(&mut moves, advert, weights, kept, host);
     moves
+}
+
+// Puts them in the place of others.
+fn put_moves(
+    moves: &mut ArrayVec<Move, MAX_MOVES>,
+    advert: &Advert,
+    weights: &Weights,
+    kept: &[Path],
+    host: u8,
+)
+    requires { AreAllowed advert.now kept.now }
+    ensures moves { moves.new.items ≡ spec.moves_at advert.now weights.now kept.now host }
+    ensures rising { AllPairs (λ one later. IsLower one.path later.path) moves.new.items }
+    ensures lead_on { All (LeadsOn (host - 1)) moves.new.items }
+{
+    moves.clear();
+    for app in advert.apps() {
+        push_moves(moves, advert, weights, kept, host, app.number);
+    }
 }
 
 // Those of one Application.
@@ -168,16 +192,15 @@ fn push_moves(
     }
 }
 
-// Of moves on the same lanes one that weighs most.
-fn heaviest(moves: &[Move]) -> ArrayVec<Move, MAX_MOVES>
+// Puts in the place of others, of moves on the same lanes, one that weighs most.
+fn put_heaviest(heaviest: &mut ArrayVec<Move, MAX_MOVES>, moves: &[Move])
     requires { length moves.now ≤ MAX_MOVES }
-    ensures { AreHeaviest moves.now result.items }
+    ensures { AreHeaviest moves.now heaviest.new.items }
 {
-    let mut heaviest = ArrayVec::new();
+    heaviest.clear();
     for one in moves {
-        retain(&mut heaviest, one);
+        retain(heaviest, one);
     }
-    heaviest
 }
 
 // Adds a move, or puts it in the place of a lighter one on its lanes.

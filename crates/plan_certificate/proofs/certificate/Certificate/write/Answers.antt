@@ -1,6 +1,6 @@
 use Rattle.std.proofs.Common.{◌≤◌, List, ℕ, length, sym, subst}
 use Rattle.text_lines.specs.Lines.{lines_of}
-use Rattle.plan_certificate.specs.CertificateText.{IsHead, IsTextOf}
+use Rattle.plan_certificate.specs.CertificateText.{IsTextOf}
 use Rattle.plan_certificate.proofs.WrittenCertificates.{is_readable, whole_text, written_lines}
 use Rattle.plan_certificate.proofs.certificate.Certificate.write.Goals as goal
 

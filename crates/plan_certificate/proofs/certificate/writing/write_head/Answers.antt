@@ -1,4 +1,4 @@
-use Rattle.std.proofs.Common.{◌<◌, ◌≤◌, ◌^◌, length, arith}
+use Rattle.std.proofs.Common.{arith}
 use Rattle.plan_certificate.proofs.WrittenCertificates.{head_text}
 use Rattle.plan_certificate.proofs.certificate.writing.write_head.Goals as goal
 

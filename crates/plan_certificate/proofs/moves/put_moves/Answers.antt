@@ -13,13 +13,13 @@ use Rattle.plan_certificate.specs.declared.moves.Move.{Move}
 use Rattle.plan_certificate.specs.Moves.{LeadsOn, moves_at, moves_of}
 use Rattle.plan_certificate.proofs.MoveLists.{moves_of_both, moves_lead_on}
 use Rattle.plan_certificate.proofs.MoveOrder.{moves_rise}
-use Rattle.plan_certificate.proofs.moves.moves_at.Goals as goal
+use Rattle.plan_certificate.proofs.moves.put_moves.Goals as goal
 
 pub loop-app-init : goal.loop-app-init
 unfolding moves_of
 loop-app-init c = record {
-  moves = c.new-moves.ensures;
-  few = omega (arith, ap (λ (items : List Move). length items) c.new-moves.ensures);
+  moves = c.clear.ensures;
+  few = omega (arith, ap (λ (items : List Move). length items) c.clear.ensures);
 }
 
 pub loop-app-preserved : goal.loop-app-preserved

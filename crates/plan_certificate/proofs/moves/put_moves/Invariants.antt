@@ -2,7 +2,7 @@ use Rattle.std.proofs.Common.{◌≡◌, ◌*◌, ◌≤◌, length, take}
 use Rattle.std.specs.List.{flat_map}
 use Rattle.plan_certificate.specs.States.{paths_of_app}
 use Rattle.plan_certificate.specs.Moves.{moves_of}
-use Rattle.plan_certificate.proofs.moves.moves_at.Given as goal
+use Rattle.plan_certificate.proofs.moves.put_moves.Given as goal
 
 -- the moves of the Applications so far
 abbrev pub invariant-loop-app : goal.invariant-loop-app

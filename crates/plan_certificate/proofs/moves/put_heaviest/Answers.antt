@@ -1,10 +1,10 @@
 use Rattle.std.proofs.Common.{arith}
 use Rattle.std.proofs.lemmas.List.{length-take-le}
 use Rattle.plan_certificate.proofs.RetainedMoves.{heaviest_more, heaviest_of_all, heaviest_of_none}
-use Rattle.plan_certificate.proofs.moves.heaviest.Goals as goal
+use Rattle.plan_certificate.proofs.moves.put_heaviest.Goals as goal
 
 pub loop-one-init : goal.loop-one-init
-loop-one-init c = heaviest_of_none c.args.moves.now c.new-heaviest.result.items c.new-heaviest.ensures
+loop-one-init c = heaviest_of_none c.args.moves.now c.clear.new.self.items c.clear.ensures
 
 pub retain-requires : goal.retain-requires
 retain-requires c = omega (arith, c.loop-one.invariant.few, length-take-le c.loop-one.one-index c.args.moves.now c.loop-one.auto.one-index-end, c.loop-one-test.true, c.requires)
