@@ -1,8 +1,8 @@
 -- What holds of the certificate of the plan that is read off, whether it is put together or only written.
-use Rattle.std.proofs.Common.{◌≡◌, ℕ, zero, suc, ◌+◌, ◌<◌, ◌≤◌, ◌++◌, ◌∷◌, [], Bool, true, false, List, map, get_or, refl, sym, subst, ap, ◌∙◌, inl, inr, arith}
+use Rattle.std.proofs.Common.{◌≡◌, ℕ, zero, suc, ◌+◌, ◌<◌, ◌≤◌, ◌++◌, ◌∷◌, [], Bool, true, false, List, get_or, refl, sym, subst, ap, ◌∙◌, inl, inr, arith}
 use Rattle.std.specs.List.{AllByRecursion}
 use Rattle.std.proofs.lemmas.Bool.{cases_Bool}
-use Rattle.text_lines.specs.Lines.{lines_of, text_of}
+use Rattle.text_lines.specs.Lines.{lines_of}
 use Rattle.applications.specs.Advertised.{Advertised}
 use Rattle.applications.specs.Weights.{HostWeights}
 use Rattle.plan_certificate.specs.declared.path.Path.{Path}
@@ -11,7 +11,7 @@ use Rattle.plan_certificate.specs.declared.line.Line.TheVariants.{StateLine, End
 use Rattle.plan_certificate.specs.Limits.{most_states}
 use Rattle.plan_certificate.specs.Plans.{IsAdmissible}
 use Rattle.plan_certificate.specs.Certificates.{Claim, IsBound, IsGood}
-use Rattle.plan_certificate.specs.CertificateText.{IsEntryInRange, IsHead, IsTextOf, line_text, certificate_lines}
+use Rattle.plan_certificate.specs.CertificateText.{IsEntryInRange, IsHead, IsTextOf, line_text}
 use Rattle.plan_certificate.specs.States.{start}
 use Rattle.plan_certificate.proofs.GoodVerdicts.{good_verdict}
 use Rattle.plan_certificate.proofs.WrittenCertificates.{entry_text, is_readable, whole_text, written_lines}

@@ -4,6 +4,7 @@ mod KeptLanes
 mod FreeLanes
 mod GainLaws
 mod Places
+mod JoinedNumbers
 mod StepEnds
 mod ReachedStates
 mod Marking

@@ -1,6 +1,6 @@
 -- The planner's table of gains, by the places of states, and the plan that it reads off. (docs/planning.md, "The
 -- planner")
-use Rattle.std.specs.Prelude.{◌≡◌, ℕ, Bool, ◌+◌, ◌-◌, ◌*◌, ◌/◌, ◌%◌, ◌<◌, ◌≤◌, ◌==◌, ◌&&◌, ◌||◌, ◌⊎◌, nat_lt, List, Option, All, AllPairs, Contains, find, length, slice_index}
+use Rattle.std.specs.Prelude.{◌≡◌, ℕ, Bool, ◌+◌, ◌-◌, ◌*◌, ◌/◌, ◌%◌, ◌<◌, ◌≤◌, ◌==◌, ◌&&◌, ◌||◌, ◌⊎◌, nat_lt, List, [], ◌∷◌, Option, All, AllPairs, Contains, find, length, slice_index}
 use Rattle.applications.specs.Advertised.{Advertised}
 use Rattle.applications.specs.Weights.{HostWeights}
 use Rattle.plan_certificate.specs.declared.path.Path.{Path}
@@ -19,6 +19,12 @@ use Rattle.lane_planner.specs.FirstBest.{IsOfUse, IsSameOrBefore}
 use Rattle.lane_planner.specs.Gains.{IsGain}
 use Rattle.lane_planner.specs.Marks.{IsMarked}
 use Rattle.plan_certificate.specs.Limits.{most_states}
+
+-- the numbers whose lower 32 bits and higher bits are these
+abbrev pub joined : List ℕ → List ℕ → List ℕ
+joined [] highs = []
+joined (low ∷ lows) [] = []
+joined (low ∷ lows) (high ∷ highs) = (low + 4294967296 * high) ∷ joined lows highs
 
 -- a number for each state; each lane that is still to be decided adds at most a weight of 32 bits
 pub record IsTable (table : List ℕ) : Type 0 where

@@ -4,11 +4,12 @@ ghost use Rattle.plan_certificate.specs.KeptPaths as spec;
 ghost use Rattle.plan_certificate.specs.Moves.{LeadsOn};
 ghost use Rattle.lane_planner.specs.Tables.{IsTable, move_keeps_gain};
 
+use crate::table::Table;
 use plan_certificate::{Move, Path, State, is_among};
 
 /// The first move that is open, weighs something or is a kept path's, and after which the state's whole gain can still be
 /// had.
-pub fn chosen(moves: &[Move], kept: &[Path], table: &[u64], state: &State) -> Option<Move>
+pub fn chosen(moves: &[Move], kept: &[Path], table: &Table, state: &State) -> Option<Move>
     requires table { IsTable table.now }
     requires open { state.now.boundary < 8 }
     requires lead_on { All (LeadsOn state.now.boundary) moves.now }
@@ -22,7 +23,7 @@ pub fn chosen(moves: &[Move], kept: &[Path], table: &[u64], state: &State) -> Op
     None
 }
 
-fn keeps_gain(one: &Move, kept: &[Path], table: &[u64], state: &State) -> bool
+fn keeps_gain(one: &Move, kept: &[Path], table: &Table, state: &State) -> bool
     requires table { IsTable table.now }
     requires open { state.now.boundary < 8 }
     requires leads_on { LeadsOn state.now.boundary one.now }
@@ -31,8 +32,8 @@ fn keeps_gain(one: &Move, kept: &[Path], table: &[u64], state: &State) -> bool
     if !one.is_open(state) || !is_of_use(one, kept) {
         return false;
     }
-    let rest = table[one.step(state).end.place()];
-    u64::from(one.weight) + rest == table[state.place()]
+    let rest = table.at(one.step(state).end.place());
+    u64::from(one.weight) + rest == table.at(state.place())
 }
 
 fn is_of_use(one: &Move, kept: &[Path]) -> bool

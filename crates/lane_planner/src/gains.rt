@@ -5,6 +5,7 @@ ghost use Rattle.plan_certificate.specs.Moves.{LeadsOn, steps_by};
 ghost use Rattle.lane_planner.specs.Marks.{MarksReached};
 ghost use Rattle.lane_planner.specs.Tables.{HasGains, IsMost, IsTable};
 
+use crate::table::Table;
 use applications::{Advert, Weights};
 use plan_certificate::{HOST_LANES, Move, Moves, Path, STATES, State};
 
@@ -14,28 +15,30 @@ pub fn put_gains(
     weights: &Weights,
     kept: &[Path],
     marks: &[bool],
-    table: &mut [u64; STATES],
+    table: &mut Table,
 )
     requires kept { AreAllowed advert.now kept.now }
     requires marks { MarksReached advert.now weights.now kept.now marks.now }
     requires blank { table.old ≡ replicate STATES 0 }
     ensures { HasGains advert.now weights.now kept.now 0 table.new }
 {
+    let mut moves = Moves::none();
     for boundary in (0..HOST_LANES).rev() {
-        let moves = Moves::at(advert, weights, kept, boundary);
+        moves.list(advert, weights, kept, boundary);
         for used in (0..256usize).rev() {
             let place = 256 * usize::from(boundary) + used;
             if marks[place] {
                 let state = State::at(place);
                 let free = moves.may_stay_free;
-                table[place] = most(free, moves.heaviest.as_slice(), table, &state);
+                let gain = most(free, moves.heaviest.as_slice(), table, &state);
+                table.put(place, gain);
             }
         }
     }
 }
 
 // The most that a step from the state weighs together with what can be gained where it leads; 0 where there is none.
-fn most(may_stay_free: bool, moves: &[Move], table: &[u64], state: &State) -> u64
+fn most(may_stay_free: bool, moves: &[Move], table: &Table, state: &State) -> u64
     requires table { IsTable table.now }
     requires open { state.now.boundary < 8 }
     requires lead_on { All (LeadsOn state.now.boundary) moves.now }
@@ -45,11 +48,11 @@ fn most(may_stay_free: bool, moves: &[Move], table: &[u64], state: &State) -> u6
     let mut most = 0;
     if may_stay_free {
         let free = state.free_step().end;
-        most = table[free.place()];
+        most = table.at(free.place());
     }
     for one in moves {
         if one.is_open(state) {
-            let through = u64::from(one.weight) + table[one.step(state).end.place()];
+            let through = u64::from(one.weight) + table.at(one.step(state).end.place());
             if most < through {
                 most = through;
             }

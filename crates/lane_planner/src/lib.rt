@@ -7,6 +7,7 @@ mod gains;
 pub mod laws;
 mod planner;
 mod reached;
+mod table;
 mod written;
 
 pub use first::first_best;

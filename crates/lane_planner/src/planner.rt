@@ -15,6 +15,7 @@ ghost use Rattle.lane_planner.specs.Tables.{AreEntries, HasGains, IsReadOff, ent
 use crate::choices::chosen;
 use crate::gains::put_gains;
 use crate::reached::reached;
+use crate::table::Table;
 use applications::{Advert, Weights};
 use arrayvec::ArrayVec;
 use plan_certificate::{Certificate, Entry, HOST_LANES, Path, Plan, STATES, State, moves_at};
@@ -50,11 +51,12 @@ pub fn plan_keeping(advert: &Advert, weights: &Weights, kept: &Plan) -> Certific
     ensures states { (state : State) → IsReached advert.now weights.now kept.now state ↔ Contains (map state_of result.entries) state }
 {
     let paths = kept.paths.as_slice();
-    let marks = reached(advert, weights, paths);
-    let mut table = [0; STATES];
+    let mut marks = [false; STATES];
+    reached(advert, weights, paths, &mut marks);
+    let mut table = Table::blank();
     put_gains(advert, weights, paths, &marks, &mut table);
     Certificate {
-        weight: table[0],
+        weight: table.at(0),
         kept: copy_of(kept),
         plan: read_off(advert, weights, paths, &table),
         entries: entries_of(&marks, &table),
@@ -69,14 +71,15 @@ pub fn first_plan(advert: &Advert, weights: &Weights, kept: &Plan) -> Plan
     ensures rising { AllPairs (λ path later. path.host < later.host) result }
 {
     let kept = kept.paths.as_slice();
-    let marks = reached(advert, weights, kept);
-    let mut table = [0; STATES];
+    let mut marks = [false; STATES];
+    reached(advert, weights, kept, &mut marks);
+    let mut table = Table::blank();
     put_gains(advert, weights, kept, &marks, &mut table);
     read_off(advert, weights, kept, &table)
 }
 
 /// The plan that the gains lead to, from the start upwards.
-pub fn read_off(advert: &Advert, weights: &Weights, kept: &[Path], table: &[u64]) -> Plan
+pub fn read_off(advert: &Advert, weights: &Weights, kept: &[Path], table: &Table) -> Plan
     requires kept { IsAdmissible advert.now kept.now }
     requires gains { HasGains advert.now weights.now kept.now 0 table.now }
     ensures { IsReadOff advert.now weights.now kept.now table.now result }
@@ -97,9 +100,8 @@ pub fn read_off(advert: &Advert, weights: &Weights, kept: &[Path], table: &[u64]
 }
 
 // The entries of the marked states.
-fn entries_of(marks: &[bool], table: &[u64]) -> ArrayVec<Entry, STATES>
-    requires marks { length marks.now ≡ STATES }
-    requires table { length table.now ≡ STATES }
+fn entries_of(marks: &[bool], table: &Table) -> ArrayVec<Entry, STATES>
+    requires { length marks.now ≡ STATES }
     ensures { AreEntries marks.now table.now STATES result.items }
 {
     let mut entries = ArrayVec::new();
@@ -112,15 +114,14 @@ fn entries_of(marks: &[bool], table: &[u64]) -> ArrayVec<Entry, STATES>
 }
 
 /// The entry of the state at a place.
-pub fn entry_at(table: &[u64], place: usize) -> Entry
-    requires table { length table.now ≡ STATES }
-    requires place { place < STATES }
+pub fn entry_at(table: &Table, place: usize) -> Entry
+    requires { place < STATES }
     ensures { result ≡ entry_at table.now place }
 {
     Entry {
         boundary: (place / 256) as u8,
         used: (place % 256) as u8,
-        potential: table[place],
+        potential: table.at(place),
     }
 }
 

@@ -1,5 +1,5 @@
 // Which states steps from the start reach.
-ghost use Rattle.std.specs.Prelude.{◌≡◌, ◌≤◌, ◌<◌, ◌+◌, All, length};
+ghost use Rattle.std.specs.Prelude.{◌≡◌, ◌≤◌, ◌<◌, ◌+◌, All, false, length, replicate};
 ghost use Rattle.plan_certificate.specs.Plans.{AreAllowed};
 ghost use Rattle.plan_certificate.specs.Moves.{LeadsOn, steps_by};
 ghost use Rattle.lane_planner.specs.Marks.{MarksEnds, MarksReached};
@@ -8,24 +8,24 @@ use applications::{Advert, Weights};
 use plan_certificate::{HOST_LANES, Move, Moves, Path, STATES, State};
 
 /// Marks, by their places, the states that steps from the start reach.
-pub fn reached(advert: &Advert, weights: &Weights, kept: &[Path]) -> [bool; STATES]
-    requires { AreAllowed advert.now kept.now }
-    ensures { MarksReached advert.now weights.now kept.now result }
+pub fn reached(advert: &Advert, weights: &Weights, kept: &[Path], marks: &mut [bool; STATES])
+    requires kept { AreAllowed advert.now kept.now }
+    requires blank { marks.old ≡ replicate STATES false }
+    ensures { MarksReached advert.now weights.now kept.now marks.new }
 {
-    let mut marks = [false; STATES];
+    let mut moves = Moves::none();
     marks[0] = true;
     for boundary in 0..HOST_LANES {
-        let moves = Moves::at(advert, weights, kept, boundary);
+        moves.list(advert, weights, kept, boundary);
         for used in 0..256usize {
             let place = 256 * usize::from(boundary) + used;
             if marks[place] {
                 let state = State::at(place);
                 let free = moves.may_stay_free;
-                mark_ends(&mut marks, free, moves.heaviest.as_slice(), &state);
+                mark_ends(marks, free, moves.heaviest.as_slice(), &state);
             }
         }
     }
-    marks
 }
 
 // Marks where the steps from a state lead.

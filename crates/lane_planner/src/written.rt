@@ -6,6 +6,7 @@ ghost use Rattle.lane_planner.specs.CertifiedPlans.{AddsEntries, IsPlanText};
 use crate::gains::put_gains;
 use crate::planner::{entry_at, read_off};
 use crate::reached::reached;
+use crate::table::Table;
 use applications::{Advert, Weights};
 use plan_certificate::{Plan, STATES, write_end, write_entry, write_head};
 use std::alloc::{AllocError, Global};
@@ -21,20 +22,20 @@ pub fn certificate_text(
     ensures { IfOk result (λ text. IsPlanText advert.now weights.now kept.now text.items) }
 {
     let paths = kept.paths.as_slice();
-    let marks = reached(advert, weights, paths);
-    let mut table = [0; STATES];
+    let mut marks = [false; STATES];
+    reached(advert, weights, paths, &mut marks);
+    let mut table = Table::blank();
     put_gains(advert, weights, paths, &marks, &mut table);
     let plan = read_off(advert, weights, paths, &table);
-    let mut text = write_head(alloc, table[0], kept, &plan)?;
+    let mut text = write_head(alloc, table.at(0), kept, &plan)?;
     write_entries(&mut text, &marks, &table)?;
     write_end(&mut text)?;
     Ok(text)
 }
 
 // Adds the lines of the marked states.
-fn write_entries(text: &mut Vec<u8>, marks: &[bool], table: &[u64]) -> Result<(), AllocError>
-    requires marks { length marks.now ≡ STATES }
-    requires table { length table.now ≡ STATES }
+fn write_entries(text: &mut Vec<u8>, marks: &[bool], table: &Table) -> Result<(), AllocError>
+    requires { length marks.now ≡ STATES }
     ensures { OnOk result (AddsEntries marks.now table.now STATES text.old.items text.new.items) }
 {
     for place in 0..STATES {

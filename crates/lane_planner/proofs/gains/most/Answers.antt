@@ -22,7 +22,7 @@ loop-one-init c =
       | then-may_stay_free w ↦
           let step : Step = free_step state in
           let place : w.place.result ≡ state_place step.end = w.place.ensures ∙ ap (λ (s : Step). state_place s.end) w.free_step-free.ensures in
-          let rest : most ≡ gain_at table step.end = w.most-is ∙ ap (λ (n : ℕ). get_or table n 0) place in
+          let rest : most ≡ gain_at table step.end = w.most-is ∙ w.at-most.ensures ∙ ap (λ (n : ℕ). get_or table n 0) place in
           let small = small_in table step.end c.requires.table (omega (arith, c.requires.open)) in
           record {
             most = subst Most (sym w.if-may_stay_free.true) (most_of_one table step most (omega (arith, rest)));
@@ -51,7 +51,7 @@ loop-one-preserved c =
       | then-is_open+then-most-through w ↦
           let more = one_step_more free state moves index move c.loop-one-test.true c.one-item.is (sym c.is_open.ensures ∙ w.if-is_open.true) in
           let place : w.place-then-is_open.result ≡ state_place step.end = w.place-then-is_open.ensures ∙ ap (λ (s : Step). state_place s.end) w.step.ensures in
-          let rest : get_or table w.place-then-is_open.result 0 ≡ gain_at table step.end = ap (λ (n : ℕ). get_or table n 0) place in
+          let rest : w.at.result ≡ gain_at table step.end = w.at.ensures ∙ ap (λ (n : ℕ). get_or table n 0) place in
           let new = most_risen table before step c.loop-one.most most c.loop-one.invariant.most (omega (arith, w.most-is, rest, w.from.ensures)) (omega (arith, w.if-most-through.true, w.most-is)) in
           record {
             most = subst (λ (steps : List Step). IsMost table steps most) (sym more) new;
@@ -60,7 +60,7 @@ loop-one-preserved c =
       | then-is_open+else-most-through w ↦
           let more = one_step_more free state moves index move c.loop-one-test.true c.one-item.is (sym c.is_open.ensures ∙ w.if-is_open.true) in
           let place : w.place-then-is_open.result ≡ state_place step.end = w.place-then-is_open.ensures ∙ ap (λ (s : Step). state_place s.end) w.step.ensures in
-          let rest : get_or table w.place-then-is_open.result 0 ≡ gain_at table step.end = ap (λ (n : ℕ). get_or table n 0) place in
+          let rest : w.at.result ≡ gain_at table step.end = w.at.ensures ∙ ap (λ (n : ℕ). get_or table n 0) place in
           let same : c.loop-one.most ≡ most = sym w.most-is in
           let new = most_kept table before step most (subst (IsMost table before) same c.loop-one.invariant.most) (omega (arith, w.if-most-through.false, same, rest, w.from.ensures)) in
           record {

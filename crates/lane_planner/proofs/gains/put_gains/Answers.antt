@@ -24,13 +24,13 @@ loop-boundary-preserved c =
     let same : 256 * (c.loop-boundary.boundary - 1) + c.loop-used.used ≡ 256 * (c.loop-boundary.boundary - 1) = omega (arith, c.loop-used-test.false) in
     subst (λ (n : ℕ). HasGains c.args.advert.now c.args.weights.now c.args.kept.now n c.loop-used.table) same c.loop-used.invariant
 
-pub most-requires-clause-lead_on : goal.most-requires-clause-lead_on
-most-requires-clause-lead_on c =
+pub most-gain-requires-clause-lead_on : goal.most-gain-requires-clause-lead_on
+most-gain-requires-clause-lead_on c =
     let boundary : ℕ = c.loop-boundary.boundary - 1 in
-    let are = c.at-moves.ensures.moves in
+    let are = c.list.ensures.moves in
     let at : boundary ≡ c.at-state.result.boundary = omega (arith, ap (λ (s : State). s.boundary) c.at-state.ensures, c.from.ensures, c.loop-used-test.true, c.loop-used.auto.used) in
-    let each = heaviest_lead_on boundary c.at-moves.result.all.items c.at-moves.result.heaviest.items are.heavy are.lead_on in
-    subst (λ (moves : List Move). All (LeadsOn c.at-state.result.boundary) moves) (sym c.as_slice.ensures.value) (subst (λ (n : ℕ). All (LeadsOn n) c.at-moves.result.heaviest.items) at each)
+    let each = heaviest_lead_on boundary c.list.new.self.all.items c.list.new.self.heaviest.items are.heavy are.lead_on in
+    subst (λ (moves : List Move). All (LeadsOn c.at-state.result.boundary) moves) (sym c.as_slice.ensures.value) (subst (λ (n : ℕ). All (LeadsOn n) c.list.new.self.heaviest.items) at each)
 
 pub loop-used-preserved-then-marks-place : goal.loop-used-preserved-then-marks-place
 loop-used-preserved-then-marks-place c =
@@ -47,11 +47,19 @@ loop-used-preserved-then-marks-place c =
     let below : place < 2304 = omega (arith, c.loop-used-test.true, c.loop-used.auto.used, c.loop-boundary-test.true, c.loop-boundary.auto.boundary) in
     let marked : IsMarked c.args.marks.now place = subst (IsMarked c.args.marks.now) read c.if-marks-place.true in
     let state : c.at-state.result ≡ state_at place = c.at-state.ensures ∙ ap state_at read in
-    let free : Bool = c.at-moves.result.may_stay_free in
-    let found = subst (λ (moves : List Move). IsMost table (steps_by free (state_at place) moves) c.most.result) c.as_slice.ensures.value (subst (λ (s : State). IsMost table (steps_by free s c.as_slice.result.now) c.most.result) state c.most.ensures.most) in
-    let gain = gain_is_most advert weights kept table place c.most.result boundary free c.at-moves.result.all.items c.at-moves.result.heaviest.items at (omega (arith, c.loop-boundary-test.true, c.loop-boundary.auto.boundary)) has ((c.requires.marks.reached place below).0 marked) c.at-moves.ensures.moves found in
-    let more = gains_more advert weights kept place table c.most.result has below gain (omega (arith, c.most.ensures.small, ap (λ (s : State). s.boundary) state)) in
-    subst (λ (n : ℕ). HasGains advert weights kept place (set table n c.most.result)) (sym read) more
+    let free : Bool = c.list.new.self.may_stay_free in
+    let found = subst (λ (moves : List Move). IsMost table (steps_by free (state_at place) moves) c.most-gain.result) c.as_slice.ensures.value (subst (λ (s : State). IsMost table (steps_by free s c.as_slice.result.now) c.most-gain.result) state c.most-gain.ensures.most) in
+    let gain = gain_is_most advert weights kept table place c.most-gain.result boundary free c.list.new.self.all.items c.list.new.self.heaviest.items at (omega (arith, c.loop-boundary-test.true, c.loop-boundary.auto.boundary)) has ((c.requires.marks.reached place below).0 marked) c.list.ensures.moves found in
+    let more = gains_more advert weights kept place table c.most-gain.result has below gain (omega (arith, c.most-gain.ensures.small, ap (λ (s : State). s.boundary) state)) in
+    subst (HasGains advert weights kept place) (sym c.put.ensures) (subst (λ (n : ℕ). HasGains advert weights kept place (set table n c.most-gain.result)) (sym read) more)
+
+pub put-requires-clause-small : goal.put-requires-clause-small
+put-requires-clause-small c = omega (arith, c.most-gain.ensures.small)
+
+pub returns : goal.returns
+returns c =
+    let start : 256 * c.loop-boundary.boundary ≡ 0 = omega (arith, c.loop-boundary-test.false) in
+    subst (λ (n : ℕ). HasGains c.args.advert.now c.args.weights.now c.args.kept.now n c.loop-boundary.table) start c.loop-boundary.invariant
 
 pub loop-used-preserved : goal.loop-used-preserved
 loop-used-preserved c =

@@ -8,8 +8,8 @@ use Rattle.lane_planner.proofs.CertifiedPlans.{certified, claim, entries_upto}
 use Rattle.lane_planner.proofs.PlansReadOff.{read_off_is_first}
 use Rattle.lane_planner.proofs.planner.first_plan.Goals as goal
 
-pub reached-marks-requires : goal.reached-marks-requires
-reached-marks-requires c =
+pub reached-requires-clause-kept : goal.reached-requires-clause-kept
+reached-requires-clause-kept c =
     let same : c.as_slice-kept.result.now ≡ c.args.kept.now = (let read = c.as_slice-kept.ensures.value in let seen = c.kept.view_is in cc) in
     subst (AreAllowed c.args.advert.now) (sym same) c.requires.allowed
 
@@ -28,11 +28,11 @@ returns-clause-certified c =
     let advert = c.args.advert.now in
     let weights = c.args.weights.now in
     let kept : List Path = c.args.kept.now in
-    let marks = c.reached-marks.result in
+    let marks = c.reached.new.marks in
     let table = c.put_gains.new.table in
     let paths : List Path = c.read_off.result in
     let same : c.as_slice-kept.result.now ≡ kept = (let read = c.as_slice-kept.ensures.value in let seen = c.kept.view_is in cc) in
-    let reached = subst (λ (l : List Path). MarksReached advert weights l marks) same c.reached-marks.ensures in
+    let reached = subst (λ (l : List Path). MarksReached advert weights l marks) same c.reached.ensures in
     let has = subst (λ (l : List Path). HasGains advert weights l 0 table) same c.put_gains.ensures in
     let off = subst (λ (l : List Path). IsReadOff advert weights l table paths) same c.read_off.ensures in
     let entries = entries_upto marks table 2304 (omega arith) in

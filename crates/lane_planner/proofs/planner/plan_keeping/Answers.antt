@@ -14,8 +14,8 @@ use Rattle.lane_planner.proofs.ReachedEntries.{bound_at, each_covers, each_gain,
 use Rattle.lane_planner.proofs.ReachedStates.{start_reached}
 use Rattle.lane_planner.proofs.planner.plan_keeping.Goals as goal
 
-pub reached-marks-requires : goal.reached-marks-requires
-reached-marks-requires c =
+pub reached-requires-clause-kept : goal.reached-requires-clause-kept
+reached-requires-clause-kept c =
     let same : c.as_slice-paths.result.now ≡ c.args.kept.now = (let read = c.as_slice-paths.ensures.value in let seen = c.kept.view_is in cc) in
     subst (AreAllowed c.args.advert.now) (sym same) c.requires.allowed
 
@@ -34,14 +34,14 @@ returns-clause-good c =
     let advert = c.args.advert.now in
     let weights = c.args.weights.now in
     let kept : List Path = c.copy_of.result in
-    let marks = c.reached-marks.result in
+    let marks = c.reached.new.marks in
     let table = c.put_gains.new.table in
     let entries : List Entry = c.entries_of.result.items in
     let same : c.as_slice-paths.result.now ≡ kept = (let read = c.as_slice-paths.ensures.value in let seen = c.kept.view_is in let copied = c.copy_of.ensures in cc) in
-    let reached = subst (λ (paths : List Path). MarksReached advert weights paths marks) same c.reached-marks.ensures in
+    let reached = subst (λ (paths : List Path). MarksReached advert weights paths marks) same c.reached.ensures in
     let has = subst (λ (paths : List Path). HasGains advert weights paths 0 table) same c.put_gains.ensures in
     let off = subst (λ (paths : List Path). IsReadOff advert weights paths table c.read_off.result) same c.read_off.ensures in
-    let weight : get_or table 0 0 ≡ gain_at table start = ap (λ (n : ℕ). get_or table n 0) (sym start_place) in
+    let weight : c.at.result ≡ gain_at table start = c.at.ensures ∙ ap (λ (n : ℕ). get_or table n 0) (sym start_place) in
     record {
       kept = subst (IsAdmissible advert) (sym c.copy_of.ensures) c.requires;
       admissible = off.plan.admissible;
@@ -71,10 +71,10 @@ returns-clause-gains c =
     let advert = c.args.advert.now in
     let weights = c.args.weights.now in
     let kept : List Path = c.args.kept.now in
-    let marks = c.reached-marks.result in
+    let marks = c.reached.new.marks in
     let table = c.put_gains.new.table in
     let same : c.as_slice-paths.result.now ≡ kept = (let read = c.as_slice-paths.ensures.value in let seen = c.kept.view_is in cc) in
-    let reached = subst (λ (paths : List Path). MarksReached advert weights paths marks) same c.reached-marks.ensures in
+    let reached = subst (λ (paths : List Path). MarksReached advert weights paths marks) same c.reached.ensures in
     let has = subst (λ (paths : List Path). HasGains advert weights paths 0 table) same c.put_gains.ensures in
     each_gain advert weights kept marks table c.entries_of.result.items reached has c.entries_of.ensures
 
@@ -83,9 +83,9 @@ returns-clause-states c =
     let advert = c.args.advert.now in
     let weights = c.args.weights.now in
     let kept : List Path = c.args.kept.now in
-    let marks = c.reached-marks.result in
+    let marks = c.reached.new.marks in
     let table = c.put_gains.new.table in
     let same : c.as_slice-paths.result.now ≡ kept = (let read = c.as_slice-paths.ensures.value in let seen = c.kept.view_is in cc) in
-    let reached = subst (λ (paths : List Path). MarksReached advert weights paths marks) same c.reached-marks.ensures in
+    let reached = subst (λ (paths : List Path). MarksReached advert weights paths marks) same c.reached.ensures in
     let has = subst (λ (paths : List Path). HasGains advert weights paths 0 table) same c.put_gains.ensures in
     states_are advert weights kept marks table c.entries_of.result.items reached has c.entries_of.ensures

@@ -1,4 +1,4 @@
-use Rattle.std.proofs.Common.{Bool, ◌≡◌, ℕ, ◌+◌, ◌*◌, ◌<◌, List, refl, sym, subst, ap, ◌∙◌, arith}
+use Rattle.std.proofs.Common.{Bool, ◌≡◌, ℕ, ◌+◌, ◌*◌, ◌<◌, List, true, refl, set, sym, subst, ap, ◌∙◌, arith}
 use Rattle.std.specs.List.{All}
 use Rattle.plan_certificate.specs.declared.moves.Move.{Move}
 use Rattle.plan_certificate.specs.declared.state.State.{State}
@@ -14,15 +14,15 @@ use Rattle.lane_planner.proofs.reached.reached.Goals as goal
 use Rattle.lane_planner.proofs.reached.reached.Goals.{then-marks-place, else-marks-place}
 
 pub loop-boundary-init : goal.loop-boundary-init
-loop-boundary-init c = marks_of_blank c.args.advert.now c.args.weights.now c.args.kept.now 2304 refl
+loop-boundary-init c = subst (λ (blank : List Bool). AreMarks c.args.advert.now c.args.weights.now c.args.kept.now 0 (set blank 0 true)) (sym c.requires.blank) (marks_of_blank c.args.advert.now c.args.weights.now c.args.kept.now 2304 refl)
 
 pub mark_ends-requires-clause-lead_on : goal.mark_ends-requires-clause-lead_on
 mark_ends-requires-clause-lead_on c =
     let boundary : ℕ = c.loop-boundary.boundary in
-    let are = c.at-moves.ensures.moves in
+    let are = c.list.ensures.moves in
     let at : boundary ≡ c.at-state.result.boundary = omega (arith, ap (λ (s : State). s.boundary) c.at-state.ensures, c.from.ensures, c.loop-used-test.true) in
-    let each = heaviest_lead_on boundary c.at-moves.result.all.items c.at-moves.result.heaviest.items are.heavy are.lead_on in
-    subst (λ (moves : List Move). All (LeadsOn c.at-state.result.boundary) moves) (sym c.as_slice.ensures.value) (subst (λ (n : ℕ). All (LeadsOn n) c.at-moves.result.heaviest.items) at each)
+    let each = heaviest_lead_on boundary c.list.new.self.all.items c.list.new.self.heaviest.items are.heavy are.lead_on in
+    subst (λ (moves : List Move). All (LeadsOn c.at-state.result.boundary) moves) (sym c.as_slice.ensures.value) (subst (λ (n : ℕ). All (LeadsOn n) c.list.new.self.heaviest.items) at each)
 
 pub loop-used-preserved : goal.loop-used-preserved
 loop-used-preserved c =
@@ -38,14 +38,14 @@ loop-used-preserved c =
       | then-marks-place w ↦
           let state : State = state_at place in
           let after = w.mark_ends.new.marks in
-          let all = c.at-moves.result.all.items in
-          let are = c.at-moves.ensures.moves in
+          let all = c.list.new.self.all.items in
+          let are = c.list.ensures.moves in
           let low : state.boundary ≡ boundary = omega (arith, c.loop-used-test.true) in
-          let free : Bool = c.at-moves.result.may_stay_free in
-          let steps = listed_are_steps advert weights kept state boundary free all c.at-moves.result.heaviest.items low c.loop-boundary-test.true are in
+          let free : Bool = c.list.new.self.may_stay_free in
+          let steps = listed_are_steps advert weights kept state boundary free all c.list.new.self.heaviest.items low c.loop-boundary-test.true are in
           let at_state = subst (λ (s : State). MarksEnds (steps_by free s w.as_slice.result.now) before after) (w.at-state.ensures ∙ ap state_at read) w.mark_ends.ensures in
           let of_heaviest = subst (λ (moves : List Move). MarksEnds (steps_by free state moves) before after) w.as_slice.ensures.value at_state in
-          let new = subst (λ (ss : List Step). MarksEnds ss before after) steps (ends_of_heaviest free state all c.at-moves.result.heaviest.items before after are.heavy of_heaviest) in
+          let new = subst (λ (ss : List Step). MarksEnds ss before after) steps (ends_of_heaviest free state all c.list.new.self.heaviest.items before after are.heavy of_heaviest) in
           let below : place < 2304 = omega (arith, c.loop-boundary-test.true, c.loop-used-test.true) in
           let marked : IsMarked before place = subst (IsMarked before) read w.if-marks-place.true in
           subst (AreMarks advert weights kept (place + 1)) (sym w.marks-is) (marks_more advert weights kept place before after c.loop-used.invariant below marked new)
