@@ -7,11 +7,11 @@ ghost use Rattle.plan_certificate.specs.Verdicts as spec;
 
 use crate::certificate::{Certificate, Entry};
 use crate::flaws::paths_flaw;
-use crate::lookup::Entries;
+use crate::lookup::{Entries, number};
 use crate::moves::{Move, Moves};
 use crate::path::Path;
 use crate::plan::{Plan, weight_of};
-use crate::state::{HOST_LANES, State, Step};
+use crate::state::{HOST_LANES, STATES, State, Step};
 use crate::verdict::{Reason, Verdict};
 use applications::{Advert, Weights};
 
@@ -56,7 +56,15 @@ fn flaw(
     if weight != weight_of(advert, weights, plan) {
         return Some((Reason::WeightWrong, 0));
     }
-    bound_flaw(advert, weights, kept, &Entries::of(entries), weight)
+    let mut numbers = [0; STATES];
+    number(entries, &mut numbers);
+    bound_flaw(
+        advert,
+        weights,
+        kept,
+        &Entries::of(entries, &numbers),
+        weight,
+    )
 }
 
 // What is wrong with the entries, as bounds on what can be gained.

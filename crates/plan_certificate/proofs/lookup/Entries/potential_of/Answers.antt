@@ -24,7 +24,7 @@ returns-then-state-gt-HOST_LANES c =
 pub returns-in-0 : goal.returns-in-0
 unfolding potential_of
 returns-in-0 c =
-    let none = not_numbered c.self.inside.all.now c.self.inside.numbers c.self.invariant c.place.result c.in-0.is in
+    let none = not_numbered c.self.inside.all.now c.self.inside.numbers.now c.self.invariant c.place.result c.in-0.is in
     sym (ap told none)
     ∙ ap (λ (entries : List Entry). told_at entries c.place.result) c.self.view_is
     ∙ ap (told_at c.args.self.now) c.place.ensures
@@ -33,7 +33,7 @@ pub returns-in_default : goal.returns-in_default
 unfolding potential_of
 returns-in_default c =
     let e : Entry = record { boundary = 0; used = 0; potential = 0 } in
-    let numbers = c.self.inside.numbers in
+    let numbers = c.self.inside.numbers.now in
     let some : 0 < get_or numbers c.place.result 0 = omega (arith, c.in_default) in
     let found = numbered c.self.inside.all.now numbers c.self.invariant c.place.result e some in
     ap (λ (n : ℕ). told (Some (get_or c.self.inside.all.now (n - 1) e))) c.from.ensures

@@ -1,5 +1,5 @@
 use Rattle.plan_certificate.specs.Lookups.{HasNumbers}
-use Rattle.plan_certificate.proofs.lookup.Entries.of.Given as goal
+use Rattle.plan_certificate.proofs.lookup.number.Given as goal
 
 -- the entries so far have their numbers
 abbrev pub invariant-loop-index : goal.invariant-loop-index
