@@ -61,8 +61,12 @@ abbrev pub IsTold : (Result Judgement Refusal → Type 0) → ℕ → Judgement 
 IsTold Is status after = (judged : Result Judgement Refusal) × Is judged × Tells status after judged
 
 -- the text is that of a certificate which shows that no plan with its kept paths weighs more than its own
-abbrev pub IsShownBest : List Half → HostWeights → List ℕ → Type 0
-IsShownBest halves weights text =
+abbrev pub IsTextShownBest : Advertised → HostWeights → List ℕ → Type 0
+IsTextShownBest advert weights text =
     (certificate : Claim) × IsTextOf most_states (lines_of text) certificate
-    × IsGood (advertised_by (memory_of halves)) weights certificate
-    × IsBest (advertised_by (memory_of halves)) weights certificate.kept certificate.paths
+    × IsGood advert weights certificate
+    × IsBest advert weights certificate.kept certificate.paths
+
+-- the same for the module whose memory has these halves
+abbrev pub IsShownBest : List Half → HostWeights → List ℕ → Type 0
+IsShownBest halves weights text = IsTextShownBest (advertised_by (memory_of halves)) weights text

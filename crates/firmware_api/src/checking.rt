@@ -1,10 +1,10 @@
 ghost use Rattle.std.specs.Prelude.{◌≡◌, ◌≢◌, IfOk};
-ghost use Rattle.firmware_api.specs.Checks.{IsJudged, IsShownBest, IsTold, judgement_of, reason_number};
+ghost use Rattle.firmware_api.specs.Checks.{IsJudged, IsShownBest, IsTextJudged, IsTextShownBest, IsTold, judgement_of, reason_number};
 ghost use Rattle.firmware_api.specs.Statuses.{done};
 
 use crate::half::{Half, read_advert};
 use crate::status::{DONE, Refusal};
-use applications::Weights;
+use applications::{Advert, Weights};
 use plan_certificate::{Certificate, Reason, STATES, Verdict, check};
 
 /// What a certificate is worth.
@@ -43,10 +43,19 @@ fn judged(halves: &[Half], weights: &[u32; 256], text: &[u8]) -> Result<Judgemen
     ensures best { IfOk result (λ judged. judged.reason ≡ 0 → IsShownBest halves.now weights.now text.now) }
 {
     let advert = read_advert(halves)?;
+    text_judged(&advert, weights, text)
+}
+
+// No part of `judged`, whose stack would then hold a certificate while it reads the advertisement.
+#[inline(never)]
+fn text_judged(advert: &Advert, weights: &[u32; 256], text: &[u8]) -> Result<Judgement, Refusal>
+    ensures judged { IsTextJudged advert.now weights.now text.now result }
+    ensures best { IfOk result (λ judged. judged.reason ≡ 0 → IsTextShownBest advert.now weights.now text.now) }
+{
     let mut certificate = Certificate::<STATES>::blank();
     match certificate.take(text) {
         Ok(()) => {
-            let verdict = check(&advert, &Weights::of_table(weights), &certificate);
+            let verdict = check(advert, &Weights::of_table(weights), &certificate);
             Ok(judgement_of(verdict))
         }
         Err(fault) => Err(Refusal::Certificate(fault)),

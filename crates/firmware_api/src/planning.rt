@@ -77,6 +77,8 @@ fn kept_plan(advert: &Advert, kept: &[Path]) -> Result<Plan, Refusal>
     }
 }
 
+// No part of `planned`, whose stack would then hold the planner's tables while it reads the advertisement.
+#[inline(never)]
 fn best_plan(advert: &Advert, weights: &[u32; 256], kept: &Plan) -> LanePlan
     requires { IsAdmissible advert.now kept.now }
     ensures { IsPlanned advert.now weights.now kept.now result }

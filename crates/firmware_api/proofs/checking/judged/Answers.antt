@@ -1,25 +1,11 @@
-use Rattle.std.proofs.Common.{Ok, Err, IfErr, OnOk, sym, subst, ap, ◌∙◌, refl, rules}
-use Rattle.text_lines.specs.Lines.{lines_of}
-use Rattle.applications.specs.Weights.{HostWeights}
-use Rattle.plan_certificate.specs.Limits.{most_states}
-use Rattle.plan_certificate.specs.CertificateFaults.{IsFirstFault}
-use Rattle.plan_certificate.specs.CertificateText.{IsTextOf}
-use Rattle.plan_certificate.specs.Verdicts.{verdict}
-use Rattle.firmware_api.specs.Checks.{IsTextJudged, judgement_of}
-use Rattle.firmware_api.specs.declared.status.Refusal.TheVariants.{Certificate}
+use Rattle.std.proofs.Common.{◌≡◌, IfOk, rules, subst}
+use Rattle.applications.specs.Advertised.{Advertised, advertised_by}
+use Rattle.firmware_api.specs.declared.checking.Judgement.{Judgement}
+use Rattle.firmware_api.specs.Checks.{IsTextShownBest}
+use Rattle.firmware_api.specs.Halves.{memory_of}
 use Rattle.firmware_api.proofs.checking.judged.Goals as goal
 
-pub returns-in-Ok-clause-judged : goal.returns-in-Ok-clause-judged
-returns-in-Ok-clause-judged c =
-    let text = c.args.text.now in
-    let is_text = subst (λ r. OnOk r (IsTextOf most_states (lines_of text) c.take.new.self)) c.in-Ok.is c.take.ensures.ok in
-    let weighed = c.check-verdict.ensures.verdict ∙ ap (λ (weights : HostWeights). verdict c.in_ok-advert.advert weights c.take.new.self) c.of_table.ensures in
-    let told : IsTextJudged c.in_ok-advert.advert c.args.weights.now text (Ok c.judgement_of.result) = (Ok c.take.new.self, is_text, ap Ok (c.judgement_of.ensures ∙ ap judgement_of weighed)) in
-    search rules
-
-pub returns-in-Err-clause-judged : goal.returns-in-Err-clause-judged
-returns-in-Err-clause-judged c =
-    let text = c.args.text.now in
-    let first = subst (λ r. IfErr r (IsFirstFault most_states (lines_of text))) c.in-Err.is c.take.ensures.err in
-    let told : IsTextJudged c.in_ok-advert.advert c.args.weights.now text (Err (Certificate c.in-Err.fault)) = (Err c.in-Err.fault, first, refl) in
-    search rules
+pub returns-clause-best : goal.returns-clause-best
+returns-clause-best c =
+    let same : c.in_ok-advert.advert ≡ advertised_by (memory_of c.args.halves.now) = search rules in
+    subst (λ (advert : Advertised). IfOk c.text_judged.result (λ (judged : Judgement). judged.reason ≡ 0 → IsTextShownBest advert c.args.weights.now c.args.text.now)) same c.text_judged.ensures.best
