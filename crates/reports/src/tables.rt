@@ -31,28 +31,28 @@ macro_rules! source {
     ($kind:ident $field:ident) => { Source::$kind(Field::$field) };
 }
 
-macro_rules! paged {
+macro_rules! is_paged {
     () => { false };
     (paged) => { true };
 }
 
-macro_rules! instead {
+macro_rules! instead_of {
     ($field:ident $number:literal) => { Instead::Nothing(Field::$field, $number) };
     ($field:ident $number:literal $word:literal) => { Instead::Word(Field::$field, $number, $word) };
 }
 
-macro_rules! rows {
+macro_rules! line_table {
     ($($name:literal: [$($source:tt)*] $($paged:ident)? $([$($instead:tt)*])*;)*) => {
         &[$(Row {
             name: $name,
             source: source!($($source)*),
-            paged: paged!($($paged)?),
-            instead: &[$(instead!($($instead)*)),*],
+            paged: is_paged!($($paged)?),
+            instead: &[$(instead_of!($($instead)*)),*],
         }),*]
     };
 }
 
-const CMIS_INVENTORY: &[Line] = rows! {
+const CMIS_INVENTORY: &[Line] = line_table! {
     "family": [Word "CMIS"];
     "identifier": [Code CIdentifier];
     "revision": [Revision CRevision];
@@ -81,7 +81,7 @@ pub fn cmis_inventory() -> &'static [Line]
     CMIS_INVENTORY
 }
 
-const CMIS_MONITORS: &[Line] = rows! {
+const CMIS_MONITORS: &[Line] = line_table! {
     "temperature": [Amount CTemperature];
     "temperature-limits": [Limits CTempLimits] paged;
     "vcc": [Amount CVcc];
@@ -104,7 +104,7 @@ pub fn cmis_monitors() -> &'static [Line]
     CMIS_MONITORS
 }
 
-const QSFP_INVENTORY: &[Line] = rows! {
+const QSFP_INVENTORY: &[Line] = line_table! {
     "family": [Word "SFF-8636"];
     "identifier": [Code QIdentifier];
     "vendor": [Text QVendor];
@@ -127,7 +127,7 @@ pub fn qsfp_inventory() -> &'static [Line]
     QSFP_INVENTORY
 }
 
-const QSFP_MONITORS: &[Line] = rows! {
+const QSFP_MONITORS: &[Line] = line_table! {
     "temperature": [Amount QTemperature];
     "temperature-limits": [Limits QTempLimits] paged;
     "vcc": [Amount QVcc];
@@ -149,7 +149,7 @@ pub fn qsfp_monitors() -> &'static [Line]
     QSFP_MONITORS
 }
 
-const SFP_INVENTORY: &[Line] = rows! {
+const SFP_INVENTORY: &[Line] = line_table! {
     "family": [Word "SFF-8472"];
     "identifier": [Code SIdentifier];
     "vendor": [Text SVendor];
@@ -172,7 +172,7 @@ pub fn sfp_inventory() -> &'static [Line]
     SFP_INVENTORY
 }
 
-const SFP_MONITORS: &[Line] = rows! {
+const SFP_MONITORS: &[Line] = line_table! {
     "temperature": [Amount STemperature];
     "temperature-limits": [Limits STempLimits];
     "vcc": [Amount SVcc];
@@ -200,24 +200,24 @@ macro_rules! flag_name {
     ($quantity:ident $level:ident) => { FlagName::Passed(Quantity::$quantity, Level::$level) };
 }
 
-macro_rules! place {
+macro_rules! flag_place {
     (lanes) => { FlagPlace::Lanes };
     ($index:literal) => { FlagPlace::Value(None, $index) };
     ($index:literal lane $lane:literal) => { FlagPlace::Value(Some($lane), $index) };
 }
 
-macro_rules! flag_rows {
+macro_rules! flag_table {
     ($($first:ident $($level:ident)?: [$field:ident $($place:tt)*] $($paged:ident)?;)*) => {
         &[$(FlagRow {
             name: flag_name!($first $($level)?),
             field: Field::$field,
-            place: place!($($place)*),
-            paged: paged!($($paged)?),
+            place: flag_place!($($place)*),
+            paged: is_paged!($($paged)?),
         }),*]
     };
 }
 
-const CMIS_FLAGS: &[FlagRow] = flag_rows! {
+const CMIS_FLAGS: &[FlagRow] = flag_table! {
     Temperature HighAlarm: [CModuleFlag 1];
     Temperature LowAlarm: [CModuleFlag 2];
     Temperature HighWarning: [CModuleFlag 3];
@@ -256,7 +256,7 @@ pub fn cmis_flags() -> &'static [FlagRow]
     CMIS_FLAGS
 }
 
-const QSFP_FLAGS: &[FlagRow] = flag_rows! {
+const QSFP_FLAGS: &[FlagRow] = flag_table! {
     Temperature HighAlarm: [QTempFlag 1];
     Temperature LowAlarm: [QTempFlag 2];
     Temperature HighWarning: [QTempFlag 3];
@@ -293,7 +293,7 @@ pub fn qsfp_flags() -> &'static [FlagRow]
     QSFP_FLAGS
 }
 
-const SFP_FLAGS: &[FlagRow] = flag_rows! {
+const SFP_FLAGS: &[FlagRow] = flag_table! {
     Temperature HighAlarm: [SAlarms 1];
     Temperature LowAlarm: [SAlarms 2];
     Temperature HighWarning: [SWarnings 1];
