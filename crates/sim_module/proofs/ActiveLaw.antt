@@ -25,6 +25,7 @@ use Rattle.control_sets.specs.OutcomeSteps.{IsAccepted, Stands}
 use Rattle.control_sets.specs.Pages.{EachStep}
 use Rattle.bus_model.proofs.Histories.{AnyPin, MayEach, after, after_append, after_reverse, found_keeps, may_each, may_older, steps_keep}
 use Rattle.sim_module.proofs.SoundModule.{sound_always}
+use Rattle.sim_module.proofs.SoundRuns.{sound_by_each}
 use Rattle.sim_module.proofs.HeldLanes.{HoldsOnly, held_begins, held_from_start, held_kept, held_survives}
 use Rattle.sim_module.proofs.ProvisioningKeeps.{by_step}
 use Rattle.sim_module.proofs.IdleModule.{MapsNoControls, IsIdle, Shows, idle_by, idle_fetched, idle_kept, shows_by, shows_fetched, shows_kept}
@@ -57,10 +58,6 @@ each_step : (P Q : Step → Type 0) → ((step : Step) → P step → Q step) �
 each_step P Q so [] all = tt
 each_step P Q so (step ∷ steps) all = (so step all.0, each_step P Q so steps all.1)
 
-any_step : (Q : Step → Type 0) → ((step : Step) → Q step) → (steps : List Step) → AllByRecursion Q steps
-any_step Q so [] = tt
-any_step Q so (step ∷ steps) = (so step, any_step Q so steps)
-
 -- a bus with a script and a module
 abbrev State : Type 0
 State = List Directive × SimModule
@@ -77,7 +74,7 @@ found state = (settled conduct state.0 state.1).1
 
 sound_after : (state : State) (steps : List Step) → IsSound state.1 → IsSound (left state steps).1
 sound_after state steps sound =
-    steps_keep conduct IsSound sound_always.time steps (any_step (λ step. IsKeptBy conduct IsSound step.op) (λ step. sound_always.operations step.op) steps) state sound
+    steps_keep conduct IsSound sound_always.time steps (sound_by_each steps) state sound
 
 -- the page that the steps confirm is mapped after them
 shows_after : (number : ℕ) (state : State) (steps : List Step) → Confirms number steps → May state steps → Shows number (left state steps).1

@@ -1,18 +1,18 @@
 -- What holds a lane down, and what a tick makes of a lane.
-use Rattle.std.proofs.Common.{◌≡◌, ℕ, ◌-◌, ◌&&◌, ◌||◌, not, Bool, true, false, Option, None, get_or, map, refl, sym, ap, ◌∙◌, if◌then◌else◌, arith}
+use Rattle.std.proofs.Common.{◌≡◌, ℕ, ◌-◌, ◌&&◌, ◌||◌, not, Bool, true, false, Option, Some, None, get_or, map, refl, sym, ap, ◌∙◌, if◌then◌else◌, arith}
 use Rattle.std.specs.List.{list_any}
 use Rattle.std.proofs.lemmas.List.FromFn.{get_or-map-range_with_len}
 use Rattle.datapath_states.specs.declared.state.PathState.{PathState}
-use Rattle.datapath_states.specs.declared.state.PathState.TheVariants.{Activated}
+use Rattle.datapath_states.specs.declared.state.PathState.TheVariants.{Activated, Deactivated, Init}
 use Rattle.datapath_states.specs.Transitions.{next_of}
 use Rattle.control_sets.specs.HostPaths.{IsLane, agree, control_at, is_used}
 use Rattle.sim_module.specs.declared.lane.Lane.{Lane}
 use Rattle.sim_module.specs.declared.module.SimModule.{SimModule}
-use Rattle.sim_module.specs.Lanes.{active_bytes, all_lanes, lane_at, no_lane}
+use Rattle.sim_module.specs.Lanes.{active_bytes, all_lanes, is_path_state, lane_at, no_lane}
 use Rattle.sim_module.specs.Down.{has_low_power, holds_down, is_down, is_path_down, is_ready}
-use Rattle.sim_module.specs.Soundness.{HoldsItsPath, LanesStayUp}
+use Rattle.sim_module.specs.Soundness.{HoldsItsPath, LanesComeUp, LanesStayUp}
 use Rattle.control_sets.proofs.EightLanes.{each_of_eight}
-use Rattle.sim_module.specs.Ticks.{applied_by, applied_lane, is_last, moved_lane, next_path_state, ticked, ticked_lane}
+use Rattle.sim_module.specs.Ticks.{applied_by, applied_lane, is_last, moved_lane, next_left, next_path_state, path_delay, ticked, ticked_lane}
 
 -- ---- lanes that are made one by one
 
@@ -67,4 +67,43 @@ stays_up sim lane within activated up none =
       path = ap (λ (l : Lane). l.path) is ∙ path;
       active = ap (λ (l : Lane). l.active) is;
       kept = ap (λ (l : Lane). l.kept) is ∙ none;
+    }
+
+next_deactivated : (down done : Bool) → down ≡ false → next_of Deactivated (record { down = down; done = done }) ≡ Init
+unfolding next_of
+next_deactivated true done up = cc
+next_deactivated false true up = refl
+next_deactivated false false up = refl
+
+-- of a lane after an apply that is done, what an apply changes not
+but_for_apply : {X : Type 0} (f : Lane → X) → ((lane : Lane) (kept : Option ℕ) → f (applied_by kept lane) ≡ f lane) → (done : Bool) (moved : Lane) → f (if done then applied_lane moved else moved) ≡ f moved
+but_for_apply f same true moved = same moved moved.kept
+but_for_apply f same false moved = refl
+
+same_path : (lane : Lane) (kept : Option ℕ) → (applied_by kept lane).path ≡ lane.path
+same_path lane (Some byte) = refl
+same_path lane None = refl
+
+same_left : (lane : Lane) (kept : Option ℕ) → (applied_by kept lane).left ≡ lane.left
+same_left lane (Some byte) = refl
+same_left lane None = refl
+
+moved_path : (sim : SimModule) (lane : ℕ) → (ticked_lane sim lane).path ≡ next_path_state sim lane
+unfolding ticked_lane
+moved_path sim lane = but_for_apply (λ (l : Lane). l.path) same_path (is_last sim.apply_left) (moved_lane sim.delays (lane_at sim lane) (next_path_state sim lane))
+
+moved_left : (sim : SimModule) (lane : ℕ) → (ticked_lane sim lane).left ≡ (moved_lane sim.delays (lane_at sim lane) (next_path_state sim lane)).left
+unfolding ticked_lane
+moved_left sim lane = but_for_apply (λ (l : Lane). l.left) same_left (is_last sim.apply_left) (moved_lane sim.delays (lane_at sim lane) (next_path_state sim lane))
+
+pub comes_up : LanesComeUp
+comes_up sim lane within deactivated up =
+    let path : next_path_state sim lane ≡ Init =
+    ap (λ (state : PathState). next_of state (record { down = is_down sim lane; done = is_last (lane_at sim lane).left })) deactivated
+    ∙ next_deactivated (is_down sim lane) (is_last (lane_at sim lane).left) up in
+    let is = ticked_at sim lane within in
+    record {
+      path = ap (λ (l : Lane). l.path) is ∙ moved_path sim lane ∙ path;
+      left = ap (λ (l : Lane). l.left) is ∙ moved_left sim lane
+          ∙ (λ i. next_left (is_path_state (path i) (deactivated i)) (lane_at sim lane).left (path_delay sim.delays (path i)));
     }

@@ -2,6 +2,7 @@ pub mod EachLane
 pub mod LaneTests
 pub mod LanesInTime
 pub mod SoundModule
+pub mod SoundRuns
 pub mod RestingModule
 pub mod IdleModule
 pub mod ProvisioningKeeps

@@ -1,8 +1,12 @@
 -- What holds of a module at all times, and of its lanes while they move. (docs/module.md, "What always holds")
-use Rattle.std.specs.Prelude.{◌≡◌, ℕ, true, false, None, is_some, IsTrue, length}
+use Rattle.std.specs.Prelude.{◌≡◌, ℕ, List, true, false, None, is_some, IsTrue, length}
 use Rattle.bus_model.specs.declared.operation.Op.{Op}
+use Rattle.bus_model.specs.declared.operation.Step.{Step}
+use Rattle.bus_model.specs.declared.script.Directive.{Directive}
 use Rattle.bus_model.specs.Keeping.{IsKeptBy, IsKeptInTime}
-use Rattle.datapath_states.specs.declared.state.PathState.TheVariants.{Activated}
+use Rattle.bus_model.specs.Runs.{Ran, Seen}
+use Rattle.bus_model.specs.ScriptedBus.{script_rules}
+use Rattle.datapath_states.specs.declared.state.PathState.TheVariants.{Activated, Deactivated, Init}
 use Rattle.control_sets.specs.HostPaths.{IsLane, agree}
 use Rattle.sim_module.specs.declared.lane.Lane.{Lane}
 use Rattle.sim_module.specs.declared.module.SimModule.{SimModule}
@@ -25,6 +29,11 @@ pub record IsAlwaysKept (P : SimModule → Type 0) : Type 0 where
   pub time : IsKeptInTime conduct (λ on. Unit {0}) P
   pub operations : (op : Op) → IsKeptBy conduct P op
 
+-- whatever a script refuses, cuts short or waits for: a sound module is sound after the steps that were made on its bus
+abbrev pub RunsLeaveSound : Type 0
+RunsLeaveSound =
+    (old new : Seen (List Directive × SimModule)) (made : List Step) → IsSound old.state.1 → Ran (script_rules conduct) old new made → IsSound new.state.1
+
 -- a lane is down where a lane of its active path is held down
 abbrev pub HoldsItsPath : Type 0
 HoldsItsPath =
@@ -40,3 +49,12 @@ abbrev pub LanesStayUp : Type 0
 LanesStayUp =
     (sim : SimModule) (lane : ℕ) → IsLane lane → (lane_at sim lane).path ≡ Activated → is_down sim lane ≡ false → (lane_at sim lane).kept ≡ None
     → StaysUp (lane_at sim lane) (lane_at (ticked sim) lane)
+
+-- a tick begins to bring up a lane that is deactivated and not down, for as long as DPInit lasts
+pub record ComesUp (after : Lane) (delay : ℕ) : Type 0 where
+  pub path : after.path ≡ Init
+  pub left : after.left ≡ delay
+
+abbrev pub LanesComeUp : Type 0
+LanesComeUp =
+    (sim : SimModule) (lane : ℕ) → IsLane lane → (lane_at sim lane).path ≡ Deactivated → is_down sim lane ≡ false → ComesUp (lane_at (ticked sim) lane) sim.delays.init

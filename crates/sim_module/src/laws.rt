@@ -4,7 +4,7 @@ ghost use Rattle.paged_memory.specs.Images.{Memory};
 ghost use Rattle.field_tables.specs.LaneSets.{Lanes};
 ghost use Rattle.control_sets.specs.OutcomeCodes.{IsOf};
 ghost use Rattle.sim_module.specs.declared.delays.Delays.{Delays};
-ghost use Rattle.sim_module.specs.Soundness.{HoldsItsPath, IsAlwaysKept, IsSound, LanesStayUp};
+ghost use Rattle.sim_module.specs.Soundness.{HoldsItsPath, IsAlwaysKept, IsSound, LanesComeUp, LanesStayUp, RunsLeaveSound};
 ghost use Rattle.sim_module.specs.Starts.{active_at_start, start};
 ghost use Rattle.sim_module.specs.ActiveSets.{ActivationLeavesActive, ActiveIsPlanned, ActiveIsPlannedOn, HasNoApply, IsAtRest};
 ghost use Rattle.sim_module.specs.KeptPaths.{KeptPathsStayUp};
@@ -20,6 +20,12 @@ pub fn a_module_stays_sound()
     ensures { IsAlwaysKept IsSound }
 {}
 
+/// So a sound module is sound after any steps on a scripted bus, whatever the script refuses or cuts short. The premise is
+/// met by every new module.
+pub fn a_run_leaves_a_module_sound()
+    ensures { RunsLeaveSound }
+{}
+
 /// A lane whose DPDeinit bit is set, or of which an apply is in progress, takes down all lanes of its active path.
 pub fn a_lane_holds_its_path_down()
     ensures { HoldsItsPath }
@@ -28,6 +34,12 @@ pub fn a_lane_holds_its_path_down()
 /// A tick leaves a lane as it is that is activated and not down, and of which no apply is in progress.
 pub fn a_lane_that_is_not_down_stays_up()
     ensures { LanesStayUp }
+{}
+
+/// A tick takes a lane from DPDeactivated to DPInit, and its counter begins, where the lane isn't down. An apply of it that
+/// is done with that tick changes nothing in this.
+pub fn a_lane_that_is_not_down_comes_up()
+    ensures { LanesComeUp }
 {}
 
 /// Over a scripted bus, whatever the script refuses or cuts short: after a success of provisioning the control bytes are
