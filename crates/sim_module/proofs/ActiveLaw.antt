@@ -1,13 +1,13 @@
 -- After steps that end as a success of provisioning does, what was read of the Active Control Set is active. Steps stand
 -- with the newest first.
-use Rattle.std.proofs.Common.{◌≡◌, ◌⊎◌, inl, inr, ℕ, true, Some, List, [], ◌∷◌, ◌++◌, reverse, ap, sym, subst, ◌∙◌, arith}
+use Rattle.std.proofs.Common.{◌≡◌, ◌⊎◌, inl, inr, ℕ, ◌≤◌, Bool, true, false, Some, List, [], ◌∷◌, ◌++◌, reverse, ap, sym, subst, ◌∙◌, arith}
 use Rattle.std.specs.List.{AllByRecursion}
 use Rattle.bus_model.specs.declared.device.Dev.TheVariants.{A0}
 use Rattle.bus_model.specs.declared.operation.Op.{Op}
 use Rattle.bus_model.specs.declared.operation.Op.TheVariants.{Fetch, Store}
 use Rattle.bus_model.specs.declared.operation.Step.{Step}
 use Rattle.bus_model.specs.declared.script.Directive.{Directive}
-use Rattle.bus_model.specs.Keeping.{IsKeptBy}
+use Rattle.bus_model.specs.Keeping.{IsKeptBy, IsKeptInTime}
 use Rattle.bus_model.specs.Operations.{fetch_step, store_step}
 use Rattle.bus_model.specs.Runs.{Ran, Seen}
 use Rattle.bus_model.specs.ScriptedBus.{script_rules, settled}
@@ -16,18 +16,19 @@ use Rattle.sim_module.specs.declared.module.SimModule.{SimModule}
 use Rattle.sim_module.specs.Lanes.{active_bytes}
 use Rattle.sim_module.specs.ActiveSets.{HasNoApply, IsAtRest}
 use Rattle.sim_module.specs.Modules.{conduct}
+use Rattle.sim_module.specs.Stores.{stored}
 use Rattle.sim_module.specs.Soundness.{IsSound}
 use Rattle.field_tables.specs.LaneSets.{Lanes, byte_of}
 use Rattle.control_sets.specs.OutcomeCodes.{IsOf}
 use Rattle.control_sets.specs.OutcomeOfProvisioning.{IsProvisioningStep}
-use Rattle.control_sets.specs.OutcomeOperations.{Confirms, CoversSelection, apply}
-use Rattle.control_sets.specs.OutcomeSteps.{IsAccepted, Stands}
+use Rattle.control_sets.specs.OutcomeOperations.{Confirms, CoversSelection, apply, set_deinit}
+use Rattle.control_sets.specs.OutcomeSteps.{IsAccepted, Stands, store}
 use Rattle.control_sets.specs.Pages.{EachStep}
 use Rattle.bus_model.proofs.Histories.{AnyPin, MayEach, after, after_append, after_reverse, found_keeps, may_each, may_older, steps_keep}
 use Rattle.sim_module.proofs.SoundModule.{sound_always}
 use Rattle.sim_module.proofs.SoundRuns.{sound_by_each}
 use Rattle.sim_module.proofs.HeldLanes.{HoldsOnly, held_begins, held_from_start, held_kept, held_survives}
-use Rattle.sim_module.proofs.ProvisioningKeeps.{by_step}
+use Rattle.sim_module.proofs.ProvisioningKeeps.{SurvivesChanges, by_step}
 use Rattle.sim_module.proofs.IdleModule.{MapsNoControls, IsIdle, Shows, idle_by, idle_fetched, idle_kept, shows_by, shows_fetched, shows_kept}
 use Rattle.sim_module.proofs.ReadBytes.{SaySuccess, confirmed, idle_after_success, read_active}
 
@@ -37,7 +38,7 @@ read offset count bytes = fetch_step A0 offset count (Some (record { items = byt
 
 -- the last step reads the control bytes from the Active Control Set; before that the statuses of the lanes were read as
 -- ConfigSuccess, both on a confirmed page 11h, and in between page 10h was not selected; and before that an apply to the lanes
--- was accepted
+-- was accepted, and a store of their DPDeinit bits
 pub record EndsApplied (control : List ℕ) (lanes : Lanes) (steps : List Step) : Type 0 where
   pub between : List Step
   pub statuses : List ℕ
@@ -49,6 +50,7 @@ pub record EndsApplied (control : List ℕ) (lanes : Lanes) (steps : List Step) 
   pub no_controls : AllByRecursion (λ step. MapsNoControls step.op) between
   pub shape : EachStep (IsProvisioningStep control lanes) before
   pub applied : Stands (IsAccepted (apply (byte_of lanes))) before
+  pub taken : Stands (IsAccepted (set_deinit (byte_of lanes))) before
 
 -- some lane is applied, or no apply is in progress
 abbrev pub LeavesNone : Lanes → SimModule → Type 0
@@ -59,10 +61,10 @@ each_step P Q so [] all = tt
 each_step P Q so (step ∷ steps) all = (so step all.0, each_step P Q so steps all.1)
 
 -- a bus with a script and a module
-abbrev State : Type 0
+abbrev pub State : Type 0
 State = List Directive × SimModule
 
-abbrev left : State → List Step → State
+abbrev pub left : State → List Step → State
 left = after (script_rules conduct)
 
 abbrev May : State → List Step → Type 0
@@ -96,33 +98,46 @@ abbrev pub offset_of : Op → ℕ
 offset_of (Fetch dev offset count) = offset
 offset_of (Store dev offset bytes) = offset
 
--- an apply is asked for on page 10h
-applied_on : (control : List ℕ) (lanes : Lanes) (step : Step) (before : List Step) → step.op ≡ apply (byte_of lanes) → IsProvisioningStep control lanes step before → Confirms 0x10 before
-applied_on control lanes step before is (inl (inl other)) = let far : 143 ≡ 3 = ap offset_of (sym is ∙ other) in absurd (omega (arith, far))
-applied_on control lanes step before is (inl (inr (inl other))) = let far : 143 ≡ 126 = ap offset_of (sym is ∙ other) in absurd (omega (arith, far))
-applied_on control lanes step before is (inl (inr (inr (inl other)))) = let far : 143 ≡ 126 = ap offset_of (sym is ∙ other) in absurd (omega (arith, far))
-applied_on control lanes step before is (inl (inr (inr (inr (inl other))))) = let far : 143 ≡ 126 = ap offset_of (sym is ∙ other) in absurd (omega (arith, far))
-applied_on control lanes step before is (inl (inr (inr (inr (inr none))))) = absurd none
-applied_on control lanes step before is (inr (inl (inl other, confirmed))) = let far : 143 ≡ 128 = ap offset_of (sym is ∙ other) in absurd (omega (arith, far))
-applied_on control lanes step before is (inr (inl (inr (inl other), confirmed))) = let far : 143 ≡ 202 = ap offset_of (sym is ∙ other) in absurd (omega (arith, far))
-applied_on control lanes step before is (inr (inl (inr (inr (inl other)), confirmed))) = let far : 143 ≡ 206 = ap offset_of (sym is ∙ other) in absurd (omega (arith, far))
-applied_on control lanes step before is (inr (inl (inr (inr (inr none)), confirmed))) = absurd none
-applied_on control lanes step before is (inr (inr controls)) = controls.1
+abbrev stores : Op → Bool
+stores (Fetch dev offset count) = false
+stores (Store dev offset bytes) = true
+
+-- a byte of upper memory is stored on page 10h
+stored_on : (control : List ℕ) (lanes : Lanes) (offset byte : ℕ) (step : Step) (before : List Step) → 128 ≤ offset → step.op ≡ store offset (byte ∷ []) → IsProvisioningStep control lanes step before → Confirms 0x10 before
+stored_on control lanes offset byte step before high is (inl (inl other)) = let far : offset ≡ 3 = ap offset_of (sym is ∙ other) in absurd (omega (arith, far, high))
+stored_on control lanes offset byte step before high is (inl (inr (inl other))) = let far : offset ≡ 126 = ap offset_of (sym is ∙ other) in absurd (omega (arith, far, high))
+stored_on control lanes offset byte step before high is (inl (inr (inr (inl other)))) = let far : offset ≡ 126 = ap offset_of (sym is ∙ other) in absurd (omega (arith, far, high))
+stored_on control lanes offset byte step before high is (inl (inr (inr (inr (inl other))))) = let far : offset ≡ 126 = ap offset_of (sym is ∙ other) in absurd (omega (arith, far, high))
+stored_on control lanes offset byte step before high is (inl (inr (inr (inr (inr none))))) = absurd none
+stored_on control lanes offset byte step before high is (inr (inl (inl other, confirmed))) = let far : true ≡ false = ap stores (sym is ∙ other) in cc
+stored_on control lanes offset byte step before high is (inr (inl (inr (inl other), confirmed))) = let far : true ≡ false = ap stores (sym is ∙ other) in cc
+stored_on control lanes offset byte step before high is (inr (inl (inr (inr (inl other)), confirmed))) = let far : true ≡ false = ap stores (sym is ∙ other) in cc
+stored_on control lanes offset byte step before high is (inr (inl (inr (inr (inr none)), confirmed))) = absurd none
+stored_on control lanes offset byte step before high is (inr (inr controls)) = controls.1
+
+-- what an accepted store on page 10h begins, and time and provisioning keep, holds from then on
+module _ (control : List ℕ) (lanes : Lanes) (P : SimModule → Type 0) (time : IsKeptInTime conduct AnyPin P) (survives : SurvivesChanges P (byte_of lanes)) (offset byte : ℕ) (high : 128 ≤ offset)
+    (begins : (sim : SimModule) → Shows 0x10 sim → (stored sim A0 offset (byte ∷ [])).0 ≡ true → P (stored sim A0 offset (byte ∷ [])).1) where
+  pub after_accepted : (state : State) (steps : List Step) → EachStep (IsProvisioningStep control lanes) steps → May state steps → Stands (IsAccepted (store offset (byte ∷ []))) steps →
+      P (left state steps).1
+  after_accepted state [] shape may stands = absurd stands
+  after_accepted state (step ∷ before) shape may (inl accepted) =
+      let there = left state before in
+      let made : Step = store_step A0 offset (byte ∷ []) true in
+      let is : step ≡ made = λ i. record { op = accepted.0 i; reply = accepted.1 i } in
+      let answer = stored_at conduct A0 offset (byte ∷ []) there (subst ((script_rules conduct).may there) is may.0) in
+      let shows : Shows 0x10 (found there) =
+      found_keeps conduct (Shows 0x10) (shows_kept 0x10) there (shows_after 0x10 state before (stored_on control lanes offset byte step before high accepted.0 shape.0) may.1) in
+      let begun = time.tick _ (begins (found there) shows answer.answer) in
+      subst (λ (s : Step). P ((script_rules conduct).after there s).1) (sym is) (subst P (sym answer.left) begun)
+  after_accepted state (step ∷ before) shape may (inr stands) =
+      step_keeps conduct AnyPin P time step.op (by_step control lanes P survives step before shape.0) (left state before)
+      (all_allow (left state before).0) (after_accepted state before shape.1 may.1 stands)
 
 held_after : (control : List ℕ) (lanes : Lanes) (lane : ℕ) (state : State) (steps : List Step) → IsOf lanes lane → EachStep (IsProvisioningStep control lanes) steps → May state steps →
     Stands (IsAccepted (apply (byte_of lanes))) steps → HoldsOnly lanes (left state steps).1
-held_after control lanes lane state [] of_lanes shape may stands = absurd stands
-held_after control lanes lane state (step ∷ before) of_lanes shape may (inl accepted) =
-    let there = left state before in
-    let made : Step = store_step A0 143 (byte_of lanes ∷ []) true in
-    let is : step ≡ made = λ i. record { op = accepted.0 i; reply = accepted.1 i } in
-    let answer = stored_at conduct A0 143 (byte_of lanes ∷ []) there (subst ((script_rules conduct).may there) is may.0) in
-    let shows : Shows 0x10 (found there) = found_keeps conduct (Shows 0x10) (shows_kept 0x10) there (shows_after 0x10 state before (applied_on control lanes step before accepted.0 shape.0) may.1) in
-    let held = (held_kept lanes).tick _ (held_begins lanes (found there) lane of_lanes shows answer.answer) in
-    subst (λ (s : Step). HoldsOnly lanes ((script_rules conduct).after there s).1) (sym is) (subst (HoldsOnly lanes) (sym answer.left) held)
-held_after control lanes lane state (step ∷ before) of_lanes shape may (inr stands) =
-    step_keeps conduct AnyPin (HoldsOnly lanes) (held_kept lanes) step.op (by_step control lanes (HoldsOnly lanes) (held_survives lanes) step before shape.0) (left state before)
-    (all_allow (left state before).0) (held_after control lanes lane state before of_lanes shape.1 may.1 stands)
+held_after control lanes lane state steps of_lanes =
+    after_accepted control lanes (HoldsOnly lanes) (held_kept lanes) (held_survives lanes) 143 (byte_of lanes) (omega arith) (λ sim. held_begins lanes sim lane of_lanes) state steps
 
 -- so it holds no other lanes
 held_before : (control : List ℕ) (lanes : Lanes) (state : State) (steps : List Step) → LeavesNone lanes state.1 → EachStep (IsProvisioningStep control lanes) steps → May state steps →

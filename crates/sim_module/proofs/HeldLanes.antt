@@ -49,11 +49,11 @@ taken_bytes : (has : Bool) (sim next : SimModule) → (answer_if has sim next).0
 taken_bytes true sim next taken = refl
 taken_bytes false sim next taken = cc
 
-stored_whole : (sim : SimModule) (address : ℕ) (bytes : List ℕ) → (stored sim A0 address bytes).0 ≡ true → (stored sim A0 address bytes).1 ≡ stored_bytes sim address bytes
+pub stored_whole : (sim : SimModule) (address : ℕ) (bytes : List ℕ) → (stored sim A0 address bytes).0 ≡ true → (stored sim A0 address bytes).1 ≡ stored_bytes sim address bytes
 unfolding stored
 stored_whole sim address bytes taken = taken_bytes (finmap.contains_key sim.image (shown_key A0 sim.selection address)) sim (stored_bytes sim address bytes) taken
 
-controls_mapped : (sim : SimModule) → Shows 0x10 sim → is_mapped sim 0x10 ≡ true
+pub controls_mapped : (sim : SimModule) → Shows 0x10 sim → is_mapped sim 0x10 ≡ true
 controls_mapped sim shows = λ i. shows.bank i == 0 && shows.number i == 0x10
 
 applied_byte : (sim : SimModule) (bits : ℕ) → Shows 0x10 sim → stored_byte sim 143 bits ≡ applied sim (lanes_in bits)

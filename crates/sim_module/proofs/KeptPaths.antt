@@ -1,14 +1,16 @@
 -- The lanes of kept paths stay up while the others are provisioned.
-use Rattle.std.proofs.Common.{◌≡◌, ℕ, ◌+◌, ◌==◌, ◌&&◌, ◌||◌, not, Bool, true, false, None, Some, List, reverse, All, refl, sym, ap, subst, ◌∙◌}
+use Rattle.std.proofs.Common.{◌≡◌, ℕ, ◌+◌, ◌==◌, ◌&&◌, ◌||◌, not, Bool, true, false, None, Some, List, [], ◌∷◌, reverse, All, refl, sym, ap, subst, ◌∙◌}
 use Rattle.std.proofs.Math.Bool.{and-false}
 use Rattle.std.proofs.lemmas.Bool.{and_from, false_from_ne_true, le-leb, lt-ltb}
 use Rattle.std.proofs.lemmas.List.Elements.{All-contains}
 use Rattle.std.proofs.lemmas.List.Folds.{Any-from_list_any, list_any-from_Any}
 use Rattle.std.specs.FinSet as set
-use Rattle.std.specs.List.{list_any}
+use Rattle.std.specs.List.{AllByRecursion, list_any}
 use Rattle.bus_model.specs.declared.script.Directive.{Directive}
-use Rattle.bus_model.specs.Keeping.{IsKeptBy, IsKeptInTime}
-use Rattle.bus_model.proofs.ScriptRuns.{steps_keep}
+use Rattle.bus_model.specs.Keeping.{AllowsPins, IsKeptBy, IsKeptInTime}
+use Rattle.bus_model.specs.Runs.{IsFull, Ran, Seen}
+use Rattle.bus_model.specs.ScriptedBus.{script_rules}
+use Rattle.bus_model.proofs.ScriptRuns.{steps_allow, steps_keep}
 use Rattle.field_tables.specs.LaneBytes.{contains-run_of}
 use Rattle.field_tables.specs.LaneSets.{byte_of, every_lane, lanes_in}
 use Rattle.module_states.specs.declared.state.ModuleState.{ModuleState}
@@ -21,6 +23,7 @@ use Rattle.control_sets.specs.declared.control_byte.ControlByte.{ControlByte}
 use Rattle.control_sets.specs.ControlBytes.{control_of}
 use Rattle.control_sets.specs.HostPaths.{IsLane, agree, are_same, begins, control_at, first_lane, host_paths, is_used}
 use Rattle.control_sets.specs.LanesOfPaths.{TakesWhatAgrees}
+use Rattle.control_sets.specs.OutcomeOfProvisioning.{IsProvisioning}
 use Rattle.control_sets.specs.PlanLanes.{is_taken, lanes_outside}
 use Rattle.control_sets.specs.PlanPaths.{host_path_of}
 use Rattle.control_sets.proofs.Begun.{begun_hosts}
@@ -32,13 +35,17 @@ use Rattle.control_sets.proofs.PlanLaneLaws.{contains_outside}
 use Rattle.sim_module.specs.declared.module.SimModule.{SimModule}
 use Rattle.sim_module.specs.ActiveSets.{IsAtRest}
 use Rattle.sim_module.specs.Down.{has_low_power, holds_down, is_down, is_path_down, is_ready}
-use Rattle.sim_module.specs.KeptPaths.{IsActivePath, IsUp, KeptPathsStayUp, NoPin}
+use Rattle.sim_module.specs.KeptPaths.{Attempt, IsActivePath, IsUp, KeptPathsStayUp, KeptPathsStayUpAgain, NoPin, RanAttempts}
 use Rattle.sim_module.specs.Lanes.{active_bytes, all_lanes, lane_at}
 use Rattle.sim_module.specs.Modules.{conduct}
 use Rattle.sim_module.proofs.LanesInTime.{any_in}
 use Rattle.sim_module.proofs.KeptLanes.{IsKeptLane, StaysKept, keeps_tick, not_down, told_at}
 use Rattle.sim_module.proofs.KeptStores.{survives}
 use Rattle.sim_module.proofs.ProvisioningKeeps.{all_reversed, each_keeps}
+
+-- no lane of a kept path is one of those outside
+pub taken_left_out : (advert : Advertised) (kept : List Path) (lane : ℕ) → is_taken advert kept lane ≡ true → set.contains (lanes_outside advert kept) lane ≡ false
+taken_left_out advert kept lane taken = contains_outside advert kept lane ∙ ap (λ (is : Bool). set.contains every_lane lane && not is) taken ∙ and-false (set.contains every_lane lane)
 
 -- ---- the lanes of one kept path
 
@@ -70,10 +77,6 @@ module _ (advert : Advertised) (kept : List Path) (active : List ℕ) (each : Al
             let taken : takes advert other path ≡ true = contains-run_of path.host (app_of advert path).host_lanes other ∙ and_from _ _ (le-leb path.host other its.0) (lt-ltb other (path.host + (app_of advert path).host_lanes) its.1) in
             list_any-from_Any (takes advert other) kept (k, path, below, here, taken);
       }
-
-  -- none of the lanes of its path is among those outside
-  left_out : (other : ℕ) → is_taken advert kept other ≡ true → set.contains (lanes_outside advert kept) other ≡ false
-  left_out other taken = contains_outside advert kept other ∙ ap (λ (is : Bool). set.contains every_lane other && not is) taken ∙ and-false (set.contains every_lane other)
 
 -- ---- at the beginning
 
@@ -138,18 +141,62 @@ module _ (active : List ℕ) (lane byte : ℕ) (within : IsLane lane) (sim : Sim
         apart = λ other kept there some. (let none : None ≡ Some kept = sym (rest.none other there) ∙ some in cc);
       }
 
+-- ---- one provisioning after another
+
+abbrev State : Type 0
+State = List Directive × SimModule
+
+-- the script sets the pin no more
+abbrev NoPins : State → Type 0
+NoPins state = AllByRecursion (AllowsPins NoPin) state.0
+
+module _ (advert : Advertised) (kept : List Path) (active : List ℕ) (each : All (IsActivePath advert active) kept) (lane byte : ℕ) (within : IsLane lane) (taken : is_taken advert kept lane ≡ true)
+    (first : SimModule) (rest : IsAtRest active first) (up : IsUp lane byte first) where
+  abbrev is_kept : ℕ → Bool
+  is_kept = agree active lane
+
+  abbrev Keeps : SimModule → Type 0
+  Keeps = StaysKept is_kept lane byte
+
+  path : IsOfPath active lane (λ other. is_taken advert kept other ≡ true)
+  path = of_path advert kept active each lane within taken
+
+  one : IsKeptLane is_kept lane byte
+  one = kept_lane active lane byte within first rest up (λ other. is_taken advert kept other ≡ true) path
+
+  mask_outside : (other : ℕ) → IsLane other → is_kept other ≡ true → set.contains (lanes_in (byte_of (lanes_outside advert kept))) other ≡ false
+  mask_outside other there agreed = in_byte_of (lanes_outside advert kept) other there ∙ taken_left_out advert kept other (path.others other there agreed)
+
+  in_time : IsKeptInTime conduct NoPin Keeps
+  in_time = record { tick = keeps_tick is_kept lane byte one; low_power_pin = λ sim on none keeps. absurd none }
+
+  after_one : (old new : Seen State) (attempt : Attempt) → NoPins old.state → Keeps old.state.1 → Ran (script_rules conduct) old new (reverse attempt.history) →
+      IsProvisioning attempt.control (lanes_outside advert kept) (IsFull new) attempt.history attempt.answer → NoPins new.state × Keeps new.state.1
+  after_one old new attempt no_pin keeps ran outcome =
+      let lanes = lanes_outside advert kept in
+      let each_step = each_keeps attempt.control lanes Keeps (survives is_kept lane byte one (byte_of lanes) mask_outside) attempt.history outcome.shape in
+      let steps = reverse attempt.history in
+      (
+        subst NoPins (sym ran.state) (steps_allow conduct NoPin steps old.state no_pin),
+        subst (λ (s : State). Keeps s.1) (sym ran.state)
+            (steps_keep conduct NoPin Keeps in_time steps (all_reversed (λ step. IsKeptBy conduct Keeps step.op) attempt.history each_step) old.state no_pin keeps),
+      )
+
+  after_all : (attempts : List Attempt) (old new : Seen State) → NoPins old.state → Keeps old.state.1 → RanAttempts advert kept old attempts new → Keeps new.state.1
+  after_all [] old new no_pin keeps same = subst (λ (seen : Seen State). Keeps seen.state.1) (sym same) keeps
+  after_all (attempt ∷ attempts) old new no_pin keeps (next, ran, outcome, more) =
+      let there = after_one old next attempt no_pin keeps ran outcome in
+      after_all attempts next new there.0 there.1 more
+
+  still_up : (sim : SimModule) → Keeps sim → IsUp lane byte sim
+  still_up sim keeps = record { path = keeps.path; up = not_down is_kept lane byte one sim keeps; active = keeps.active }
+
+pub kept_paths_stay_up_again : KeptPathsStayUpAgain
+kept_paths_stay_up_again old new attempts advert kept active no_pin rest each ran lane byte within taken up =
+    let first = old.state.1 in
+    still_up advert kept active each lane byte within taken first rest up new.state.1
+    (after_all advert kept active each lane byte within taken first rest up attempts old new no_pin (begins_kept active lane byte within first rest up) ran)
+
 pub kept_paths_stay_up : KeptPathsStayUp
-kept_paths_stay_up old new history advert kept control active answer no_pin rest each ran outcome lane byte within taken up =
-    let sim = old.state.1 in
-    let lanes = lanes_outside advert kept in
-    let path = of_path advert kept active each lane within taken in
-    let is_kept = agree active lane in
-    let one = kept_lane active lane byte within sim rest up (λ other. is_taken advert kept other ≡ true) path in
-    let outside : (other : ℕ) → IsLane other → is_kept other ≡ true → set.contains lanes other ≡ false = λ other there agreed. left_out advert kept active each other (path.others other there agreed) in
-    let Keeps = StaysKept is_kept lane byte in
-    let mask_outside : (other : ℕ) → IsLane other → is_kept other ≡ true → set.contains (lanes_in (byte_of lanes)) other ≡ false = λ other there agreed. in_byte_of lanes other there ∙ outside other there agreed in
-    let each_step = each_keeps control lanes Keeps (survives is_kept lane byte one (byte_of lanes) mask_outside) history outcome.shape in
-    let time : IsKeptInTime conduct NoPin Keeps = record { tick = keeps_tick is_kept lane byte one; low_power_pin = λ sim on none keeps. absurd none } in
-    let after = steps_keep conduct NoPin Keeps time (reverse history) (all_reversed (λ step. IsKeptBy conduct Keeps step.op) history each_step) old.state no_pin (begins_kept active lane byte within sim rest up) in
-    let keeps : Keeps new.state.1 = subst (λ (s : List Directive × SimModule). Keeps s.1) (sym ran.state) after in
-    record { path = keeps.path; up = not_down is_kept lane byte one new.state.1 keeps; active = keeps.active }
+kept_paths_stay_up old new history advert kept control active answer no_pin rest each ran outcome =
+    kept_paths_stay_up_again old new (record { control = control; history = history; answer = answer } ∷ []) advert kept active no_pin rest each (new, ran, outcome, refl)

@@ -15,3 +15,4 @@ pub mod ReadBytes
 pub mod ActiveLaw
 pub mod Provisioned
 pub mod Activated
+pub mod DeinitBits

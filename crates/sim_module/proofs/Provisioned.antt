@@ -51,7 +51,7 @@ each_older : (P : Step → History → Type 0) (newer older : History) → EachS
 each_older P [] older each = each
 each_older P (other ∷ newer) older each = each_older P newer older each.1
 
-later : (P : Step → Type 0) (newer older : History) → Stands P older → Stands P (newer ++ older)
+pub later : (P : Step → Type 0) (newer older : History) → Stands P older → Stands P (newer ++ older)
 later P [] older stands = stands
 later P (step ∷ newer) older stands = inr (later P newer older stands)
 
@@ -159,6 +159,7 @@ module _ (control : List ℕ) (lanes : Lanes) {full : Type 0} (history : History
         no_controls = no_controls control lanes newer (statuses ∷ older) shape.1 controls.1 (inr applied) (inr taken);
         shape = (each_older (IsProvisioningStep control lanes) newer (statuses ∷ older) shape.1).1;
         applied = applied;
+        taken = taken;
       }
 
   pub ends_applied : EndsApplied control lanes history

@@ -1,5 +1,5 @@
 -- What a module's lanes keep while others are provisioned. (docs/module.md, "Kept paths")
-use Rattle.std.specs.Prelude.{◌≡◌, ℕ, Bool, true, false, List, None, All, Contains, reverse}
+use Rattle.std.specs.Prelude.{◌≡◌, ℕ, Bool, true, false, List, [], ◌∷◌, None, All, Contains, reverse}
 use Rattle.std.specs.List.{AllByRecursion}
 use Rattle.bus_model.specs.declared.script.Directive.{Directive}
 use Rattle.bus_model.specs.Keeping.{AllowsPins}
@@ -41,4 +41,29 @@ KeptPathsStayUp =
     (old new : Seen (List Directive × SimModule)) (history : History) (advert : Advertised) (kept : List Path) (control active : List ℕ) (answer : Answer)
     → AllByRecursion (AllowsPins NoPin) old.state.0 → IsAtRest active old.state.1 → All (IsActivePath advert active) kept
     → Ran (script_rules conduct) old new (reverse history) → IsProvisioning control (lanes_outside advert kept) (IsFull new) history answer
+    → (lane byte : ℕ) → IsLane lane → is_taken advert kept lane ≡ true → IsUp lane byte old.state.1 → IsUp lane byte new.state.1
+
+-- one provisioning: its control bytes, its steps, the newest first, and its answer
+pub record Attempt : Type 0 where
+  pub control : List ℕ
+  pub history : History
+  pub answer : Answer
+
+-- old becomes new by these attempts on all lanes that no kept path has, one after the other, and by nothing else; the list of
+-- the bus has the steps of all of them, so each attempt may find less room in it
+abbrev pub RanAttempts : Advertised → List Path → Seen (List Directive × SimModule) → List Attempt → Seen (List Directive × SimModule) → Type 0
+RanAttempts advert kept old [] new = new ≡ old
+RanAttempts advert kept old (attempt ∷ attempts) new =
+    (next : Seen (List Directive × SimModule))
+    × Ran (script_rules conduct) old next (reverse attempt.history)
+    × IsProvisioning attempt.control (lanes_outside advert kept) (IsFull next) attempt.history attempt.answer
+    × RanAttempts advert kept next attempts new
+
+-- the same through any number of attempts, of which each may stage other bytes and end as it likes: what holds before the first
+-- is asked of nothing that one of them leaves
+abbrev pub KeptPathsStayUpAgain : Type 0
+KeptPathsStayUpAgain =
+    (old new : Seen (List Directive × SimModule)) (attempts : List Attempt) (advert : Advertised) (kept : List Path) (active : List ℕ)
+    → AllByRecursion (AllowsPins NoPin) old.state.0 → IsAtRest active old.state.1 → All (IsActivePath advert active) kept
+    → RanAttempts advert kept old attempts new
     → (lane byte : ℕ) → IsLane lane → is_taken advert kept lane ≡ true → IsUp lane byte old.state.1 → IsUp lane byte new.state.1

@@ -10,4 +10,5 @@ pub mod Modules
 pub mod Soundness
 pub mod ActiveSets
 pub mod KeptPaths
+pub mod DeinitBits
 pub mod FaultWords

@@ -7,7 +7,8 @@ ghost use Rattle.sim_module.specs.declared.delays.Delays.{Delays};
 ghost use Rattle.sim_module.specs.Soundness.{HoldsItsPath, IsAlwaysKept, IsSound, LanesComeUp, LanesStayUp, RunsLeaveSound};
 ghost use Rattle.sim_module.specs.Starts.{active_at_start, start};
 ghost use Rattle.sim_module.specs.ActiveSets.{ActivationLeavesActive, ActiveIsPlanned, ActiveIsPlannedOn, HasNoApply, IsAtRest};
-ghost use Rattle.sim_module.specs.KeptPaths.{KeptPathsStayUp};
+ghost use Rattle.sim_module.specs.KeptPaths.{KeptPathsStayUp, KeptPathsStayUpAgain};
+ghost use Rattle.sim_module.specs.DeinitBits.{BitsFollowSuccess, BitsFollowTheStore, KeptBitsAreClear};
 
 /// A new module has eight lanes, the active bytes of its memory are active, and no apply is in progress.
 pub fn a_new_module_is_sound()
@@ -62,4 +63,19 @@ pub fn activation_leaves_what_is_active()
 /// not down as it was, with its active byte, whatever it stages and answers.
 pub fn kept_paths_stay_up()
     ensures { KeptPathsStayUp }
+{}
+
+/// So they do through any number of provisionings, one after another, of which each may fail: what holds before the first one
+/// is enough, also when an apply of one is in progress as the next begins. The bus's list has the steps of all of them.
+pub fn kept_paths_stay_up_again()
+    ensures { KeptPathsStayUpAgain }
+{}
+
+/// Over a scripted bus, whatever the script refuses or cuts short: once the store of DPDeinit was accepted, as it was before
+/// each success, a lane's bit is set if and only if the lane is provisioned. The bit of a kept lane is clear then, also if it
+/// was set before.
+pub fn provisioning_clears_the_bits_of_kept_lanes()
+    ensures stored { BitsFollowTheStore }
+    ensures success { BitsFollowSuccess }
+    ensures kept { KeptBitsAreClear }
 {}
