@@ -21,7 +21,7 @@ use Rattle.sim_module.specs.Ticks.{ticked}
 use Rattle.sim_module.proofs.ActiveLaw.{State, after_accepted, left, read}
 use Rattle.sim_module.proofs.HeldLanes.{controls_mapped, stored_whole}
 use Rattle.sim_module.proofs.IdleModule.{Shows}
-use Rattle.sim_module.proofs.KeptPaths.{taken_left_out}
+use Rattle.sim_module.proofs.KeptPathLanes.{taken_left_out}
 use Rattle.sim_module.proofs.ProvisioningKeeps.{SurvivesChanges}
 use Rattle.sim_module.proofs.Provisioned.{ends_applied, later}
 use Rattle.sim_module.proofs.SoundModule.{either}

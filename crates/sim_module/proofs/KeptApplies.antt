@@ -25,7 +25,7 @@ use Rattle.sim_module.specs.Registers.{is_from}
 use Rattle.sim_module.specs.Applies.{applied, applied_all, applied_to, are_paths_within, are_staged_alike, begun_lane, dropped_lane, is_applicable, is_explicit, is_of_active_path, is_of_staged_path, is_path_for, is_path_right, is_staged, refusal, refused_lane, staged_app, staged_first}
 use Rattle.sim_module.proofs.LanesInTime.{made_lane}
 use Rattle.sim_module.proofs.SoundModule.{either}
-use Rattle.sim_module.proofs.KeptLanes.{IsKeptLane, StaysKept}
+use Rattle.sim_module.proofs.KeptLanes.{IsKeptLane, StaysApart, StaysKept}
 
 -- ---- what is so where no reason refuses a lane
 
@@ -165,10 +165,10 @@ left_after sim mask lane within outside =
 pub none_after : (sim : SimModule) (mask : Lanes) (lane : ℕ) → IsLane lane → set.contains mask lane ≡ false → (lane_at (applied_all sim mask) lane).kept ≡ None
 none_after sim mask lane within outside = ap (λ (l : Lane). l.kept) (left_after sim mask lane within outside) ∙ dropped_kept (lane_at sim lane) (lane_at sim lane).kept refl
 
-module _ (is_kept : ℕ → Bool) (lane byte : ℕ) (one : IsKeptLane is_kept lane byte) (sim : SimModule) (mask : Lanes) (keeps : StaysKept is_kept lane byte sim)
+module _ (is_kept : ℕ → Bool) (lane byte : ℕ) (one : IsKeptLane is_kept lane byte) (sim : SimModule) (mask : Lanes) (alone : StaysApart is_kept lane byte sim)
     (outside : (other : ℕ) → IsLane other → is_kept other ≡ true → set.contains mask other ≡ false) where
   same_after : (other : ℕ) → IsLane other → is_kept other ≡ true → lane_at (applied_all sim mask) other ≡ lane_at sim other
-  same_after other there kept = left_after sim mask other there (outside other there kept) ∙ not_dropped (lane_at sim other) (keeps.none other there kept)
+  same_after other there kept = left_after sim mask other there (outside other there kept) ∙ not_dropped (lane_at sim other) (alone.none other there kept)
 
   active_after : (other : ℕ) → IsLane other → (lane_at (applied_all sim mask) other).active ≡ (lane_at sim other).active
   active_after other there = ap (λ (l : Lane). l.active) (lane_after sim mask other there) ∙ active_if (set.contains mask other) (is_applicable sim mask) (lane_at sim other) (status_of sim mask other)
@@ -177,22 +177,32 @@ module _ (is_kept : ℕ → Bool) (lane byte : ℕ) (one : IsKeptLane is_kept la
   apart_after other k there some =
       let begun = begun_if (set.contains mask other) (is_applicable sim mask) (lane_at sim other) (status_of sim mask other) k (sym (ap (λ (l : Lane). l.kept) (lane_after sim mask other there)) ∙ some) in
       ap (λ (b : ℕ). are_same (control_of byte) (control_of b)) (sym begun.is)
-      ∙ apart_if sim mask other (control_of byte) keeps.eight begun.whole there begun.asked one.used one.first (outside (first_lane (control_of byte)) one.first one.first_kept) _ refl
+      ∙ apart_if sim mask other (control_of byte) alone.eight begun.whole there begun.asked one.used one.first (outside (first_lane (control_of byte)) one.first one.first_kept) _ refl
 
-  keeps_applied_all : StaysKept is_kept lane byte (applied_all sim mask)
-  keeps_applied_all = record {
+  apart_applied_all : StaysApart is_kept lane byte (applied_all sim mask)
+  apart_applied_all = record {
     eight = length-map-range_with_len (applied_to sim mask) 1 8;
-    ready = keeps.ready;
-    power = keeps.power;
-    path = ap (λ (l : Lane). l.path) (same_after lane one.within one.kept) ∙ keeps.path;
-    active = ap (λ (l : Lane). l.active) (same_after lane one.within one.kept) ∙ keeps.active;
-    same = λ other there same. keeps.same other there (ap (λ (b : ℕ). are_same (control_of byte) (control_of b)) (sym (active_after other there)) ∙ same);
-    free = λ other there kept. ap (λ (l : Lane). set.contains sim.deinit other || is_in_progress l) (same_after other there kept) ∙ keeps.free other there kept;
-    none = λ other there kept. ap (λ (l : Lane). l.kept) (same_after other there kept) ∙ keeps.none other there kept;
+    active = ap (λ (l : Lane). l.active) (same_after lane one.within one.kept) ∙ alone.active;
+    same = λ other there same. alone.same other there (ap (λ (b : ℕ). are_same (control_of byte) (control_of b)) (sym (active_after other there)) ∙ same);
+    quiet = λ other there kept. ap is_in_progress (same_after other there kept) ∙ alone.quiet other there kept;
+    none = λ other there kept. ap (λ (l : Lane). l.kept) (same_after other there kept) ∙ alone.none other there kept;
     apart = apart_after;
   }
 
-  -- an apply to lanes outside keeps it
-  pub keeps_applied : StaysKept is_kept lane byte (applied sim mask)
+  keeps_applied_all : StaysKept is_kept lane byte sim → StaysKept is_kept lane byte (applied_all sim mask)
+  keeps_applied_all keeps = record {
+    alone = apart_applied_all;
+    ready = keeps.ready;
+    power = keeps.power;
+    path = ap (λ (l : Lane). l.path) (same_after lane one.within one.kept) ∙ keeps.path;
+    clear = keeps.clear;
+  }
+
+  -- an apply to lanes outside keeps both
+  pub apart_applied : StaysApart is_kept lane byte (applied sim mask)
   unfolding applied
-  keeps_applied = either (StaysKept is_kept lane byte) (is_empty mask) sim (applied_all sim mask) keeps keeps_applied_all
+  apart_applied = either (StaysApart is_kept lane byte) (is_empty mask) sim (applied_all sim mask) alone apart_applied_all
+
+  pub keeps_applied : StaysKept is_kept lane byte sim → StaysKept is_kept lane byte (applied sim mask)
+  unfolding applied
+  keeps_applied keeps = either (StaysKept is_kept lane byte) (is_empty mask) sim (applied_all sim mask) keeps (keeps_applied_all keeps)

@@ -26,18 +26,27 @@ pub record IsKeptLane (is_kept : ℕ → Bool) (lane byte : ℕ) : Type 0 where
   pub first : IsLane (first_lane (control_of byte))
   pub first_kept : is_kept (first_lane (control_of byte)) ≡ true
 
--- the lane is up and nothing takes it down: all lanes that are told the same are kept, no kept lane holds down its path or is
--- in an apply, and no apply in progress keeps a byte that would tell another lane the same
-pub record StaysKept (is_kept : ℕ → Bool) (lane byte : ℕ) (sim : SimModule) : Type 0 where
+-- the lane's path is apart from all that isn't kept: all lanes that are told the same are kept, no kept lane is in an apply, and
+-- no apply in progress keeps a byte that would tell another lane the same
+pub record StaysApart (is_kept : ℕ → Bool) (lane byte : ℕ) (sim : SimModule) : Type 0 where
   pub eight : length sim.lanes ≡ 8
+  pub active : (lane_at sim lane).active ≡ byte
+  pub same : (other : ℕ) → IsLane other → are_same (control_of byte) (control_of (lane_at sim other).active) ≡ true → is_kept other ≡ true
+  pub quiet : (other : ℕ) → IsLane other → is_kept other ≡ true → is_in_progress (lane_at sim other) ≡ false
+  pub none : (other : ℕ) → IsLane other → is_kept other ≡ true → (lane_at sim other).kept ≡ None
+  pub apart : (other kept : ℕ) → IsLane other → (lane_at sim other).kept ≡ Some kept → are_same (control_of byte) (control_of kept) ≡ false
+
+-- no kept lane has its DPDeinit bit set
+abbrev pub IsClear : (ℕ → Bool) → SimModule → Type 0
+IsClear is_kept sim = (other : ℕ) → IsLane other → is_kept other ≡ true → set.contains sim.deinit other ≡ false
+
+-- the lane is up, and nothing takes it down
+pub record StaysKept (is_kept : ℕ → Bool) (lane byte : ℕ) (sim : SimModule) : Type 0 where
+  pub alone : StaysApart is_kept lane byte sim
   pub ready : sim.state ≡ Ready
   pub power : has_low_power sim ≡ false
   pub path : (lane_at sim lane).path ≡ Activated
-  pub active : (lane_at sim lane).active ≡ byte
-  pub same : (other : ℕ) → IsLane other → are_same (control_of byte) (control_of (lane_at sim other).active) ≡ true → is_kept other ≡ true
-  pub free : (other : ℕ) → IsLane other → is_kept other ≡ true → holds_down sim other ≡ false
-  pub none : (other : ℕ) → IsLane other → is_kept other ≡ true → (lane_at sim other).kept ≡ None
-  pub apart : (other kept : ℕ) → IsLane other → (lane_at sim other).kept ≡ Some kept → are_same (control_of byte) (control_of kept) ≡ false
+  pub clear : IsClear is_kept sim
 
 -- what a lane of the Active Control Set is told
 pub told_at : (sim : SimModule) (lane : ℕ) → length sim.lanes ≡ 8 → IsLane lane → control_at (active_bytes sim) lane ≡ control_of (lane_at sim lane).active
@@ -48,18 +57,24 @@ and_not true b so = so refl
 and_not false b so = refl
 
 module _ (is_kept : ℕ → Bool) (lane byte : ℕ) (one : IsKeptLane is_kept lane byte) where
-  pub not_down : (sim : SimModule) → StaysKept is_kept lane byte sim → is_down sim lane ≡ false
+  -- what is left to take it down
+  pub down_as : (sim : SimModule) → StaysApart is_kept lane byte sim → IsClear is_kept sim → is_down sim lane ≡ (not (is_ready sim) || has_low_power sim)
   unfolding is_down
-  not_down sim keeps =
-      let told : control_at (active_bytes sim) lane ≡ control_of byte = told_at sim lane keeps.eight one.within ∙ ap control_of keeps.active in
+  down_as sim alone clear =
+      let told : control_at (active_bytes sim) lane ≡ control_of byte = told_at sim lane alone.eight one.within ∙ ap control_of alone.active in
       let holds : ℕ → Bool = λ other. agree (active_bytes sim) lane other && holds_down sim other in
+      let free : (other : ℕ) → IsLane other → is_kept other ≡ true → holds_down sim other ≡ false = λ other there kept. λ i. clear other there kept i || alone.quiet other there kept i in
       let none : (other : ℕ) → IsLane other → holds other ≡ false = λ other there.
       and_not (agree (active_bytes sim) lane other) (holds_down sim other) (λ agreed.
-      keeps.free other there (keeps.same other there ((λ i. are_same (sym told i) (sym (told_at sim other keeps.eight there) i)) ∙ agreed))) in
+      free other there (alone.same other there ((λ i. are_same (sym told i) (sym (told_at sim other alone.eight there) i)) ∙ agreed))) in
       let paths : is_path_down sim lane ≡ false = list_any_none holds all_lanes (λ k d below. none (get_or all_lanes k d) (are_lanes k d below)) in
-      let is_there : is_ready sim ≡ true = ap (λ (state : ModuleState). is_ready (record sim { state = state })) keeps.ready in
       let is_told : is_used (control_at (active_bytes sim) lane) ≡ true = ap is_used told ∙ one.used in
-      λ i. not (is_told i) || paths i || not (is_there i) || keeps.power i
+      λ i. not (is_told i) || paths i || not (is_ready sim) || has_low_power sim
+
+  pub not_down : (sim : SimModule) → StaysKept is_kept lane byte sim → is_down sim lane ≡ false
+  not_down sim keeps =
+      let is_there : is_ready sim ≡ true = ap (λ (state : ModuleState). is_ready (record sim { state = state })) keeps.ready in
+      down_as sim keeps.alone keeps.clear ∙ (λ i. not (is_there i) || keeps.power i)
 
   still_ready : (deactivated done : Bool) → module_table.next_of Ready (record { low_power = false; deactivated = deactivated; done = done }) ≡ Ready
   unfolding module_table.next_of
@@ -96,30 +111,39 @@ module _ (is_kept : ℕ → Bool) (lane byte : ℕ) (one : IsKeptLane is_kept la
   settled_after : (sim : SimModule) (other : ℕ) → IsLane other → (lane_at sim other).kept ≡ None → lane_at (ticked sim) other ≡ moved_at sim other
   settled_after sim other there none = ticked_at sim other there ∙ settled_lane sim other none
 
-  same_after_tick : (sim : SimModule) (other : ℕ) → StaysKept is_kept lane byte sim → IsLane other → are_same (control_of byte) (control_of (lane_at (ticked sim) other).active) ≡ true → is_kept other ≡ true
-  same_after_tick sim other keeps there same =
+  same_after_tick : (sim : SimModule) (other : ℕ) → StaysApart is_kept lane byte sim → IsLane other → are_same (control_of byte) (control_of (lane_at (ticked sim) other).active) ≡ true → is_kept other ≡ true
+  same_after_tick sim other alone there same =
       let after = ticked_at sim other there ∙ ticked_as sim other in
       let tells : ℕ → Bool = λ b. are_same (control_of byte) (control_of b) in
       elim (became (is_last sim.apply_left) (moved_at sim other) (lane_at sim other).kept refl) [
-        | inl stays ↦ keeps.same other there (sym (ap tells (ap (λ (l : Lane). l.active) after ∙ stays)) ∙ same)
+        | inl stays ↦ alone.same other there (sym (ap tells (ap (λ (l : Lane). l.active) after ∙ stays)) ∙ same)
         | inr done ↦
             let told : tells done.0 ≡ true = sym (ap tells (ap (λ (l : Lane). l.active) after ∙ done.2)) ∙ same in
-            let apart : tells done.0 ≡ false = keeps.apart other done.0 there done.1 in
+            let apart : tells done.0 ≡ false = alone.apart other done.0 there done.1 in
             cc
       ]
+
+  pub apart_tick : (sim : SimModule) → StaysApart is_kept lane byte sim → StaysApart is_kept lane byte (ticked sim)
+  unfolding ticked
+  apart_tick sim alone =
+      let after : (other : ℕ) → IsLane other → is_kept other ≡ true → lane_at (ticked sim) other ≡ moved_at sim other = λ other there kept. settled_after sim other there (alone.none other there kept) in
+      record {
+        eight = length-map-range_with_len (ticked_lane sim) 1 8;
+        active = ap (λ (l : Lane). l.active) (after lane one.within one.kept) ∙ alone.active;
+        same = λ other there told. same_after_tick sim other alone there told;
+        quiet = λ other there kept. ap is_in_progress (after other there kept) ∙ alone.quiet other there kept;
+        none = λ other there kept. ap (λ (l : Lane). l.kept) (after other there kept) ∙ alone.none other there kept;
+        apart = λ other k there some. alone.apart other k there (was_kept (is_last sim.apply_left) (moved_at sim other) (lane_at sim other).kept k refl (sym (ap (λ (l : Lane). l.kept) (ticked_at sim other there ∙ ticked_as sim other)) ∙ some));
+      }
 
   pub keeps_tick : (sim : SimModule) → StaysKept is_kept lane byte sim → StaysKept is_kept lane byte (ticked sim)
   unfolding ticked
   keeps_tick sim keeps =
-      let up = stays_up sim lane one.within keeps.path (not_down sim keeps) (keeps.none lane one.within one.kept) in
+      let up = stays_up sim lane one.within keeps.path (not_down sim keeps) (keeps.alone.none lane one.within one.kept) in
       record {
-        eight = length-map-range_with_len (ticked_lane sim) 1 8;
+        alone = apart_tick sim keeps.alone;
         ready = next_ready sim keeps;
         power = keeps.power;
         path = up.path ∙ keeps.path;
-        active = up.active ∙ keeps.active;
-        same = λ other there told. same_after_tick sim other keeps there told;
-        free = λ other there kept. ap (λ (l : Lane). set.contains sim.deinit other || is_in_progress l) (settled_after sim other there (keeps.none other there kept)) ∙ keeps.free other there kept;
-        none = λ other there kept. ap (λ (l : Lane). l.kept) (settled_after sim other there (keeps.none other there kept)) ∙ keeps.none other there kept;
-        apart = λ other k there some. keeps.apart other k there (was_kept (is_last sim.apply_left) (moved_at sim other) (lane_at sim other).kept k refl (sym (ap (λ (l : Lane). l.kept) (ticked_at sim other there ∙ ticked_as sim other)) ∙ some));
+        clear = keeps.clear;
       }

@@ -1,9 +1,6 @@
 -- The lanes of kept paths stay up while the others are provisioned.
-use Rattle.std.proofs.Common.{◌≡◌, ℕ, ◌+◌, ◌==◌, ◌&&◌, ◌||◌, not, Bool, true, false, None, Some, List, [], ◌∷◌, reverse, All, refl, sym, ap, subst, ◌∙◌}
-use Rattle.std.proofs.Math.Bool.{and-false}
-use Rattle.std.proofs.lemmas.Bool.{and_from, false_from_ne_true, le-leb, lt-ltb}
-use Rattle.std.proofs.lemmas.List.Elements.{All-contains}
-use Rattle.std.proofs.lemmas.List.Folds.{Any-from_list_any, list_any-from_Any}
+use Rattle.std.proofs.Common.{◌≡◌, ℕ, ◌==◌, ◌&&◌, ◌||◌, not, Bool, true, false, List, [], ◌∷◌, reverse, All, refl, sym, subst, ◌∙◌}
+use Rattle.std.proofs.lemmas.Bool.{and_from, false_from_ne_true}
 use Rattle.std.specs.FinSet as set
 use Rattle.std.specs.List.{AllByRecursion, list_any}
 use Rattle.bus_model.specs.declared.script.Directive.{Directive}
@@ -11,72 +8,26 @@ use Rattle.bus_model.specs.Keeping.{AllowsPins, IsKeptBy, IsKeptInTime}
 use Rattle.bus_model.specs.Runs.{IsFull, Ran, Seen}
 use Rattle.bus_model.specs.ScriptedBus.{script_rules}
 use Rattle.bus_model.proofs.ScriptRuns.{steps_allow, steps_keep}
-use Rattle.field_tables.specs.LaneBytes.{contains-run_of}
-use Rattle.field_tables.specs.LaneSets.{byte_of, every_lane, lanes_in}
+use Rattle.field_tables.specs.LaneSets.{byte_of, lanes_in}
 use Rattle.module_states.specs.declared.state.ModuleState.{ModuleState}
 use Rattle.module_states.specs.declared.state.ModuleState.TheVariants.{Fault, LowPwr, PwrDn, PwrUp, Ready}
 use Rattle.module_states.specs.Codes as module_codes
 use Rattle.applications.specs.Advertised.{Advertised}
 use Rattle.plan_certificate.specs.declared.path.Path.{Path}
-use Rattle.plan_certificate.specs.Paths.{app_of}
-use Rattle.control_sets.specs.declared.control_byte.ControlByte.{ControlByte}
-use Rattle.control_sets.specs.ControlBytes.{control_of}
-use Rattle.control_sets.specs.HostPaths.{IsLane, agree, are_same, begins, control_at, first_lane, host_paths, is_used}
-use Rattle.control_sets.specs.LanesOfPaths.{TakesWhatAgrees}
+use Rattle.control_sets.specs.HostPaths.{IsLane, agree, control_at, is_used}
 use Rattle.control_sets.specs.OutcomeOfProvisioning.{IsProvisioning}
 use Rattle.control_sets.specs.PlanLanes.{is_taken, lanes_outside}
-use Rattle.control_sets.specs.PlanPaths.{host_path_of}
-use Rattle.control_sets.proofs.Begun.{begun_hosts}
-use Rattle.control_sets.proofs.Bytes.{takes}
-use Rattle.control_sets.proofs.LaneBits.{in_byte_of}
-use Rattle.control_sets.proofs.LanesOfPaths.{begun_parts, lanes_taken, same_control, same_itself}
-use Rattle.control_sets.proofs.Owners.{taken_lane}
-use Rattle.control_sets.proofs.PlanLaneLaws.{contains_outside}
 use Rattle.sim_module.specs.declared.module.SimModule.{SimModule}
 use Rattle.sim_module.specs.ActiveSets.{IsAtRest}
 use Rattle.sim_module.specs.Down.{has_low_power, holds_down, is_down, is_path_down, is_ready}
 use Rattle.sim_module.specs.KeptPaths.{Attempt, IsActivePath, IsUp, KeptPathsStayUp, KeptPathsStayUpAgain, NoPin, RanAttempts}
-use Rattle.sim_module.specs.Lanes.{active_bytes, all_lanes, lane_at}
+use Rattle.sim_module.specs.Lanes.{active_bytes, all_lanes, is_in_progress, lane_at}
 use Rattle.sim_module.specs.Modules.{conduct}
 use Rattle.sim_module.proofs.LanesInTime.{any_in}
-use Rattle.sim_module.proofs.KeptLanes.{IsKeptLane, StaysKept, keeps_tick, not_down, told_at}
+use Rattle.sim_module.proofs.KeptLanes.{IsKeptLane, StaysKept, keeps_tick, not_down}
+use Rattle.sim_module.proofs.KeptPathLanes.{IsOfPath, begins_apart, kept_lane, mask_outside, of_path}
 use Rattle.sim_module.proofs.KeptStores.{survives}
 use Rattle.sim_module.proofs.ProvisioningKeeps.{all_reversed, each_keeps}
-
--- no lane of a kept path is one of those outside
-pub taken_left_out : (advert : Advertised) (kept : List Path) (lane : ℕ) → is_taken advert kept lane ≡ true → set.contains (lanes_outside advert kept) lane ≡ false
-taken_left_out advert kept lane taken = contains_outside advert kept lane ∙ ap (λ (is : Bool). set.contains every_lane lane && not is) taken ∙ and-false (set.contains every_lane lane)
-
--- ---- the lanes of one kept path
-
--- the lane is one of an active path, whose lanes are all left alone, and whose first lane its control byte names
-record IsOfPath (active : List ℕ) (lane : ℕ) (left : ℕ → Type 0) : Type 0 where
-  used : is_used (control_at active lane) ≡ true
-  first : IsLane (first_lane (control_at active lane))
-  first_agrees : agree active lane (first_lane (control_at active lane)) ≡ true
-  others : (other : ℕ) → IsLane other → agree active lane other ≡ true → left other
-
-module _ (advert : Advertised) (kept : List Path) (active : List ℕ) (each : All (IsActivePath advert active) kept) where
-  of_path : (lane : ℕ) → IsLane lane → is_taken advert kept lane ≡ true → IsOfPath active lane (λ other. is_taken advert kept other ≡ true)
-  of_path lane within taken =
-      let (k, path, below, here, takes_lane) = Any-from_list_any (takes advert lane) kept taken in
-      let told = host_path_of advert path in
-      let is_active : IsActivePath advert active path = subst (IsActivePath advert active) here (each k path below) in
-      let lanes : TakesWhatAgrees active told = All-contains (TakesWhatAgrees active) (host_paths active) told (lanes_taken active is_active.0) is_active.1 in
-      let begun = All-contains (λ host_path. IsLane host_path.host × (begins active host_path.host ≡ true)) (host_paths active) told (begun_hosts active) is_active.1 in
-      let parts = begun_parts active path.host begun.1 in
-      let agrees : agree active path.host lane ≡ true = (lanes lane within).1 (taken_lane advert path lane takes_lane) in
-      let same : control_at active path.host ≡ control_at active lane = same_control (control_at active path.host) (control_at active lane) agrees in
-      let host : path.host ≡ first_lane (control_at active lane) = sym parts.1 ∙ ap first_lane same in
-      record {
-        used = ap is_used (sym same) ∙ parts.0;
-        first = subst IsLane host begun.0;
-        first_agrees = ap (agree active lane) (sym host) ∙ (λ i. are_same (control_at active lane) (same i)) ∙ same_itself (control_at active lane);
-        others = λ other there agreed.
-            let its = (lanes other there).0 ((λ i. are_same (same i) (control_at active other)) ∙ agreed) in
-            let taken : takes advert other path ≡ true = contains-run_of path.host (app_of advert path).host_lanes other ∙ and_from _ _ (le-leb path.host other its.0) (lt-ltb other (path.host + (app_of advert path).host_lanes) its.1) in
-            list_any-from_Any (takes advert other) kept (k, path, below, here, taken);
-      }
 
 -- ---- at the beginning
 
@@ -105,41 +56,27 @@ up_parts : (sim : SimModule) (lane : ℕ) → is_down sim lane ≡ false → IsN
 unfolding is_down
 up_parts sim lane up = not_down_parts (is_used (control_at (active_bytes sim) lane)) (is_path_down sim lane) (is_ready sim) (has_low_power sim) up
 
-module _ (active : List ℕ) (lane byte : ℕ) (within : IsLane lane) (sim : SimModule) (rest : IsAtRest active sim) (up : IsUp lane byte sim) where
-  told : (other : ℕ) → IsLane other → control_at active other ≡ control_of (lane_at sim other).active
-  told other there = ap (λ (bytes : List ℕ). control_at bytes other) (sym rest.active) ∙ told_at sim other rest.eight there
+or_parts : (a b : Bool) → (a || b) ≡ false → (a ≡ false) × (b ≡ false)
+or_parts true b none = cc
+or_parts false b none = (refl, none)
 
-  its_own : control_at active lane ≡ control_of byte
-  its_own = told lane within ∙ ap control_of up.active
-
-  kept_lane : (left : ℕ → Type 0) → IsOfPath active lane left → IsKeptLane (agree active lane) lane byte
-  kept_lane left path = record {
-    within = within;
-    kept = same_itself (control_at active lane);
-    used = ap is_used (sym its_own) ∙ path.used;
-    first = subst (λ (control : ControlByte). IsLane (first_lane control)) its_own path.first;
-    first_kept = ap (λ (control : ControlByte). agree active lane (first_lane control)) (sym its_own) ∙ path.first_agrees;
-  }
-
-  begins_kept : StaysKept (agree active lane) lane byte sim
-  begins_kept =
-      let parts = up_parts sim lane up.up in
-      let holds : ℕ → Bool = λ other. agree (active_bytes sim) lane other && holds_down sim other in
-      record {
-        eight = rest.eight;
-        ready = ready_by sim.state parts.in_ready;
-        power = parts.no_power;
-        path = up.path;
-        active = up.active;
-        same = λ other there same. (λ i. are_same (its_own i) (told other there i)) ∙ same;
-        free = λ other there agreed. false_from_ne_true (holds_down sim other) (λ held.
-            (let both : holds other ≡ true = (λ i. agree (rest.active i) lane other && holds_down sim other) ∙ and_from (agree active lane other) (holds_down sim other) agreed held in
-            let some : list_any holds all_lanes ≡ true = any_in holds other there both in
-            let none : list_any holds all_lanes ≡ false = parts.no_path in
-            cc));
-        none = λ other there agreed. rest.none other there;
-        apart = λ other kept there some. (let none : None ≡ Some kept = sym (rest.none other there) ∙ some in cc);
-      }
+begins_kept : (active : List ℕ) (lane byte : ℕ) → IsLane lane → (sim : SimModule) → IsAtRest active sim → IsUp lane byte sim → StaysKept (agree active lane) lane byte sim
+begins_kept active lane byte within sim rest up =
+    let parts = up_parts sim lane up.up in
+    let holds : ℕ → Bool = λ other. agree (active_bytes sim) lane other && holds_down sim other in
+    let free : (other : ℕ) → IsLane other → agree active lane other ≡ true → holds_down sim other ≡ false = λ other there agreed. false_from_ne_true (holds_down sim other) (λ held.
+    (let both : holds other ≡ true = (λ i. agree (rest.active i) lane other && holds_down sim other) ∙ and_from (agree active lane other) (holds_down sim other) agreed held in
+    let some : list_any holds all_lanes ≡ true = any_in holds other there both in
+    let none : list_any holds all_lanes ≡ false = parts.no_path in
+    cc)) in
+    let free_parts = λ (other : ℕ) (there : IsLane other) (agreed : agree active lane other ≡ true). or_parts (set.contains sim.deinit other) (is_in_progress (lane_at sim other)) (free other there agreed) in
+    record {
+      alone = begins_apart active lane byte within sim rest up.active (λ other there agreed. (free_parts other there agreed).1);
+      ready = ready_by sim.state parts.in_ready;
+      power = parts.no_power;
+      path = up.path;
+      clear = λ other there agreed. (free_parts other there agreed).0;
+    }
 
 -- ---- one provisioning after another
 
@@ -162,10 +99,10 @@ module _ (advert : Advertised) (kept : List Path) (active : List ℕ) (each : Al
   path = of_path advert kept active each lane within taken
 
   one : IsKeptLane is_kept lane byte
-  one = kept_lane active lane byte within first rest up (λ other. is_taken advert kept other ≡ true) path
+  one = kept_lane active lane byte within first rest up.active (λ other. is_taken advert kept other ≡ true) path
 
-  mask_outside : (other : ℕ) → IsLane other → is_kept other ≡ true → set.contains (lanes_in (byte_of (lanes_outside advert kept))) other ≡ false
-  mask_outside other there agreed = in_byte_of (lanes_outside advert kept) other there ∙ taken_left_out advert kept other (path.others other there agreed)
+  outside : (other : ℕ) → IsLane other → is_kept other ≡ true → set.contains (lanes_in (byte_of (lanes_outside advert kept))) other ≡ false
+  outside other there agreed = mask_outside advert kept other there (path.others other there agreed)
 
   in_time : IsKeptInTime conduct NoPin Keeps
   in_time = record { tick = keeps_tick is_kept lane byte one; low_power_pin = λ sim on none keeps. absurd none }
@@ -174,7 +111,7 @@ module _ (advert : Advertised) (kept : List Path) (active : List ℕ) (each : Al
       IsProvisioning attempt.control (lanes_outside advert kept) (IsFull new) attempt.history attempt.answer → NoPins new.state × Keeps new.state.1
   after_one old new attempt no_pin keeps ran outcome =
       let lanes = lanes_outside advert kept in
-      let each_step = each_keeps attempt.control lanes Keeps (survives is_kept lane byte one (byte_of lanes) mask_outside) attempt.history outcome.shape in
+      let each_step = each_keeps attempt.control lanes Keeps (survives is_kept lane byte one (byte_of lanes) outside) attempt.history outcome.shape in
       let steps = reverse attempt.history in
       (
         subst NoPins (sym ran.state) (steps_allow conduct NoPin steps old.state no_pin),
@@ -189,7 +126,7 @@ module _ (advert : Advertised) (kept : List Path) (active : List ℕ) (each : Al
       after_all attempts next new there.0 there.1 more
 
   still_up : (sim : SimModule) → Keeps sim → IsUp lane byte sim
-  still_up sim keeps = record { path = keeps.path; up = not_down is_kept lane byte one sim keeps; active = keeps.active }
+  still_up sim keeps = record { path = keeps.path; up = not_down is_kept lane byte one sim keeps; active = keeps.alone.active }
 
 pub kept_paths_stay_up_again : KeptPathsStayUpAgain
 kept_paths_stay_up_again old new attempts advert kept active no_pin rest each ran lane byte within taken up =

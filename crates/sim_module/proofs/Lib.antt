@@ -9,6 +9,7 @@ pub mod ProvisioningKeeps
 pub mod KeptLanes
 pub mod KeptApplies
 pub mod KeptStores
+pub mod KeptPathLanes
 pub mod KeptPaths
 pub mod HeldLanes
 pub mod ReadBytes
@@ -16,3 +17,4 @@ pub mod ActiveLaw
 pub mod Provisioned
 pub mod Activated
 pub mod DeinitBits
+pub mod ReleasedLanes

@@ -11,4 +11,5 @@ pub mod Soundness
 pub mod ActiveSets
 pub mod KeptPaths
 pub mod DeinitBits
+pub mod ReleasedLanes
 pub mod FaultWords

@@ -9,6 +9,7 @@ ghost use Rattle.sim_module.specs.Starts.{active_at_start, start};
 ghost use Rattle.sim_module.specs.ActiveSets.{ActivationLeavesActive, ActiveIsPlanned, ActiveIsPlannedOn, HasNoApply, IsAtRest};
 ghost use Rattle.sim_module.specs.KeptPaths.{KeptPathsStayUp, KeptPathsStayUpAgain};
 ghost use Rattle.sim_module.specs.DeinitBits.{BitsFollowSuccess, BitsFollowTheStore, KeptBitsAreClear};
+ghost use Rattle.sim_module.specs.ReleasedLanes.{KeptLanesAreReleased};
 
 /// A new module has eight lanes, the active bytes of its memory are active, and no apply is in progress.
 pub fn a_new_module_is_sound()
@@ -78,4 +79,11 @@ pub fn provisioning_clears_the_bits_of_kept_lanes()
     ensures stored { BitsFollowTheStore }
     ensures success { BitsFollowSuccess }
     ensures kept { KeptBitsAreClear }
+{}
+
+/// Over a scripted bus, whatever the script refuses, cuts short or sets the pin to: where no apply is in progress, no kept lane
+/// has the status ConfigInProgress and the kept paths are active, once the store of DPDeinit was accepted, a kept lane is down
+/// if and only if the module isn't ready or low power is asked for. What its DPDeinit bit held down before is free to come up.
+pub fn provisioning_releases_kept_lanes()
+    ensures { KeptLanesAreReleased }
 {}
