@@ -1,15 +1,13 @@
 -- DPDeinit of a module is what an accepted store of provisioning made it.
-use Rattle.std.proofs.Common.{◌≡◌, inr, ℕ, Bool, true, List, [], ◌∷◌, ◌++◌, Ok, refl, ap, sym, subst, ◌∙◌, if◌then◌else◌, arith}
+use Rattle.std.proofs.Common.{◌≡◌, inr, ℕ, Bool, true, [], ◌∷◌, Ok, refl, ap, sym, subst, ◌∙◌, if◌then◌else◌, arith}
 use Rattle.std.specs.FinSet as set
 use Rattle.bus_model.specs.declared.device.Dev.TheVariants.{A0}
 use Rattle.bus_model.specs.Keeping.{IsKeptInTime}
 use Rattle.bus_model.specs.ScriptedBus.{script_rules}
 use Rattle.bus_model.proofs.Histories.{AnyPin, after_reverse, may_each}
 use Rattle.field_tables.specs.LaneSets.{Lanes, byte_of, is_empty, lanes_in}
-use Rattle.control_sets.specs.OutcomeOfProvisioning.{IsProvisioning}
 use Rattle.control_sets.specs.OutcomeOperations.{set_deinit}
-use Rattle.control_sets.specs.OutcomeSteps.{IsAccepted, Stands}
-use Rattle.control_sets.specs.Pages.{History}
+use Rattle.control_sets.specs.OutcomeSteps.{IsAccepted}
 use Rattle.control_sets.specs.PlanLanes.{lanes_outside}
 use Rattle.control_sets.proofs.LaneBits.{in_byte_of}
 use Rattle.sim_module.specs.declared.module.SimModule.{SimModule}

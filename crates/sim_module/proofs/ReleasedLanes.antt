@@ -1,12 +1,11 @@
 -- Nothing of its own path holds down a lane of a kept path once its DPDeinit bit is clear.
-use Rattle.std.proofs.Common.{◌≡◌, ℕ, Bool, true, false, refl, sym, subst, ◌∙◌}
+use Rattle.std.proofs.Common.{◌≡◌, ℕ, Bool, true, refl, sym, subst, ◌∙◌}
 use Rattle.bus_model.specs.Keeping.{IsKeptInTime}
 use Rattle.bus_model.specs.ScriptedBus.{script_rules}
 use Rattle.bus_model.proofs.Histories.{AnyPin, after_reverse, steps_keep}
 use Rattle.field_tables.specs.LaneSets.{Lanes, byte_of}
-use Rattle.control_sets.specs.HostPaths.{IsLane, agree}
+use Rattle.control_sets.specs.HostPaths.{agree}
 use Rattle.control_sets.specs.PlanLanes.{is_taken, lanes_outside}
-use Rattle.sim_module.specs.declared.module.SimModule.{SimModule}
 use Rattle.sim_module.specs.Lanes.{lane_at}
 use Rattle.sim_module.specs.Modules.{conduct}
 use Rattle.sim_module.specs.ReleasedLanes.{KeptLanesAreReleased}
