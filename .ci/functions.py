@@ -1,0 +1,134 @@
+"""The functions of a crate's sources, and the edits that stand beside them, for the scripts of this folder.
+
+An edit is a wrong body: a file NAME.edit with a line 'file: src/PATH' and then pairs of lines 'old: TEXT' and 'new: TEXT'. It stands
+in a crate's folder must-fail, whose edits `rt ci` tries, or in its folder wrong-bodies, whose edits `.ci/wrong_bodies` tries."""
+import os
+import re
+from collections import namedtuple
+
+ROOT = os.path.dirname(os.path.dirname(os.path.abspath(__file__)))
+FOLDERS = ("must-fail", "wrong-bodies")
+
+HEADER = re.compile(r'^( *)(pub |pub\([a-z]+\) )?(?:const |unsafe |extern "C" )*fn (\w+)', re.M)
+IMPL = re.compile(r"^impl(?:<[^{]*?>)? (?:([\w:]+)(?:<[^{]*?>)? for )?(\w+)", re.M)
+
+# What a function is called in its file (its type, its trait if it is of one, and its name), what makes it public, and its place
+# in the text: where its header begins, and where its body begins and ends.
+Function = namedtuple("Function", "owner trait name public header begin end")
+
+# What an edit makes of its files: of each function that it changes, by file and place among the file's functions, the wrong body.
+# `texts` are the files as it leaves them. It has no bodies if it changes anything else.
+Edit = namedtuple("Edit", "name bodies texts")
+
+
+class BadEdit(Exception):
+    """An edit that can't be tried, and why."""
+
+
+def read(path):
+    with open(path, encoding="utf-8") as file:
+        return file.read()
+
+
+def owner_at(text, place):
+    """The type, and the trait, of the `impl` that a place is in."""
+    before = [it for it in IMPL.finditer(text, 0, place)]
+    if not before or "\n}\n" in text[before[-1].start():place]:
+        return "", ""
+    return before[-1][2], (before[-1][1] or "").rpartition("::")[2]
+
+
+def body_of(text, header):
+    """Where the body of the function with this header begins and ends. The formatter puts its braces at the header's indentation."""
+    line_end = text.index("\n", header.end())
+    if text[:line_end].endswith("}"):
+        return text.index("{", header.end()), line_end
+    indentation = header[1]
+    begins = re.compile(rf"^{indentation}(?! )[^\n]*(\{{|\{{\}})$", re.M).search(text, header.start())
+    if not begins or begins[1] == "{}":
+        return (begins.start(1), begins.end()) if begins else (None, None)
+    return begins.start(1), re.compile(rf"^{indentation}\}}$", re.M).search(text, begins.end()).end()
+
+
+def functions_of(text):
+    """The functions of a file that have a body, in order."""
+    found = []
+    for header in HEADER.finditer(text):
+        begin, end = body_of(text, header)
+        following = HEADER.search(text, header.end())
+        if begin is not None and not (following and following.start() < begin):
+            owner, trait = owner_at(text, header.start()) if header[1] else ("", "")
+            found.append(Function(owner, trait, header[3], (header[2] or "").strip(), header.start(), begin, end))
+    return found
+
+
+def outside_of_bodies(text, functions):
+    """What stands outside of the functions' bodies."""
+    places = [0, *(place for it in functions for place in (it.begin, it.end)), len(text)]
+    return [text[places[i]:places[i + 1]] for i in range(0, len(places), 2)]
+
+
+def with_bodies(text, bodies):
+    """The text with other bodies in the place of its own, given by the functions' places."""
+    functions = functions_of(text)
+    for place in sorted(bodies, reverse=True):
+        text = text[:functions[place].begin] + bodies[place] + text[functions[place].end:]
+    return text
+
+
+def changed_bodies(before, after):
+    """Of each function whose body differs, by its place, the body; None if anything else differs."""
+    old, new = functions_of(before), functions_of(after)
+    if outside_of_bodies(before, old) != outside_of_bodies(after, new):
+        return None
+    pairs = [(before[a.begin:a.end], after[b.begin:b.end]) for a, b in zip(old, new)]
+    return {place: wrong for place, (right, wrong) in enumerate(pairs) if right != wrong}
+
+
+def changed_texts(crate, edit):
+    """The files of a crate as an edit leaves them."""
+    texts, path, old = {}, None, None
+    for line in edit.split("\n"):
+        if line.startswith("file: "):
+            path = line[6:].strip()
+            if not path.startswith("src/") or not os.path.isfile(f"{crate}/{path}"):
+                raise BadEdit(f"there is no source {path}")
+            texts.setdefault(path, read(f"{crate}/{path}"))
+        elif line.startswith("old: "):
+            old = line[5:]
+        elif line.startswith("new:"):
+            if not path or not old:
+                raise BadEdit("a line 'new:' without a file or an old text")
+            if texts[path].count(old) != 1:
+                raise BadEdit(f"'{old.strip()}' stands {texts[path].count(old)} times in {path}, not once")
+            texts[path], old = texts[path].replace(old, line[4:].removeprefix(" ")), None
+    if not texts:
+        raise BadEdit("it changes nothing")
+    return texts
+
+
+def edit_of(crate, path):
+    """An edit of a crate, read from its file."""
+    texts = changed_texts(crate, read(path))
+    bodies = {}
+    for file, text in texts.items():
+        changed = changed_bodies(read(f"{crate}/{file}"), text)
+        if changed is None:
+            return Edit(os.path.basename(path), None, texts)
+        bodies.update({(file, place): body for place, body in changed.items()})
+    if not bodies:
+        raise BadEdit("it changes nothing")
+    return Edit(os.path.basename(path), bodies, texts)
+
+
+def edit_files(crate, folder):
+    """The files of the edits in a folder of a crate."""
+    path = f"{crate}/{folder}"
+    return [f"{path}/{it}" for it in sorted(os.listdir(path)) if it.endswith(".edit")] if os.path.isdir(path) else []
+
+
+def crate_names():
+    """The crates, lowest first, with those of this repository that each stands on."""
+    lines = [it.partition("#")[0].partition(":") for it in read(f"{ROOT}/crates.txt").split("\n")]
+    crates = {name.split()[0]: words.split() for name, _, words in lines if name.strip()}
+    return {name: [it for it in words if it in crates] for name, words in crates.items()}
