@@ -1,0 +1,108 @@
+/* The part of a firmware's main loop that puts a plan into the Active Control Set and brings its data paths up. It never waits: the
+   bus tells by an interrupt that a transaction is over, and the main loop calls `poll` as often as it comes by.
+
+   The board has i2c_start and milliseconds, its interrupt calls i2c_over, and nobody else uses the module meanwhile. */
+#include "dovecounter.h"
+
+#include <stdbool.h>
+#include <string.h>
+
+/* Begins a transaction; the bytes of a fetch are written to `bytes`. Many drivers take addresses of 7 bits:
+   operation->device >> 1. */
+void i2c_start(const struct dovecounter_operation *operation, uint8_t bytes[8]);
+
+/* Since some moment, modulo 2^32. */
+uint32_t milliseconds(void);
+
+/* An operation that is asked for again comes PAUSE milliseconds after it ended: a state is awaited, or the bus refused. The 4096
+   operations of a procedure then last almost seven minutes; raise PAUSE for a module that may take longer for one state. */
+enum { PAUSE = 100, MOST_BEGINNINGS = 3 };
+
+enum stage { IDLE, PROVISIONING, ACTIVATING, UP, FAILED };
+
+static enum stage stage = IDLE;
+static struct dovecounter_plan plan;
+static struct dovecounter_procedure procedure;
+static struct dovecounter_operation operation; /* the last one; its count is 0 when a procedure begins */
+static uint8_t bytes[8];                       /* of a fetch */
+static unsigned beginnings;                    /* of this stage */
+static uint32_t ended_at;                      /* when the last transaction was over */
+static bool under_way;                         /* a transaction is */
+static volatile bool over;                     /* set by the interrupt, */
+static volatile uint8_t outcome;               /* with what came of the transaction */
+static struct dovecounter_fault fault;         /* why it failed, */
+static uint32_t status;                        /* or the status of a reply that was none */
+
+/* Called by the interrupt when a transaction is over, also when its driver gives it up: DOVECOUNTER_REFUSED. */
+void i2c_over(uint8_t what) {
+    outcome = what;
+    over = true;
+}
+
+static void begin(enum stage wanted) {
+    beginnings = wanted == stage ? beginnings + 1 : 1;
+    stage = wanted;
+    operation.count = 0;
+    if (wanted == PROVISIONING)
+        dovecounter_provision(plan.control, plan.outside, &procedure);
+    else
+        dovecounter_activate(plan.control, plan.lanes, &procedure);
+}
+
+/* Begins to carry out the plan, unless one is being carried out. */
+bool carry_out(const struct dovecounter_plan *wanted) {
+    if (stage == PROVISIONING || stage == ACTIVATING) return false;
+    plan = *wanted;
+    status = DOVECOUNTER_DONE;
+    memset(&fault, 0, sizeof fault);
+    begin(PROVISIONING);
+    return true;
+}
+
+/* The procedure has ended. After PV4 the module may only have been slow, so the procedure is begun again. */
+static void end(void) {
+    struct dovecounter_answer answer;
+    status = dovecounter_answer(&procedure, &answer);
+    if (status != DOVECOUNTER_DONE) {
+        stage = FAILED;
+    } else if (answer.fault.code == 4 && beginnings < MOST_BEGINNINGS) {
+        begin(stage);
+    } else if (answer.fault.code != 0) {
+        fault = answer.fault;
+        stage = FAILED;
+    } else if (stage == PROVISIONING) {
+        begin(ACTIVATING);
+    } else {
+        stage = UP;
+    }
+}
+
+/* Starts the next transaction, unless it has to wait or there is none. */
+static void go_on(void) {
+    struct dovecounter_operation next;
+    status = dovecounter_next(&procedure, &next);
+    if (status == DOVECOUNTER_ENDED) {
+        end();
+    } else if (status != DOVECOUNTER_DONE) {
+        stage = FAILED;
+    } else if (memcmp(&next, &operation, sizeof next) != 0 || milliseconds() - ended_at >= PAUSE) {
+        operation = next;
+        over = false;
+        under_way = true;
+        i2c_start(&operation, bytes);
+    }
+}
+
+/* Called by the main loop; says how far it has come. */
+enum stage poll(void) {
+    if (stage != PROVISIONING && stage != ACTIVATING) return stage;
+    if (under_way && !over) return stage;
+    if (under_way) {
+        under_way = false;
+        ended_at = milliseconds();
+        status = dovecounter_reply(&procedure, outcome, bytes, outcome == DOVECOUNTER_FETCHED ? operation.count : 0);
+        if (status != DOVECOUNTER_DONE) return stage = FAILED; /* a driver that says stored of a fetch, say */
+    }
+    go_on();
+    return stage;
+}
