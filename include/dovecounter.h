@@ -150,15 +150,16 @@ struct dovecounter_procedure {
     struct dovecounter_fault fault;
 };
 
-/* Begins to make the control bytes of host lanes 1 to 8 active: those of a plan. The data paths of `lanes` are taken down
-   first, and the bytes are applied to them: `outside` of the plan, which is 0xFF, all lanes, where nothing is kept. No other lane is
-   taken down or applied, but its DPDeinit bit is stored as 0: one that is up stays up, and one that the host held down begins to
-   come up. The bytes of other lanes in the Active Control Set have to be those of the plan already. Nobody else may use the module
+/* Begins to put the control bytes of host lanes 1 to 8, those of a plan, into the Active Control Set. The data paths of `lanes` are
+   taken down first, and the bytes are applied to them: `outside` of the plan, which is 0xFF, all lanes, if nothing is kept. After a
+   success these lanes are DPDeactivated until dovecounter_activate. No other lane is taken down or applied, but its DPDeinit bit is
+   stored as 0: one that is up stays up, if the module is ready, no apply is in progress and nothing else takes it down; one that the
+   host held down begins to come up. The bytes of other lanes in the Active Control Set have to be those of the plan already. Nobody else may use the module
    meanwhile: no driver, no other process, no second master of the bus. Writes *procedure. */
 void dovecounter_provision(const uint8_t control[8], uint8_t lanes, struct dovecounter_procedure *procedure);
 
-/* Begins to bring up the data paths of `lanes`, those of a plan whose control bytes are active, and to take down those of all
-   other lanes. Writes *procedure. */
+/* Begins to bring up the data paths of `lanes`, those of a plan whose control bytes are in the Active Control Set, and to take down
+   those of all other lanes. After a success the lanes are DPActivated. Writes *procedure. */
 void dovecounter_activate(const uint8_t control[8], uint8_t lanes, struct dovecounter_procedure *procedure);
 
 enum dovecounter_kind { DOVECOUNTER_FETCH = 0, DOVECOUNTER_STORE = 1 };

@@ -97,9 +97,9 @@ pub fn commands() -> &'static [CommandEntry]
         "monitors" Monitors [BUS] "Print what the module measures";
         "flags" Flags [BUS] "Print the states of the module and its lanes, and the flags that are raised";
         "plan" Plan [KEEP] "Print the plan that weighs most for an image and weights, with its certificate";
-        "check" Check [FIRST] "Judge a certificate for an image and weights, and print its plan where it is good";
-        "provision" Provision [ACTIVATE KEEP] "Make the plan active on a simulated module, over a bus that does as a script says";
-        "trace" Trace [ACTIVATE KEEP] "Make the plan active as 'provision' does, and print each transaction";
+        "check" Check [FIRST] "Judge a certificate for an image and weights, and print its plan if it is good";
+        "provision" Provision [ACTIVATE KEEP] "Put the plan into the Active Control Set of a simulated module, over a bus that does as a script says";
+        "trace" Trace [ACTIVATE KEEP] "Do what 'provision' does, and print each transaction";
     }
 }
 

@@ -16,19 +16,19 @@ macro_rules! end {
     };
     ([weights $($more:ident)*] [$($text:literal)*] $($rest:tt)*) => {
         end!([$($more)*]
-            [$($text)* "then, behind a line '---', weights: '[host]', then lines as '0Dh = 101', by HostInterfaceID"] $($rest)*)
+            [$($text)* "then, after a line '---', weights: '[host]', then lines as '0Dh = 101', by HostInterfaceID"] $($rest)*)
     };
     ([kept $($more:ident)*] [$($text:literal)*] $($rest:tt)*) => {
         end!([$($more)*]
-            [$($text)* "with --keep then, behind a line '---', data paths to keep: lines as 'keep 2 3 2',"
+            [$($text)* "with --keep then, after a line '---', data paths to keep: lines as 'keep 2 3 2',"
                 "  Application 2 from host lane 3 and media lane 2 on"]
             $($rest)*)
     };
     ([certificate $($more:ident)*] [$($text:literal)*] $($rest:tt)*) => {
-        end!([$($more)*] [$($text)* "then, behind a line '---', a certificate, as 'cmisctl plan' prints it"] $($rest)*)
+        end!([$($more)*] [$($text)* "then, after a line '---', a certificate, as 'cmisctl plan' prints it"] $($rest)*)
     };
     ([script $($more:ident)*] [$($text:literal)*] $($rest:tt)*) => {
-        end!([$($more)*] [$($text)* "then, behind a line '---', a script of the bus: lines as 'ok 4' and 'nack 1', or no line"] $($rest)*)
+        end!([$($more)*] [$($text)* "then, after a line '---', a script of the bus: lines as 'ok 4' and 'nack 1', or no line"] $($rest)*)
     };
     ([] [$($text:literal)*] [$($example:literal)*] $($status:literal)?) => {
         concat!(
