@@ -1,5 +1,5 @@
--- How a line names the faults of what a module advertises and of weights: a code, and then its values.
--- (docs/formats.md, "Faults")
+-- How a line names the faults of what a module advertises and of weights: a code, and then its values. (docs/formats.md,
+-- "Faults"; this project's own)
 use Rattle.std.specs.Prelude.{ℕ, List, [], ◌∷◌, codes}
 use Rattle.std.specs.Fmt.{decimal}
 use Rattle.paged_memory.specs.ImageText.{key_words}

@@ -1,4 +1,5 @@
--- The table `host` of a document, whose members list weights by HostInterfaceID. (docs/formats.md, "Weights")
+-- The table `host` of a document, whose members list weights by HostInterfaceID. (docs/formats.md, "Weights"; this project's
+-- own)
 use Rattle.std.specs.Prelude.{ℕ, ◌+◌, ◌*◌, ◌^◌, Bool, false, ◌==◌, ◌&&◌, nat_lt, if◌then◌else◌, List, [], ◌∷◌, codes, find, length, map, pos, Option, Some, None, slice_index, unwrap_or, option_and_then}
 use Rattle.std.specs.Char.{digit_value}
 use Rattle.std.specs.Cmp.Lexicographic.{slice_cmp}

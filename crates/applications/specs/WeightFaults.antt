@@ -1,4 +1,4 @@
--- Why a text lists no weights, and what reading one answers. (docs/formats.md, "Weights")
+-- Why a text lists no weights, and what reading one answers. (docs/formats.md, "Weights"; this project's own)
 use Rattle.std.specs.Prelude.{◌≡◌, ℕ, Bool, true, false, not, List, [], ◌∷◌, ◌++◌, codes, Option, Some, None, is_none, Result, Ok, Err}
 use Rattle.std.specs.List.{list_any}
 use Rattle.std.specs.Option.{option_map_or, option_and_then}

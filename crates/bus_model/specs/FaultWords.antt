@@ -1,4 +1,5 @@
--- How a line names the faults of scripts and of buses: a code, and then its value. (docs/formats.md, "Faults")
+-- How a line names the faults of scripts and of buses: a code, and then its value. (docs/formats.md, "Faults"; this
+-- project's own)
 use Rattle.std.specs.Prelude.{ℕ, List, [], ◌∷◌, codes}
 use Rattle.std.specs.Fmt.{decimal}
 use Rattle.bus_model.specs.declared.bus.BusFault.{BusFault}

@@ -1,4 +1,5 @@
--- What a device keeps, whatever a script does with the operations on the bus. (docs/bus.md, "Scripted bus")
+-- What a device keeps, whatever a script does with the operations on the bus. (docs/bus.md, "Scripted bus"; this project's
+-- own)
 use Rattle.std.specs.Prelude.{ℕ, Bool, take}
 use Rattle.bus_model.specs.declared.operation.Op.{Op}
 use Rattle.bus_model.specs.declared.operation.Op.TheVariants.{Fetch, Store}

@@ -1,4 +1,4 @@
--- Whether two operations on the bus are the same one, as a test. (docs/bus.md, "Transactions")
+-- Whether two operations on the bus are the same one, as a test. (docs/bus.md, "Transactions"; this project's own)
 use Rattle.std.specs.Prelude.{ℕ, ◌==◌, ◌&&◌, Bool, true, false, List, [], ◌∷◌}
 use Rattle.bus_model.specs.declared.device.Dev.{Dev}
 use Rattle.bus_model.specs.declared.device.Dev.TheVariants.{A0, A2}

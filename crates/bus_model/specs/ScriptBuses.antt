@@ -1,4 +1,4 @@
--- What a scripted bus is seen as. (docs/bus.md, "Scripted bus")
+-- What a scripted bus is seen as. (docs/bus.md, "Scripted bus"; this project's own)
 use Rattle.std.specs.Prelude.{ℕ, List}
 use Rattle.bus_model.specs.declared.operation.Step.{Step}
 use Rattle.bus_model.specs.declared.script.Directive.{Directive}

@@ -1,4 +1,4 @@
--- The first fault of lines that are no script's text. (docs/formats.md, "Script")
+-- The first fault of lines that are no script's text. (docs/formats.md, "Script"; this project's own)
 use Rattle.std.specs.Prelude.{◌≡◌, ℕ, ◌+◌, List, ◌∷◌, ◌++◌, length, Result, Ok, Err}
 use Rattle.bus_model.specs.declared.script.Directive.{Directive}
 use Rattle.bus_model.specs.declared.fault.ScriptFault.{ScriptFault}

@@ -1,4 +1,4 @@
--- The text of a script: a line for each directive. (docs/formats.md, "Script")
+-- The text of a script: a line for each directive. (docs/formats.md, "Script"; this project's own)
 use Rattle.std.specs.Prelude.{◌≡◌, ℕ, ◌<◌, ◌≤◌, Bool, true, false, List, [], ◌∷◌, length, map, codes}
 use Rattle.std.specs.List.{AllByRecursion}
 use Rattle.std.specs.Fmt.{decimal}

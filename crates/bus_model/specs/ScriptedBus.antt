@@ -1,4 +1,5 @@
--- A bus that does as a script says: one reply may come. (docs/formats.md, "Script"; docs/bus.md, "Scripted bus")
+-- A bus that does as a script says: one reply may come. (docs/formats.md, "Script"; docs/bus.md, "Scripted bus"; this
+-- project's own)
 use Rattle.std.specs.Prelude.{◌≡◌, ℕ, zero, suc, List, [], ◌∷◌, take, option_map, if◌then◌else◌}
 use Rattle.bus_model.specs.declared.operation.Op.{Op}
 use Rattle.bus_model.specs.declared.operation.Op.TheVariants.{Fetch, Store}

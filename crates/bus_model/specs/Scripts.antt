@@ -1,4 +1,4 @@
--- What a script has next, and what is left of it after a transaction. (docs/bus.md, "Scripted bus")
+-- What a script has next, and what is left of it after a transaction. (docs/bus.md, "Scripted bus"; this project's own)
 use Rattle.std.specs.Prelude.{◌-◌, drop, List, [], ◌∷◌, Option, Some, None, nat_lt, if◌then◌else◌}
 use Rattle.bus_model.specs.declared.script.Directive.{Directive}
 use Rattle.bus_model.specs.declared.script.Directive.TheVariants.{Pass, Nack, Cut, Tick, LowPower}

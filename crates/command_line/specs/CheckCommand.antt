@@ -1,4 +1,5 @@
--- What the command `check` answers to its parts, with the flags that are given. (docs/formats.md, "Input" and "check")
+-- What the command `check` answers to its parts, with the flags that are given. (docs/formats.md, "Input" and "check"; this
+-- project's own)
 use Rattle.std.specs.Prelude.{◌≡◌, ◌↔◌, ℕ, Bool, true, false, IsTrue, List, [], ◌∷◌, ◌++◌, ◌==◌, if◌then◌else◌, length, codes, None, Ok, Err}
 use Rattle.std.specs.Fmt.{decimal}
 use Rattle.text_lines.specs.Lines.{lines_of, text_of}

@@ -1,4 +1,4 @@
--- The command line `cmisctl COMMAND [FLAGS]`, as `clap` reads it (docs/formats.md): one level of
+-- The command line `cmisctl COMMAND [FLAGS]`, as `clap` reads it (docs/formats.md; this project's own): one level of
 -- subcommands, one of them required, each with its own flags.
 use Rattle.std.specs.Prelude.{Bool, true, false, List, [], ◌∷◌, fold, Option, Some}
 use Rattle.std.specs.Prelude.{codes, find, option_map, option_and_then}

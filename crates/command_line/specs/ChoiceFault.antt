@@ -1,4 +1,4 @@
--- Why a command line gives no choice, and what the program then says (docs/formats.md).
+-- Why a command line gives no choice, and what the program then says (docs/formats.md; this project's own).
 use Rattle.std.specs.Prelude.{◌≢◌, ⊤}
 use Rattle.clap.specs.Words.{IsAmong, Kinds, kind_of}
 use Rattle.clap.specs.declared.error.Error.{Error}

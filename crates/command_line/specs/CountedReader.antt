@@ -1,5 +1,5 @@
 -- What a clause reads of a `CountedReader`: the reader within, how often it was read, and whether a read failed.
--- (docs/formats.md, "Input and output")
+-- (docs/formats.md, "Input and output"; this project's own)
 use Rattle.std.specs.Prelude.{◌≡◌, ◌⊎◌, ◌||◌, ℕ, Bool, true, List, Option}
 use Rattle.command_line.specs.RememberingReader.{read_of, last_failed, left_of}
 use Rattle.command_line.specs.declared.input.counted_reader.CountedReader.{CountedReader}

@@ -1,4 +1,5 @@
--- Reads and writes that fail: an interrupted one is made again, and is none of them. (docs/formats.md, "Input and output")
+-- Reads and writes that fail: an interrupted one is made again, and is none of them. (docs/formats.md, "Input and output";
+-- this project's own)
 use Rattle.std.specs.Prelude.{◌≡◌, ◌≢◌, Bool, true, false, Result, Ok, Err}
 use Rattle.std.specs.IoError.{error_kind}
 use Rattle.std.specs.declared.io.Error.{Error}

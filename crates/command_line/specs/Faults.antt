@@ -1,5 +1,5 @@
 -- What stands in place of an answer's text: a line of a word, a code and its values, and how the program then ends.
--- (docs/formats.md, "Faults")
+-- (docs/formats.md, "Faults"; this project's own)
 use Rattle.std.specs.Prelude.{ℕ, List, [], ◌∷◌, ◌++◌, codes}
 use Rattle.std.specs.Fmt.{decimal}
 use Rattle.text_lines.specs.Words.{spaced}

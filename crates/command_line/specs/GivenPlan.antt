@@ -1,4 +1,5 @@
--- The plan that is given for an image, weights and kept paths. (docs/formats.md, "plan"; docs/planning.md)
+-- The plan that is given for an image, weights and kept paths. (docs/formats.md, "plan"; docs/planning.md; this project's
+-- own)
 use Rattle.std.specs.Prelude.{◌≡◌, ◌↔◌, ◌<◌, ℕ, Contains, List, map, Ok}
 use Rattle.std.specs.List.{All, AllPairs}
 use Rattle.applications.specs.Advertised.{Advertised}

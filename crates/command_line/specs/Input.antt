@@ -1,4 +1,5 @@
--- What the program reads: its whole input, or more than the limit of it (docs/formats.md, "Input and output").
+-- What the program reads: its whole input, or more than the limit of it (docs/formats.md, "Input and output"; this project's
+-- own).
 use Rattle.std.specs.Prelude.{◌≡◌, ◌+◌, ◌<◌, ◌≤◌, ℕ, Bool, true, false, List, length, Result, Ok, Err, Option, ⊤, Vec}
 use Rattle.std.specs.declared.alloc.Global.{Global}
 use Rattle.std.specs.Io.KnownBytes.{Consumes}

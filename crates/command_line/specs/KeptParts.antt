@@ -1,5 +1,5 @@
 -- Where the text of kept paths stands among the parts of an input: behind the weights, where the flag `--keep` is given.
--- (docs/formats.md, "Input")
+-- (docs/formats.md, "Input"; this project's own)
 use Rattle.std.specs.Prelude.{ℕ, ◌+◌, Bool, true, false, List, [], ◌∷◌, get_or}
 
 -- how many parts there are, of so many without kept paths

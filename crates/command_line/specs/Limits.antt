@@ -1,4 +1,4 @@
--- How much is read of an input (docs/formats.md, "Input and output").
+-- How much is read of an input (docs/formats.md, "Input and output"; this project's own).
 use Rattle.std.specs.Prelude.{ℕ}
 
 -- the most bytes of an input

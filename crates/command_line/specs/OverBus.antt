@@ -1,5 +1,6 @@
 -- What a report speaks of: the memory of the image that is given, or what is read of its module over a bus that refuses
--- nothing by itself. (docs/formats.md, "Reports over a bus"; docs/bus.md, "Windows" and "Reading an image")
+-- nothing by itself. (docs/formats.md, "Reports over a bus"; docs/bus.md, "Windows" and "Reading an image"; this project's
+-- own)
 use Rattle.std.specs.Prelude.{◌≡◌, ℕ, Bool, true, false, List, [], Result, Ok, Err}
 use Rattle.text_lines.specs.Lines.{lines_of}
 use Rattle.bus_model.specs.Runs.{IsFull, Seen}

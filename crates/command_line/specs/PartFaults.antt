@@ -1,4 +1,4 @@
--- An input that has another number of parts than a command takes. (docs/formats.md, "Input")
+-- An input that has another number of parts than a command takes. (docs/formats.md, "Input"; this project's own)
 use Rattle.std.specs.Prelude.{◌≡◌, ◌≢◌, ℕ, List, length}
 use Rattle.command_line.specs.declared.fault.Fault.{Fault}
 use Rattle.command_line.specs.declared.fault.Fault.TheVariants.{Parts}

@@ -1,4 +1,5 @@
--- The parts of the program's input: what stands between lines that are exactly `---`. (docs/formats.md, "Input")
+-- The parts of the program's input: what stands between lines that are exactly `---`. (docs/formats.md, "Input"; this
+-- project's own)
 use Rattle.std.specs.Prelude.{ℕ, Bool, ◌||◌, List, map, codes}
 use Rattle.std.specs.List.{concat, slice_split}
 use Rattle.std.specs.Str.{bytes_eq}

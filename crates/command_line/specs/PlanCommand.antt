@@ -1,4 +1,4 @@
--- What the command `plan` answers to its parts. (docs/formats.md, "Input" and "plan")
+-- What the command `plan` answers to its parts. (docs/formats.md, "Input" and "plan"; this project's own)
 use Rattle.std.specs.Prelude.{◌≡◌, ℕ, Bool, List, [], ◌∷◌, None, Ok, Err}
 use Rattle.text_lines.specs.Lines.{lines_of, text_of}
 use Rattle.plan_certificate.specs.Certificates.{Claim}

@@ -1,4 +1,5 @@
--- What `check` answers to the text that `plan` wrote, in its place behind the same image and weights. (docs/formats.md, "check")
+-- What `check` answers to the text that `plan` wrote, in its place behind the same image and weights. (docs/formats.md,
+-- "check"; this project's own)
 use Rattle.std.specs.Prelude.{◌≡◌, ◌≢◌, ℕ, ◌≤◌, Bool, true, false, List, [], ◌∷◌, ◌++◌, length, codes, None, Ok, Err}
 use Rattle.text_lines.specs.Lines.{text_of}
 use Rattle.reports.specs.PlanText.{plan_lines}

@@ -1,4 +1,5 @@
--- What commands that plan read: what a module advertises, weights, and the paths that the plan keeps. (docs/formats.md, "Input")
+-- What commands that plan read: what a module advertises, weights, and the paths that the plan keeps. (docs/formats.md,
+-- "Input"; this project's own)
 use Rattle.std.specs.Prelude.{◌≡◌, ◌≢◌, ℕ, List, Some, None, Ok, Err}
 use Rattle.text_lines.specs.Lines.{lines_of}
 use Rattle.paged_memory.specs.Images.{Memory}

@@ -1,5 +1,5 @@
 -- One run of the whole program, from the words of its command line and its input to what it writes and how it ends.
--- (docs/formats.md)
+-- (docs/formats.md; this project's own)
 use Rattle.std.specs.Prelude.{◌≡◌, ◌⊎◌, ◌++◌, ◌∷◌, ℕ, Bool, true, false, List, [], map, codes, string_bytes, Option, Some, Result, Ok, Err, Vec, String}
 use Rattle.std.specs.Result.{result_map_both}
 use Rattle.std.specs.IoError.{error_kind}

@@ -1,6 +1,6 @@
 -- What the commands `provision` and `trace` answer to their parts: the plan that is given is provisioned on a simulated
--- module of the image, but for its kept paths, over a bus that does as the script says, and activated where that is asked for.
--- (docs/formats.md, "Input", "provision" and "trace")
+-- module of the image, but for its kept paths, over a bus that does as the script says, and activated where that is asked
+-- for. (docs/formats.md, "Input", "provision" and "trace"; this project's own)
 use Rattle.std.specs.Prelude.{◌≡◌, ℕ, Bool, true, false, List, [], ◌∷◌, ◌++◌, codes, map, Option, Some, None, Result, Ok, Err, IfOk}
 use Rattle.std.specs.Fmt.{decimal}
 use Rattle.hex.specs.Hex.{encode_lower}

@@ -1,5 +1,5 @@
--- What a clause reads of a `RememberingReader`: the reader within, and whether its last read failed.
--- (docs/formats.md, "Input and output")
+-- What a clause reads of a `RememberingReader`: the reader within, and whether its last read failed. (docs/formats.md,
+-- "Input and output"; this project's own)
 use Rattle.std.specs.Prelude.{ℕ, Bool, List, Option}
 use Rattle.command_line.specs.declared.input.remembering_reader.RememberingReader.{RememberingReader}
 

@@ -1,5 +1,5 @@
--- What a command that reports of an image answers to its part, with the flag `--bus` or without it. (docs/formats.md, "Input",
--- "Reports" and "Reports over a bus")
+-- What a command that reports of an image answers to its part, with the flag `--bus` or without it. (docs/formats.md,
+-- "Input", "Reports" and "Reports over a bus"; this project's own)
 use Rattle.std.specs.Prelude.{◌≡◌, ◌⊎◌, ℕ, Bool, List, [], ◌∷◌, Option, Some, None, Ok, Err}
 use Rattle.text_lines.specs.Lines.{lines_of, text_of}
 use Rattle.paged_memory.specs.Images.{Memory}

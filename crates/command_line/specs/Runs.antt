@@ -1,4 +1,5 @@
--- One run of a command: what it writes and how it ends, by its answer to the input. (docs/formats.md, "Input and output")
+-- One run of a command: what it writes and how it ends, by its answer to the input. (docs/formats.md, "Input and output";
+-- this project's own)
 use Rattle.std.specs.Prelude.{◌≡◌, ◌≢◌, ◌<◌, ◌≤◌, ◌↔◌, ◌||◌, ℕ, Bool, true, false, List, length, ◌++◌, Option, Some, None, IfSome, Result, Ok, Err}
 use Rattle.std.specs.Result.{result_map_both}
 use Rattle.std.specs.Io.KnownBytes.{Appends}

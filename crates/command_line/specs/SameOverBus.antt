@@ -1,4 +1,4 @@
--- That a report with `--bus` is the one without it. (docs/formats.md, "Reports over a bus")
+-- That a report with `--bus` is the one without it. (docs/formats.md, "Reports over a bus"; this project's own)
 use Rattle.std.specs.Prelude.{◌≡◌, ◌≢◌, ℕ, Bool, true, false, List, Err}
 use Rattle.reports.specs.declared.fault.ReportFault.TheVariants.{GaveUp}
 use Rattle.command_line.specs.declared.fault.Fault.TheVariants.{Memory, Io, Report}

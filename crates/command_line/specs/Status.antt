@@ -1,4 +1,4 @@
--- The exit statuses of the program (docs/formats.md).
+-- The exit statuses of the program (docs/formats.md; this project's own).
 use Rattle.std.specs.Prelude.{ℕ}
 use Rattle.command_line.specs.declared.status.Status.{Status}
 use Rattle.command_line.specs.declared.status.Status.TheVariants.{Done, Refused, CommandLine}

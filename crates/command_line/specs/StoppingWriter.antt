@@ -1,5 +1,5 @@
--- What a clause reads of a `StoppingWriter`: the writer within, and whether a write failed.
--- (docs/formats.md, "Input and output")
+-- What a clause reads of a `StoppingWriter`: the writer within, and whether a write failed. (docs/formats.md, "Input and
+-- output"; this project's own)
 use Rattle.std.specs.Prelude.{ℕ, Bool, List, Option}
 use Rattle.command_line.specs.declared.output.stopping_writer.StoppingWriter.{StoppingWriter}
 

@@ -1,4 +1,5 @@
--- What provisioning and activation answer, as the number of their steps or a fault. (docs/bus.md, "Procedures")
+-- What provisioning and activation answer, as the number of their steps or a fault. (docs/bus.md, "Procedures"; this
+-- project's own)
 use Rattle.std.specs.Prelude.{ℕ, Result, Ok, Err}
 use Rattle.control_sets.specs.declared.fault.ProvisionFault.{ProvisionFault}
 use Rattle.control_sets.specs.declared.procedures.runner.Provisioned.{Provisioned}

@@ -1,4 +1,4 @@
--- What a procedure asks for next, by what it keeps. (docs/bus.md, "Procedures")
+-- What a procedure asks for next, by what it keeps. (docs/bus.md, "Procedures"; this project's own)
 use Rattle.std.specs.Prelude.{Option, Some, None, Ok, Err, if◌then◌else◌, nat_lt}
 use Rattle.bus_model.specs.declared.operation.Op.{Op}
 use Rattle.bus_model.specs.declared.operation.Reply.{Reply}

@@ -1,4 +1,5 @@
--- How a line names why a procedure ended without success: a code, and then its values. (docs/formats.md, "Faults")
+-- How a line names why a procedure ended without success: a code, and then its values. (docs/formats.md, "Faults"; this
+-- project's own)
 use Rattle.std.specs.Prelude.{ℕ, List, [], ◌∷◌, codes}
 use Rattle.std.specs.Fmt.{decimal}
 use Rattle.bus_model.specs.FaultWords.{bus_fault_words}

@@ -1,4 +1,5 @@
--- Which lanes host paths take. (docs/planning.md, "Control bytes")
+-- Which lanes host paths take. (docs/planning.md, "Control bytes"; OIF-CMIS-05.0, chapter 8 "Module Management Memory Map",
+-- "Data Path Configuration", DPConfigLane of Staged Control Set 0)
 use Rattle.std.specs.Prelude.{◌≡◌, ℕ, ◌+◌, ◌<◌, ◌≤◌, ◌↔◌, List, IsTrue}
 use Rattle.control_sets.specs.declared.host_path.HostPath.{HostPath}
 use Rattle.control_sets.specs.HostPaths.{IsLane, agree, control_at}

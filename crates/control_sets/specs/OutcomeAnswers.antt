@@ -1,5 +1,5 @@
 -- Which answer some steps have, of a call whose single steps end it in answers: the first that comes, or none within as many
--- steps as it may make, or none before the bus's list is full. (docs/bus.md, "Outcomes")
+-- steps as it may make, or none before the bus's list is full. (docs/bus.md, "Outcomes"; this project's own)
 use Rattle.std.specs.Prelude.{◌≡◌, ◌⊎◌, ◌<◌, ◌≤◌, ℕ, ◌∷◌, length, Result, Err, IfOk}
 use Rattle.std.specs.List.{AllByRecursion}
 use Rattle.bus_model.specs.declared.bus.BusFault.TheVariants.{TraceFull}

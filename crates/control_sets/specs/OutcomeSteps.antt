@@ -1,5 +1,5 @@
 -- Words for the steps that a call makes on a module's bus: what one step did, and what stands before it. (docs/bus.md,
--- "Outcomes")
+-- "Outcomes"; this project's own)
 use Rattle.std.specs.Prelude.{◌≡◌, ◌⊎◌, ℕ, List, [], ◌∷◌}
 use Rattle.bus_model.specs.declared.device.Dev.TheVariants.{A0}
 use Rattle.bus_model.specs.declared.operation.Op.{Op}

@@ -1,4 +1,4 @@
--- What a success of provisioning has read. (docs/bus.md, "Outcomes")
+-- What a success of provisioning has read. (docs/bus.md, "Outcomes"; OIF-CMIS-05.0, the Active Control Set of page 11h)
 use Rattle.std.specs.Prelude.{◌≡◌, ℕ, List, ◌∷◌}
 use Rattle.bus_model.specs.declared.operation.Step.{Step}
 use Rattle.control_sets.specs.Pages.{History}

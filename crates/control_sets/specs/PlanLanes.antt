@@ -1,4 +1,5 @@
--- The host lanes that the paths of a plan take, and those that they leave. (docs/planning.md, "Control bytes")
+-- The host lanes that the paths of a plan take, and those that they leave. (docs/planning.md, "Control bytes"; this
+-- project's own)
 use Rattle.std.specs.Prelude.{ℕ, Bool, not, List}
 use Rattle.std.specs.List.{list_any}
 use Rattle.std.specs.FinSet as set

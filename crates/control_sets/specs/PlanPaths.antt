@@ -1,4 +1,4 @@
--- The host paths of a plan. (docs/planning.md, "Control bytes")
+-- The host paths of a plan. (docs/planning.md, "Control bytes"; this project's own)
 use Rattle.std.specs.Prelude.{◌<◌, List, map, All, AllPairs, Contains}
 use Rattle.applications.specs.Advertised.{Advertised}
 use Rattle.plan_certificate.specs.declared.path.Path.{Path}

@@ -1,5 +1,5 @@
 -- Procedures: tasks in order, each of which is worked at until it is met. What may come next, and how a procedure ends.
--- Steps stand with the newest first. (docs/bus.md, "Procedures")
+-- Steps stand with the newest first. (docs/bus.md, "Procedures"; this project's own)
 use Rattle.std.specs.Prelude.{◌≡◌, ◌≢◌, ℕ, ◌<◌, ◌≤◌, ◌⊎◌, ◌==◌, ◌&&◌, ◌||◌, not, Bool, true, false, List, [], ◌∷◌, length, Option, Some, None, if◌then◌else◌, find, Result, Ok, Err, reverse}
 use Rattle.std.specs.List.{AllByRecursion, list_all}
 use Rattle.std.specs.Option.{option_map}

@@ -1,5 +1,5 @@
 -- How far a procedure has come: what its data says of the steps that it was told, and what it asks for. (docs/bus.md,
--- "Procedures")
+-- "Procedures"; this project's own)
 use Rattle.std.specs.Prelude.{◌≡◌, ℕ, ◌-◌, ◌<◌, ◌≤◌, true, not, List, [], ◌∷◌, ◌++◌, length, take, drop, Option, Some, None, Err, slice_get}
 use Rattle.std.specs.List.{list_all}
 use Rattle.std.specs.Option.{option_map}

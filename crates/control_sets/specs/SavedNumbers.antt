@@ -1,4 +1,5 @@
--- A procedure as plain numbers: which numbers are a procedure's, and of which. (docs/firmware.md, "The procedure's numbers")
+-- A procedure as plain numbers: which numbers are a procedure's, and of which. (docs/firmware.md, "The procedure's numbers";
+-- this project's own)
 use Rattle.std.specs.Prelude.{ℕ, ◌==◌, List, Option, Some, None, if◌then◌else◌}
 use Rattle.std.specs.Option.{option_map}
 use Rattle.field_tables.specs.LaneSets.{lanes_in}

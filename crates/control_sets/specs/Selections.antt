@@ -1,4 +1,4 @@
--- What a procedure asks for by what it keeps of the page selection. (docs/bus.md, "Procedures")
+-- What a procedure asks for by what it keeps of the page selection. (docs/bus.md, "Procedures"; this project's own)
 use Rattle.std.specs.Prelude.{ℕ, Option, Some, None, if◌then◌else◌}
 use Rattle.bus_model.specs.declared.operation.Op.{Op}
 use Rattle.bus_model.specs.declared.operation.Reply.{Reply}

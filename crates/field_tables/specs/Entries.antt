@@ -1,5 +1,5 @@
--- What the bits of a module's memory mean, entry by entry: no bit means two things of one standard, and each entry is
--- within its half. (docs/fields.md, "Laws")
+-- What the bits of a module's memory mean, entry by entry: no bit means two things of one standard, and each entry is within
+-- its half. (docs/fields.md, "Laws"; this project's own)
 use Rattle.std.specs.Prelude.{◌≡◌, ℕ, zero, suc, ◌-◌, ◌≤◌, IsTrue, [], ◌++◌, Contains}
 use Rattle.paged_memory.specs.declared.key.Key.{Key}
 use Rattle.field_tables.specs.declared.field.Field.{Field}

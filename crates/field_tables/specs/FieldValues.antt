@@ -1,4 +1,4 @@
--- The values of a field in a module's memory. (docs/fields.md, "Places and layouts")
+-- The values of a field in a module's memory. (docs/fields.md, "Places and layouts"; this project's own)
 use Rattle.std.specs.Prelude.{ℕ, ℤ, List, Option, map, option_map}
 use Rattle.std.specs.List.{range_with_len}
 use Rattle.std.specs.FinMap as map

@@ -1,4 +1,5 @@
--- The fault of what is refused for several reasons, which are judged in order. (docs/formats.md, "Faults")
+-- The fault of what is refused for several reasons, which are judged in order. (docs/formats.md, "Faults"; this project's
+-- own)
 use Rattle.std.specs.Prelude.{Bool, List, Option, find}
 use Rattle.std.specs.Option.{option_map}
 

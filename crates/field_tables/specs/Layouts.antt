@@ -1,5 +1,6 @@
--- Where values stand among bytes: a place is a list of bits, from the lowest, each a byte and a bit of that byte.
--- The layouts say in which place value i of several is, i counted from 1. (docs/fields.md, "Places and layouts")
+-- Where values stand among bytes: a place is a list of bits, from the lowest, each a byte and a bit of that byte. The
+-- layouts say in which place value i of several is, i counted from 1. (docs/fields.md, "Places and layouts"; this project's
+-- own)
 use Rattle.std.specs.Prelude.{ℕ, zero, suc, ◌+◌, ◌-◌, ◌*◌, ◌/◌, ◌%◌, ◌==◌, if◌then◌else◌, List, [], ◌∷◌, ◌++◌}
 
 abbrev pub Place : Type 0

@@ -1,4 +1,4 @@
--- The number that stands in a place. (docs/fields.md, "Places and layouts")
+-- The number that stands in a place. (docs/fields.md, "Places and layouts"; this project's own)
 use Rattle.std.specs.Prelude.{ℕ, ◌*◌, ◌^◌, ◌==◌, if◌then◌else◌, ℤ, pos, ◌-ℤ◌, sum_by}
 use Rattle.std.specs.Int.{bit_at}
 use Rattle.std.specs.List.{enumerate_from}

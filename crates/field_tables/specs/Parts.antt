@@ -1,4 +1,4 @@
--- The bits of a value from the byte where it begins. (docs/fields.md, "Places and layouts")
+-- The bits of a value from the byte where it begins. (docs/fields.md, "Places and layouts"; this project's own)
 use Rattle.std.specs.Prelude.{ℕ, suc, ◌-◌}
 use Rattle.field_tables.specs.declared.layout.Part.{Part}
 use Rattle.field_tables.specs.declared.layout.Part.TheVariants.{Byte, Word, Range}

@@ -1,5 +1,5 @@
--- What one reads of a module's memory once the pages that are needed are known to be there: the values for absent pages
--- (0, an empty text, a wrong sum) stand for nothing. (docs/fields.md, "Fields", "Texts" and "Sums")
+-- What one reads of a module's memory once the pages that are needed are known to be there: the values for absent pages (0,
+-- an empty text, a wrong sum) stand for nothing. (docs/fields.md, "Fields", "Texts" and "Sums"; this project's own)
 use Rattle.std.specs.Prelude.{ℕ, ℤ, Bool, true, false, ◌&&◌, ◌==◌, ◌≤ℤ◌, ◌<ℤ◌, pos, neg_ℤ, unwrap_or, unsigned_abs, nat_le, List, []}
 use Rattle.paged_memory.specs.Images.{Memory}
 use Rattle.field_tables.specs.declared.field.Field.{Field}

@@ -1,4 +1,5 @@
--- What each row of the table keeps to: its values stand within its half. (docs/fields.md, "Places and layouts")
+-- What each row of the table keeps to: its values stand within its half. (docs/fields.md, "Places and layouts"; this
+-- project's own)
 use Rattle.std.specs.Prelude.{ℕ, suc, ◌+◌, Bool, true, ◌&&◌, nat_lt, nat_le}
 use Rattle.std.specs.List.{list_all, range_with_len}
 use Rattle.paged_memory.specs.declared.key.Half.{Half}

@@ -1,4 +1,4 @@
--- Where the values of a row stand in its half. (docs/fields.md, "Places and layouts")
+-- Where the values of a row stand in its half. (docs/fields.md, "Places and layouts"; this project's own)
 use Rattle.std.specs.Prelude.{ℕ, ◌^◌, ℤ, pos, neg_ℤ, ◌≤ℤ◌, ◌<ℤ◌}
 use Rattle.field_tables.specs.declared.layout.Layout.{Layout}
 use Rattle.field_tables.specs.declared.layout.Layout.TheVariants.{Single, Every, Bits, Down, Nibbles, Quad}

@@ -1,4 +1,4 @@
--- Consecutive bytes of a half, as texts and summed bytes are. (docs/fields.md, "Texts" and "Sums")
+-- Consecutive bytes of a half, as texts and summed bytes are. (docs/fields.md, "Texts" and "Sums"; this project's own)
 use Rattle.std.specs.Prelude.{ℕ, ◌+◌, Bool, ◌&&◌, nat_le, List, slice_range}
 use Rattle.bus_model.specs.declared.device.Dev.{Dev}
 use Rattle.paged_memory.specs.declared.key.Half.{Half}

@@ -1,4 +1,4 @@
--- What a module advertises, as C sees it. (docs/firmware.md, "Applications")
+-- What a module advertises, as C sees it. (docs/firmware.md, "Applications"; this project's own)
 use Rattle.std.specs.Prelude.{ℕ, List, Option, Some, None, length, map, slice_get}
 use Rattle.std.specs.List.{range_with_len}
 use Rattle.field_tables.specs.LaneSets.{byte_of}

@@ -1,4 +1,5 @@
--- What a certificate's text is worth, as C is told. (docs/firmware.md, "Certificates"; docs/planning.md, "The checker")
+-- What a certificate's text is worth, as C is told. (docs/firmware.md, "Certificates"; docs/planning.md, "The checker"; this
+-- project's own)
 use Rattle.std.specs.Prelude.{◌≡◌, ℕ, List, MatchOption, Result, Ok, Err}
 use Rattle.text_lines.specs.Lines.{lines_of}
 use Rattle.applications.specs.Advertised.{Advertised, advertised_by}

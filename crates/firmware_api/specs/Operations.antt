@@ -1,4 +1,5 @@
--- Operations and their replies, as C sees them. (docs/firmware.md, "Operations"; docs/bus.md, "Transactions")
+-- Operations and their replies, as C sees them. (docs/firmware.md, "Operations"; docs/bus.md, "Transactions"; this project's
+-- own)
 use Rattle.std.specs.Prelude.{ℕ, ◌-◌, ◌==◌, nat_le, List, ◌++◌, length, replicate, Option, Some, None, if◌then◌else◌}
 use Rattle.bus_model.specs.declared.device.Dev.{Dev}
 use Rattle.bus_model.specs.declared.device.Dev.TheVariants.{A0, A2}

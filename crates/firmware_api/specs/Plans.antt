@@ -1,4 +1,4 @@
--- A plan as C sees it, and why kept paths are refused. (docs/firmware.md, "Plans")
+-- A plan as C sees it, and why kept paths are refused. (docs/firmware.md, "Plans"; this project's own)
 use Rattle.std.specs.Prelude.{◌≡◌, ◌-◌, ◌<◌, nat_lt, List, ◌++◌, length, replicate, AllPairs, Option, Some, None, if◌then◌else◌}
 use Rattle.std.specs.Option.{option_map}
 use Rattle.field_tables.specs.LaneSets.{byte_of}

@@ -1,4 +1,5 @@
--- Procedures whose numbers C keeps: what they ask for, and what becomes of them. (docs/firmware.md, "Procedures")
+-- Procedures whose numbers C keeps: what they ask for, and what becomes of them. (docs/firmware.md, "Procedures"; this
+-- project's own)
 use Rattle.std.specs.Prelude.{◌≡◌, ℕ, List, Option, Some, None, Result, Ok, Err}
 use Rattle.std.specs.Option.{option_map}
 use Rattle.bus_model.specs.declared.operation.Reply.{Reply}

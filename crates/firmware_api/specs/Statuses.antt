@@ -1,5 +1,5 @@
 -- The numbers by which C knows refusals. In those of faults the last digit is the number in the fault's code.
--- (docs/firmware.md, "Statuses")
+-- (docs/firmware.md, "Statuses"; this project's own)
 use Rattle.std.specs.Prelude.{ℕ, Option, Some, None, Result, Ok, Err}
 use Rattle.applications.specs.declared.fault.AdvertFault.{AdvertFault}
 use Rattle.applications.specs.declared.fault.AdvertFault.TheVariants.{NotCmis, Revision, NotEightLanes, FlatMemory, Absent, BadSum}

@@ -1,4 +1,4 @@
--- What the certificate of the plan that is given holds. (docs/planning.md, "The planner")
+-- What the certificate of the plan that is given holds. (docs/planning.md, "The planner"; this project's own)
 use Rattle.std.specs.Prelude.{◌≡◌, ◌↔◌, ◌<◌, ◌++◌, ℕ, Bool, List, Contains, map}
 use Rattle.std.specs.List.{All, AllByRecursion, AllPairs}
 use Rattle.text_lines.specs.Lines.{lines_of, text_of}

@@ -1,5 +1,5 @@
 -- The first best plan: of the best plans without needless paths the one that comes before all others. (docs/planning.md,
--- "The first best plan")
+-- "The first best plan"; this project's own)
 use Rattle.std.specs.Prelude.{◌≡◌, ◌<◌, ◌⊎◌, ◌↔◌, List, All, Contains}
 use Rattle.applications.specs.Advertised.{Advertised}
 use Rattle.applications.specs.Weights.{HostWeights}

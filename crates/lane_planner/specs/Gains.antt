@@ -1,4 +1,5 @@
--- What can still be gained from a state, by steps that follow one another. (docs/planning.md, "States and steps")
+-- What can still be gained from a state, by steps that follow one another. (docs/planning.md, "States and steps"; this
+-- project's own)
 use Rattle.std.specs.Prelude.{◌≡◌, ℕ, ◌≤◌, List, [], ◌∷◌, Contains, sum_by}
 use Rattle.applications.specs.Advertised.{Advertised}
 use Rattle.applications.specs.Weights.{HostWeights}

@@ -1,4 +1,5 @@
--- Marks on states, by their places: those that steps from the start reach. (docs/planning.md, "The planner")
+-- Marks on states, by their places: those that steps from the start reach. (docs/planning.md, "The planner"; this project's
+-- own)
 use Rattle.std.specs.Prelude.{◌≡◌, ◌↔◌, ℕ, ◌<◌, ◌⊎◌, Bool, true, false, List, length, Contains, slice_index_or}
 use Rattle.applications.specs.Advertised.{Advertised}
 use Rattle.applications.specs.Weights.{HostWeights}

@@ -1,5 +1,5 @@
--- The planner's table of gains, by the places of states, and the plan that it reads off. (docs/planning.md, "The
--- planner")
+-- The planner's table of gains, by the places of states, and the plan that it reads off. (docs/planning.md, "The planner";
+-- this project's own)
 use Rattle.std.specs.Prelude.{◌≡◌, ℕ, Bool, ◌+◌, ◌-◌, ◌*◌, ◌/◌, ◌%◌, ◌<◌, ◌≤◌, ◌==◌, ◌&&◌, ◌||◌, ◌⊎◌, nat_lt, List, [], ◌∷◌, Option, All, AllPairs, Contains, find, length, slice_index}
 use Rattle.applications.specs.Advertised.{Advertised}
 use Rattle.applications.specs.Weights.{HostWeights}

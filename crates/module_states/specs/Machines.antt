@@ -1,4 +1,4 @@
--- Machines that move in turns, whatever their states and inputs are. (docs/states.md)
+-- Machines that move in turns, whatever their states and inputs are. (docs/states.md; this project's own)
 use Rattle.std.specs.Prelude.{◌≡◌, ℕ, ◌≤◌, Bool, IsTrue, List, [], ◌∷◌, length, fold, All}
 
 -- the state after a turn, the states that last until their step is done, and the inputs that say that it is done

@@ -1,4 +1,4 @@
--- How a line names a fault of an image: a code, and then its values. (docs/formats.md, "Faults")
+-- How a line names a fault of an image: a code, and then its values. (docs/formats.md, "Faults"; this project's own)
 use Rattle.std.specs.Prelude.{ℕ, List, [], ◌∷◌, codes}
 use Rattle.std.specs.Fmt.{decimal}
 use Rattle.paged_memory.specs.declared.fault.ImageFault.{ImageFault}

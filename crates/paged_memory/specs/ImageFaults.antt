@@ -1,4 +1,4 @@
--- The first fault of lines that are no image's text. (docs/formats.md, "Image")
+-- The first fault of lines that are no image's text. (docs/formats.md, "Image"; this project's own)
 use Rattle.std.specs.Prelude.{◌≡◌, ◌≢◌, ◌⊎◌, ℕ, ◌+◌, List, [], ◌∷◌, ◌++◌, Result, Ok, Err}
 use Rattle.std.specs.List.{All}
 use Rattle.std.specs.FinMap as finmap

@@ -1,4 +1,5 @@
--- The text of an image: a header, a line for each page by rising keys, and `end`. (docs/formats.md, "Image")
+-- The text of an image: a header, a line for each page by rising keys, and `end`. (docs/formats.md, "Image"; this project's
+-- own)
 use Rattle.std.specs.Prelude.{◌≡◌, ℕ, ◌<◌, ◌≤◌, List, [], ◌∷◌, ◌++◌, length, map, codes, IsTrue}
 use Rattle.std.specs.List.{AllByRecursion}
 use Rattle.std.specs.FinMap as finmap

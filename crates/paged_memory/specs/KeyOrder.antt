@@ -1,5 +1,5 @@
--- The order of keys: by device, the lower half before the upper, then by bank and page.
--- It is the order of the page lines in an image's text. (docs/formats.md, "Image")
+-- The order of keys: by device, the lower half before the upper, then by bank and page. It is the order of the page lines in
+-- an image's text. (docs/formats.md, "Image"; this project's own)
 use Rattle.std.specs.Prelude.{ℕ}
 use Rattle.std.specs.Ordering.{nat_cmp, ordering_then}
 use Rattle.std.specs.declared.cmp.Ordering.{Ordering}

@@ -1,4 +1,5 @@
--- What a host keeps of the page selection, and what it asks for by that. (docs/bus.md, "Confirmed pages")
+-- What a host keeps of the page selection, and what it asks for by that. (docs/bus.md, "Confirmed pages"; this project's
+-- own)
 use Rattle.std.specs.Prelude.{◌≡◌, ℕ, ◌==◌, Bool, true, false, List, [], ◌∷◌, Option, Some, None, if◌then◌else◌}
 use Rattle.bus_model.specs.declared.operation.Op.{Op}
 use Rattle.bus_model.specs.declared.operation.Reply.{Reply}

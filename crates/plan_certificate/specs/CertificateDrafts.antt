@@ -1,4 +1,4 @@
--- What has been read of a certificate's text: its lines so far. (docs/formats.md, "Certificate")
+-- What has been read of a certificate's text: its lines so far. (docs/formats.md, "Certificate"; this project's own)
 use Rattle.std.specs.Prelude.{◌≡◌, ◌≢◌, ◌⊎◌, ℕ, List, [], ◌∷◌, ◌++◌, map}
 use Rattle.plan_certificate.specs.declared.line.Line.{Line}
 use Rattle.plan_certificate.specs.declared.line.Line.TheVariants.{Header, KeptHeader, Weight, KeepLine, PathLine, StateLine, End}

@@ -1,4 +1,4 @@
--- The first fault of lines that are no certificate's text. (docs/formats.md, "Certificate")
+-- The first fault of lines that are no certificate's text. (docs/formats.md, "Certificate"; this project's own)
 use Rattle.std.specs.Prelude.{◌≡◌, ℕ, List, [], ◌∷◌, ◌++◌, length, Result, Ok, Err}
 use Rattle.plan_certificate.specs.declared.fault.CertificateFault.{CertificateFault}
 use Rattle.plan_certificate.specs.declared.fault.CertificateFault.TheVariants.{BadLine, OutOfOrder, TooMany, NoEnd}

@@ -1,6 +1,6 @@
 -- The text of a certificate: a header, the weight, the kept paths and the paths in their order, the entries by rising
--- states, and `end`. The header says version 2 where paths are kept, else version 1.
--- (docs/formats.md, "Certificate")
+-- states, and `end`. The header says version 2 where paths are kept, else version 1. (docs/formats.md, "Certificate"; this
+-- project's own)
 use Rattle.std.specs.Prelude.{◌≡◌, ℕ, ◌<◌, ◌≤◌, ◌^◌, List, [], ◌∷◌, ◌++◌, length, map, codes}
 use Rattle.std.specs.List.{AllByRecursion}
 use Rattle.std.specs.Fmt.{decimal}

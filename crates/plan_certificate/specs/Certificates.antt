@@ -1,5 +1,5 @@
--- Certificates: a plan, what it keeps, and a bound, for each state, on what can still be gained from it.
--- (docs/planning.md, "Certificates")
+-- Certificates: a plan, what it keeps, and a bound, for each state, on what can still be gained from it. (docs/planning.md,
+-- "Certificates"; this project's own)
 use Rattle.std.specs.Prelude.{◌≡◌, ℕ, ◌+◌, ◌*◌, ◌<◌, ◌≤◌, List, All, AllPairs, Contains}
 use Rattle.field_tables.specs.LaneSets.{lanes_in}
 use Rattle.applications.specs.Advertised.{Advertised}

@@ -1,6 +1,5 @@
 -- How a line names the fault of a certificate's text or of a list of kept paths, and the reason why a certificate is bad: a
--- code, and then its values.
--- (docs/formats.md, "Faults")
+-- code, and then its values. (docs/formats.md, "Faults"; this project's own)
 use Rattle.std.specs.Prelude.{ℕ, List, [], ◌∷◌, codes}
 use Rattle.std.specs.Fmt.{decimal}
 use Rattle.plan_certificate.specs.declared.fault.CertificateFault.{CertificateFault}

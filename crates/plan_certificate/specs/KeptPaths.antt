@@ -1,4 +1,4 @@
--- What a plan may hold beside the paths that it keeps. (docs/planning.md, "Kept paths")
+-- What a plan may hold beside the paths that it keeps. (docs/planning.md, "Kept paths"; this project's own)
 use Rattle.std.specs.Prelude.{ℕ, ◌==◌, ◌&&◌, ◌||◌, Bool, not, List}
 use Rattle.std.specs.List.{list_all, list_any}
 use Rattle.std.specs.FinSet as set

@@ -1,4 +1,5 @@
--- The text of kept paths, a line for each, and the first fault of lines that are none. (docs/formats.md, "Kept paths")
+-- The text of kept paths, a line for each, and the first fault of lines that are none. (docs/formats.md, "Kept paths"; this
+-- project's own)
 use Rattle.std.specs.Prelude.{◌≡◌, ◌≢◌, ℕ, ◌+◌, ◌≤◌, List, ◌∷◌, ◌++◌, length, map, Result, Ok, Err}
 use Rattle.std.specs.List.{AllByRecursion}
 use Rattle.plan_certificate.specs.declared.path.Path.{Path}

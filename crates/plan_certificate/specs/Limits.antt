@@ -1,4 +1,4 @@
--- How much there is of a plan on eight host lanes and eight media lanes. (docs/planning.md)
+-- How much there is of a plan on eight host lanes and eight media lanes. (docs/planning.md; this project's own)
 use Rattle.std.specs.Prelude.{ℕ}
 
 -- the most paths of a plan: each takes a host lane

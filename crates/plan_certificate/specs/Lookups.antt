@@ -1,5 +1,5 @@
 -- How entries whose states rise are numbered by the places of their states, to be looked up. (docs/planning.md, "The
--- checker")
+-- checker"; this project's own)
 use Rattle.std.specs.Prelude.{◌≡◌, ℕ, ◌+◌, ◌-◌, ◌<◌, ◌≤◌, List, length, slice_index, slice_index_or}
 use Rattle.plan_certificate.specs.declared.certificate.Entry.{Entry}
 use Rattle.plan_certificate.specs.Certificates.{HasStates, entry_place}

@@ -1,5 +1,5 @@
 -- The paths that may begin at a host lane, listed once for all states, and the steps that they give from a state.
--- (docs/planning.md, "States and steps")
+-- (docs/planning.md, "States and steps"; this project's own)
 use Rattle.std.specs.Prelude.{◌≡◌, ℕ, ◌+◌, ◌≤◌, Bool, List, ◌++◌, All, Contains, length, map, filter}
 use Rattle.std.specs.FinSet as set
 use Rattle.field_tables.specs.LaneSets.{is_disjoint}

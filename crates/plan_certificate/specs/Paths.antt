@@ -1,5 +1,6 @@
 -- Data paths: which are allowed on a module, the lanes that they take, and what they weigh. (docs/planning.md, "Data
--- paths"; OIF-CMIS-05.0, chapter 6 "Core Management Features", "Data Paths", and chapter 8, "Applications Advertising")
+-- paths"; OIF-CMIS-05.0, chapter 6 "Core Management Features", "Data Paths", and chapter 8, "Applications Advertising". That
+-- each first host lane may go with each first media lane, and what a path weighs, is this project's own)
 use Rattle.std.specs.Prelude.{◌≡◌, ℕ, ◌+◌, ◌<◌, ◌⊎◌, ◌==◌, ◌&&◌, Bool, nat_le, find}
 use Rattle.std.specs.Option.{unwrap_or}
 use Rattle.std.specs.FinSet as set

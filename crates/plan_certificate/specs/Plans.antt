@@ -1,5 +1,6 @@
 -- Plans: lists of data paths that share no lane, what they keep and weigh, and which are best. (docs/planning.md, "Plans"
--- and "Kept paths")
+-- and "Kept paths"; that data paths share no lane: OIF-CMIS-05.0, chapter 6 "Core Management Features", "Data Paths"; what
+-- plans keep and weigh is this project's own)
 use Rattle.std.specs.Prelude.{◌≡◌, ℕ, ◌≤◌, Bool, true, ◌&&◌, List, All, AllPairs, Contains, sum_by}
 use Rattle.std.specs.List.{AllByRecursion}
 use Rattle.field_tables.specs.LaneSets.{is_disjoint}

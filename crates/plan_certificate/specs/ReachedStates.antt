@@ -1,4 +1,4 @@
--- The states that steps from the start reach. (docs/planning.md, "States and steps")
+-- The states that steps from the start reach. (docs/planning.md, "States and steps"; this project's own)
 use Rattle.std.specs.Prelude.{◌≡◌, List, [], ◌∷◌, Contains}
 use Rattle.applications.specs.Advertised.{Advertised}
 use Rattle.applications.specs.Weights.{HostWeights}

@@ -1,5 +1,5 @@
--- How a plan grows, one host lane after another: states, and the steps from a state. (docs/planning.md, "States and
--- steps")
+-- How a plan grows, one host lane after another: states, and the steps from a state. (docs/planning.md, "States and steps";
+-- this project's own)
 use Rattle.std.specs.Prelude.{ℕ, ◌+◌, ◌*◌, ◌/◌, ◌%◌, ◌&&◌, Bool, nat_lt, if◌then◌else◌, List, [], ◌∷◌, ◌++◌, map, filter, flat_map}
 use Rattle.std.specs.List.{range_with_len}
 use Rattle.std.specs.FinSet as set

@@ -1,4 +1,5 @@
--- How a certificate is judged: its flaws in order, of which the first counts. (docs/planning.md, "The checker")
+-- How a certificate is judged: its flaws in order, of which the first counts. (docs/planning.md, "The checker"; this
+-- project's own)
 use Rattle.std.specs.Prelude.{ℕ, ◌+◌, ◌-◌, ◌==◌, Bool, not, nat_lt, List, [], ◌∷◌, ◌++◌, Option, Some, None, map, take, find, flat_map}
 use Rattle.std.specs.List.{enumerate_from}
 use Rattle.std.specs.Option.{option_map, unwrap_or, is_none}

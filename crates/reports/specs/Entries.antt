@@ -1,4 +1,5 @@
--- What a report says: names, each with a value. Its text and its JSON both follow from this. (docs/formats.md, "Reports")
+-- What a report says: names, each with a value. Its text and its JSON both follow from this. (docs/formats.md, "Reports";
+-- this project's own)
 use Rattle.std.specs.Prelude.{ℕ, Bool, ℤ, List, map, Vec}
 use Rattle.std.specs.declared.alloc.Global.{Global}
 use Rattle.field_tables.specs.declared.readings.Levels.{Levels}

@@ -1,4 +1,4 @@
--- The text of a report. (docs/formats.md, "Reports" and "Values in reports")
+-- The text of a report. (docs/formats.md, "Reports" and "Values in reports"; this project's own)
 use Rattle.std.specs.Prelude.{ℕ, ℤ, List, [], ◌∷◌, map}
 use Rattle.std.specs.Fmt.{decimal}
 use Rattle.std.specs.List.{enumerate_from, flat_map}

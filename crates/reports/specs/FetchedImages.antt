@@ -1,5 +1,5 @@
 -- What the reading of a module's memory over a bus is, over the whole list of its steps, the newest first. (docs/bus.md,
--- "Reading an image")
+-- "Reading an image"; this project's own)
 use Rattle.std.specs.Prelude.{◌≡◌, ◌⊎◌, ◌<◌, ◌≤◌, ℕ, IsTrue, MatchOption, List, [], ◌∷◌, length, Result, Ok, Err}
 use Rattle.std.specs.FinMap as map
 use Rattle.std.specs.List.{AllByRecursion}

@@ -1,4 +1,5 @@
--- The flags that the rows of a report tell of a module's memory, and whether they are raised. (docs/formats.md, "flags")
+-- The flags that the rows of a report tell of a module's memory, and whether they are raised. (docs/formats.md, "flags";
+-- this project's own)
 use Rattle.std.specs.Prelude.{ℕ, ◌+◌, ◌&&◌, if◌then◌else◌, Bool, true, false, nat_le, List, [], ◌∷◌, Some, None}
 use Rattle.std.specs.List.{flat_map}
 use Rattle.paged_memory.specs.Images.{Memory}

@@ -1,4 +1,5 @@
--- How far the reading of a module has come: what it asks for, and what a reply makes of it. (docs/bus.md, "Reading an image")
+-- How far the reading of a module has come: what it asks for, and what a reply makes of it. (docs/bus.md, "Reading an
+-- image"; this project's own)
 use Rattle.std.specs.Prelude.{ℕ, ◌+◌, ◌&&◌, nat_lt, Bool, true, false, List, Option, Some, None, is_some, slice_get, if◌then◌else◌}
 use Rattle.std.specs.FinMap as map
 use Rattle.bus_model.specs.declared.operation.Op.{Op}

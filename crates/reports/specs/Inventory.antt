@@ -1,4 +1,4 @@
--- What a module is, by its family. (docs/formats.md, "inventory")
+-- What a module is, by its family. (docs/formats.md, "inventory"; this project's own)
 use Rattle.std.specs.Prelude.{ℕ, List, Option}
 use Rattle.std.specs.Option.{option_or}
 use Rattle.paged_memory.specs.Images.{Memory}

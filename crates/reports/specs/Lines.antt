@@ -1,4 +1,4 @@
--- Report lines: a name, a space and a value. (docs/formats.md, "Reports")
+-- Report lines: a name, a space and a value. (docs/formats.md, "Reports"; this project's own)
 use Rattle.std.specs.Prelude.{◌≡◌, ℕ, List, ◌∷◌, ◌++◌, MatchOption, Option, Result, Ok, Err, Vec}
 use Rattle.std.specs.Result.{result_map_both}
 use Rattle.std.specs.declared.alloc.Global.{Global}

@@ -1,4 +1,4 @@
--- What a module measures, by its family. (docs/formats.md, "monitors")
+-- What a module measures, by its family. (docs/formats.md, "monitors"; this project's own)
 use Rattle.std.specs.Prelude.{ℕ, List, Option}
 use Rattle.std.specs.Option.{option_or}
 use Rattle.paged_memory.specs.Images.{Memory}

@@ -1,4 +1,4 @@
--- What the rows of a report say of a module's memory. (docs/formats.md, "Reports")
+-- What the rows of a report say of a module's memory. (docs/formats.md, "Reports"; this project's own)
 use Rattle.std.specs.Prelude.{ℕ, ◌+◌, ◌*◌, ◌^◌, ◌==◌, ◌&&◌, if◌then◌else◌, Bool, true, false, nat_le, ℤ, pos, ◌*ℤ◌, unwrap_or, is_some, List, [], ◌∷◌, Option, Some, None, codes}
 use Rattle.std.specs.List.{find, flat_map, list_all}
 use Rattle.paged_memory.specs.Images.{Memory}

@@ -1,5 +1,5 @@
 -- When two memories have the same reports, and that what is read of an image over a scripted bus has the image's.
--- (docs/bus.md, "Reading an image"; docs/formats.md, "inventory", "apps", "monitors" and "flags")
+-- (docs/bus.md, "Reading an image"; docs/formats.md, "inventory", "apps", "monitors" and "flags"; this project's own)
 use Rattle.std.specs.Prelude.{◌≡◌, ℕ, List, Option, None, Ok, reverse}
 use Rattle.bus_model.specs.declared.script.Directive.{Directive}
 use Rattle.bus_model.specs.Runs.{IsFull, Ran, Seen}

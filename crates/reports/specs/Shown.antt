@@ -1,4 +1,4 @@
--- How values are shown in reports. (docs/formats.md, "Values in reports")
+-- How values are shown in reports. (docs/formats.md, "Values in reports"; this project's own)
 use Rattle.std.specs.Prelude.{ℕ, ◌-◌, ◌/◌, ◌%◌, ◌==◌, ◌||◌, ◌&&◌, Bool, nat_le, if◌then◌else◌, length, take, map, ℤ, pos, negsuc, unsigned_abs, List, [], ◌∷◌, ◌++◌, codes, slice_index}
 use Rattle.std.specs.List.{flat_map, suffix_len}
 use Rattle.std.specs.Fmt.{decimal}

@@ -1,4 +1,5 @@
--- The states and statuses that stand in a module's memory, by their codes. (docs/formats.md, "flags"; docs/states.md)
+-- The states and statuses that stand in a module's memory, by their codes. (docs/formats.md, "flags"; docs/states.md;
+-- OIF-CMIS-05.0, Module State of the lower memory; Data Path States and Configuration Command Status of page 11h)
 use Rattle.std.specs.Prelude.{ℕ, List, ◌∷◌, ◌++◌, codes}
 use Rattle.std.specs.Fmt.{decimal}
 use Rattle.std.specs.Option.{option_map_or}

@@ -1,4 +1,5 @@
--- The text of steps on a bus: a line each, numbered from 1, with the operation and its reply. (docs/formats.md, "Trace")
+-- The text of steps on a bus: a line each, numbered from 1, with the operation and its reply. (docs/formats.md, "Trace";
+-- this project's own)
 use Rattle.std.specs.Prelude.{ℕ, List, ◌∷◌, ◌++◌, codes, map}
 use Rattle.std.specs.Fmt.{decimal}
 use Rattle.std.specs.List.{enumerate_from}

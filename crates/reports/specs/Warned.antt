@@ -1,4 +1,4 @@
--- What a module warns of, by its family. (docs/formats.md, "flags")
+-- What a module warns of, by its family. (docs/formats.md, "flags"; this project's own)
 use Rattle.std.specs.Prelude.{ℕ, List, Option}
 use Rattle.std.specs.Option.{option_or}
 use Rattle.paged_memory.specs.Images.{Memory}

@@ -1,4 +1,5 @@
--- What a module's lanes hold after a success of provisioning, and after activation. (docs/module.md, "After provisioning")
+-- What a module's lanes hold after a success of provisioning, and after activation. (docs/module.md, "After provisioning";
+-- this project's own)
 use Rattle.std.specs.Prelude.{◌≡◌, ℕ, List, None, Ok, length, reverse}
 use Rattle.bus_model.specs.declared.script.Directive.{Directive}
 use Rattle.bus_model.specs.Runs.{IsFull, Ran, Seen}

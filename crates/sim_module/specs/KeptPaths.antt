@@ -1,4 +1,4 @@
--- What a module's lanes keep while others are provisioned. (docs/module.md, "Kept paths")
+-- What a module's lanes keep while others are provisioned. (docs/module.md, "Kept paths"; this project's own)
 use Rattle.std.specs.Prelude.{◌≡◌, ℕ, Bool, true, false, List, [], ◌∷◌, None, All, Contains, reverse}
 use Rattle.std.specs.List.{AllByRecursion}
 use Rattle.bus_model.specs.declared.script.Directive.{Directive}

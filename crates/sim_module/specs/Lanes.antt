@@ -1,4 +1,4 @@
--- The lanes of a module, by number. (docs/module.md, "The record")
+-- The lanes of a module, by number. (docs/module.md, "The record"; this project's own)
 use Rattle.std.specs.Prelude.{ℕ, ◌-◌, ◌==◌, Bool, List, None, get_or, map}
 use Rattle.std.specs.List.{range_with_len}
 use Rattle.datapath_states.specs.declared.state.PathState.{PathState}

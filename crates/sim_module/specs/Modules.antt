@@ -1,4 +1,4 @@
--- How a simulated module answers and changes: its four events. (docs/module.md)
+-- How a simulated module answers and changes: its four events. (docs/module.md; this project's own)
 use Rattle.bus_model.specs.Conduct.{Conduct}
 use Rattle.sim_module.specs.declared.module.SimModule.{SimModule}
 use Rattle.sim_module.specs.ShownBytes.{fetched}

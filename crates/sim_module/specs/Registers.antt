@@ -1,4 +1,5 @@
--- Where the registers stand that a module serves itself, by the rows of the memory map. (docs/fields.md, "Fields")
+-- Where the registers stand that a module serves itself, by the rows of the memory map. (docs/fields.md, "Fields";
+-- OIF-CMIS-05.0, chapter 8 "Module Management Memory Map"; which registers are served is this project's own)
 use Rattle.std.specs.Prelude.{ℕ, ◌+◌, ◌==◌, ◌&&◌, Bool, nat_le, nat_lt}
 use Rattle.std.specs.Int.{bit_at}
 use Rattle.field_tables.specs.FieldRows.{row_of}

@@ -1,4 +1,5 @@
--- What holds of a module at all times, and of its lanes while they move. (docs/module.md, "What always holds")
+-- What holds of a module at all times, and of its lanes while they move. (docs/module.md, "What always holds"; this
+-- project's own)
 use Rattle.std.specs.Prelude.{◌≡◌, ℕ, List, true, false, None, is_some, IsTrue, length}
 use Rattle.bus_model.specs.declared.operation.Op.{Op}
 use Rattle.bus_model.specs.declared.operation.Step.{Step}

@@ -1,4 +1,4 @@
--- A module at the start, and why there is none. (docs/module.md, "The start")
+-- A module at the start, and why there is none. (docs/module.md, "The start"; this project's own)
 use Rattle.std.specs.Prelude.{ℕ, ◌+◌, ◌-◌, ◌&&◌, Bool, false, not, Option, None, List, [], ◌∷◌, if◌then◌else◌, find, map, nat_le, option_map, unwrap_or}
 use Rattle.std.specs.List.{list_all, range_with_len}
 use Rattle.std.specs.Option.{option_or}

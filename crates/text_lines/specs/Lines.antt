@@ -1,5 +1,5 @@
 -- The lines of a text: an LF ends a line, the last line may have none, and an empty text has no line. Nothing else ends a
--- line, not even a CR. (docs/formats.md, "Lines")
+-- line, not even a CR. (docs/formats.md, "Lines"; this project's own)
 use Rattle.std.specs.Prelude.{ℕ, Bool, ◌==◌, List, [], ◌∷◌, ◌++◌, map, not, if◌then◌else◌}
 use Rattle.std.specs.List.{onto_first, before_first, flat_map, AllPass}
 
