@@ -1,4 +1,4 @@
--- What a module advertises as data that a proof can tell apart: member by member. (This project's own.) (This project's own)
+-- What a module advertises as data that a proof can tell apart: member by member. (This project's own.)
 use Rattle.std.specs.Prelude.{ℕ, List, refl}
 use Rattle.std.specs.Coded.{Coded, code_by, coded×, coded_list, coded_ℕ}
 use Rattle.std.specs.FinSet as set

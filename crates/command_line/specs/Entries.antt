@@ -1,4 +1,4 @@
--- The table of `src/choice/commands.rt` as the definitions see it. (This project's own.) (This project's own)
+-- The table of `src/choice/commands.rt` as the definitions see it. (This project's own.)
 use Rattle.std.specs.Prelude.{map}
 use Rattle.command_line.specs.declared.choice.commands.CommandEntry.{CommandEntry}
 use Rattle.command_line.specs.Choice.{Entry}

@@ -1,4 +1,4 @@
--- What the iterator over the parts of an input has left. (This project's own.) (This project's own)
+-- What the iterator over the parts of an input has left. (This project's own.)
 use Rattle.std.specs.Prelude.{ℕ, List, []}
 use Rattle.std.specs.Option.{option_map_or}
 use Rattle.command_line.specs.Parts.{parts_of}

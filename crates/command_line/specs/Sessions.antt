@@ -1,4 +1,4 @@
--- What a session holds, by the texts that it was set up from. (This project's own.) (This project's own)
+-- What a session holds, by the texts that it was set up from. (This project's own.)
 use Rattle.std.specs.Prelude.{◌≡◌, ℕ, List}
 use Rattle.bus_model.specs.ScriptBuses.{seen_at}
 use Rattle.command_line.specs.ProvisionCommand.{IsSetUp, bus_at_start}

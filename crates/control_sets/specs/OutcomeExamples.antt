@@ -1,5 +1,4 @@
--- Lists of steps, the newest first, to see what the outcome of provisioning admits and what it refuses. (This project's
--- own.) (This project's own)
+-- Lists of steps, the newest first, to see what the outcome of provisioning admits and what it refuses. (This project's own.)
 use Rattle.std.specs.Prelude.{ℕ, zero, suc, List, [], ◌∷◌}
 use Rattle.bus_model.specs.declared.operation.Op.{Op}
 use Rattle.bus_model.specs.declared.operation.Reply.TheVariants.{Bytes, Done, Refused}

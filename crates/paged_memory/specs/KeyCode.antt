@@ -1,5 +1,4 @@
--- Keys as data that a proof can tell apart: by the device, the half, the bank and the page. (This project's own.) (This
--- project's own)
+-- Keys as data that a proof can tell apart: by the device, the half, the bank and the page. (This project's own.)
 use Rattle.std.specs.Prelude.{◌≡◌, ℕ, zero, suc, refl}
 use Rattle.std.proofs.Common.{sym}
 use Rattle.std.specs.Coded.{Coded, code_by, coded×, coded_ℕ}

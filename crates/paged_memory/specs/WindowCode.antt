@@ -1,5 +1,4 @@
--- Windows as data that a proof can tell apart: by the memory and the numbers of the selection. (This project's own.) (This
--- project's own)
+-- Windows as data that a proof can tell apart: by the memory and the numbers of the selection. (This project's own.)
 use Rattle.std.specs.Prelude.{ℕ, refl}
 use Rattle.std.specs.Coded.{Coded, code_by, coded×, coded_list, coded_ℕ}
 use Rattle.std.specs.FinMap as map

@@ -1,5 +1,4 @@
--- What changes make of the 128 bytes of a half. An address is that of the module (0 to 255). (This project's own.) (This
--- project's own)
+-- What changes make of the 128 bytes of a half. An address is that of the module (0 to 255). (This project's own.)
 use Rattle.std.specs.Prelude.{ℕ, ◌+◌, List, [], ◌∷◌, Option, Some, None, replicate, slice_set, unwrap_or}
 use Rattle.std.specs.FinMap as map
 use Rattle.paged_memory.specs.declared.key.Key.{Key}

@@ -1,4 +1,4 @@
--- What the iterator over the lines of a text has left. (This project's own.) (This project's own)
+-- What the iterator over the lines of a text has left. (This project's own.)
 use Rattle.std.specs.Prelude.{ℕ, List}
 use Rattle.text_lines.specs.Lines.{lines_of}
 use Rattle.text_lines.specs.declared.lines.Lines.{Lines}
