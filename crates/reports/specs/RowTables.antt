@@ -1,5 +1,5 @@
 -- The rows that the code's tables have: those of its constants, whose texts and lists are such in the code. (This project's
--- own) (This project's own)
+-- own.)
 use Rattle.std.specs.Prelude.{ℕ, List, map}
 use Rattle.std.specs.Borrow.{Bor}
 use Rattle.reports.specs.declared.row.Instead as rust_instead

@@ -1,5 +1,5 @@
 -- A device that answers as it likes: each answer is decided by a number, and each unit of time draws another one. (This
--- project's own) (This project's own)
+-- project's own.)
 use Rattle.std.specs.Prelude.{ℕ, ◌+◌, ◌*◌, ◌/◌, ◌%◌, ◌==◌, Bool, not, if◌then◌else◌, nat_lt, List, Option, Some, None, map}
 use Rattle.std.specs.List.{range_with_len}
 use Rattle.bus_model.specs.Conduct.{Conduct}
