@@ -1,4 +1,4 @@
--- Which DPDeinit bits of a module provisioning leaves set. (docs/module.md, "Kept paths")
+-- Which DPDeinit bits of a module provisioning leaves set. (docs/module.md, "Kept paths"; this project's own)
 use Rattle.std.specs.Prelude.{◌≡◌, ℕ, false, true, List, Ok, reverse}
 use Rattle.std.specs.FinSet as set
 use Rattle.bus_model.specs.declared.script.Directive.{Directive}

@@ -1,4 +1,5 @@
--- What can hold down a lane of a kept path once provisioning has cleared its DPDeinit bit. (docs/module.md, "Kept paths")
+-- What can hold down a lane of a kept path once provisioning has cleared its DPDeinit bit. (docs/module.md, "Kept paths"; this
+-- project's own)
 use Rattle.std.specs.Prelude.{◌≡◌, ◌||◌, ℕ, false, true, not, List, All, reverse}
 use Rattle.bus_model.specs.declared.script.Directive.{Directive}
 use Rattle.bus_model.specs.Runs.{IsFull, Ran, Seen}
