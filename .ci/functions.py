@@ -1,7 +1,8 @@
 """The functions of a crate's sources, and the edits that stand beside them, for the scripts of this folder.
 
-An edit is a wrong body: a file NAME.edit with a line 'file: src/PATH' and then pairs of lines 'old: TEXT' and 'new: TEXT'. It stands
-in a crate's folder must-fail, whose edits `rt ci` tries, or in its folder wrong-bodies, whose edits `.ci/wrong_bodies` tries."""
+An edit is a wrong body: a file NAME.edit with a line 'file: src/PATH' and then pairs of lines 'old: TEXT' and 'new: TEXT', whose old
+text stands once in the file; or once in one function, if a line 'in: FUNCTION' stands before. It is in a crate's folder must-fail,
+whose edits `rt ci` tries (it doesn't know 'in:'), or in its folder wrong-bodies, whose edits `.ci/wrong_bodies` tries."""
 import os
 import re
 from collections import namedtuple
@@ -85,23 +86,36 @@ def changed_bodies(before, after):
     return {place: wrong for place, (right, wrong) in enumerate(pairs) if right != wrong}
 
 
+def replaced(text, function, old, new):
+    """The text with another in the place of one that stands once in it, or once in the function that is named."""
+    begin, end = 0, len(text)
+    if function:
+        named = [it for it in functions_of(text) if it.name == function]
+        if len(named) != 1:
+            raise BadEdit(f"{len(named)} functions are named {function}, not one")
+        begin, end = named[0].begin, named[0].end
+    if text.count(old, begin, end) != 1:
+        raise BadEdit(f"'{old.strip()}' stands there {text.count(old, begin, end)} times, not once")
+    return text[:begin] + text[begin:end].replace(old, new) + text[end:]
+
+
 def changed_texts(crate, edit):
     """The files of a crate as an edit leaves them."""
-    texts, path, old = {}, None, None
+    texts, path, function, old = {}, None, None, None
     for line in edit.split("\n"):
         if line.startswith("file: "):
-            path = line[6:].strip()
+            path, function = line[6:].strip(), None
             if not path.startswith("src/") or not os.path.isfile(f"{crate}/{path}"):
                 raise BadEdit(f"there is no source {path}")
             texts.setdefault(path, read(f"{crate}/{path}"))
+        elif line.startswith("in: "):
+            function = line[4:].strip()
         elif line.startswith("old: "):
             old = line[5:]
         elif line.startswith("new:"):
             if not path or not old:
                 raise BadEdit("a line 'new:' without a file or an old text")
-            if texts[path].count(old) != 1:
-                raise BadEdit(f"'{old.strip()}' stands {texts[path].count(old)} times in {path}, not once")
-            texts[path], old = texts[path].replace(old, line[4:].removeprefix(" ")), None
+            texts[path], old = replaced(texts[path], function, old, line[4:].removeprefix(" ")), None
     if not texts:
         raise BadEdit("it changes nothing")
     return texts
