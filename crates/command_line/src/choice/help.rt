@@ -4,7 +4,8 @@ use super::commands::CommandName;
 
 /// The end of the program's own help.
 pub const OF_PROGRAM: &str = "An image text tells a module's memory, in lines of hexadecimal digits.
-'tools/module-image PORT-OR-FILE' makes one of a network port or a dump;
+'tools/module-image PORT' prints that of the module in a network port,
+'tools/module-image FILE' that of a dump (eeprom, hexdump, i2cdump ..);
 'cmisctl COMMAND --help' says what else a command reads. docs/formats.md
 describes all texts, and docs/faults.md what each fault means.";
 
