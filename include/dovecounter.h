@@ -2,11 +2,11 @@
    provisions a module over a bus that the caller owns.
 
    Each function is proved to return, and to do what is said here. None allocates, prints, waits, keeps a pointer or ends
-   the process, and none has state of its own: calls may run at the same time, where none of them writes what another one
+   the process, and none has state of its own: calls may run at the same time, if none of them writes what another one
    reads or writes.
 
    The caller owes what no function can see: each pointer points to as much as its type and its length say, and is not null,
-   also where a length is 0; what a pointer to const points to does not change during the call; and what a function writes
+   also if a length is 0; what a pointer to const points to does not change during the call; and what a function writes
    overlaps nothing else that it is given. Numbers and bytes may have any value.
 
    Bytes of lanes: bit i-1 is that of lane i, so 0x01 is lane 1 and 0x80 is lane 8. */
@@ -22,7 +22,7 @@ extern "C" {
 
 #define DOVECOUNTER_VERSION 1
 
-/* What a function answers. Where it answers another status than DOVECOUNTER_DONE, it has written nothing. The comments name the
+/* What a function answers. If it answers another status than DOVECOUNTER_DONE, it has written nothing. The comments name the
    faults that the program cmisctl prints for the same. */
 enum dovecounter_status {
     DOVECOUNTER_DONE = 0,
@@ -60,14 +60,14 @@ enum dovecounter_status {
 struct dovecounter_half {
     uint8_t device; /* the address on the bus in its 8-bit form, 0xA0 or 0xA2; in the 7-bit form 0x50 or 0x51 */
     uint8_t upper;  /* 0 for the addresses 0 to 127, 1 for 128 to 255 */
-    uint8_t bank;   /* 0 where upper is 0 */
-    uint8_t page;   /* 0 where upper is 0 */
+    uint8_t bank;   /* 0 if upper is 0 */
+    uint8_t page;   /* 0 if upper is 0 */
     uint8_t bytes[128];
 };
 
 /* An Application: what a data path may carry, and where it may begin. */
 struct dovecounter_application {
-    uint8_t number;       /* 1 to 15, its AppSelCode; 0 behind the last one, as all else there */
+    uint8_t number;       /* 1 to 15, its AppSelCode; 0 after the last one, as all else there */
     uint8_t host_id;      /* HostInterfaceID (SFF-8024) */
     uint8_t media_id;     /* MediaInterfaceID (SFF-8024) */
     uint8_t host_lanes;   /* how many a data path takes */
@@ -100,9 +100,9 @@ struct dovecounter_plan {
     uint64_t weight;                  /* the sum of the weights of its paths */
     uint8_t count;                    /* of paths, at most 8 */
     uint8_t lanes;                    /* the host lanes that the paths take */
-    uint8_t outside;                  /* the host lanes that no kept path takes; 0xFF where nothing is kept */
+    uint8_t outside;                  /* the host lanes that no kept path takes; 0xFF if nothing is kept */
     uint8_t control[8];               /* the control bytes of host lanes 1 to 8 */
-    struct dovecounter_path paths[8]; /* by rising host lane; zeros behind the last one */
+    struct dovecounter_path paths[8]; /* by rising host lane; zeros after the last one */
 };
 
 /* Says which plan is best for the module that has these halves: its paths are allowed, no two share a lane, the kept paths are
@@ -132,7 +132,7 @@ uint32_t dovecounter_check(const struct dovecounter_half *halves, size_t half_co
 /* Why a procedure ended without success: the digit of PV1 to PV7, and that fault's values. Of PV5, which no procedure here
    ends in, first is the digit of BU1 or BU2. */
 struct dovecounter_fault {
-    uint8_t code; /* 0 where there is none */
+    uint8_t code; /* 0 if there is none */
     uint8_t first;
     uint8_t second;
 };
@@ -170,10 +170,10 @@ struct dovecounter_operation {
     uint8_t device;   /* the address on the bus in its 8-bit form, 0xA0; in the 7-bit form 0x50 */
     uint8_t offset;   /* the address of the first byte */
     uint8_t count;    /* how many bytes are fetched or stored, 1 to 8 */
-    uint8_t bytes[8]; /* those that are stored; zeros behind them, and for a fetch */
+    uint8_t bytes[8]; /* those that are stored; zeros after them, and for a fetch */
 };
 
-/* Says what is to be done on the bus now. Writes *operation. DOVECOUNTER_ENDED where nothing is. */
+/* Says what is to be done on the bus now. Writes *operation. DOVECOUNTER_ENDED if nothing is. */
 uint32_t dovecounter_next(const struct dovecounter_procedure *procedure, struct dovecounter_operation *operation);
 
 enum dovecounter_outcome {
@@ -192,11 +192,11 @@ uint32_t dovecounter_reply(struct dovecounter_procedure *procedure, uint8_t outc
 /* How a procedure ended. */
 struct dovecounter_answer {
     uint16_t steps;                 /* how many operations a success took; else 0 */
-    struct dovecounter_fault fault; /* its code is 0 where it succeeded */
+    struct dovecounter_fault fault; /* its code is 0 if it succeeded */
 };
 
 /* Says how the procedure ended. After a success of provisioning the last operation has read the control bytes from the module's
-   Active Control Set. Writes *answer. DOVECOUNTER_NOT_ENDED where it has not ended. */
+   Active Control Set. Writes *answer. DOVECOUNTER_NOT_ENDED if it has not ended. */
 uint32_t dovecounter_answer(const struct dovecounter_procedure *procedure, struct dovecounter_answer *answer);
 
 #ifdef __cplusplus
