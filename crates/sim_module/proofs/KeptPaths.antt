@@ -112,8 +112,7 @@ module _ (advert : Advertised) (kept : List Path) (active : List ℕ) (each : Al
   after_one old new attempt no_pin keeps ran outcome =
       let lanes = lanes_outside advert kept in
       let each_step = each_keeps attempt.control lanes Keeps (survives is_kept lane byte one (byte_of lanes) outside) attempt.history outcome.shape in
-      let steps = reverse attempt.history in
-      (
+      let steps = reverse attempt.history in (
         subst NoPins (sym ran.state) (steps_allow conduct NoPin steps old.state no_pin),
         subst (λ (s : State). Keeps s.1) (sym ran.state)
             (steps_keep conduct NoPin Keeps in_time steps (all_reversed (λ step. IsKeptBy conduct Keeps step.op) attempt.history each_step) old.state no_pin keeps),

@@ -17,9 +17,9 @@ use Rattle.control_sets.specs.PlanLanes.{is_taken, lanes_outside}
 use Rattle.sim_module.specs.declared.module.SimModule.{SimModule}
 use Rattle.sim_module.specs.Modules.{conduct}
 
--- a lane's DPDeinit bit is set if and only if the lane is one of these
-abbrev pub HasBitsOf : Lanes → SimModule → Type 0
-HasBitsOf lanes sim = (lane : ℕ) → IsLane lane → set.contains sim.deinit lane ≡ set.contains lanes lane
+-- DPDeinit holds these lanes: a lane's bit is set if and only if the lane is one of them
+abbrev pub DeinitHolds : Lanes → SimModule → Type 0
+DeinitHolds lanes sim = (lane : ℕ) → IsLane lane → set.contains sim.deinit lane ≡ set.contains lanes lane
 
 -- the store of DPDeinit for these lanes was accepted
 abbrev pub AcceptsBits : Lanes → History → Type 0
@@ -30,13 +30,13 @@ abbrev pub BitsFollowTheStore : Type 0
 BitsFollowTheStore =
     (old new : Seen (List Directive × SimModule)) (history : History) (control : List ℕ) (lanes : Lanes) (answer : Answer)
     → Ran (script_rules conduct) old new (reverse history) → IsProvisioning control lanes (IsFull new) history answer → AcceptsBits lanes history
-    → HasBitsOf lanes new.state.1
+    → DeinitHolds lanes new.state.1
 
 -- and after each success
 abbrev pub BitsFollowSuccess : Type 0
 BitsFollowSuccess =
     (old new : Seen (List Directive × SimModule)) (history : History) (control : List ℕ) (lanes : Lanes) (steps : ℕ)
-    → Ran (script_rules conduct) old new (reverse history) → IsProvisioning control lanes (IsFull new) history (Ok steps) → HasBitsOf lanes new.state.1
+    → Ran (script_rules conduct) old new (reverse history) → IsProvisioning control lanes (IsFull new) history (Ok steps) → DeinitHolds lanes new.state.1
 
 -- so the bit of a lane of a kept path is clear
 abbrev pub KeptBitsAreClear : Type 0

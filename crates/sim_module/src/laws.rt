@@ -1,4 +1,7 @@
 //! What holds of a module, over the definitions of its events alone.
+//!
+//! In the laws over runs on a scripted bus, that the bus's list is full is said of its whole list, also of the steps that it had
+//! before a call.
 ghost use Rattle.std.specs.Prelude.{ℕ};
 ghost use Rattle.paged_memory.specs.Images.{Memory};
 ghost use Rattle.field_tables.specs.LaneSets.{Lanes};
