@@ -23,9 +23,9 @@ use Rattle.sim_module.specs.Modules.{conduct}
 abbrev pub AreQuiet : Advertised → List Path → SimModule → Type 0
 AreQuiet advert kept sim = (lane : ℕ) → IsLane lane → is_taken advert kept lane ≡ true → is_in_progress (lane_at sim lane) ≡ false
 
--- whatever a script refuses, cuts or sets the pin to: where no apply is in progress and the kept paths are active, once the store
--- of DPDeinit for all other lanes was accepted, a lane of theirs is down if and only if the module isn't ready or low power is
--- asked for
+-- whatever a script refuses, cuts or sets the pin to: if no apply is in progress and the kept paths are active, then once the
+-- store of DPDeinit for all other lanes was accepted, a lane of theirs is down if and only if the module isn't ready or low
+-- power is asked for
 abbrev pub KeptLanesAreReleased : Type 0
 KeptLanesAreReleased =
     (old new : Seen (List Directive × SimModule)) (history : History) (advert : Advertised) (kept : List Path) (control active : List ℕ) (answer : Answer)

@@ -41,8 +41,8 @@ pub fn a_lane_that_is_not_down_stays_up()
     ensures { LanesStayUp }
 {}
 
-/// A tick takes a lane from DPDeactivated to DPInit, and its counter begins, where the lane isn't down. An apply of it that
-/// is done with that tick changes nothing in this.
+/// A tick takes a lane from DPDeactivated to DPInit, and its counter begins, if the lane isn't down. An apply of it that is
+/// done with that tick changes nothing in this.
 pub fn a_lane_that_is_not_down_comes_up()
     ensures { LanesComeUp }
 {}
@@ -84,7 +84,7 @@ pub fn provisioning_clears_the_bits_of_kept_lanes()
     ensures kept { KeptBitsAreClear }
 {}
 
-/// Over a scripted bus, whatever the script refuses, cuts short or sets the pin to: where no apply is in progress, no kept lane
+/// Over a scripted bus, whatever the script refuses, cuts short or sets the pin to: if no apply is in progress, no kept lane
 /// has the status ConfigInProgress and the kept paths are active, once the store of DPDeinit was accepted, a kept lane is down
 /// if and only if the module isn't ready or low power is asked for. What its DPDeinit bit held down before is free to come up.
 pub fn provisioning_releases_kept_lanes()
