@@ -85,7 +85,7 @@ module _ (active : List ℕ) (lane byte : ℕ) (within : IsLane lane) (sim : Sim
     first_kept = ap (λ (control : ControlByte). agree active lane (first_lane control)) (sym its_own) ∙ path.first_agrees;
   }
 
-  -- where no apply is in progress, nor a status of the path's lanes says so
+  -- if no apply is in progress, and no status of the path's lanes says that one is
   pub begins_apart : ((other : ℕ) → IsLane other → agree active lane other ≡ true → is_in_progress (lane_at sim other) ≡ false) → StaysApart (agree active lane) lane byte sim
   begins_apart quiet = record {
     eight = rest.eight;
