@@ -1,0 +1,476 @@
+/* Calls the library for firmware as its header says, and compares: each status once, what is written where there is one, and
+   what is not. */
+#include "dovecounter.h"
+
+#include <stddef.h>
+#include <stdio.h>
+#include <stdlib.h>
+#include <string.h>
+
+static int failures;
+
+static void expect(const char *what, unsigned long wanted, unsigned long found) {
+    if (wanted == found) return;
+    printf("%s: wanted %lu, found %lu\n", what, wanted, found);
+    failures++;
+}
+
+static void expect_same(const char *what, const void *wanted, const void *found, size_t size) {
+    expect(what, 0, (unsigned long)(memcmp(wanted, found, size) != 0));
+}
+
+/* ---- a module with one Application: 400GAUI-8 on host lanes 1 to 8 and media lanes 1 to 4 ---- */
+
+static struct dovecounter_half halves[3];
+static uint32_t weights[256];
+
+static void set_sum(struct dovecounter_half *half, int first, int last, int place) {
+    unsigned sum = 0;
+    for (int address = first; address <= last; address++) sum += half->bytes[address - 128];
+    half->bytes[place - 128] = (uint8_t)sum;
+}
+
+static void make_module(void) {
+    memset(halves, 0, sizeof halves);
+    for (int i = 0; i < 3; i++) halves[i].device = 0xA0;
+    halves[1].upper = halves[2].upper = 1;
+    halves[2].page = 1;
+    uint8_t *lower = halves[0].bytes;
+    lower[0] = 0x18; /* QSFP-DD */
+    lower[1] = 0x50; /* CMIS 5.0 */
+    memcpy(lower + 86, "\x11\x1C\x84\x01\xFF", 5);
+    halves[2].bytes[176 - 128] = 1;
+    set_sum(&halves[1], 128, 221, 222);
+    set_sum(&halves[2], 130, 254, 255);
+    weights[0x11] = 400;
+}
+
+static const struct dovecounter_path nothing[1];
+
+static uint32_t plan_status(size_t count) {
+    struct dovecounter_plan plan, before;
+    memset(&plan, 0x5A, sizeof plan);
+    before = plan;
+    uint32_t status = dovecounter_plan(halves, count, weights, nothing, 0, &plan);
+    if (status != DOVECOUNTER_DONE) expect_same("a refused plan is not written", &before, &plan, sizeof plan);
+    return status;
+}
+
+/* Each status of the halves, from dovecounter_plan and from dovecounter_advertisement. */
+static void expect_status(const char *what, uint32_t wanted, size_t count) {
+    struct dovecounter_advertisement advertisement, before;
+    memset(&advertisement, 0x5A, sizeof advertisement);
+    before = advertisement;
+    expect(what, wanted, plan_status(count));
+    expect(what, wanted, dovecounter_advertisement(halves, count, &advertisement));
+    if (wanted != DOVECOUNTER_DONE)
+        expect_same("a refused advertisement is not written", &before, &advertisement, sizeof advertisement);
+}
+
+/* One byte of a half that is changed, and the status that comes of it. */
+struct change {
+    const char *what;
+    uint32_t wanted;
+    int half; /* 0 for the lower half, 1 for page 00h, 2 for page 01h */
+    size_t place;
+    uint8_t byte;
+};
+
+enum {
+    DEVICE = offsetof(struct dovecounter_half, device),
+    UPPER = offsetof(struct dovecounter_half, upper),
+    BANK = offsetof(struct dovecounter_half, bank),
+    PAGE = offsetof(struct dovecounter_half, page),
+    BYTES = offsetof(struct dovecounter_half, bytes)
+};
+
+static const struct change changes[] = {
+    {"another device", DOVECOUNTER_NO_PLACE, 1, DEVICE, 0xA1},
+    {"another half", DOVECOUNTER_NO_PLACE, 1, UPPER, 2},
+    {"a lower half of a page", DOVECOUNTER_NO_PLACE, 0, PAGE, 1},
+    {"a lower half of a bank", DOVECOUNTER_NO_PLACE, 0, BANK, 1},
+    {"the other device", DOVECOUNTER_ABSENT, 0, DEVICE, 0xA2},
+    {"an SFP+ module", DOVECOUNTER_NOT_CMIS, 0, BYTES + 0, 0x03},
+    {"CMIS 3.0", DOVECOUNTER_REVISION, 0, BYTES + 1, 0x30},
+    {"QSFP+ with CMIS", DOVECOUNTER_NOT_EIGHT_LANES, 0, BYTES + 0, 0x1E},
+    {"flat memory", DOVECOUNTER_FLAT_MEMORY, 0, BYTES + 2, 0x80},
+    {"a wrong sum of page 00h", DOVECOUNTER_BAD_SUM, 1, BYTES + 130 - 128, 1},
+    {"a wrong sum of page 01h", DOVECOUNTER_BAD_SUM, 2, BYTES + 130 - 128, 1},
+};
+
+static void try_halves(void) {
+    static struct dovecounter_half many[17];
+    struct dovecounter_plan plan;
+    make_module();
+    expect_status("three halves", DOVECOUNTER_DONE, 3);
+    expect_status("no half", DOVECOUNTER_ABSENT, 0);
+    expect_status("two halves", DOVECOUNTER_ABSENT, 2);
+    memset(many, 0, sizeof many);
+    expect("seventeen halves", DOVECOUNTER_TOO_MANY_HALVES, dovecounter_plan(many, 17, weights, nothing, 0, &plan));
+    expect("sixteen halves without a device", DOVECOUNTER_NO_PLACE,
+           dovecounter_plan(many, 16, weights, nothing, 0, &plan));
+    for (size_t i = 0; i < sizeof changes / sizeof changes[0]; i++) {
+        const struct change *change = &changes[i];
+        make_module();
+        memcpy((uint8_t *)&halves[change->half] + change->place, &change->byte, 1);
+        expect_status(change->what, change->wanted, 3);
+    }
+    make_module();
+}
+
+static void try_advertisement(void) {
+    struct dovecounter_advertisement advertisement;
+    static const struct dovecounter_application none;
+    make_module();
+    dovecounter_advertisement(halves, 3, &advertisement);
+    expect("Applications", 1, advertisement.count);
+    expect("unsupported media lanes", 0, advertisement.unsupported);
+    expect("number", 1, advertisement.applications[0].number);
+    expect("HostInterfaceID", 0x11, advertisement.applications[0].host_id);
+    expect("MediaInterfaceID", 0x1C, advertisement.applications[0].media_id);
+    expect("host lanes", 8, advertisement.applications[0].host_lanes);
+    expect("media lanes", 4, advertisement.applications[0].media_lanes);
+    expect("host starts", 1, advertisement.applications[0].host_starts);
+    expect("media starts", 1, advertisement.applications[0].media_starts);
+    expect_same("behind the last Application", &none, &advertisement.applications[1], sizeof none);
+
+    memcpy(halves[0].bytes + 86, "\x0D\x14\x21\x55\xFF", 5);
+    halves[2].bytes[176 - 128] = 0x0F;
+    set_sum(&halves[2], 130, 254, 255);
+    dovecounter_advertisement(halves, 3, &advertisement);
+    expect("host starts of pairs", 0x55, advertisement.applications[0].host_starts);
+    expect("media starts of pairs", 0x0F, advertisement.applications[0].media_starts);
+}
+
+static void try_plan(struct dovecounter_plan *plan) {
+    static const uint8_t control[8] = {0x10, 0x10, 0x10, 0x10, 0x10, 0x10, 0x10, 0x10};
+    static const struct dovecounter_path none;
+    make_module();
+    expect("plan", DOVECOUNTER_DONE, dovecounter_plan(halves, 3, weights, nothing, 0, plan));
+    expect("weight", 400, (unsigned long)plan->weight);
+    expect("paths", 1, plan->count);
+    expect("lanes", 0xFF, plan->lanes);
+    expect("lanes outside of no kept path", 0xFF, plan->outside);
+    expect_same("control bytes", control, plan->control, 8);
+    expect("Application of the path", 1, plan->paths[0].application);
+    expect("first host lane", 1, plan->paths[0].host);
+    expect("first media lane", 1, plan->paths[0].media);
+    expect_same("behind the last path", &none, &plan->paths[1], sizeof none);
+}
+
+/* ---- kept paths ---- */
+
+static void refuse_kept(const char *what, uint32_t wanted, const struct dovecounter_path *kept, size_t count) {
+    struct dovecounter_plan plan, before;
+    memset(&plan, 0x5A, sizeof plan);
+    before = plan;
+    expect(what, wanted, dovecounter_plan(halves, 3, weights, kept, count, &plan));
+    expect_same("a plan with refused kept paths is not written", &before, &plan, sizeof plan);
+}
+
+/* A second Application, 100GAUI-2 on host lanes 1, 3, 5 and 7 and a media lane, weighs 50: four of them less than the first. */
+static void make_two_applications(void) {
+    make_module();
+    memcpy(halves[0].bytes + 90, "\x0D\x14\x21\x55\xFF", 5);
+    halves[2].bytes[177 - 128] = 0x0F;
+    set_sum(&halves[2], 130, 254, 255);
+    weights[0x0D] = 50;
+}
+
+static void try_kept(void) {
+    static const struct dovecounter_path first = {2, 3, 2}, nine[9] = {{1, 1, 1}};
+    static const struct dovecounter_path other[2] = {{2, 3, 2}, {2, 5, 2}}, absent = {3, 1, 1};
+    static const uint8_t control[8] = {0x20, 0x20, 0x24, 0x24, 0x28, 0x28, 0x2C, 0x2C};
+    struct dovecounter_plan plan;
+    make_two_applications();
+    expect("plan with two Applications", DOVECOUNTER_DONE, dovecounter_plan(halves, 3, weights, nothing, 0, &plan));
+    expect("nothing kept: Application", 1, plan.paths[0].application);
+    expect("kept", DOVECOUNTER_DONE, dovecounter_plan(halves, 3, weights, &first, 1, &plan));
+    expect("kept: weight", 200, (unsigned long)plan.weight);
+    expect("kept: paths", 4, plan.count);
+    expect("kept: lanes", 0xFF, plan.lanes);
+    expect("kept: lanes outside", 0xF3, plan.outside);
+    expect_same("kept: control bytes", control, plan.control, 8);
+    expect_same("kept: the path", &first, &plan.paths[1], sizeof first);
+    refuse_kept("KP2", DOVECOUNTER_TOO_MANY_KEPT, nine, 9);
+    refuse_kept("KP3, a lane twice", DOVECOUNTER_KEPT_NOT_ADMISSIBLE, other, 2);
+    refuse_kept("KP3, no such Application", DOVECOUNTER_KEPT_NOT_ADMISSIBLE, &absent, 1);
+    expect("the halves come before kept paths", DOVECOUNTER_ABSENT,
+           dovecounter_plan(halves, 0, weights, nine, 9, &plan));
+    weights[0x0D] = 0;
+}
+
+/* ---- certificates ---- */
+
+static const char good[] = "certificate 1\nweight 400\npath 1 1 1\n"
+                           "state 0 00 400\nstate 1 00 0\nstate 2 00 0\nstate 3 00 0\nstate 4 00 0\nstate 5 00 0\n"
+                           "state 6 00 0\nstate 7 00 0\nstate 8 00 0\nstate 8 0f 0\nend\n";
+
+static void check_text(const char *what, const char *text, uint32_t status, uint8_t reason, size_t number) {
+    struct dovecounter_judgement judgement, before;
+    memset(&judgement, 0x5A, sizeof judgement);
+    before = judgement;
+    make_module();
+    expect(what, status, dovecounter_check(halves, 3, weights, (const uint8_t *)text, strlen(text), &judgement));
+    if (status != DOVECOUNTER_DONE) {
+        expect_same("a refused judgement is not written", &before, &judgement, sizeof judgement);
+        return;
+    }
+    expect(what, reason, judgement.reason);
+    expect(what, (unsigned long)number, (unsigned long)judgement.number);
+}
+
+static void try_check(void) {
+    struct dovecounter_judgement judgement;
+    check_text("a good certificate", good, DOVECOUNTER_DONE, 0, 0);
+    check_text("CT1", "certificate 3\n", DOVECOUNTER_BAD_LINE, 0, 0);
+    check_text("CT2", "certificate 1\nweight 0\nstate 1 00 0\nstate 0 00 0\nend\n", DOVECOUNTER_OUT_OF_ORDER, 0, 0);
+    check_text("CT3",
+               "certificate 1\nweight 0\npath 1 1 1\npath 1 1 1\npath 1 1 1\npath 1 1 1\npath 1 1 1\npath 1 1 1\n"
+               "path 1 1 1\npath 1 1 1\npath 1 1 1\nend\n",
+               DOVECOUNTER_TOO_MANY, 0, 0);
+    check_text("CT4", "certificate 1\nweight 0\n", DOVECOUNTER_NO_END, 0, 0);
+    check_text("VR1", "certificate 1\nweight 0\npath 2 1 1\nend\n", DOVECOUNTER_DONE, 1, 1);
+    check_text("VR2", "certificate 1\nweight 0\npath 1 1 1\npath 1 1 1\nend\n", DOVECOUNTER_DONE, 2, 2);
+    check_text("VR3", "certificate 1\nweight 399\npath 1 1 1\nend\n", DOVECOUNTER_DONE, 3, 0);
+    check_text("VR4", "certificate 1\nweight 400\npath 1 1 1\nend\n", DOVECOUNTER_DONE, 4, 0);
+    check_text("VR5", "certificate 1\nweight 0\nstate 0 00 0\nend\n", DOVECOUNTER_DONE, 5, 1);
+    check_text("VR6",
+               "certificate 1\nweight 0\nstate 0 00 0\nstate 1 00 0\nstate 2 00 0\nstate 3 00 0\nstate 4 00 0\n"
+               "state 5 00 0\nstate 6 00 0\nstate 7 00 0\nstate 8 00 0\nstate 8 0f 0\nend\n",
+               DOVECOUNTER_DONE, 6, 1);
+    check_text("VR7",
+               "certificate 1\nweight 400\npath 1 1 1\nstate 0 00 401\nstate 1 00 0\nstate 2 00 0\nstate 3 00 0\n"
+               "state 4 00 0\nstate 5 00 0\nstate 6 00 0\nstate 7 00 0\nstate 8 00 0\nstate 8 0f 0\nend\n",
+               DOVECOUNTER_DONE, 7, 0);
+    check_text("VR8", "certificate 2\nweight 0\nkeep 2 1 1\nend\n", DOVECOUNTER_DONE, 8, 1);
+    check_text("VR9", "certificate 2\nweight 0\nkeep 1 1 1\nend\n", DOVECOUNTER_DONE, 9, 1);
+    check_text("a good certificate that keeps its path",
+               "certificate 2\nweight 400\nkeep 1 1 1\npath 1 1 1\nstate 0 00 400\nstate 8 0f 0\nend\n",
+               DOVECOUNTER_DONE, 0, 0);
+    make_module();
+    expect("the halves come before the text", DOVECOUNTER_ABSENT,
+           dovecounter_check(halves, 0, weights, (const uint8_t *)"", 0, &judgement));
+}
+
+/* ---- procedures ---- */
+
+static void expect_operation(const char *what, const struct dovecounter_procedure *procedure, uint8_t kind,
+                             uint8_t offset, uint8_t count, uint8_t first, uint8_t second) {
+    struct dovecounter_operation operation;
+    expect(what, DOVECOUNTER_DONE, dovecounter_next(procedure, &operation));
+    expect(what, kind, operation.kind);
+    expect(what, 0xA0, operation.device);
+    expect(what, offset, operation.offset);
+    expect(what, count, operation.count);
+    expect(what, first, operation.bytes[0]);
+    expect(what, second, operation.bytes[1]);
+}
+
+static void expect_wait(const char *what, uint8_t wanted, const struct dovecounter_procedure *procedure) {
+    struct dovecounter_operation operation;
+    expect(what, DOVECOUNTER_DONE, dovecounter_next(procedure, &operation));
+    expect(what, wanted, operation.wait);
+}
+
+/* A reply that is refused changes nothing. */
+static void refuse_reply(const char *what, uint32_t wanted, struct dovecounter_procedure procedure, uint8_t outcome,
+                         size_t count) {
+    static const uint8_t bytes[200];
+    struct dovecounter_procedure before = procedure;
+    expect(what, wanted, dovecounter_reply(&procedure, outcome, bytes, count));
+    expect_same(what, &before, &procedure, sizeof procedure);
+}
+
+static void try_procedure(const struct dovecounter_plan *plan) {
+    static const uint8_t ready = 3 << 1, low_power = 1 << 1;
+    struct dovecounter_procedure procedure;
+    struct dovecounter_answer answer;
+    memset(&procedure, 0, sizeof procedure);
+    dovecounter_provision(plan->control, 0xFF, &procedure);
+    expect_operation("the module's state", &procedure, DOVECOUNTER_FETCH, 3, 1, 0, 0);
+    expect_wait("the first comes at once", 0, &procedure);
+    expect("not ended", DOVECOUNTER_NOT_ENDED, dovecounter_answer(&procedure, &answer));
+    refuse_reply("a fetch is not stored", DOVECOUNTER_NO_REPLY, procedure, DOVECOUNTER_STORED, 0);
+    refuse_reply("two bytes are not one", DOVECOUNTER_NO_REPLY, procedure, DOVECOUNTER_FETCHED, 2);
+    refuse_reply("200 bytes are not one", DOVECOUNTER_NO_REPLY, procedure, DOVECOUNTER_FETCHED, 200);
+    refuse_reply("no such outcome", DOVECOUNTER_NO_REPLY, procedure, 3, 1);
+    expect("refused", DOVECOUNTER_DONE, dovecounter_reply(&procedure, DOVECOUNTER_REFUSED, &ready, 0));
+    expect_operation("asked again", &procedure, DOVECOUNTER_FETCH, 3, 1, 0, 0);
+    expect_wait("after a refusal", 1, &procedure);
+    expect("ready", DOVECOUNTER_DONE, dovecounter_reply(&procedure, DOVECOUNTER_FETCHED, &ready, 1));
+    expect_operation("page 10h", &procedure, DOVECOUNTER_STORE, 126, 2, 0, 0x10);
+    expect_wait("after what was wanted", 0, &procedure);
+    refuse_reply("a store is not fetched", DOVECOUNTER_NO_REPLY, procedure, DOVECOUNTER_FETCHED, 2);
+
+    dovecounter_activate(plan->control, 0xFF, &procedure);
+    expect("low power", DOVECOUNTER_DONE, dovecounter_reply(&procedure, DOVECOUNTER_FETCHED, &low_power, 1));
+    expect("ended", DOVECOUNTER_DONE, dovecounter_answer(&procedure, &answer));
+    expect("PV6", 6, answer.fault.code);
+    expect("PV6 1", 1, answer.fault.first);
+    expect("no steps", 0, answer.steps);
+    refuse_reply("nothing after the end", DOVECOUNTER_ENDED, procedure, DOVECOUNTER_REFUSED, 0);
+    struct dovecounter_operation operation, before;
+    memset(&operation, 0x5A, sizeof operation);
+    before = operation;
+    expect("no operation after the end", DOVECOUNTER_ENDED, dovecounter_next(&procedure, &operation));
+    expect_same("no operation is written", &before, &operation, sizeof operation);
+}
+
+/* ---- durations ---- */
+
+static void try_durations(void) {
+    static const uint32_t longest[] = {1, 5, 10, 50, 100, 500, 1000, 5000, 10000, 60000, 300000, 600000, 3000000};
+    struct dovecounter_durations durations, before;
+    for (unsigned code = 0; code < 16; code++) {
+        uint32_t wanted = code < 13 ? longest[code] : DOVECOUNTER_UNBOUNDED;
+        for (int field = 0; field < 6; field++) {
+            static const uint8_t places[] = {167, 167, 144, 144, 168, 168}, shifts[] = {0, 4, 0, 4, 0, 4};
+            make_module();
+            halves[2].bytes[places[field] - 128] = (uint8_t)(code << shifts[field]);
+            set_sum(&halves[2], 130, 254, 255);
+            expect("durations", DOVECOUNTER_DONE, dovecounter_durations(halves, 3, &durations));
+            const uint32_t found[] = {durations.module_power_up, durations.module_power_down,
+                                      durations.path_init,       durations.path_deinit,
+                                      durations.path_tx_turn_on, durations.path_tx_turn_off};
+            for (int other = 0; other < 6; other++) expect("a duration", other == field ? wanted : 1, found[other]);
+        }
+    }
+    make_module();
+    memset(&durations, 0x5A, sizeof durations);
+    before = durations;
+    expect("no durations without page 01h", DOVECOUNTER_ABSENT, dovecounter_durations(halves, 2, &durations));
+    expect_same("refused durations are not written", &before, &durations, sizeof durations);
+}
+
+/* ---- a module in software, on which a path is up ---- */
+
+struct module {
+    uint8_t page;          /* that is selected */
+    uint8_t deinitialized; /* the DPDeinit bits */
+    uint8_t touched;       /* lanes that were ever taken down or applied to */
+    uint8_t staged[8];
+    uint8_t active[8];
+};
+
+static void store(struct module *module, const struct dovecounter_operation *operation) {
+    uint8_t first = operation->bytes[0];
+    if (operation->offset == 126) module->page = operation->bytes[1];
+    if (operation->offset == 128) module->deinitialized = first;
+    if (operation->offset == 145) memcpy(module->staged, operation->bytes, 8);
+    if (operation->offset == 128 || operation->offset == 143) module->touched |= first;
+    for (int lane = 0; operation->offset == 143 && lane < 8; lane++)
+        if (first >> lane & 1) module->active[lane] = module->staged[lane];
+}
+
+/* Four bits for each lane: `code` for the lanes of the mask, `other` for the others. */
+static void set_codes(uint8_t bytes[8], uint8_t lanes, unsigned code, unsigned other) {
+    for (int lane = 0; lane < 8; lane += 2) {
+        unsigned low = lanes >> lane & 1 ? code : other, high = lanes >> (lane + 1) & 1 ? code : other;
+        bytes[lane / 2] = (uint8_t)(high << 4 | low);
+    }
+}
+
+static void fetch(const struct module *module, uint8_t offset, uint8_t bytes[8]) {
+    if (offset == 3) bytes[0] = 3 << 1; /* ModuleReady */
+    if (offset == 126) bytes[0] = 0, bytes[1] = module->page;
+    if (offset == 128) set_codes(bytes, module->deinitialized, 1, 4); /* DPDeactivated, DPActivated */
+    if (offset == 145) memcpy(bytes, module->staged, 8);
+    if (offset == 202) set_codes(bytes, module->touched, 1, 2); /* ConfigSuccess, ConfigRejected */
+    if (offset == 206) memcpy(bytes, module->active, 8);
+}
+
+static struct dovecounter_fault carry_out(struct module *module, struct dovecounter_procedure *procedure) {
+    struct dovecounter_operation operation;
+    struct dovecounter_answer answer;
+    for (int made = 0; dovecounter_next(procedure, &operation) == DOVECOUNTER_DONE; made++) {
+        if (made == 5000) {
+            expect("operations at most", 4096, 5000);
+            exit(1);
+        }
+        int fetches = operation.kind == DOVECOUNTER_FETCH;
+        uint8_t bytes[8];
+        if (fetches)
+            fetch(module, operation.offset, bytes);
+        else
+            store(module, &operation);
+        dovecounter_reply(procedure, fetches ? DOVECOUNTER_FETCHED : DOVECOUNTER_STORED, bytes,
+                          fetches ? operation.count : 0);
+    }
+    expect("the end", DOVECOUNTER_DONE, dovecounter_answer(procedure, &answer));
+    return answer.fault;
+}
+
+/* Lanes 3 and 4 carry a kept path: they are neither taken down nor applied to. */
+static void try_kept_procedure(void) {
+    static const struct dovecounter_path kept = {2, 3, 2};
+    static const uint8_t before[8] = {0, 0, 0x24, 0x24}, others[8] = {0, 0, 0x24, 0x14};
+    struct module module = {0};
+    struct dovecounter_plan plan;
+    struct dovecounter_procedure procedure;
+    struct dovecounter_fault fault;
+    make_two_applications();
+    expect("kept", DOVECOUNTER_DONE, dovecounter_plan(halves, 3, weights, &kept, 1, &plan));
+    memcpy(module.active, before, 8);
+    dovecounter_provision(plan.control, plan.outside, &procedure);
+    expect("provisioned beside a kept path", 0, carry_out(&module, &procedure).code);
+    expect("lanes that were touched", 0xF3, module.touched);
+    expect_same("active bytes", plan.control, module.active, 8);
+    dovecounter_activate(plan.control, plan.lanes, &procedure);
+    expect("activated beside a kept path", 0, carry_out(&module, &procedure).code);
+    expect("lanes that are down", 0, module.deinitialized);
+    expect("lanes that were touched until then", 0xF3, module.touched);
+
+    memset(&module, 0, sizeof module);
+    memcpy(module.active, others, 8);
+    dovecounter_provision(plan.control, plan.outside, &procedure);
+    fault = carry_out(&module, &procedure);
+    expect("PV3, the kept path is another one", 3, fault.code);
+    expect("PV3 4", 4, fault.first);
+    expect("the kept lanes are left all the same", 0xF3, module.touched);
+    weights[0x0D] = 0;
+}
+
+static void try_other_numbers(const struct dovecounter_plan *plan) {
+    struct dovecounter_procedure procedure, other;
+    struct dovecounter_operation operation;
+    struct dovecounter_answer answer;
+    memset(&procedure, 0, sizeof procedure);
+    dovecounter_provision(plan->control, 0xFF, &procedure);
+    for (int i = 0; i < 7; i++) {
+        other = procedure;
+        if (i == 0) other.saved.work = 3;
+        if (i == 1) other.saved.selection = 3;
+        if (i == 2) other.saved.fault.code = 8;
+        if (i == 3) other.saved.work = 0;
+        if (i == 4) other.magic = 0;
+        if (i == 5) other.wait = 2;
+        if (i == 6) memset(&other, 0, sizeof other);
+        expect("no procedure has an operation", DOVECOUNTER_NO_PROCEDURE, dovecounter_next(&other, &operation));
+        expect("no procedure has an answer", DOVECOUNTER_NO_PROCEDURE, dovecounter_answer(&other, &answer));
+        refuse_reply("no procedure takes a reply", DOVECOUNTER_NO_PROCEDURE, other, DOVECOUNTER_REFUSED, 0);
+    }
+    for (int place = 0; place < (int)sizeof procedure; place++)
+        for (int byte = 0; byte < 256; byte++) {
+            other = procedure;
+            memset((unsigned char *)&other + place, byte, 1);
+            uint32_t status = dovecounter_next(&other, &operation);
+            expect("a known status", 1,
+                   status == DOVECOUNTER_DONE || status == DOVECOUNTER_ENDED || status == DOVECOUNTER_NO_PROCEDURE);
+        }
+}
+
+int main(void) {
+    struct dovecounter_plan plan;
+    try_halves();
+    try_advertisement();
+    try_plan(&plan);
+    try_kept();
+    try_check();
+    try_durations();
+    try_procedure(&plan);
+    try_kept_procedure();
+    try_other_numbers(&plan);
+    printf("firmware: %d failures\n", failures);
+    return failures != 0;
+}

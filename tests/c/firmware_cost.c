@@ -1,0 +1,166 @@
+/* Says how deep the stack of each call of the library for firmware is, by a thread whose stack was painted before. Reads the
+   text of a module's image on standard input. */
+#include "dovecounter.h"
+
+#include <pthread.h>
+#include <stdio.h>
+#include <string.h>
+
+enum { STACK = 1 << 20, PAINT = 0xA5 };
+
+static _Alignas(4096) uint8_t stack[STACK];
+static struct dovecounter_half halves[16];
+static size_t half_count;
+static uint32_t weights[256];
+static struct dovecounter_path kept[1];
+static struct dovecounter_plan plan;
+static struct dovecounter_advertisement advertisement;
+static struct dovecounter_judgement judgement;
+static struct dovecounter_procedure procedure;
+static struct dovecounter_operation operation;
+static struct dovecounter_answer answer;
+static const struct dovecounter_delays delays = {4, 4, 4, 4, 4, 4, 4};
+static struct dovecounter_module module;
+static uint8_t bytes[8];
+static struct dovecounter_reading reading;
+static struct dovecounter_durations durations;
+static const char certificate[] = "certificate 1\nweight 0\nstate 0 00 0\nend\n";
+
+static void *nothing(void *x) { return x; }
+static void *advertises(void *x) {
+    dovecounter_advertisement(halves, half_count, &advertisement);
+    return x;
+}
+static void *plans(void *x) {
+    dovecounter_plan(halves, half_count, weights, kept, 0, &plan);
+    return x;
+}
+static void *checks(void *x) {
+    dovecounter_check(halves, half_count, weights, (const uint8_t *)certificate, strlen(certificate), &judgement);
+    return x;
+}
+static void *provisions(void *x) {
+    dovecounter_provision(plan.control, 0xFF, &procedure);
+    return x;
+}
+static void *activates(void *x) {
+    dovecounter_activate(plan.control, 0xFF, &procedure);
+    return x;
+}
+static void *asks(void *x) {
+    dovecounter_next(&procedure, &operation);
+    return x;
+}
+static void *replies(void *x) {
+    static const uint8_t ready = 6;
+    dovecounter_reply(&procedure, DOVECOUNTER_FETCHED, &ready, 1);
+    return x;
+}
+static void *answers(void *x) {
+    dovecounter_answer(&procedure, &answer);
+    return x;
+}
+static void *begins(void *x) {
+    dovecounter_module_begin(halves, half_count, &delays, &module);
+    return x;
+}
+static void *fetches(void *x) {
+    dovecounter_module_fetch(halves, half_count, &module, 0xA0, 0, bytes, 8);
+    return x;
+}
+static void *stores(void *x) {
+    dovecounter_module_store(halves, half_count, &module, 0xA0, 0, bytes, 8);
+    return x;
+}
+static void *ticks(void *x) {
+    dovecounter_module_tick(&module);
+    return x;
+}
+static void *pins(void *x) {
+    dovecounter_module_pin(&module, 0);
+    return x;
+}
+static void *says_active(void *x) {
+    dovecounter_module_active(&module, bytes);
+    return x;
+}
+
+static void *lasts(void *x) {
+    dovecounter_durations(halves, half_count, &durations);
+    return x;
+}
+static void *reads(void *x) {
+    dovecounter_read(128, &reading);
+    return x;
+}
+static void *reads_next(void *x) {
+    dovecounter_read_next(&reading, &operation);
+    return x;
+}
+static void *read_replies(void *x) {
+    dovecounter_read_reply(&reading, DOVECOUNTER_FETCHED, halves[0].bytes, 128);
+    return x;
+}
+
+static size_t used(void *(*run)(void *)) {
+    pthread_attr_t attributes;
+    pthread_t thread;
+    size_t unused = 0;
+    memset(stack, PAINT, STACK);
+    pthread_attr_init(&attributes);
+    pthread_attr_setstack(&attributes, stack, STACK);
+    pthread_create(&thread, &attributes, run, 0);
+    pthread_join(thread, 0);
+    while (unused < STACK && stack[unused] == PAINT) unused++;
+    return STACK - unused;
+}
+
+static void print_used(const char *name, void *(*run)(void *), size_t alone) {
+    size_t with = used(run);
+    printf("stack %s %zu\n", name, with > alone ? with - alone : 0);
+}
+
+static void read_halves(void) {
+    char line[512], digits[257];
+    while (half_count < 16 && fgets(line, sizeof line, stdin)) {
+        struct dovecounter_half *half = &halves[half_count];
+        unsigned device, bank = 0, page = 0, byte;
+        if (sscanf(line, "lower %x %256s", &device, digits) == 2)
+            half->upper = 0;
+        else if (sscanf(line, "upper %x %x %x %256s", &device, &bank, &page, digits) == 4)
+            half->upper = 1;
+        else
+            continue;
+        half->device = (uint8_t)device;
+        half->bank = (uint8_t)bank;
+        half->page = (uint8_t)page;
+        for (int i = 0; i < 128 && sscanf(digits + 2 * i, "%2x", &byte) == 1; i++) half->bytes[i] = (uint8_t)byte;
+        half_count++;
+    }
+}
+
+int main(void) {
+    read_halves();
+    weights[0x0D] = 101;
+    weights[0x11] = 400;
+    size_t alone = used(nothing);
+    print_used("dovecounter_advertisement", advertises, alone);
+    print_used("dovecounter_plan", plans, alone);
+    print_used("dovecounter_check", checks, alone);
+    print_used("dovecounter_provision", provisions, alone);
+    print_used("dovecounter_next", asks, alone);
+    print_used("dovecounter_reply", replies, alone);
+    print_used("dovecounter_answer", answers, alone);
+    print_used("dovecounter_activate", activates, alone);
+    print_used("dovecounter_module_begin", begins, alone);
+    print_used("dovecounter_module_fetch", fetches, alone);
+    print_used("dovecounter_module_store", stores, alone);
+    print_used("dovecounter_module_tick", ticks, alone);
+    print_used("dovecounter_module_pin", pins, alone);
+    print_used("dovecounter_module_active", says_active, alone);
+    print_used("dovecounter_durations", lasts, alone);
+    print_used("dovecounter_read", reads, alone);
+    print_used("dovecounter_read_next", reads_next, alone);
+    print_used("dovecounter_read_reply", read_replies, alone);
+    return 0;
+}

@@ -1,0 +1,203 @@
+/* first_best RUNS SEED FOLDER [keep]: writes, for each number N from 1 to RUNS, the files N, an input of the command plan for a
+   module made by chance, and N.wanted, the weight and the paths of the plan that is to be given. With keep, each third plan
+   keeps paths, and its input is one of plan --keep.
+
+   A plan is a set of data paths. All plans that the module can carry are gone through, and the first of the best without needless
+   paths is what docs/planning.md, "The first best plan", says, and not how the planner finds it. */
+#include <stdint.h>
+#include <stdio.h>
+#include <stdlib.h>
+#include <string.h>
+
+enum { LANES = 8, APPS = 4 };
+
+struct app {
+    int host_id, host_lanes, media_lanes, host_starts, media_starts;
+};
+
+struct path {
+    int app, host, media;
+};
+
+struct plan {
+    int weight;
+    struct path at[LANES + 1]; /* the path that begins at a host lane: no app, none does */
+};
+
+struct module {
+    int count, unsupported;
+    struct app apps[APPS + 1];
+    int weights[4];
+    struct plan kept;
+};
+
+static uint64_t state;
+
+/* A number below the limit. */
+static int chance(int below) {
+    state ^= state << 13, state ^= state >> 7, state ^= state << 17;
+    return (int)(state >> 33) % below;
+}
+
+static int run(int first, int count) { return ((1 << count) - 1) << (first - 1); }
+
+static int host_run(const struct module *m, struct path p) { return run(p.host, m->apps[p.app].host_lanes); }
+
+static int media_run(const struct module *m, struct path p) { return run(p.media, m->apps[p.app].media_lanes); }
+
+static int allowed(const struct module *m, struct path p) {
+    struct app a = m->apps[p.app];
+    return p.host + a.host_lanes <= 9 && p.media + a.media_lanes <= 9 && (a.host_starts >> (p.host - 1) & 1) &&
+           (a.media_starts >> (p.media - 1) & 1) && !(media_run(m, p) & m->unsupported);
+}
+
+static int same(struct path p, struct path q) { return p.app == q.app && p.host == q.host && p.media == q.media; }
+
+/* At the lowest host lane where they differ: the lower Application, then the lower media lane, then a free lane. */
+static int comes_before(const struct plan *one, const struct plan *other) {
+    for (int lane = 1; lane <= LANES; lane++) {
+        struct path p = one->at[lane], q = other->at[lane];
+        if (!p.app && !q.app) continue;
+        if (p.app && q.app && same(p, q)) continue;
+        if (!p.app || !q.app) return p.app != 0;
+        return p.app != q.app ? p.app < q.app : p.media < q.media;
+    }
+    return 0;
+}
+
+static const struct module *of;
+static struct plan best;
+static int found;
+static long seen;
+
+static int is_kept(struct path p) { return of->kept.at[p.host].app && same(of->kept.at[p.host], p); }
+
+static int weight_of(struct path p) { return of->weights[of->apps[p.app].host_id]; }
+
+static void judge(const struct plan *plan) {
+    seen++;
+    for (int lane = 1; lane <= LANES; lane++) {
+        struct path kept = of->kept.at[lane], p = plan->at[lane];
+        if (kept.app && !(p.app && same(p, kept))) return;
+        if (p.app && !weight_of(p) && !is_kept(p)) return;
+    }
+    if (!found || plan->weight > best.weight || (plan->weight == best.weight && comes_before(plan, &best)))
+        best = *plan;
+    found = 1;
+}
+
+/* All plans that have this one's paths and others from a host lane on. */
+static void extend(struct plan *plan, int lane, int host, int media) {
+    if (seen > 300000) return;
+    if (lane > LANES) {
+        judge(plan);
+        return;
+    }
+    for (int app = 1; app <= of->count; app++)
+        for (int first = 1; first <= LANES; first++) {
+            struct path p = {app, lane, first};
+            if (!allowed(of, p) || (host_run(of, p) & host) || (media_run(of, p) & media)) continue;
+            plan->at[lane] = p, plan->weight += weight_of(p);
+            extend(plan, lane + 1, host | host_run(of, p), media | media_run(of, p));
+            plan->at[lane].app = 0, plan->weight -= weight_of(p);
+        }
+    extend(plan, lane + 1, host, media);
+}
+
+static void make(struct module *m) {
+    memset(m, 0, sizeof *m);
+    m->count = 1 + chance(APPS);
+    m->unsupported = chance(4) ? 0 : chance(256) & chance(256);
+    for (int id = 1; id < 4; id++) m->weights[id] = chance(4);
+    for (int app = 1; app <= m->count; app++) {
+        struct app *a = &m->apps[app];
+        a->host_id = 1 + chance(3);
+        a->host_lanes = 1 + chance(chance(3) ? 4 : 8);
+        a->media_lanes = 1 + chance(4);
+        a->host_starts = chance(256) | (chance(2) ? 1 : 0x11);
+        a->media_starts = chance(256) | 1;
+    }
+}
+
+/* Some paths of the module that share no lane. */
+static void keep(struct module *m) {
+    int host = 0, media = 0;
+    for (int tries = 0; tries < 12; tries++) {
+        struct path p = {1 + chance(m->count), 1 + chance(LANES), 1 + chance(LANES)};
+        if (!allowed(m, p) || (host_run(m, p) & host) || (media_run(m, p) & media)) continue;
+        m->kept.at[p.host] = p;
+        host |= host_run(m, p), media |= media_run(m, p);
+    }
+}
+
+static void write_half(FILE *out, const char *key, const int bytes[128]) {
+    fprintf(out, "%s ", key);
+    for (int i = 0; i < 128; i++) fprintf(out, "%02x", (unsigned)bytes[i]);
+    fprintf(out, "\n");
+}
+
+static void write_image(FILE *out, const struct module *m) {
+    int lower[128] = {0x18, 0x50}, page00[128] = {0x18}, page01[128] = {0};
+    int sum = 0;
+    for (int i = 86; i <= 117; i++) lower[i] = 0xff;
+    for (int app = 1; app <= m->count; app++) {
+        struct app a = m->apps[app];
+        int *d = lower + 86 + 4 * (app - 1);
+        d[0] = a.host_id, d[1] = 0x1c, d[2] = a.host_lanes << 4 | a.media_lanes, d[3] = a.host_starts;
+        page01[176 - 128 + app - 1] = a.media_starts;
+    }
+    page00[210 - 128] = m->unsupported;
+    for (int i = 128; i <= 221; i++) sum += page00[i - 128];
+    page00[222 - 128] = sum % 256;
+    sum = 0;
+    for (int i = 130; i <= 254; i++) sum += page01[i - 128];
+    page01[255 - 128] = sum % 256;
+    fprintf(out, "module-image 1\n");
+    write_half(out, "lower A0", lower);
+    write_half(out, "upper A0 00 00", page00);
+    write_half(out, "upper A0 00 01", page01);
+    fprintf(out, "end\n---\n[host]\n");
+    for (int id = 1; id < 4; id++) fprintf(out, "%02xh = %d\n", (unsigned)id, m->weights[id]);
+}
+
+static void write_paths(FILE *out, const char *word, const struct plan *plan) {
+    for (int lane = 1; lane <= LANES; lane++)
+        if (plan->at[lane].app) fprintf(out, "%s %d %d %d\n", word, plan->at[lane].app, lane, plan->at[lane].media);
+}
+
+static FILE *open_at(const char *folder, int number, const char *end) {
+    char name[4096];
+    snprintf(name, sizeof name, "%s/%d%s", folder, number, end);
+    FILE *out = fopen(name, "w");
+    if (!out) {
+        perror(name);
+        exit(2);
+    }
+    return out;
+}
+
+int main(int argc, char **argv) {
+    if (argc < 4) return 2;
+    int runs = atoi(argv[1]), keeping = argc > 4;
+    state = strtoull(argv[2], 0, 10) * 2654435761u + 88172645463325252u;
+    for (int number = 1; number <= runs;) {
+        struct module m;
+        struct plan empty = {0};
+        make(&m);
+        if (keeping && number % 3 == 0) keep(&m);
+        of = &m, found = 0, seen = 0;
+        extend(&empty, 1, 0, 0);
+        if (!found || seen > 300000) continue; /* too many plans to go through */
+        FILE *in = open_at(argv[3], number, ""), *wanted = open_at(argv[3], number, ".wanted");
+        write_image(in, &m);
+        if (keeping && number % 3 == 0) {
+            fprintf(in, "---\n");
+            write_paths(in, "keep", &m.kept);
+        }
+        fprintf(wanted, "weight %d\n", best.weight);
+        write_paths(wanted, "path", &best);
+        if (fclose(in) || fclose(wanted)) return 2;
+        number++;
+    }
+    return 0;
+}

@@ -1,0 +1,153 @@
+/* Runs the main loop of examples/main_loop.c on a bus and a clock in software. A transaction is over three calls of `poll` after it
+   began; the module takes `delay` milliseconds for a state of its data paths. Each run ends as it should, no transaction begins
+   during another one, and none that is asked for again, or comes after a refusal, begins before its pause is over. */
+#include "../../examples/main_loop.c"
+
+#include <stdio.h>
+#include <stdlib.h>
+
+static uint32_t clock_now;
+
+static struct {
+    uint8_t page, state;  /* selected; ModuleState, as byte 3 has it */
+    uint8_t control[128]; /* page 10h, from byte 128 on */
+    uint8_t active[8];
+    uint8_t down, down_before; /* DPDeinit, and what it was until `due` */
+    uint32_t due, delay;       /* when the path states follow DPDeinit, and after how long they do */
+    unsigned refuse_each;      /* every so many transactions one is refused */
+    bool lies;                 /* the driver says stored, whatever was asked */
+} module;
+
+static struct dovecounter_operation asked, asked_before;
+static uint8_t *wanted_bytes;
+static uint32_t over_at;
+static unsigned transactions, calls_left;
+static bool is_busy, was_refused;
+
+static void fail(const char *why) {
+    printf("main_loop: %s\n", why);
+    exit(1);
+}
+
+uint32_t milliseconds(void) { return clock_now; }
+
+void i2c_start(const struct dovecounter_operation *operation, uint8_t bytes[8]) {
+    if (is_busy) fail("a transaction began during another one");
+    if (operation->device != 0xA0 || operation->count == 0 || operation->count > 8) fail("an operation of no shape");
+    bool is_again = operation->offset == asked_before.offset && operation->kind == asked_before.kind &&
+                    operation->count == asked_before.count;
+    if (transactions % 4096 != 0 && is_again && clock_now - over_at < PAUSE)
+        fail("an operation was asked for again at once");
+    if (was_refused && transactions % 4096 != 0 && clock_now - over_at < PAUSE) fail("no pause after a refusal");
+    asked = *operation;
+    wanted_bytes = bytes;
+    calls_left = 3;
+    is_busy = true;
+}
+
+static uint8_t path_states(void) { return clock_now - module.due < 1u << 31 ? module.down : module.down_before; }
+
+static uint8_t fetch_byte(uint8_t address) {
+    if (address < 128) return address == 3 ? module.state : address == 127 ? module.page : 0;
+    if (module.page == 0x10) return module.control[address - 128];
+    if (address < 132) { /* two lanes a byte: DPDeactivated is 1, DPActivated 4 */
+        unsigned both = path_states() >> 2 * (address - 128);
+        return (uint8_t)((both & 1 ? 1 : 4) | (both & 2 ? 1 : 4) << 4);
+    }
+    if (address >= 202 && address < 206) return 0x11; /* ConfigSuccess */
+    return address >= 206 && address < 214 ? module.active[address - 206] : 0;
+}
+
+static void store_byte(uint8_t address, uint8_t byte) {
+    if (address == 127) module.page = byte;
+    if (address < 128 || module.page != 0x10) return;
+    module.control[address - 128] = byte;
+    if (address == 128 && byte != module.down) {
+        module.down_before = path_states();
+        module.down = byte;
+        module.due = clock_now + module.delay;
+    }
+    for (int lane = 0; address == 143 && lane < 8; lane++)
+        if (byte >> lane & 1) module.active[lane] = module.control[145 - 128 + lane];
+}
+
+static uint8_t transact(void) {
+    if (module.refuse_each != 0 && transactions % module.refuse_each == 0) return DOVECOUNTER_REFUSED;
+    for (uint8_t i = 0; i < asked.count; i++) {
+        uint8_t address = (uint8_t)(asked.offset + i);
+        if (asked.kind == DOVECOUNTER_STORE)
+            store_byte(address, asked.bytes[i]);
+        else
+            wanted_bytes[i] = fetch_byte(address);
+    }
+    return asked.kind == DOVECOUNTER_STORE || module.lies ? DOVECOUNTER_STORED : DOVECOUNTER_FETCHED;
+}
+
+/* The interrupt, which comes by itself. */
+static void interrupt(void) {
+    if (!is_busy || --calls_left != 0) return;
+    transactions++;
+    is_busy = false;
+    asked_before = asked;
+    over_at = clock_now;
+    uint8_t what = transact();
+    was_refused = what == DOVECOUNTER_REFUSED;
+    i2c_over(what);
+}
+
+static const struct dovecounter_plan pairs = {
+    .lanes = 0xFF, .outside = 0xFF, .count = 4, .control = {0x20, 0x20, 0x24, 0x24, 0x28, 0x28, 0x2C, 0x2C}};
+
+static struct dovecounter_durations durations; /* below a pause */
+
+/* Carries the plan out on such a module, for two hours at most, and compares how that ended. */
+static void run(const char *name, uint8_t state, uint32_t delay, unsigned refuse_each, bool lies, enum stage end_wanted,
+                uint8_t fault_wanted, uint32_t status_wanted) {
+    memset(&module, 0, sizeof module);
+    module.state = state;
+    module.delay = delay;
+    module.refuse_each = refuse_each;
+    module.lies = lies;
+    transactions = 0;
+    was_refused = false;
+    memset(&asked_before, 0, sizeof asked_before);
+    clock_now = UINT32_MAX - 5000; /* it starts anew on the way */
+    if (!carry_out(&pairs, &durations)) fail("a plan was not begun");
+    if (carry_out(&pairs, &durations)) fail("a plan was begun during another one");
+    enum stage found = stage;
+    for (uint32_t passed = 0; passed < 7200000 && (found == PROVISIONING || found == ACTIVATING); passed++) {
+        clock_now++;
+        interrupt();
+        found = poll();
+    }
+    if (found != end_wanted || fault.code != fault_wanted ||
+        (found == FAILED && fault.code == 0 && status != status_wanted)) {
+        printf("main_loop: %s: stage %d, fault PV%u, status %u\n", name, found, fault.code, (unsigned)status);
+        exit(1);
+    }
+    if (found == UP && (memcmp(module.active, pairs.control, 8) != 0 || path_states() != 0)) fail("the plan is not up");
+}
+
+int main(void) {
+    run("a module that follows at once", 3 << 1, 0, 0, false, UP, 0, 0);
+    if (transactions != 16 + 10) fail("more transactions than there have to be");
+    run("a bus that refuses every fifth transaction", 3 << 1, 20, 5, false, UP, 0, 0);
+    run("a module that takes a minute", 3 << 1, 60000, 5, false, UP, 0, 0);
+    run("a module that takes longer than one procedure lasts", 3 << 1, 600000, 0, false, UP, 0, 0);
+    if (transactions < 2 * 4096) fail("no procedure was begun again");
+    durations.path_init = 1200000;
+    run("the same, which advertises it", 3 << 1, 600000, 0, false, UP, 0, 0);
+    if (transactions >= 4096) fail("a procedure was begun again, or pauses were short");
+    if (module_pause != 600) fail("another pause than the durations ask for");
+    durations.path_init = DOVECOUNTER_UNBOUNDED;
+    run("a module that says no bound", 3 << 1, 0, 0, false, UP, 0, 0);
+    if (module_pause != LONGEST_PAUSE) fail("another pause than the longest");
+    durations.path_init = 0;
+    run("a bus that refuses all", 3 << 1, 0, 1, false, FAILED, 4, 0);
+    if (transactions != MOST_BEGINNINGS * 4096) fail("a procedure was begun too often");
+    run("a module of low power", 1 << 1, 0, 0, false, FAILED, 6, 0);
+    run("a driver that says stored of a fetch", 3 << 1, 0, 0, true, FAILED, 0, DOVECOUNTER_NO_REPLY);
+    run("the same once more, of a driver that does not", 3 << 1, 0, 0, false, UP, 0, 0);
+    printf("firmware: the main loop of the example carries a plan out, on modules fast and slow\n");
+    return 0;
+}

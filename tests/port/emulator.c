@@ -1,0 +1,194 @@
+#include "emulator.h"
+
+#include <stdio.h>
+#include <string.h>
+
+enum { DP_DEINIT = 0, APPLY_DP_INIT = 15, STAGED = 17 };                        /* on page 10h, from byte 128 on */
+enum { PATHS = 0, LATCHED = 6, LAST_LATCHED = 24, STATUSES = 74, ACTIVE = 78 }; /* on page 11h */
+
+uint64_t next_random(uint64_t *state) {
+    uint64_t x = *state += 0x9E3779B97F4A7C15U; /* splitmix64 */
+    x = (x ^ (x >> 30)) * 0xBF58476D1CE4E5B9U;
+    x = (x ^ (x >> 27)) * 0x94D049BB133111EBU;
+    return x ^ (x >> 31);
+}
+
+static unsigned some_time(struct emulator *module) {
+    return 1 + (unsigned)(next_random(&module->random) % module->slowest);
+}
+
+void begin_emulator(struct emulator *module, uint64_t seed) {
+    memset(module, 0, sizeof *module);
+    memset(module->path, DEACTIVATED, sizeof module->path);
+    module->random = seed;
+    module->slowest = 5;
+    module->stuck = -1;
+}
+
+static bool read_digits(const char *digits, uint8_t bytes[128]) {
+    for (int i = 0; i < 128; i++) {
+        unsigned byte;
+        if (sscanf(digits + 2 * (size_t)i, "%2x", &byte) != 1) return false;
+        bytes[i] = (uint8_t)byte;
+    }
+    return true;
+}
+
+bool load_image(struct emulator *module, const char *name) {
+    char line[400], digits[257];
+    unsigned bank, page;
+    FILE *file = fopen(name, "r");
+    if (file == NULL) return false;
+    while (fgets(line, sizeof line, file)) {
+        if (sscanf(line, "lower A0 %256s", digits) == 1)
+            read_digits(digits, module->lower);
+        else if (sscanf(line, "upper A0 %x %x %256s", &bank, &page, digits) == 3 && bank == 0 && page < 256)
+            module->present[page] = read_digits(digits, module->pages[page]);
+    }
+    fclose(file);
+    return true;
+}
+
+/* The descriptor of an Application; NULL if it isn't advertised. */
+static const uint8_t *descriptor(const struct emulator *module, unsigned application) {
+    for (unsigned each = 1; each <= application; each++) {
+        const uint8_t *bytes = each <= 8 ? &module->lower[86 + 4 * (each - 1)] : &module->pages[1][95 + 4 * (each - 9)];
+        if (bytes[0] == 0xFF) return NULL;
+        if (each == application) return bytes;
+    }
+    return NULL;
+}
+
+static unsigned lanes_from(unsigned first, unsigned count) { return ((1U << count) - 1) << first & 0xFF; }
+
+/* The lanes of the active data path of this one. */
+static unsigned active_path(const struct emulator *module, int lane) {
+    const uint8_t *active = &module->pages[0x11][ACTIVE];
+    unsigned lanes = 1U << lane;
+    for (int other = 0; other < 8 && active[lane] >> 4 != 0; other++)
+        if (active[other] >> 1 == active[lane] >> 1) lanes |= 1U << other;
+    return lanes;
+}
+
+static bool is_held_down(const struct emulator *module, int lane) {
+    unsigned lanes = active_path(module, lane);
+    if (module->pages[0x11][ACTIVE + lane] >> 4 == 0 || (module->lower[3] >> 1 & 7) != 3) return true;
+    return ((module->pages[0x10][DP_DEINIT] | module->applying) & lanes) != 0;
+}
+
+void power_up(struct emulator *module) {
+    for (int lane = 0; lane < 8; lane++) module->path[lane] = is_held_down(module, lane) ? DEACTIVATED : ACTIVATED;
+}
+
+/* Why a lane's staged byte can't be applied; 0 if it can. */
+static uint8_t rejection(const struct emulator *module, int lane, unsigned mask) {
+    const uint8_t *staged = &module->pages[0x10][STAGED];
+    unsigned application = staged[lane] >> 4, first = staged[lane] >> 1 & 7, lanes = 1U << lane;
+    if (module->path[lane] != DEACTIVATED) return LANES_IN_USE;
+    if (application != 0) {
+        const uint8_t *bytes = descriptor(module, application);
+        unsigned count = bytes != NULL ? bytes[2] >> 4 : 0;
+        if (bytes == NULL || count == 0 || count > 8 || (bytes[2] & 15) == 0 || (bytes[2] & 15) > 8)
+            return BAD_APPLICATION;
+        if (staged[lane] & 1) return BAD_SIGNAL;
+        lanes = lanes_from(first, count);
+        if (!(bytes[3] >> first & 1) || first + count > 8 || !(lanes >> lane & 1)) return BAD_PATH;
+        for (int other = 0; other < 8; other++)
+            if (lanes >> other & 1 && staged[other] != staged[lane]) return BAD_PATH;
+    }
+    return ((lanes | active_path(module, lane)) & ~mask) != 0 ? PARTIAL_PATH : 0;
+}
+
+static void apply(struct emulator *module, uint8_t mask) {
+    uint8_t reasons[8] = {0};
+    bool good = true;
+    if (mask == 0 || module->applying != 0) return;
+    for (int lane = 0; lane < 8; lane++)
+        if (mask >> lane & 1) good = (reasons[lane] = rejection(module, lane, mask)) == 0 && good;
+    for (int lane = 0; lane < 8; lane++) {
+        if (!(mask >> lane & 1)) continue;
+        if (good && module->silent == 0) module->status[lane] = IN_PROGRESS;
+        if (!good) module->status[lane] = reasons[lane] != 0 ? reasons[lane] : REJECTED;
+    }
+    if (!good) return;
+    memcpy(module->applied, &module->pages[0x10][STAGED], 8);
+    module->applying = mask;
+    module->silent_left = module->silent;
+    module->apply_left = module->silent + some_time(module);
+}
+
+uint8_t fetch_byte(struct emulator *module, uint8_t address) {
+    uint8_t at = address & 127, *bytes = module->pages[module->page], byte;
+    if (address < 126) return module->lower[address];
+    if (address < 128) return address == 126 ? module->bank : module->page;
+    if (module->page == 0x11 && at < 4) return (uint8_t)(module->path[2 * at] | module->path[2 * at + 1] << 4);
+    if (module->page == 0x11 && at >= STATUSES && at < ACTIVE)
+        return (uint8_t)(module->status[2 * (at - STATUSES)] | module->status[2 * (at - STATUSES) + 1] << 4);
+    byte = bytes[at];
+    if (module->page == 0x11 && at >= LATCHED && at <= LAST_LATCHED) bytes[at] = 0;
+    return byte;
+}
+
+static void select_page(struct emulator *module, uint8_t page) {
+    bool there = module->next_bank == 0 && module->present[page];
+    module->bank = module->next_bank = 0;
+    module->page = there ? page : 0;
+    if (module->stuck >= 0) module->page = (uint8_t)module->stuck;
+}
+
+void store_byte(struct emulator *module, uint8_t address, uint8_t byte) {
+    uint8_t at = address & 127, *page = module->pages[0x10];
+    if (address == 126)
+        module->next_bank = byte;
+    else if (address == 127)
+        select_page(module, byte);
+    else if (address < 128 || module->page != 0x10)
+        module->astray++;
+    else if (at == DP_DEINIT) {
+        module->deinit |= byte;
+        page[at] = byte;
+    } else if (at == APPLY_DP_INIT) {
+        module->applies |= byte;
+        apply(module, byte);
+    } else if (at >= STAGED && at < STAGED + 8)
+        page[at] = byte;
+    else
+        module->astray++;
+}
+
+static uint8_t next_state(uint8_t state, bool down, bool over) {
+    switch (state) {
+    case DEACTIVATED: return down ? DEACTIVATED : INIT;
+    case INIT: return over ? INITIALIZED : INIT;
+    case INITIALIZED: return down ? DEINIT : TX_TURN_ON;
+    case TX_TURN_ON: return over ? ACTIVATED : TX_TURN_ON;
+    case ACTIVATED: return down ? TX_TURN_OFF : ACTIVATED;
+    case TX_TURN_OFF: return over ? INITIALIZED : TX_TURN_OFF;
+    default: return over ? DEACTIVATED : DEINIT;
+    }
+}
+
+static void pass_paths(struct emulator *module) {
+    for (int lane = 0; lane < 8; lane++) {
+        bool over = module->path_left[lane] == 0 || --module->path_left[lane] == 0;
+        uint8_t before = module->path[lane];
+        module->path[lane] = next_state(before, is_held_down(module, lane), over);
+        if (module->path[lane] == before) continue;
+        module->path_left[lane] = some_time(module);
+        module->pages[0x11][LATCHED] |= (uint8_t)(1U << lane);
+        if (before == ACTIVATED) module->left_activated |= (uint8_t)(1U << lane);
+    }
+}
+
+void pass_millisecond(struct emulator *module) {
+    pass_paths(module);
+    bool shows = module->silent_left > 0 && --module->silent_left == 0;
+    bool ends = module->applying != 0 && --module->apply_left == 0;
+    for (int lane = 0; lane < 8; lane++) {
+        if (!(module->applying >> lane & 1)) continue;
+        if (shows) module->status[lane] = IN_PROGRESS;
+        if (ends) module->status[lane] = SUCCESS;
+        if (ends) module->pages[0x11][ACTIVE + lane] = module->applied[lane];
+    }
+    if (ends) module->applying = 0;
+}

@@ -1,0 +1,48 @@
+/* A CMIS module of eight lanes with paged memory, as its host sees it: for tests of cmis-port. Written from OIF-CMIS-05.0, apart from the
+   simulated module of cmisctl. */
+#ifndef EMULATOR_H
+#define EMULATOR_H
+#include <stdbool.h>
+#include <stdint.h>
+
+enum path_state { DEACTIVATED = 1, INIT, DEINIT, ACTIVATED, TX_TURN_ON, TX_TURN_OFF, INITIALIZED };
+enum config_status {
+    SUCCESS = 1,
+    REJECTED,
+    BAD_APPLICATION,
+    BAD_PATH,
+    BAD_SIGNAL,
+    LANES_IN_USE,
+    PARTIAL_PATH,
+    IN_PROGRESS = 12
+};
+
+struct emulator {
+    uint8_t lower[128], pages[256][128]; /* as they were loaded, with what is stored and latched */
+    bool present[256];                   /* pages of bank 0 */
+    uint8_t bank, page, next_bank;       /* the selection; what was stored at 126 */
+    uint8_t path[8], status[8];
+    unsigned path_left[8]; /* milliseconds until a transient state ends */
+    uint8_t applied[8];    /* what becomes active */
+    uint8_t applying;      /* lanes */
+    unsigned apply_left, silent_left;
+
+    unsigned slowest; /* milliseconds that a state may last */
+    unsigned silent;  /* milliseconds before an apply shows in the statuses */
+    int stuck;        /* the page that is selected for good, or -1 */
+    uint64_t random;
+
+    /* what a test looks at */
+    uint8_t left_activated;  /* lanes */
+    uint8_t deinit, applies; /* bits that were stored to DPDeinit and ApplyDPInit */
+    unsigned astray;         /* bytes stored elsewhere, but for the selection and the staged control bytes */
+};
+
+uint64_t next_random(uint64_t *state);
+void begin_emulator(struct emulator *module, uint64_t seed);
+bool load_image(struct emulator *module, const char *file);
+void power_up(struct emulator *module); /* once the memory is loaded: lanes with active control bytes are up */
+uint8_t fetch_byte(struct emulator *module, uint8_t address);
+void store_byte(struct emulator *module, uint8_t address, uint8_t byte);
+void pass_millisecond(struct emulator *module);
+#endif

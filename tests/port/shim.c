@@ -1,0 +1,216 @@
+#define _GNU_SOURCE
+#include "shim.h"
+
+#include <dlfcn.h>
+#include <errno.h>
+#include <fcntl.h>
+#include <linux/i2c-dev.h>
+#include <linux/i2c.h>
+#include <signal.h>
+#include <stdarg.h>
+#include <stdio.h>
+#include <stdlib.h>
+#include <string.h>
+#include <time.h>
+#include <unistd.h>
+
+struct shim shim = {.file = -1, .error = EREMOTEIO};
+
+static const char adapter[] = "/dev/i2c-99", eeprom[] = "/sys/bus/i2c/devices/99-0050/eeprom";
+
+/* The C library's function of this name. */
+#define REAL(name) ((__typeof__(&name))dlsym(RTLD_NEXT, #name))
+
+/* ---- time ---- */
+
+static int64_t microseconds(void) {
+    struct timespec time;
+    if (!shim.real_time) return shim.microseconds;
+    REAL(clock_gettime)(CLOCK_MONOTONIC, &time);
+    return (int64_t)time.tv_sec * 1000000 + time.tv_nsec / 1000;
+}
+
+int clock_gettime(clockid_t clock, struct timespec *time) {
+    if (shim.file < 0 || shim.real_time || clock != CLOCK_MONOTONIC) return REAL(clock_gettime)(clock, time);
+    time->tv_sec = shim.microseconds / 1000000;
+    time->tv_nsec = shim.microseconds % 1000000 * 1000;
+    return 0;
+}
+
+int sigtimedwait(const sigset_t *set, siginfo_t *info, const struct timespec *time) {
+    const struct timespec none = {0};
+    if (shim.file < 0 || shim.real_time) return REAL(sigtimedwait)(set, info, time);
+    shim.microseconds += (int64_t)time->tv_sec * 1000000 + time->tv_nsec / 1000;
+    return REAL(sigtimedwait)(set, info, &none);
+}
+
+/* ---- what the environment says ---- */
+
+static void read_word(const char *word) {
+    unsigned value = 0;
+    const char *after = strchr(word, '=');
+    if (after != NULL) value = (unsigned)strtoul(after + 1, NULL, 0);
+    sscanf(word, "image=%255s", shim.image);
+    sscanf(word, "out=%255s", shim.out);
+    sscanf(word, "driver=%31s", shim.driver);
+    if (strncmp(word, "seed=", 5) == 0) shim.random = value;
+    if (strncmp(word, "refuse=", 7) == 0) shim.refuse = value;
+    if (strncmp(word, "longest=", 8) == 0) shim.longest = value;
+    if (strncmp(word, "unplug=", 7) == 0) shim.unplug = value;
+    if (strncmp(word, "swap=", 5) == 0) shim.swap = value;
+    if (strncmp(word, "interrupt=", 10) == 0) shim.interrupt = value;
+    if (strncmp(word, "durations=", 10) == 0) shim.durations = (uint8_t)value;
+    if (strncmp(word, "error=", 6) == 0) shim.error = (int)value;
+    if (strncmp(word, "slowest=", 8) == 0) shim.module.slowest = value;
+    if (strncmp(word, "silent=", 7) == 0) shim.module.silent = value;
+    if (strncmp(word, "stuck=", 6) == 0) shim.module.stuck = (int)value;
+    if (strcmp(word, "smbus") == 0) shim.smbus = true;
+    if (strcmp(word, "real-time") == 0) shim.real_time = true;
+}
+
+/* MaxDurationDPDeinit and DPInit in byte 144 of page 01h, those of the transmitter in byte 168, and the sum in byte 255. */
+static void advertise_durations(void) {
+    uint8_t *page = shim.module.pages[1];
+    unsigned sum = 0;
+    page[144 - 128] = page[168 - 128] = shim.durations;
+    for (unsigned at = 130; at < 255; at++) sum += page[at - 128];
+    page[255 - 128] = (uint8_t)sum;
+}
+
+static void begin(void) {
+    const char *words = getenv("PORT");
+    char *copy = strdup(words != NULL ? words : ""), *rest = NULL;
+    if (copy == NULL) abort();
+    begin_emulator(&shim.module, 1);
+    for (char *word = strtok_r(copy, " ", &rest); word != NULL; word = strtok_r(NULL, " ", &rest)) read_word(word);
+    free(copy);
+    shim.module.random += shim.random;
+    if (!load_image(&shim.module, shim.image)) abort();
+    if (shim.durations != 0) advertise_durations();
+    power_up(&shim.module);
+    shim.fresh = shim.module;
+    shim.lived = microseconds() / 1000;
+}
+
+/* What a case compares: the bytes and states that the module has, and what was done to it. */
+__attribute__((destructor)) static void tell(void) {
+    const struct emulator *module = &shim.module;
+    FILE *out = shim.out[0] != 0 ? fopen(shim.out, "w") : NULL;
+    if (out == NULL) return;
+    fputs("active", out);
+    for (int lane = 0; lane < 8; lane++) fprintf(out, " %02x", module->pages[0x11][206 - 128 + lane]);
+    fputs("\npaths", out);
+    for (int lane = 0; lane < 8; lane++) fprintf(out, " %u", module->path[lane]);
+    fprintf(out, "\ndeinit %02x applied %02x left-activated %02x astray %u\n", module->deinit, module->applies,
+            module->left_activated, module->astray);
+    fclose(out);
+}
+
+/* ---- the module behind both ---- */
+
+/* Whether the next transaction reaches the module; else errno says why. */
+static bool reaches(void) {
+    shim.made++;
+    shim.microseconds += 300; /* of the transaction */
+    if (shim.made == shim.swap) shim.module = shim.fresh;
+    if (shim.made == shim.interrupt) kill(getpid(), SIGINT);
+    for (int64_t until = microseconds() / 1000; shim.lived < until; shim.lived++) pass_millisecond(&shim.module);
+    errno = shim.error;
+    if (shim.unplug != 0 && shim.made > shim.unplug)
+        errno = ENXIO;
+    else
+        return next_random(&shim.random) % 100 >= shim.refuse;
+    return false;
+}
+
+static void fetch_bytes(uint8_t address, size_t count, uint8_t *bytes) {
+    for (size_t i = 0; i < count; i++) bytes[i] = fetch_byte(&shim.module, (uint8_t)(address + i));
+}
+
+static void store_bytes(uint8_t address, size_t count, const uint8_t *bytes) {
+    for (size_t i = 0; i < count; i++) store_byte(&shim.module, (uint8_t)(address + i), bytes[i]);
+}
+
+/* ---- /dev/i2c-99 ---- */
+
+static int transfer(const struct i2c_rdwr_ioctl_data *data) {
+    for (unsigned i = 0; i < data->nmsgs; i++)
+        if (shim.longest != 0 && data->msgs[i].len > shim.longest) return errno = EOPNOTSUPP, -1;
+    bool reached = reaches();
+    for (unsigned i = 0; i < data->nmsgs; i++) {
+        struct i2c_msg *message = &data->msgs[i];
+        if (message->addr != 0x50) return errno = ENXIO, -1;
+        if (message->flags & I2C_M_RD) {
+            if (!reached) return -1;
+            fetch_bytes(shim.pointer, message->len, message->buf);
+        } else {
+            /* a refused store may have given some of its bytes */
+            size_t taken = reached ? message->len - 1U : next_random(&shim.random) % message->len;
+            shim.pointer = message->buf[0];
+            if (!(shim.unplug != 0 && shim.made > shim.unplug)) store_bytes(shim.pointer, taken, message->buf + 1);
+            if (!reached) return -1;
+        }
+    }
+    return (int)data->nmsgs;
+}
+
+int ioctl(int file, unsigned long request, ...) {
+    va_list arguments;
+    va_start(arguments, request);
+    void *argument = va_arg(arguments, void *);
+    va_end(arguments);
+    if (file < 0 || file != shim.file) return REAL(ioctl)(file, request, argument);
+    if (shim.in_a_row) return errno = ENOTTY, -1;
+    if (request == I2C_FUNCS) {
+        *(unsigned long *)argument = shim.smbus ? I2C_FUNC_SMBUS_BYTE_DATA : I2C_FUNC_I2C;
+        return 0;
+    }
+    if (request == I2C_RDWR && !shim.smbus) return transfer(argument);
+    return errno = EOPNOTSUPP, -1;
+}
+
+/* ---- the file of optoe, which selects pages by itself ---- */
+
+/* Selects the page of this place in the file, and says where that is in the module's 256 bytes. */
+static uint8_t select_place(off_t place) {
+    const uint8_t selection[2] = {0, (uint8_t)(place < 256 ? 0 : place / 128 - 1)};
+    store_bytes(126, 2, selection);
+    return (uint8_t)(place < 128 ? place : 128 + place % 128);
+}
+
+ssize_t pread(int file, void *bytes, size_t count, off_t place) {
+    if (file < 0 || file != shim.file) return REAL(pread)(file, bytes, count, place);
+    if (!reaches()) return -1;
+    if (place >= 128 && !shim.module.present[place / 128 - 1]) return 0;
+    fetch_bytes(select_place(place), count, bytes);
+    return (ssize_t)count;
+}
+
+ssize_t pwrite(int file, const void *bytes, size_t count, off_t place) {
+    if (file < 0 || file != shim.file) return REAL(pwrite)(file, bytes, count, place);
+    if (!reaches()) return -1;
+    store_bytes(select_place(place), count, bytes);
+    return (ssize_t)count;
+}
+
+/* ---- files ---- */
+
+int open(const char *path, int flags, ...) {
+    mode_t mode = 0;
+    if (flags & O_CREAT) {
+        va_list arguments;
+        va_start(arguments, flags);
+        mode = va_arg(arguments, mode_t);
+        va_end(arguments);
+    }
+    if (strcmp(path, adapter) != 0 && strcmp(path, eeprom) != 0) return REAL(open)(path, flags, mode);
+    if (getenv("PORT") != NULL) begin();
+    shim.in_a_row = strcmp(path, eeprom) == 0;
+    return shim.file = REAL(open)(shim.image, O_RDONLY | O_CLOEXEC); /* two programs at once lock the same file */
+}
+
+ssize_t readlink(const char *path, char *target, size_t room) {
+    if (strcmp(path, "/sys/bus/i2c/devices/99-0050/driver") != 0) return REAL(readlink)(path, target, room);
+    if (shim.driver[0] == 0) return errno = ENOENT, -1;
+    return snprintf(target, room, "../../../bus/i2c/drivers/%s", shim.driver);
+}

@@ -1,0 +1,30 @@
+/* Calls of the C library in place of Linux's: /dev/i2c-99 is an adapter with the emulator behind it, and
+   /sys/bus/i2c/devices/99-0050/eeprom the file that optoe has for it. All other files are those of Linux. Loaded by LD_PRELOAD, it takes
+   what it is to be from the environment (PORT, words as in `image=FILE refuse=40`); linked in, from who calls. */
+#ifndef SHIM_H
+#define SHIM_H
+#include "emulator.h"
+
+struct shim {
+    struct emulator module, fresh; /* the second comes in place of the first */
+    uint64_t random;
+    unsigned refuse;       /* percent of the transactions */
+    unsigned longest;      /* bytes of a message; 0 for any number */
+    unsigned made;         /* transactions */
+    unsigned unplug, swap; /* after so many of them the module is gone, or is a fresh one; 0 for never */
+    unsigned interrupt;    /* after so many of them the program gets SIGINT */
+    bool smbus;            /* the adapter is for SMBus alone */
+    bool real_time;        /* a pause is one; else the clock goes on by it at once */
+    uint8_t durations; /* codes that the module advertises for the states of its data paths; 0 for those of the image */
+    int error;         /* of a refused transaction */
+    char driver[32];   /* that is bound to 50h */
+    char image[256], out[256]; /* files: the module's memory, and what is told at the end */
+    int64_t microseconds;      /* of the clock */
+    int64_t lived;             /* milliseconds that the module has seen */
+    int file;
+    bool in_a_row;   /* it is that of optoe */
+    uint8_t pointer; /* the address from which a fetch reads */
+};
+
+extern struct shim shim;
+#endif
