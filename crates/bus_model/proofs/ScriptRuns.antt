@@ -16,7 +16,7 @@ use Rattle.bus_model.specs.Keeping.{AllowsPins, IsKeptInTime, IsKeptBy}
 use Rattle.bus_model.specs.Operations.{fetch_reply, fetch_step, store_step}
 use Rattle.bus_model.specs.Runs.{Rules, MayInTurn}
 use Rattle.bus_model.specs.Scripts.{spent}
-use Rattle.bus_model.specs.ScriptedBus.{ticked, settled, passed_on, given, obeyed, transacted, script_rules}
+use Rattle.bus_model.specs.ScriptedBus.{ticked_times, settled, passed_on, given, obeyed, transacted, script_rules}
 
 -- the steps of a run in two parts
 pub may_split : {S : Type 0} (rules : Rules S) (state : S) (first next : List Step) → MayInTurn rules state (first ++ next) → MayInTurn rules state first × MayInTurn rules (fold rules.after state first) next
@@ -60,7 +60,7 @@ module _ {S : Type 0} (conduct : Conduct S) (Pins : Bool → Type 0) where
   step_allows op (script, state) allows = spent_allows _ (settled_allows script state allows)
 
 module _ {S : Type 0} (conduct : Conduct S) (Pins : Bool → Type 0) (P : S → Type 0) (time : IsKeptInTime conduct Pins P) where
-  ticked_keeps : (count : ℕ) (state : S) → P state → P (ticked conduct count state)
+  ticked_keeps : (count : ℕ) (state : S) → P state → P (ticked_times conduct count state)
   ticked_keeps zero state holds = holds
   ticked_keeps (suc count) state holds = time.tick _ (ticked_keeps count state holds)
 

@@ -14,12 +14,12 @@ abbrev pub IsInHalf : ℕ → ℕ → Type 0
 IsInHalf offset count = (0 < count) × ((offset + count ≤ 128) ⊎ ((128 ≤ offset) × (offset + count ≤ 256)))
 
 -- a store gives 8 bytes at most
-abbrev pub IsStore : ℕ → List ℕ → Type 0
-IsStore offset bytes = IsInHalf offset (length bytes) × (length bytes ≤ 8)
+abbrev pub IsWellShapedStore : ℕ → List ℕ → Type 0
+IsWellShapedStore offset bytes = IsInHalf offset (length bytes) × (length bytes ≤ 8)
 
 abbrev pub IsWellShaped : Op → Type 0
 IsWellShaped (Fetch dev offset count) = IsInHalf offset count
-IsWellShaped (Store dev offset bytes) = IsStore offset bytes.items
+IsWellShaped (Store dev offset bytes) = IsWellShapedStore offset bytes.items
 
 -- the reply is one that the operation can have
 abbrev pub Answers : Op → Reply → Type 0

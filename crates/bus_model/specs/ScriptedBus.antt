@@ -13,9 +13,9 @@ use Rattle.bus_model.specs.Runs.{Rules}
 use Rattle.bus_model.specs.Scripts.{spent}
 
 -- so many units of time
-abbrev pub ticked : {S : Type 0} → Conduct S → ℕ → S → S
-ticked conduct zero state = state
-ticked conduct (suc count) state = conduct.tick (ticked conduct count state)
+abbrev pub ticked_times : {S : Type 0} → Conduct S → ℕ → S → S
+ticked_times conduct zero state = state
+ticked_times conduct (suc count) state = conduct.tick (ticked_times conduct count state)
 
 -- the script and the device when the directives that stand before the next transaction have come
 abbrev pub settled : {S : Type 0} → Conduct S → List Directive → S → List Directive × S
@@ -23,7 +23,7 @@ settled conduct [] state = ([], state)
 settled conduct (Pass count ∷ script) state = (Pass count ∷ script, state)
 settled conduct (Nack count ∷ script) state = (Nack count ∷ script, state)
 settled conduct (Cut count ∷ script) state = (Cut count ∷ script, state)
-settled conduct (Tick count ∷ script) state = settled conduct script (ticked conduct count state)
+settled conduct (Tick count ∷ script) state = settled conduct script (ticked_times conduct count state)
 settled conduct (LowPower on ∷ script) state = settled conduct script (conduct.low_power_pin state on)
 
 -- the device's own reply

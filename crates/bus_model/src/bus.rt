@@ -35,7 +35,7 @@ impl Spelled for BusFault {
 pub trait Bus {
     ghost use Rattle.std.specs.Prelude.{◌≡◌, ◌↔◌, [], ◌∷◌, length, IfOk, IfErr, IsErr, OnErr, IfSome};
     ghost use Rattle.bus_model.specs.declared.operation.Step.{Step};
-    ghost use Rattle.bus_model.specs.Operations.{IsInHalf, IsStore, IsWellShaped, Answers, fetch_step, store_step};
+    ghost use Rattle.bus_model.specs.Operations.{IsInHalf, IsWellShapedStore, IsWellShaped, Answers, fetch_step, store_step};
     ghost use Rattle.bus_model.specs.Runs.{Rules, Seen, Ran, IsFull};
 
     /// What the bus and its devices hold, as plain data.
@@ -81,7 +81,7 @@ pub trait Bus {
 
     /// Stores up to 8 bytes in one half, from an address on; whether they were taken. Fails on a full list alone.
     final fn store(&mut self, dev: Dev, offset: u8, bytes: &[u8]) -> Result<bool, BusFault>
-        requires { IsStore offset bytes.now }
+        requires { IsWellShapedStore offset bytes.now }
         ensures ran { IfOk result (λ taken.
             Ran rules (seen self.old) (seen self.new) (store_step dev offset bytes.now taken ∷ [])) }
         ensures full { IsErr result ↔ IsFull (seen self.old) }

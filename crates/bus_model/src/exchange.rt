@@ -1,7 +1,7 @@
 //! One transaction between a bus and its device, as a script says.
 ghost use Rattle.std.specs.Prelude.{◌≡◌};
 ghost use Rattle.bus_model.specs.Operations.{IsWellShaped, Answers};
-ghost use Rattle.bus_model.specs.ScriptedBus.{ticked, settled, passed_on, given, obeyed, transacted};
+ghost use Rattle.bus_model.specs.ScriptedBus.{ticked_times, settled, passed_on, given, obeyed, transacted};
 
 use crate::device::Device;
 use crate::operation::{Op, Reply};
@@ -9,7 +9,7 @@ use crate::script::{Directive, Script};
 
 // Lets so many units of time pass.
 fn tick_all<D: Device>(device: &mut D, count: u16)
-    ensures { D.state device.new ≡ ticked D.conduct count (D.state device.old) }
+    ensures { D.state device.new ≡ ticked_times D.conduct count (D.state device.old) }
 {
     for _ in 0..count {
         device.tick();

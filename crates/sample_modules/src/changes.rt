@@ -1,8 +1,7 @@
 //! How to change bytes of an image.
 ghost use Rattle.std.specs.Prelude.{◌≡◌, ◌+◌, ◌≤◌, ◌↔◌, length, IfOk, IsErr, false};
 ghost use Rattle.std.specs.FinMap as map;
-ghost use Rattle.paged_memory.specs.declared.image.TheConstants.{MAX_PAGES};
-ghost use Rattle.paged_memory.specs.Images.{place_in_half};
+ghost use Rattle.paged_memory.specs.Images.{most_pages, place_in_half};
 ghost use Rattle.sample_modules.specs.Changes.{half_of, changed, run_over, gathered};
 
 use paged_memory::{Image, ImageFault, Key, PAGE_LEN, Page};
@@ -10,7 +9,7 @@ use paged_memory::{Image, ImageFault, Key, PAGE_LEN, Page};
 /// The image with these bytes of a half, each by its address. A half that is absent is one of zeros before.
 pub fn with(mut image: Image, key: Key, changes: &[(u8, u8)]) -> Result<Image, ImageFault>
     ensures ok { IfOk result (λ new. new ≡ map.insert image key (changed (half_of image key) changes.now)) }
-    ensures refused { IsErr result ↔ ((map.len image ≡ MAX_PAGES) × (map.contains_key image key ≡ false)) }
+    ensures refused { IsErr result ↔ ((map.len image ≡ most_pages) × (map.contains_key image key ≡ false)) }
 {
     let half = change(half_of(&image, key), changes);
     image.put(key, Page::from(half))?;
@@ -21,7 +20,7 @@ pub fn with(mut image: Image, key: Key, changes: &[(u8, u8)]) -> Result<Image, I
 pub fn with_run(mut image: Image, key: Key, address: u8, bytes: &[u8]) -> Result<Image, ImageFault>
     requires { place_in_half address + length bytes.now ≤ PAGE_LEN }
     ensures ok { IfOk result (λ new. new ≡ map.insert image key (run_over (half_of image key) (place_in_half address) bytes.now)) }
-    ensures refused { IsErr result ↔ ((map.len image ≡ MAX_PAGES) × (map.contains_key image key ≡ false)) }
+    ensures refused { IsErr result ↔ ((map.len image ≡ most_pages) × (map.contains_key image key ≡ false)) }
 {
     let half = run_over(half_of(&image, key), place_of(address), bytes);
     image.put(key, Page::from(half))?;
