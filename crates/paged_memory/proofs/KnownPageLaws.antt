@@ -10,7 +10,7 @@ use Rattle.paged_memory.specs.declared.paging.Paging.{Paging}
 use Rattle.paged_memory.specs.declared.paging.Paging.TheVariants.{BankAndPage, PageAlone}
 use Rattle.paged_memory.specs.declared.paging.Selected.{Selected}
 use Rattle.paged_memory.specs.declared.paging.Selected.TheVariants.{Unknown, Open, Page}
-use Rattle.paged_memory.specs.Paging.{History, confirms, is_page, is_read, is_selection_of, may_select, read_selection, selection}
+use Rattle.paged_memory.specs.Paging.{History, is_page_confirmed, is_page, is_read, is_selection_of, may_select, read_selection, selection}
 use Rattle.paged_memory.specs.KnownPages.{IsApart, Tells, is_awaited, is_known, missing_page, selected_after, selecting_first, selection_read, selection_told, wanted}
 
 abbrev pub step_of : Op → Reply → Step
@@ -65,29 +65,29 @@ module _ (paging : Paging) (selected : Selected) (history : History) (told : Tel
   read_back_tells (Bytes bytes) awaited = record {
     awaited = (λ i. reads_alone paging i || (reads_itself paging i && false)) ∙ sym (read_closes paging bytes.items);
     known = λ page.
-        (λ i. (reads_itself paging i && is_selection_of paging page bytes.items) || (not (reads_alone paging i) && confirms paging page history))
+        (λ i. (reads_itself paging i && is_selection_of paging page bytes.items) || (not (reads_alone paging i) && is_page_confirmed paging page history))
         ∙ ap (λ (b : Bool). is_selection_of paging page bytes.items || b) (told.known page ∙ none_known selected page awaited)
         ∙ or_false _ ∙ read_tells paging bytes.items page;
   }
   read_back_tells Done awaited = record {
     awaited = (λ i. reads_alone paging i || (reads_itself paging i && true)) ∙ sym awaited;
-    known = λ page. (λ i. (reads_itself paging i && false) || (not (reads_alone paging i) && confirms paging page history)) ∙ told.known page;
+    known = λ page. (λ i. (reads_itself paging i && false) || (not (reads_alone paging i) && is_page_confirmed paging page history)) ∙ told.known page;
   }
   read_back_tells Refused awaited = record {
     awaited = (λ i. reads_alone paging i || (reads_itself paging i && true)) ∙ sym awaited;
-    known = λ page. (λ i. (reads_itself paging i && false) || (not (reads_alone paging i) && confirms paging page history)) ∙ told.known page;
+    known = λ page. (λ i. (reads_itself paging i && false) || (not (reads_alone paging i) && is_page_confirmed paging page history)) ∙ told.known page;
   }
 
   selection_tells : (page : ℕ) (reply : Reply) → Tells paging Open (step_of (selection paging page) reply ∷ history)
   selection_tells page reply = record {
     awaited = (λ i. selects paging page i || (selects_alone paging page i && not (is_read reply)));
-    known = λ other. (λ i. (selects_alone paging page i && is_page paging other reply) || (not (selects paging page i) && confirms paging other history));
+    known = λ other. (λ i. (selects_alone paging page i && is_page paging other reply) || (not (selects paging page i) && is_page_confirmed paging other history));
   }
 
   work_tells : (op : Op) (reply : Reply) → IsApart paging op → is_awaited selected ≡ false → Tells paging selected (step_of op reply ∷ history)
   work_tells op reply apart closed = record {
     awaited = (λ i. apart.not_selecting i || (apart.not_reading_back i && not (is_read reply))) ∙ sym closed;
-    known = λ page. (λ i. (apart.not_reading_back i && is_page paging page reply) || (not (apart.not_selecting i) && confirms paging page history)) ∙ told.known page;
+    known = λ page. (λ i. (apart.not_reading_back i && is_page paging page reply) || (not (apart.not_selecting i) && is_page_confirmed paging page history)) ∙ told.known page;
   }
 
 pub after_read : (paging : Paging) (selected : Selected) (reply : Reply) → selected_after paging selected (step_of (read_selection paging) reply) ≡ selection_told paging selected reply
@@ -123,7 +123,7 @@ module _ (paging : Paging) (selected : Selected) (op : Op) (history : History) (
 
 -- no two pages are confirmed
 abbrev pub OnePage : Paging → History → Type 0
-OnePage paging history = (page other : ℕ) → not (other == page) ≡ true → confirms paging page history ≡ true → confirms paging other history ≡ false
+OnePage paging history = (page other : ℕ) → not (other == page) ≡ true → is_page_confirmed paging page history ≡ true → is_page_confirmed paging other history ≡ false
 
 one_known : (selected : Selected) (page other : ℕ) → not (other == page) ≡ true → is_known selected page ≡ true → is_known selected other ≡ false
 one_known Unknown page other apart known = refl
@@ -138,7 +138,7 @@ none_missing true page e = refl
 none_missing false page e = cc
 
 -- where it isn't missing, the page is confirmed
-pub is_confirmed : (paging : Paging) (selected : Selected) (page : ℕ) (history : History) → Tells paging selected history → missing_page selected (Some page) ≡ None → confirms paging page history ≡ true
+pub is_confirmed : (paging : Paging) (selected : Selected) (page : ℕ) (history : History) → Tells paging selected history → missing_page selected (Some page) ≡ None → is_page_confirmed paging page history ≡ true
 is_confirmed paging selected page history told e = told.known page ∙ none_missing (is_known selected page) page e
 
 pub tells_nothing : (paging : Paging) → Tells paging Unknown []

@@ -27,9 +27,9 @@ use Rattle.paged_memory.specs.declared.selection.Selecting.{Selecting}
 use Rattle.paged_memory.specs.declared.selection.Selecting.TheVariants as selecting
 use Rattle.paged_memory.specs.Images.{Memory}
 use Rattle.paged_memory.specs.Keys.{upper_key}
-use Rattle.paged_memory.specs.Paging.{History, confirms, first_byte, is_page, is_selection_of, may_select, read_selection, reads_back, selection}
+use Rattle.paged_memory.specs.Paging.{History, is_page_confirmed, first_byte, is_page, is_selection_of, may_select, read_selection, reads_back, selection}
 use Rattle.paged_memory.specs.Selections.{first_page, mapped, selected, selected_in_turn, selecting_on}
-use Rattle.paged_memory.specs.Windows.{Windowed, bytes_from, fetched, half_at, stored, window_conduct}
+use Rattle.paged_memory.specs.Windows.{Windowed, bytes_from, window_fetched, half_at, window_stored, window_conduct}
 use Rattle.paged_memory.proofs.WindowRuns.{always, shown_two}
 
 -- a bus with a script and a window
@@ -54,7 +54,7 @@ selecting_anew window dev address bytes =
     record window { selection = selected_in_turn (selecting_on window.memory dev) window.memory window.selection address bytes }
 
 store_keeps : (P : Windowed → Type 0) (window : Windowed) (dev : Dev) (address : ℕ) (bytes : List ℕ) → P window → P (selecting_anew window dev address bytes) →
-    P (stored window dev address bytes).1
+    P (window_stored window dev address bytes).1
 store_keeps P window dev address bytes holds anew =
     elim (is_some (half_at window dev address)) as (λ b. P (let given : Bool × Windowed = if b then (true, selecting_anew window dev address bytes) else (false, window) in given.1)) [ true ↦ anew | false ↦ holds ]
 
@@ -187,12 +187,12 @@ module _ (memory : Memory) (paging : Paging) (by : selecting_on memory A0 ≡ se
   by_window : (window : Windowed) → IsOf memory window → selecting_on window.memory A0 ≡ selecting_of paging
   by_window window of = ap (λ (m : Memory). selecting_on m A0) of ∙ by
 
-  shows_store : (page : ℕ) (address : ℕ) (bytes : List ℕ) (window : Windowed) → IsApart paging address (length bytes) → Shows memory page window → Shows memory page (stored window A0 address bytes).1
+  shows_store : (page : ℕ) (address : ℕ) (bytes : List ℕ) (window : Windowed) → IsApart paging address (length bytes) → Shows memory page window → Shows memory page (window_stored window A0 address bytes).1
   shows_store page address bytes window apart shows =
       let same = ap (λ (s : Selecting). selected_in_turn s window.memory window.selection address bytes) (by_window window shows.memory_is) ∙ all_stay paging window.memory window.selection address bytes apart in
       store_keeps (Shows memory page) window A0 address bytes shows (same_shows memory page window _ same shows)
 
-  shows_other : (page : ℕ) (address : ℕ) (bytes : List ℕ) (window : Windowed) → Shows memory page window → Shows memory page (stored window A2 address bytes).1
+  shows_other : (page : ℕ) (address : ℕ) (bytes : List ℕ) (window : Windowed) → Shows memory page window → Shows memory page (window_stored window A2 address bytes).1
   shows_other page address bytes window shows =
       store_keeps (Shows memory page) window A2 address bytes shows (same_shows memory page window _ (none_stay window.memory window.selection address bytes) shows)
 
@@ -209,7 +209,7 @@ module _ (memory : Memory) (paging : Paging) (by : selecting_on memory A0 ≡ se
     λ window kept shows. shows_other page address (take kept bytes.items) window shows,
   )
 
-  sound_store : (dev : Dev) (address : ℕ) (bytes : List ℕ) (window : Windowed) → IsSound memory paging window → IsSound memory paging (stored window dev address bytes).1
+  sound_store : (dev : Dev) (address : ℕ) (bytes : List ℕ) (window : Windowed) → IsSound memory paging window → IsSound memory paging (window_stored window dev address bytes).1
   sound_store A0 address bytes window sound =
       let anew = subst (λ (s : Selecting). IsOfBank paging (selected_in_turn s window.memory window.selection address bytes)) (sym (by_window window sound.memory_is))
       (banks_stay paging window.memory window.selection address bytes sound.bank) in
@@ -232,14 +232,14 @@ module _ (memory : Memory) (paging : Paging) (by : selecting_on memory A0 ≡ se
 
 -- the page that is read is shown
 shows_two : (memory : Memory) (by : selecting_on memory A0 ≡ selecting.BankAndPage) (page : ℕ) (window : Windowed) (bytes : List ℕ) → IsSound memory BankAndPage window →
-    (fetched window A0 126 2).0 ≡ Some bytes → is_selection_of BankAndPage page bytes ≡ true → Shows memory page window
+    (window_fetched window A0 126 2).0 ≡ Some bytes → is_selection_of BankAndPage page bytes ≡ true → Shows memory page window
 shows_two memory by page window bytes sound answer reads =
     let two = shown_two (selecting_on window.memory A0) window.selection (half_at window A0 126) bytes (by_window memory BankAndPage by window sound.memory_is) answer in
     let parts = and_parts (window.selection.bank == 0) (window.selection.page == page) (ap (is_selection_of BankAndPage page) (sym two) ∙ reads) in
     record { memory_is = sound.memory_is; bank = eqb-true window.selection.bank 0 parts.0; number = eqb-true window.selection.page page parts.1 }
 
 shows_one : (memory : Memory) (by : selecting_on memory A0 ≡ selecting.PageAlone) (page : ℕ) (window : Windowed) (bytes : List ℕ) → IsSound memory PageAlone window →
-    (fetched window A0 127 1).0 ≡ Some bytes → is_selection_of PageAlone page bytes ≡ true → Shows memory page window
+    (window_fetched window A0 127 1).0 ≡ Some bytes → is_selection_of PageAlone page bytes ≡ true → Shows memory page window
 shows_one memory by page window bytes sound answer reads =
     let one = shown_one (selecting_on window.memory A0) window.selection (half_at window A0 127) bytes (by_window memory PageAlone by window sound.memory_is) answer in
     record { memory_is = sound.memory_is; bank = sound.bank; number = eqb-true window.selection.page page (ap (is_selection_of PageAlone page) (sym one) ∙ reads) }
@@ -269,13 +269,13 @@ shows_read_back memory paging by page there step reads may sound =
 
 -- the page that the steps confirm is shown after them
 pub shows_confirmed : (memory : Memory) (paging : Paging) → selecting_on memory A0 ≡ selecting_of paging → (page : ℕ) (state : State) (history : History) → IsSound memory paging state.1 → May state history →
-    confirms paging page history ≡ true → Shows memory page (left state history).1
+    is_page_confirmed paging page history ≡ true → Shows memory page (left state history).1
 shows_confirmed memory paging by page state [] sound may confirmed = absurd cc
 shows_confirmed memory paging by page state (step ∷ before) sound may confirmed =
-    elim (or_cases (reads_back paging page step) (not (may_select paging step.op) && confirms paging page before) confirmed) [
+    elim (or_cases (reads_back paging page step) (not (may_select paging step.op) && is_page_confirmed paging page before) confirmed) [
       | inl reads ↦ (shows_read_back memory paging by page (left state before) step reads may.0 (sound_after memory paging by state before sound)).1
       | inr earlier ↦
-          let parts = and_parts (not (may_select paging step.op)) (confirms paging page before) earlier in
+          let parts = and_parts (not (may_select paging step.op)) (is_page_confirmed paging page before) earlier in
           step_keeps window_conduct AnyPin (Shows memory page) (always (Shows memory page)) step.op (shows_by memory paging by page step.op (not-true (may_select paging step.op) parts.0)) (left state before)
           (all_allow (left state before).0) (shows_confirmed memory paging by page state before sound may.1 parts.1)
     ]
@@ -285,8 +285,8 @@ shows_confirmed memory paging by page state (step ∷ before) sound may confirme
 mapped_shows : (memory : Memory) (page : ℕ) → finmap.contains_key memory (upper_key A0 0 page) ≡ true → mapped memory 0 page ≡ record { bank = 0; page = page; waiting = 0 }
 mapped_shows memory page there = λ i. if there i then record { bank = 0; page = page; waiting = 0 } else first_page
 
-taken_shows : (memory : Memory) (page : ℕ) (window : Windowed) (dev : Dev) (address : ℕ) (bytes : List ℕ) → (stored window dev address bytes).0 ≡ true → Shows memory page (selecting_anew window dev address bytes) →
-    Shows memory page (stored window dev address bytes).1
+taken_shows : (memory : Memory) (page : ℕ) (window : Windowed) (dev : Dev) (address : ℕ) (bytes : List ℕ) → (window_stored window dev address bytes).0 ≡ true → Shows memory page (selecting_anew window dev address bytes) →
+    Shows memory page (window_stored window dev address bytes).1
 taken_shows memory page window dev address bytes taken anew = by_test (is_some (half_at window dev address)) taken where
   by_test : (b : Bool) → (let given : Bool × Windowed = if b then (true, selecting_anew window dev address bytes) else (false, window) in given.0 ≡ true) →
       Shows memory page (let given : Bool × Windowed = if b then (true, selecting_anew window dev address bytes) else (false, window) in given.1)

@@ -19,7 +19,7 @@ use Rattle.paged_memory.specs.ImageText.{IsEntry, IsImage, IsPage}
 use Rattle.paged_memory.specs.Keys.{lower_key, upper_key}
 use Rattle.paged_memory.specs.KeyOrder.{key_cmp}
 use Rattle.paged_memory.specs.Selections.{selecting_on, shown_at}
-use Rattle.paged_memory.specs.Windows.{Windowed, bytes_from, fetched, half_at, read_at}
+use Rattle.paged_memory.specs.Windows.{Windowed, bytes_from, window_fetched, half_at, read_at}
 use Rattle.paged_memory.proofs.WindowHistories.{IsOf, Shows, below_next, not_126, not_127}
 
 -- ---- the halves of an image
@@ -70,7 +70,7 @@ whole : (half : List ℕ) → length half ≡ 128 → take 128 half ≡ half
 whole half len = ap (λ (n : ℕ). take n half) (sym len) ∙ take-length half
 
 -- of a page that is shown
-pub reads_page : (memory : Memory) (page : ℕ) (window : Windowed) (bytes : List ℕ) → IsImage memory → Shows memory page window → (fetched window A0 128 128).0 ≡ Some bytes →
+pub reads_page : (memory : Memory) (page : ℕ) (window : Windowed) (bytes : List ℕ) → IsImage memory → Shows memory page window → (window_fetched window A0 128 128).0 ≡ Some bytes →
     finmap.get memory (upper_key A0 0 page) ≡ Some bytes
 reads_page memory page window bytes image shows answer =
     let how = selecting_on window.memory A0 in
@@ -97,7 +97,7 @@ low_place : (place : ℕ) → place < 128 → place_in_half (0 + place) ≡ plac
 low_place place below = grind (arith, nat_tests)
 
 -- of a lower half
-pub reads_lower : (memory : Memory) (dev : Dev) (window : Windowed) (bytes : List ℕ) → IsImage memory → IsOf memory window → (fetched window dev 0 128).0 ≡ Some bytes → ReadsLower memory dev bytes
+pub reads_lower : (memory : Memory) (dev : Dev) (window : Windowed) (bytes : List ℕ) → IsImage memory → IsOf memory window → (window_fetched window dev 0 128).0 ≡ Some bytes → ReadsLower memory dev bytes
 reads_lower memory A0 window bytes image of answer =
     let how = selecting_on window.memory A0 in
     let read = read_at how window.selection in

@@ -16,9 +16,9 @@ use Rattle.paged_memory.specs.declared.selection.Selection.{Selection}
 use Rattle.paged_memory.specs.declared.selection.Selecting.{Selecting}
 use Rattle.paged_memory.specs.declared.selection.Selecting.TheVariants.{BankAndPage, PageAlone, Nothing}
 use Rattle.paged_memory.specs.Selections.{selecting_on, selected_in_turn}
-use Rattle.paged_memory.specs.Windows.{Windowed, bytes_from, half_at, stored, window_conduct}
+use Rattle.paged_memory.specs.Windows.{Windowed, bytes_from, half_at, window_stored, window_conduct}
 
-pub same_memory : (window : Windowed) (dev : Dev) (address : ℕ) (bytes : List ℕ) → (stored window dev address bytes).1.memory ≡ window.memory
+pub same_memory : (window : Windowed) (dev : Dev) (address : ℕ) (bytes : List ℕ) → (window_stored window dev address bytes).1.memory ≡ window.memory
 same_memory window dev address bytes =
     let taken : Windowed = record window { selection = selected_in_turn (selecting_on window.memory dev) window.memory window.selection address bytes } in
     elim (is_some (half_at window dev address)) as (λ b. (let given : Bool × Windowed = if b then (true, taken) else (false, window) in given.1.memory) ≡ window.memory) [ true ↦ refl | false ↦ refl ]
@@ -31,7 +31,7 @@ IsByBank window = selecting_on window.memory A0 ≡ BankAndPage
 pub always : (P : Windowed → Type 0) → IsKeptInTime window_conduct AnyPin P
 always P = record { tick = λ window holds. holds; low_power_pin = λ window on pin holds. holds }
 
-by_store : (bytes : List ℕ) (window : Windowed) → IsByBank window → IsByBank (stored window A0 126 bytes).1
+by_store : (bytes : List ℕ) (window : Windowed) → IsByBank window → IsByBank (window_stored window A0 126 bytes).1
 by_store bytes window holds = rw (same_memory window A0 126 bytes) holds
 
 pub shown_two : (selecting : Selecting) (selection : Selection) (half : Option (List ℕ)) (bytes : List ℕ) → selecting ≡ BankAndPage

@@ -10,7 +10,7 @@ use Rattle.paged_memory.specs.declared.paging.Paging.{Paging}
 use Rattle.paged_memory.specs.declared.paging.Paging.TheVariants.{BankAndPage, PageAlone}
 use Rattle.paged_memory.specs.declared.paging.Selected.{Selected}
 use Rattle.paged_memory.specs.declared.paging.Selected.TheVariants.{Unknown, Open, Page}
-use Rattle.paged_memory.specs.Paging.{History, confirms, is_open, may_select, read_selection, selection}
+use Rattle.paged_memory.specs.Paging.{History, is_page_confirmed, is_open, may_select, read_selection, selection}
 
 abbrev pub is_known : Selected → ℕ → Bool
 is_known Unknown page = false
@@ -68,4 +68,4 @@ pub record IsApart (paging : Paging) (op : Op) : Type 0 where
 -- what is known of the selection is what the steps say
 pub record Tells (paging : Paging) (selected : Selected) (history : History) : Type 0 where
   pub awaited : is_open paging history ≡ is_awaited selected
-  pub known : (page : ℕ) → confirms paging page history ≡ is_known selected page
+  pub known : (page : ℕ) → is_page_confirmed paging page history ≡ is_known selected page

@@ -4,6 +4,7 @@ pub mod KeyCode
 pub mod Images
 pub mod ImageText
 pub mod ImageFaults
+pub mod Families
 pub mod Selections
 pub mod Paging
 pub mod KnownPages

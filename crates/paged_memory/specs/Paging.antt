@@ -64,9 +64,9 @@ abbrev pub reads_back : Paging → ℕ → Step → Bool
 reads_back paging page step = same_op (read_selection paging) step.op && is_page paging page step.reply
 
 -- the page was read back, and nothing was stored on the selection since
-abbrev pub confirms : Paging → ℕ → History → Bool
-confirms paging page [] = false
-confirms paging page (step ∷ before) = reads_back paging page step || (not (may_select paging step.op) && confirms paging page before)
+abbrev pub is_page_confirmed : Paging → ℕ → History → Bool
+is_page_confirmed paging page [] = false
+is_page_confirmed paging page (step ∷ before) = reads_back paging page step || (not (may_select paging step.op) && is_page_confirmed paging page before)
 
 abbrev pub is_read : Reply → Bool
 is_read (Bytes bytes) = true

@@ -1,23 +1,28 @@
 -- Which page the upper half of device A0 shows, and what a stored byte selects.
 -- (OIF-CMIS-05.0, "Bank and Page Selection"; SFF-8636, "Page Select"; docs/bus.md, "Page selection")
-use Rattle.std.specs.Prelude.{ℕ, ◌+◌, ◌==◌, ◌||◌, List, [], ◌∷◌, Option, Some, None, unwrap_or, option_map, if◌then◌else◌, nat_lt}
+use Rattle.std.specs.Prelude.{ℕ, ◌+◌, ◌==◌, List, [], ◌∷◌, Option, Some, None, unwrap_or, option_map, if◌then◌else◌, nat_lt}
 use Rattle.std.specs.FinMap as map
 use Rattle.bus_model.specs.declared.device.Dev.{Dev}
 use Rattle.bus_model.specs.declared.device.Dev.TheVariants.{A0, A2}
+use Rattle.paged_memory.specs.declared.family.Family.{Family}
+use Rattle.paged_memory.specs.declared.family.Family.TheVariants.{Cmis, Sff8636, Sff8472}
 use Rattle.paged_memory.specs.declared.key.Key.{Key}
 use Rattle.paged_memory.specs.declared.selection.Selection.{Selection}
 use Rattle.paged_memory.specs.declared.selection.Selecting.{Selecting}
 use Rattle.paged_memory.specs.declared.selection.Selecting.TheVariants.{BankAndPage, PageAlone, Nothing}
+use Rattle.paged_memory.specs.Families.{family_by}
 use Rattle.paged_memory.specs.Keys.{lower_key, upper_key}
 use Rattle.paged_memory.specs.Images.{Memory, byte_at}
 
--- by a module's identifier: QSFP, QSFP+ and QSFP28 select a page, the SFP family nothing, the others a bank and a page
--- (SFF-8024, "Identifier Values")
+-- by a module's family; one that is of none of these is taken for one of CMIS
+abbrev pub selecting_in : Option Family → Selecting
+selecting_in (Some Cmis) = BankAndPage
+selecting_in (Some Sff8636) = PageAlone
+selecting_in (Some Sff8472) = Nothing
+selecting_in None = BankAndPage
+
 abbrev pub selecting_by : ℕ → Selecting
-selecting_by identifier =
-    if identifier == 0x0C || identifier == 0x0D || identifier == 0x11 then PageAlone
-    else if identifier == 0x03 then Nothing
-    else BankAndPage
+selecting_by identifier = selecting_in (family_by identifier)
 
 -- on a device of a module, whose identifier is byte 0 of its lower half
 abbrev pub selecting_on : Memory → Dev → Selecting

@@ -37,13 +37,13 @@ bytes_from selecting selection address count half = map (read_at selecting selec
 abbrev pub half_at : Windowed → Dev → ℕ → Option (List ℕ)
 half_at window dev address = finmap.get window.memory (shown_key dev window.selection address)
 
-abbrev pub fetched : Windowed → Dev → ℕ → ℕ → Option (List ℕ) × Windowed
-fetched window dev address count =
+abbrev pub window_fetched : Windowed → Dev → ℕ → ℕ → Option (List ℕ) × Windowed
+window_fetched window dev address count =
     (option_map (bytes_from (selecting_on window.memory dev) window.selection address count) (half_at window dev address), window)
 
 -- the bytes of a store change the selection alone
-abbrev pub stored : Windowed → Dev → ℕ → List ℕ → Bool × Windowed
-stored window dev address bytes =
+abbrev pub window_stored : Windowed → Dev → ℕ → List ℕ → Bool × Windowed
+window_stored window dev address bytes =
     if is_some (half_at window dev address)
     then (true, record window { selection = selected_in_turn (selecting_on window.memory dev) window.memory window.selection address bytes })
     else (false, window)
@@ -51,8 +51,8 @@ stored window dev address bytes =
 -- time and the pin change nothing
 abbrev pub window_conduct : Conduct Windowed
 window_conduct = record {
-  fetch = fetched;
-  store = stored;
+  fetch = window_fetched;
+  store = window_stored;
   tick = λ window. window;
   low_power_pin = λ window on. window;
 }

@@ -8,7 +8,7 @@ ghost use Rattle.paged_memory.specs.Images.{Memory};
 ghost use Rattle.paged_memory.specs.ImageText.{image_lines, IsImage, IsTextOf};
 ghost use Rattle.paged_memory.specs.ImageFaults.{IsAnswer};
 ghost use Rattle.bus_model.specs.declared.device.Dev.{Dev};
-ghost use Rattle.paged_memory.specs.Windows.{Windowed, stored};
+ghost use Rattle.paged_memory.specs.Windows.{Windowed, window_stored};
 
 use crate::key::Key;
 
@@ -30,5 +30,5 @@ pub fn keys_are_ordered()
 
 /// No store changes the memory that a window shows.
 pub fn memory_stays()
-    ensures { (window : Windowed) (dev : Dev) (address : ℕ) (bytes : List ℕ) → (stored window dev address bytes).1.memory ≡ window.memory }
+    ensures { (window : Windowed) (dev : Dev) (address : ℕ) (bytes : List ℕ) → (window_stored window dev address bytes).1.memory ≡ window.memory }
 {}

@@ -2,6 +2,7 @@
 #![tactic(auto)]
 
 mod entries;
+mod family;
 mod fault;
 mod image;
 mod key;
@@ -13,6 +14,7 @@ mod selection;
 mod window;
 
 pub use bus_model::Dev;
+pub use family::Family;
 pub use fault::ImageFault;
 pub use image::{Image, MAX_PAGES};
 pub use key::{Half, Key};

@@ -5,6 +5,7 @@ ghost use Rattle.paged_memory.specs.KeyOrder.{key_cmp};
 ghost use Rattle.paged_memory.specs.Selections as spec;
 
 use crate::entries::page_at;
+use crate::family::Family;
 use crate::image::Image;
 use crate::key::Key;
 use crate::page::Page;
@@ -47,10 +48,10 @@ impl Selecting {
     fn by(identifier: u8) -> Selecting
         ensures { result ≡ spec.selecting_by identifier }
     {
-        match identifier {
-            0x0C | 0x0D | 0x11 => Selecting::PageAlone,
-            0x03 => Selecting::Nothing,
-            _ => Selecting::BankAndPage,
+        match Family::of(identifier) {
+            Some(Family::Cmis) | None => Selecting::BankAndPage,
+            Some(Family::Sff8636) => Selecting::PageAlone,
+            Some(Family::Sff8472) => Selecting::Nothing,
         }
     }
 }

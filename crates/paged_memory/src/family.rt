@@ -1,0 +1,36 @@
+ghost use Rattle.std.specs.Prelude.{◌≡◌};
+
+/// The families of modules: each has a standard of its own for what stands where in its memory.
+#[derive(Clone, Copy, Debug, PartialEq, Eq)]
+pub enum Family {
+    /// OIF-CMIS-05.0.
+    Cmis,
+    /// SFF-8636.
+    Sff8636,
+    /// SFF-8472.
+    Sff8472,
+}
+
+impl Family {
+    ghost use Rattle.paged_memory.specs.Families.{family_by, is_of};
+
+    /// The family of a module with this identifier (SFF-8024), if it is one of these.
+    #[tactic(auto, unfolding(crate::specs::Families::family_by))]
+    pub fn of(identifier: u8) -> Option<Family>
+        ensures { result ≡ family_by identifier }
+    {
+        match identifier {
+            0x18 | 0x19 | 0x1E => Some(Family::Cmis),
+            0x0C | 0x0D | 0x11 => Some(Family::Sff8636),
+            0x03 => Some(Family::Sff8472),
+            _ => None,
+        }
+    }
+
+    /// Whether a module with this identifier is of this family.
+    pub fn has(self, identifier: u8) -> bool
+        ensures { result ≡ is_of self identifier }
+    {
+        Family::of(identifier) == Some(self)
+    }
+}
