@@ -1,12 +1,12 @@
 -- The list of Applications, taken from the front: what is left of it, and that it is numbered in order.
-use Rattle.std.proofs.Common.{◌≡◌, ℕ, zero, suc, ◌+◌, Bool, true, false, cond, List, [], ◌∷◌, refl, sym, subst, ap, inl, inr, ◌∙◌, map, nat_le, length}
+use Rattle.std.proofs.Common.{◌≡◌, ℕ, zero, suc, ◌+◌, Bool, true, false, cond, List, [], ◌∷◌, refl, sym, subst, ap, inl, inr, ◌∙◌, map, length}
 use Rattle.std.proofs.lemmas.Bool.{cases_Bool}
 use Rattle.std.proofs.lemmas.List.Sums.{take_while-cons}
 use Rattle.std.specs.List.{range_with_len, take_while}
 use Rattle.paged_memory.specs.Images.{Memory}
 use Rattle.applications.specs.declared.app.App.{App}
 use Rattle.applications.specs.Advertised.{InOrder}
-use Rattle.applications.specs.Descriptors.{app_at, app_in_lower, app_on_page, apps_of, is_listed}
+use Rattle.applications.specs.Descriptors.{app_at, apps_of, is_listed}
 
 -- the Applications from a number on, of so many descriptors
 abbrev pub apps_from : Memory → ℕ → ℕ → List App
@@ -24,7 +24,7 @@ apps_from-ended memory number left ended =
 
 number-app_at : (memory : Memory) (number : ℕ) → (app_at memory number).number ≡ number
 unfolding app_at
-number-app_at memory number = elim (nat_le number 8) as (λ (b : Bool). (cond b (app_in_lower memory number) (app_on_page memory number)).number ≡ number) [ true ↦ refl | false ↦ refl ]
+number-app_at memory number = refl
 
 abbrev numbers : List App → List ℕ
 numbers apps = map (λ (app : App). app.number) apps

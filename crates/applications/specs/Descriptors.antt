@@ -2,40 +2,34 @@
 -- 01h, and the first HostInterfaceID FFh ends the list. (docs/fields.md, "Applications"; OIF-CMIS-05.0, chapter 8 "Module
 -- Management Memory Map", "Applications Advertising", "Additional Application Descriptors" and "Media Lane Assignment
 -- Advertising")
-use Rattle.std.specs.Prelude.{ℕ, ◌-◌, ◌==◌, Bool, not, nat_le, if◌then◌else◌, List, map, take_while}
+use Rattle.std.specs.Prelude.{ℕ, ◌-◌, ◌==◌, ◌&&◌, Bool, not, nat_le, if◌then◌else◌, List, map, take_while}
 use Rattle.std.specs.List.{range_with_len}
 use Rattle.paged_memory.specs.Images.{Memory}
+use Rattle.field_tables.specs.declared.field.Field.{Field}
 use Rattle.field_tables.specs.declared.field.Field.TheVariants as fields
+use Rattle.field_tables.specs.FieldRows.{row_of}
 use Rattle.field_tables.specs.LaneSets.{lanes_in}
-use Rattle.field_tables.specs.Readings.{number_at}
+use Rattle.field_tables.specs.Readings.{is_of_bytes, number_at}
 use Rattle.applications.specs.declared.app.App.{App}
 
--- what the descriptor in lower memory of this number says
-abbrev pub app_in_lower : Memory → ℕ → App
-app_in_lower memory number = record {
-  number = number;
-  host_id = number_at memory fields.CAppHost number;
-  media_id = number_at memory fields.CAppMedia number;
-  host_lanes = number_at memory fields.CAppHostLanes number;
-  media_lanes = number_at memory fields.CAppMediaLanes number;
-  host_starts = lanes_in (number_at memory fields.CAppHostStarts number);
-  media_starts = lanes_in (number_at memory fields.CMediaStarts number);
-}
+-- what the descriptor of this number has in a column: of numbers 1 to 8 in the first field, of 9 to 15 in the other
+abbrev pub described : Memory → Field → Field → ℕ → ℕ
+described memory first more number = if nat_le number 8 then number_at memory first number else number_at memory more (number - 8)
 
--- what the descriptor on page 01h of this number says: the first one there is number 9
-abbrev pub app_on_page : Memory → ℕ → App
-app_on_page memory number = record {
-  number = number;
-  host_id = number_at memory fields.CAppHostMore (number - 8);
-  media_id = number_at memory fields.CAppMediaMore (number - 8);
-  host_lanes = number_at memory fields.CAppHostLanesMore (number - 8);
-  media_lanes = number_at memory fields.CAppMediaLanesMore (number - 8);
-  host_starts = lanes_in (number_at memory fields.CAppHostStartsMore (number - 8));
-  media_starts = lanes_in (number_at memory fields.CMediaStarts number);
-}
+-- so many numbers of at most a byte
+abbrev pub is_column : Field → ℕ → Bool
+is_column field count = is_of_bytes (row_of field) && (row_of field).count == count
 
 unfoldable pub app_at : Memory → ℕ → App
-app_at memory number = if nat_le number 8 then app_in_lower memory number else app_on_page memory number
+app_at memory number = record {
+  number = number;
+  host_id = described memory fields.CAppHost fields.CAppHostMore number;
+  media_id = described memory fields.CAppMedia fields.CAppMediaMore number;
+  host_lanes = described memory fields.CAppHostLanes fields.CAppHostLanesMore number;
+  media_lanes = described memory fields.CAppMediaLanes fields.CAppMediaLanesMore number;
+  host_starts = lanes_in (described memory fields.CAppHostStarts fields.CAppHostStartsMore number);
+  media_starts = lanes_in (number_at memory fields.CMediaStarts number);
+}
 
 -- FFh ends the list
 abbrev pub is_listed : App → Bool

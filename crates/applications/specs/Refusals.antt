@@ -2,45 +2,40 @@
 -- Management Memory Map", "Management Characteristics" and the page checksums)
 use Rattle.std.specs.Prelude.{ℕ, ◌/◌, ◌==◌, ◌||◌, Bool, not, List, [], ◌∷◌, ◌++◌, Option}
 use Rattle.bus_model.specs.declared.device.Dev.TheVariants.{A0}
+use Rattle.paged_memory.specs.declared.family.Family.TheVariants.{Cmis}
 use Rattle.paged_memory.specs.Keys.{lower_key, upper_key}
 use Rattle.paged_memory.specs.Images.{Memory}
 use Rattle.field_tables.specs.declared.field.Field.TheVariants.{CIdentifier, CRevision, CFlatMemory}
 use Rattle.field_tables.specs.declared.field.Sum.TheVariants.{CSum00, CSum01}
-use Rattle.field_tables.specs.FirstFault.{first_fault}
-use Rattle.field_tables.specs.Halves.{is_absent}
-use Rattle.field_tables.specs.Readings.{number, is_sum_right}
+use Rattle.field_tables.specs.Reasons.{Reason, lacks, tells, wrong, if_set, of_another, refused_by}
 use Rattle.applications.specs.declared.fault.AdvertFault.{AdvertFault}
 use Rattle.applications.specs.declared.fault.AdvertFault.TheVariants.{Absent, NotCmis, Revision, NotEightLanes, FlatMemory, BadSum}
-
--- QSFP-DD, OSFP, and QSFP+ or later with CMIS (SFF-8024)
-abbrev pub is_cmis : ℕ → Bool
-is_cmis identifier = identifier == 24 || identifier == 25 || identifier == 30
 
 -- major 4 or 5
 abbrev pub is_read_revision : ℕ → Bool
 is_read_revision revision = revision / 16 == 4 || revision / 16 == 5
 
 -- of the module, by its lower memory
-abbrev pub module_faults : Memory → List (Bool × AdvertFault)
-module_faults memory =
-    (is_absent memory (lower_key A0), Absent (lower_key A0))
-    ∷ (not (is_cmis (number memory CIdentifier)), NotCmis (number memory CIdentifier))
-    ∷ (not (is_read_revision (number memory CRevision)), Revision (number memory CRevision))
-    ∷ (number memory CIdentifier == 30, NotEightLanes (number memory CIdentifier))
-    ∷ (number memory CFlatMemory == 1, FlatMemory)
+abbrev pub module_reasons : List (Reason AdvertFault)
+module_reasons =
+    lacks (lower_key A0) (Absent (lower_key A0))
+    ∷ of_another Cmis CIdentifier (λ identifier. NotCmis identifier)
+    ∷ tells CRevision (λ (revision : ℕ). not (is_read_revision revision)) (λ revision. Revision revision)
+    ∷ tells CIdentifier (λ (identifier : ℕ). identifier == 0x1E) (λ identifier. NotEightLanes identifier)
+    ∷ if_set CFlatMemory FlatMemory
     ∷ []
 
 -- of its pages
-abbrev pub page_faults : Memory → List (Bool × AdvertFault)
-page_faults memory =
-    (is_absent memory (upper_key A0 0 0x00), Absent (upper_key A0 0 0x00))
-    ∷ (is_absent memory (upper_key A0 0 0x01), Absent (upper_key A0 0 0x01))
-    ∷ (not (is_sum_right memory CSum00), BadSum 0x00)
-    ∷ (not (is_sum_right memory CSum01), BadSum 0x01)
+abbrev pub page_reasons : List (Reason AdvertFault)
+page_reasons =
+    lacks (upper_key A0 0 0x00) (Absent (upper_key A0 0 0x00))
+    ∷ lacks (upper_key A0 0 0x01) (Absent (upper_key A0 0 0x01))
+    ∷ wrong CSum00 (BadSum 0x00)
+    ∷ wrong CSum01 (BadSum 0x01)
     ∷ []
 
 abbrev pub page_fault : Memory → Option AdvertFault
-page_fault memory = first_fault (page_faults memory)
+page_fault memory = refused_by memory page_reasons
 
 unfoldable pub advert_fault : Memory → Option AdvertFault
-advert_fault memory = first_fault (module_faults memory ++ page_faults memory)
+advert_fault memory = refused_by memory (module_reasons ++ page_reasons)

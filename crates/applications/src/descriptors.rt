@@ -1,5 +1,5 @@
-ghost use Rattle.std.specs.Prelude.{◌≡◌, ◌≤◌};
-ghost use Rattle.applications.specs.Descriptors.{apps_of};
+ghost use Rattle.std.specs.Prelude.{◌≡◌, ◌≤◌, IsTrue};
+ghost use Rattle.applications.specs.Descriptors.{apps_of, is_column};
 ghost use Rattle.applications.specs.Descriptors as spec;
 
 use crate::app::{App, MAX_APPS};
@@ -27,32 +27,49 @@ pub fn apps_in(image: &Image) -> ArrayVec<App, MAX_APPS>
 }
 
 /// What stands in the descriptor of a number.
+#[tactic(auto, unfolding(crate::specs::Descriptors::app_at))]
 fn app_at(image: &Image, number: u8) -> App
     requires first { 1 ≤ number }
     requires last { number ≤ 15 }
     ensures { result ≡ spec.app_at image.now number }
 {
-    let media_starts = LaneSet::from(number_at(image, Field::CMediaStarts, number));
+    App {
+        number,
+        host_id: described(image, Field::CAppHost, Field::CAppHostMore, number),
+        media_id: described(image, Field::CAppMedia, Field::CAppMediaMore, number),
+        host_lanes: described(
+            image,
+            Field::CAppHostLanes,
+            Field::CAppHostLanesMore,
+            number,
+        ),
+        media_lanes: described(
+            image,
+            Field::CAppMediaLanes,
+            Field::CAppMediaLanesMore,
+            number,
+        ),
+        host_starts: LaneSet::from(described(
+            image,
+            Field::CAppHostStarts,
+            Field::CAppHostStartsMore,
+            number,
+        )),
+        media_starts: LaneSet::from(number_at(image, Field::CMediaStarts, number)),
+    }
+}
+
+// What the descriptor of a number has in a column: those of 1 to 8 are in one field, those of 9 to 15 in another.
+fn described(image: &Image, first: Field, more: Field, number: u8) -> u8
+    requires one { 1 ≤ number }
+    requires last { number ≤ 15 }
+    requires first_fits { IsTrue (is_column first 8) }
+    requires more_fits { IsTrue (is_column more 7) }
+    ensures { result ≡ spec.described image.now first more number }
+{
     if number <= 8 {
-        App {
-            number,
-            host_id: number_at(image, Field::CAppHost, number),
-            media_id: number_at(image, Field::CAppMedia, number),
-            host_lanes: number_at(image, Field::CAppHostLanes, number),
-            media_lanes: number_at(image, Field::CAppMediaLanes, number),
-            host_starts: LaneSet::from(number_at(image, Field::CAppHostStarts, number)),
-            media_starts,
-        }
+        number_at(image, first, number)
     } else {
-        let place = number - 8;
-        App {
-            number,
-            host_id: number_at(image, Field::CAppHostMore, place),
-            media_id: number_at(image, Field::CAppMediaMore, place),
-            host_lanes: number_at(image, Field::CAppHostLanesMore, place),
-            media_lanes: number_at(image, Field::CAppMediaLanesMore, place),
-            host_starts: LaneSet::from(number_at(image, Field::CAppHostStartsMore, place)),
-            media_starts,
-        }
+        number_at(image, more, number - 8)
     }
 }

@@ -12,5 +12,5 @@ pub use advert::Advert;
 pub use app::{App, MAX_APPS};
 pub use fault::AdvertFault;
 pub use field_tables::LaneSet;
-pub use refusal::{is_cmis, is_read_revision};
+pub use refusal::is_read_revision;
 pub use weights::{Weights, WeightsFault};

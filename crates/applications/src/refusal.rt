@@ -1,10 +1,10 @@
 ghost use Rattle.std.specs.Prelude.{◌≡◌};
-ghost use Rattle.applications.specs.Refusals.{advert_fault, page_fault, is_cmis, is_read_revision};
+ghost use Rattle.applications.specs.Refusals.{advert_fault, page_fault, is_read_revision};
 
 use crate::fault::AdvertFault;
 use bus_model::Dev;
 use field_tables::{Field, Sum, is_sum_right, number};
-use paged_memory::{Image, Key};
+use paged_memory::{Family, Image, Key};
 
 /// Why the Applications of an image are not read: the first reason that applies.
 #[tactic(auto, unfolding(crate::specs::Refusals::advert_fault))]
@@ -16,7 +16,7 @@ pub fn refusal(image: &Image) -> Option<AdvertFault>
         return Some(AdvertFault::Absent(lower));
     }
     let identifier = number(image, Field::CIdentifier);
-    if !is_cmis(identifier) {
+    if !Family::Cmis.has(identifier) {
         return Some(AdvertFault::NotCmis(identifier));
     }
     let revision = number(image, Field::CRevision);
@@ -51,13 +51,6 @@ fn page_refusal(image: &Image) -> Option<AdvertFault>
         return Some(AdvertFault::BadSum(0x01));
     }
     None
-}
-
-/// Whether a module with this identifier (SFF-8024) is managed by CMIS.
-pub fn is_cmis(identifier: u8) -> bool
-    ensures { result ≡ is_cmis identifier }
-{
-    identifier == 0x18 || identifier == 0x19 || identifier == 0x1E
 }
 
 /// Whether the tables of this project are those of this CMIS revision: its major number is 4 or 5.

@@ -7,12 +7,13 @@ use Rattle.std.proofs.lemmas.List.Folds.{list_all-map, list_all-append}
 use Rattle.std.specs.List.{list_all, range_with_len}
 use denote.Enum.Bare.{tag_one}
 use denote.Enum.Declared.{tag_of}
+use Rattle.paged_memory.specs.declared.family.Family.{Family}
+use Rattle.paged_memory.specs.declared.family.Family.TheVariants.{Cmis, Sff8636, Sff8472}
 use Rattle.paged_memory.specs.declared.key.Key.{Key}
 use Rattle.paged_memory.specs.KeyOrder.{device_rank, half_rank}
 use Rattle.field_tables.specs.contracts.field.Field as field_enum
 use Rattle.field_tables.specs.contracts.field.TextField as text_enum
 use Rattle.field_tables.specs.contracts.field.Sum as sum_enum
-use Rattle.field_tables.specs.Standards.{Standard, cmis, sff8636, sff8472}
 use Rattle.field_tables.specs.Layouts.{Place}
 use Rattle.field_tables.specs.Entries.{Entry, of_field, of_text, of_sum, NoBitTwice, WithinHalf, entry_count, entry_key, entry_place, entry_standard}
 use Rattle.field_tables.specs.RowFits.{in_half}
@@ -65,13 +66,13 @@ number_of (of_field field) = (0, tag_of field_enum.the_type field)
 number_of (of_text text) = (1, tag_of text_enum.the_type text)
 number_of (of_sum s) = (2, tag_of sum_enum.the_type s)
 
-abbrev standard_rank : Standard → ℕ
-standard_rank cmis = 0
-standard_rank sff8636 = 1
-standard_rank sff8472 = 2
+abbrev standard_rank : Family → ℕ
+standard_rank Cmis = 0
+standard_rank Sff8636 = 1
+standard_rank Sff8472 = 2
 
 -- one number for each standard and half
-abbrev half_code : Standard → Key → ℕ
+abbrev half_code : Family → Key → ℕ
 half_code standard key = ((standard_rank standard * 2 + device_rank key.dev) * 2 + half_rank key.half) * 256 + key.page
 
 -- the numbers of an entry, and its values with their spans
@@ -144,7 +145,7 @@ pub no_bit_twice : NoBitTwice
 no_bit_twice a b i j bit standards keys in_a in_b =
     let c = claim_of a in
     let d = claim_of b in
-    let codes : c.code ≡ d.code = ap (λ (s : Standard). half_code s (entry_key a)) standards ∙ ap (half_code (entry_standard b)) keys in
+    let codes : c.code ≡ d.code = ap (λ (s : Family). half_code s (entry_key a)) standards ∙ ap (half_code (entry_standard b)) keys in
     elim (or_cases (c.number.0 == d.number.0 && c.number.1 == d.number.1 && i == j) (apart (span_of a i).1 (span_of b j).1) (values_clear_at a b i j codes in_a.0 in_a.1 in_b.0 in_b.1)) [
       | inl same ↦
           let parts = and_parts (c.number.0 == d.number.0 && c.number.1 == d.number.1) (i == j) same in

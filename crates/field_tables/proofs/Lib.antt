@@ -8,3 +8,4 @@ mod EveryValue
 mod RowsFit
 mod EntriesApart
 pub mod SameValues
+pub mod SameRefusals

@@ -1,11 +1,11 @@
 -- What the bits of a module's memory mean, entry by entry: no bit means two things of one standard, and each entry is within
 -- its half. (docs/fields.md, "Laws"; this project's own)
 use Rattle.std.specs.Prelude.{◌≡◌, ℕ, zero, suc, ◌-◌, ◌≤◌, IsTrue, [], ◌++◌, Contains}
+use Rattle.paged_memory.specs.declared.family.Family.{Family}
 use Rattle.paged_memory.specs.declared.key.Key.{Key}
 use Rattle.field_tables.specs.declared.field.Field.{Field}
 use Rattle.field_tables.specs.declared.field.TextField.{TextField}
 use Rattle.field_tables.specs.declared.field.Sum.{Sum}
-use Rattle.field_tables.specs.Standards.{Standard}
 use Rattle.field_tables.specs.Layouts.{Place, bits_up}
 use Rattle.field_tables.specs.RowPlaces.{place_of}
 use Rattle.field_tables.specs.RowFits.{in_half}
@@ -19,7 +19,7 @@ pub data Entry : Type 0 where
   of_text : TextField → Entry
   of_sum : Sum → Entry
 
-abbrev pub entry_standard : Entry → Standard
+abbrev pub entry_standard : Entry → Family
 entry_standard (of_field field) = standard_of field
 entry_standard (of_text text) = (text_line_of text).0
 entry_standard (of_sum s) = (sum_line_of s).0

@@ -3,9 +3,10 @@
 use Rattle.std.specs.Prelude.{ℕ, Option, Some, None}
 use Rattle.bus_model.specs.declared.device.Dev.{Dev}
 use Rattle.bus_model.specs.declared.device.Dev.TheVariants.{A0, A2}
+use Rattle.paged_memory.specs.declared.family.Family.{Family}
+use Rattle.paged_memory.specs.declared.family.Family.TheVariants.{Cmis as cmis, Sff8636 as sff8636, Sff8472 as sff8472}
 use Rattle.paged_memory.specs.declared.key.Half.{Half}
 use Rattle.paged_memory.specs.declared.key.Half.TheVariants.{Lower, Upper}
-use Rattle.field_tables.specs.Standards.{Standard, cmis, sff8636, sff8472}
 use Rattle.field_tables.specs.declared.field.Field.{Field}
 use Rattle.field_tables.specs.declared.field.Field.TheVariants as fields
 use Rattle.field_tables.specs.declared.layout.Layout.{Layout}
@@ -19,12 +20,12 @@ use Rattle.field_tables.specs.declared.units.Unit as units
 use Rattle.field_tables.specs.declared.units.Unit.TheVariants.{Temperature, Voltage, OpticalPower, Bias, ModulePower}
 
 -- a line of the table
-abbrev pub line : Standard → Dev → Half → ℕ → ℕ → Part → Layout → ℕ → Sign → Option units.Unit → Standard × Row
+abbrev pub line : Family → Dev → Half → ℕ → ℕ → Part → Layout → ℕ → Sign → Option units.Unit → Family × Row
 line standard dev half page offset part layout count sign unit =
     (standard, record { dev = dev; half = half; page = page; offset = offset; bits = part; layout = layout; count = count; sign = sign; unit = unit })
 
 -- standard, device, half and page, offset, bits, layout, number of values, sign, unit
-abbrev pub line_of : Field → Standard × Row
+abbrev pub line_of : Field → Family × Row
 line_of fields.CIdentifier = line cmis A0 Lower 0x00 0 Byte Single 1 Unsigned None
 line_of fields.CRevision = line cmis A0 Lower 0x00 1 Byte Single 1 Unsigned None
 line_of fields.CFlatMemory = line cmis A0 Lower 0x00 2 (Range 7 7) Single 1 Unsigned None
@@ -52,10 +53,16 @@ line_of fields.CLengthBase = line cmis A0 Upper 0x00 202 (Range 5 0) Single 1 Un
 line_of fields.CConnector = line cmis A0 Upper 0x00 203 Byte Single 1 Unsigned None
 line_of fields.CUnsupportedMedia = line cmis A0 Upper 0x00 210 Byte Single 1 Unsigned None
 line_of fields.CTechnology = line cmis A0 Upper 0x00 212 Byte Single 1 Unsigned None
+line_of fields.CMaxDurationDPDeinit = line cmis A0 Upper 0x01 144 (Range 7 4) Single 1 Unsigned None
+line_of fields.CMaxDurationDPInit = line cmis A0 Upper 0x01 144 (Range 3 0) Single 1 Unsigned None
 line_of fields.CBiasMultiplier = line cmis A0 Upper 0x01 160 (Range 4 3) Single 1 Unsigned None
 line_of fields.CRxPowerMonitor = line cmis A0 Upper 0x01 160 (Range 2 2) Single 1 Unsigned None
 line_of fields.CTxPowerMonitor = line cmis A0 Upper 0x01 160 (Range 1 1) Single 1 Unsigned None
 line_of fields.CTxBiasMonitor = line cmis A0 Upper 0x01 160 (Range 0 0) Single 1 Unsigned None
+line_of fields.CMaxDurationModulePwrDn = line cmis A0 Upper 0x01 167 (Range 7 4) Single 1 Unsigned None
+line_of fields.CMaxDurationModulePwrUp = line cmis A0 Upper 0x01 167 (Range 3 0) Single 1 Unsigned None
+line_of fields.CMaxDurationDPTxTurnOff = line cmis A0 Upper 0x01 168 (Range 7 4) Single 1 Unsigned None
+line_of fields.CMaxDurationDPTxTurnOn = line cmis A0 Upper 0x01 168 (Range 3 0) Single 1 Unsigned None
 line_of fields.CMediaStarts = line cmis A0 Upper 0x01 176 Byte (Every 1) 15 Unsigned None
 line_of fields.CAppHostMore = line cmis A0 Upper 0x01 223 Byte (Every 4) 7 Unsigned None
 line_of fields.CAppMediaMore = line cmis A0 Upper 0x01 224 Byte (Every 4) 7 Unsigned None
@@ -157,7 +164,7 @@ line_of fields.SRxAlarms = line sff8472 A2 Lower 0x00 113 (Range 7 7) Down 2 Uns
 line_of fields.SWarnings = line sff8472 A2 Lower 0x00 116 (Range 7 7) Down 8 Unsigned None
 line_of fields.SRxWarnings = line sff8472 A2 Lower 0x00 117 (Range 7 7) Down 2 Unsigned None
 
-abbrev pub standard_of : Field → Standard
+abbrev pub standard_of : Field → Family
 standard_of field = (line_of field).0
 
 abbrev pub row_of : Field → Row

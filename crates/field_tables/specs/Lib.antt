@@ -4,7 +4,6 @@ pub mod LaneBytes
 pub mod Layouts
 pub mod Numbers
 pub mod Parts
-pub mod Standards
 pub mod FieldRows
 pub mod RowPlaces
 pub mod FieldValues
@@ -15,5 +14,6 @@ pub mod Sums
 pub mod Units
 pub mod Readings
 pub mod FirstFault
+pub mod Reasons
 pub mod Entries
 pub mod SffFaultWords

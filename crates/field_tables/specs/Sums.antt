@@ -3,26 +3,27 @@
 use Rattle.std.specs.Prelude.{ℕ, ◌%◌, ◌==◌, Bool, ◌&&◌, sum, List, Option, option_map}
 use Rattle.std.specs.FinMap as map
 use Rattle.bus_model.specs.declared.device.Dev.TheVariants.{A0, A2}
+use Rattle.paged_memory.specs.declared.family.Family.{Family}
+use Rattle.paged_memory.specs.declared.family.Family.TheVariants.{Cmis, Sff8636, Sff8472}
 use Rattle.paged_memory.specs.declared.key.Half.TheVariants.{Lower, Upper}
 use Rattle.paged_memory.specs.declared.key.Key.{Key}
 use Rattle.paged_memory.specs.Images.{Memory}
 use Rattle.field_tables.specs.declared.field.Sum.{Sum}
 use Rattle.field_tables.specs.declared.field.Sum.TheVariants as sums
 use Rattle.field_tables.specs.declared.spans.Span.{Span}
-use Rattle.field_tables.specs.Standards.{Standard, cmis, sff8636, sff8472}
 use Rattle.field_tables.specs.Halves.{address_fits, byte_in, half_key}
 use Rattle.field_tables.specs.Spans.{span, bytes_in, span_fits}
 
 -- standard; device, half and page, first and last byte of those that are summed; the address of the sum
-abbrev pub sum_line_of : Sum → Standard × (Span × ℕ)
-sum_line_of sums.CSum00 = (cmis, (span A0 Upper 0x00 128 221, 222))
-sum_line_of sums.CSum01 = (cmis, (span A0 Upper 0x01 130 254, 255))
-sum_line_of sums.CSum02 = (cmis, (span A0 Upper 0x02 128 254, 255))
-sum_line_of sums.QSumBase = (sff8636, (span A0 Upper 0x00 128 190, 191))
-sum_line_of sums.QSumExt = (sff8636, (span A0 Upper 0x00 192 222, 223))
-sum_line_of sums.SSumBase = (sff8472, (span A0 Lower 0x00 0 62, 63))
-sum_line_of sums.SSumExt = (sff8472, (span A0 Lower 0x00 64 94, 95))
-sum_line_of sums.SSumDmi = (sff8472, (span A2 Lower 0x00 0 94, 95))
+abbrev pub sum_line_of : Sum → Family × (Span × ℕ)
+sum_line_of sums.CSum00 = (Cmis, (span A0 Upper 0x00 128 221, 222))
+sum_line_of sums.CSum01 = (Cmis, (span A0 Upper 0x01 130 254, 255))
+sum_line_of sums.CSum02 = (Cmis, (span A0 Upper 0x02 128 254, 255))
+sum_line_of sums.QSumBase = (Sff8636, (span A0 Upper 0x00 128 190, 191))
+sum_line_of sums.QSumExt = (Sff8636, (span A0 Upper 0x00 192 222, 223))
+sum_line_of sums.SSumBase = (Sff8472, (span A0 Lower 0x00 0 62, 63))
+sum_line_of sums.SSumExt = (Sff8472, (span A0 Lower 0x00 64 94, 95))
+sum_line_of sums.SSumDmi = (Sff8472, (span A2 Lower 0x00 0 94, 95))
 
 abbrev pub sum_row : Sum → Span × ℕ
 sum_row s = (sum_line_of s).1

@@ -40,11 +40,18 @@ pub enum Field {
     CTechnology,
 
     // CMIS, page 01h
+    /// A code of the durations that a state lasts at most, as the five after it.
+    CMaxDurationDPDeinit,
+    CMaxDurationDPInit,
     /// 0, 1 and 2: bias values count once, twice and four times.
     CBiasMultiplier,
     CRxPowerMonitor,
     CTxPowerMonitor,
     CTxBiasMonitor,
+    CMaxDurationModulePwrDn,
+    CMaxDurationModulePwrUp,
+    CMaxDurationDPTxTurnOff,
+    CMaxDurationDPTxTurnOn,
     /// Of Applications 1 to 15: bit i-1 is 1 where the Application may begin at media lane i.
     CMediaStarts,
     /// The HostInterfaceID of Applications 9 to 15; FFh ends the list.

@@ -70,10 +70,16 @@ pub fn row(field: Field) -> Row
         CConnector: A0 Upper 0x00, 203 [byte], Single, 1, Unsigned;
         CUnsupportedMedia: A0 Upper 0x00, 210 [byte], Single, 1, Unsigned;
         CTechnology: A0 Upper 0x00, 212 [byte], Single, 1, Unsigned;
+        CMaxDurationDPDeinit: A0 Upper 0x01, 144 [7-4], Single, 1, Unsigned;
+        CMaxDurationDPInit: A0 Upper 0x01, 144 [3-0], Single, 1, Unsigned;
         CBiasMultiplier: A0 Upper 0x01, 160 [4-3], Single, 1, Unsigned;
         CRxPowerMonitor: A0 Upper 0x01, 160 [2-2], Single, 1, Unsigned;
         CTxPowerMonitor: A0 Upper 0x01, 160 [1-1], Single, 1, Unsigned;
         CTxBiasMonitor: A0 Upper 0x01, 160 [0-0], Single, 1, Unsigned;
+        CMaxDurationModulePwrDn: A0 Upper 0x01, 167 [7-4], Single, 1, Unsigned;
+        CMaxDurationModulePwrUp: A0 Upper 0x01, 167 [3-0], Single, 1, Unsigned;
+        CMaxDurationDPTxTurnOff: A0 Upper 0x01, 168 [7-4], Single, 1, Unsigned;
+        CMaxDurationDPTxTurnOn: A0 Upper 0x01, 168 [3-0], Single, 1, Unsigned;
         CMediaStarts: A0 Upper 0x01, 176 [byte], Every(1), 15, Unsigned;
         CAppHostMore: A0 Upper 0x01, 223 [byte], Every(4), 7, Unsigned;
         CAppMediaMore: A0 Upper 0x01, 224 [byte], Every(4), 7, Unsigned;

@@ -11,5 +11,5 @@ pub use field_tables::{Levels, SffFault};
 pub use flags::Flags;
 pub use identity::Identity;
 pub use monitors::Monitors;
-pub use refusal::{flags_refusal, is_sfp, measured_refusal, module_refusal};
+pub use refusal::{flags_refusal, measured_refusal, module_refusal};
 pub use thresholds::Thresholds;

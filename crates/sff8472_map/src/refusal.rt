@@ -1,9 +1,9 @@
 ghost use Rattle.std.specs.Prelude.{◌≡◌};
-ghost use Rattle.sff8472_map.specs.Refusals.{diagnostics_fault, flags_fault, is_sfp, measured_fault, module_fault};
+ghost use Rattle.sff8472_map.specs.Refusals.{diagnostics_fault, flags_fault, measured_fault, module_fault};
 
 use bus_model::Dev;
 use field_tables::{Field, SffFault, bit, number};
-use paged_memory::{Image, Key};
+use paged_memory::{Family, Image, Key};
 
 /// Why the module of an image is none of this standard.
 #[tactic(auto, unfolding(crate::specs::Refusals::module_fault))]
@@ -15,7 +15,7 @@ pub fn module_refusal(image: &Image) -> Option<SffFault>
         return Some(SffFault::Absent(lower));
     }
     let identifier = number(image, Field::SIdentifier);
-    if !is_sfp(identifier) {
+    if !Family::Sff8472.has(identifier) {
         return Some(SffFault::WrongIdentifier(identifier));
     }
     None
@@ -69,11 +69,4 @@ pub fn measured_refusal(image: &Image) -> Option<SffFault>
         return Some(SffFault::Absent(diagnostics));
     }
     None
-}
-
-/// Whether the identifier is that of the SFP family (SFF-8024).
-pub fn is_sfp(identifier: u8) -> bool
-    ensures { result ≡ is_sfp identifier }
-{
-    identifier == 0x03
 }

@@ -1,41 +1,36 @@
 -- Why the memory of a module is not read. (docs/fields.md, "What is read of SFF modules"; SFF-8636, "Status Indicators")
-use Rattle.std.specs.Prelude.{ℕ, ◌==◌, ◌||◌, Bool, not, List, [], ◌∷◌, ◌++◌, Option}
+use Rattle.std.specs.Prelude.{List, [], ◌∷◌, ◌++◌, Option}
 use Rattle.bus_model.specs.declared.device.Dev.TheVariants.{A0}
+use Rattle.paged_memory.specs.declared.family.Family.TheVariants.{Sff8636}
 use Rattle.paged_memory.specs.Keys.{lower_key, upper_key}
 use Rattle.paged_memory.specs.Images.{Memory}
 use Rattle.field_tables.specs.declared.field.Field.TheVariants.{QFlatMemory, QIdentifier}
 use Rattle.field_tables.specs.declared.sff_fault.SffFault.{SffFault}
 use Rattle.field_tables.specs.declared.sff_fault.SffFault.TheVariants.{Absent, FlatMemory, WrongIdentifier}
-use Rattle.field_tables.specs.FirstFault.{first_fault}
-use Rattle.field_tables.specs.Halves.{is_absent}
-use Rattle.field_tables.specs.Readings.{bit, number}
+use Rattle.field_tables.specs.Reasons.{Reason, lacks, if_set, of_another, refused_by}
 
--- QSFP, QSFP+ and QSFP28 (SFF-8024)
-abbrev pub is_qsfp : ℕ → Bool
-is_qsfp identifier = identifier == 0x0C || identifier == 0x0D || identifier == 0x11
-
-abbrev pub module_faults : Memory → List (Bool × SffFault)
-module_faults memory =
-    (is_absent memory (lower_key A0), Absent (lower_key A0))
-    ∷ (not (is_qsfp (number memory QIdentifier)), WrongIdentifier (number memory QIdentifier))
+abbrev pub module_reasons : List (Reason SffFault)
+module_reasons =
+    lacks (lower_key A0) (Absent (lower_key A0))
+    ∷ of_another Sff8636 QIdentifier (λ identifier. WrongIdentifier identifier)
     ∷ []
 
-abbrev pub identity_faults : Memory → List (Bool × SffFault)
-identity_faults memory = module_faults memory ++ (is_absent memory (upper_key A0 0 0x00), Absent (upper_key A0 0 0x00)) ∷ []
+abbrev pub identity_reasons : List (Reason SffFault)
+identity_reasons = module_reasons ++ lacks (upper_key A0 0 0x00) (Absent (upper_key A0 0 0x00)) ∷ []
 
-abbrev pub threshold_faults : Memory → List (Bool × SffFault)
-threshold_faults memory =
-    module_faults memory
-    ++ (bit memory QFlatMemory, FlatMemory)
-    ∷ (is_absent memory (upper_key A0 0 0x03), Absent (upper_key A0 0 0x03))
+abbrev pub threshold_reasons : List (Reason SffFault)
+threshold_reasons =
+    module_reasons
+    ++ if_set QFlatMemory FlatMemory
+    ∷ lacks (upper_key A0 0 0x03) (Absent (upper_key A0 0 0x03))
     ∷ []
 
 -- of monitors and flags, which are in lower memory
 unfoldable pub module_fault : Memory → Option SffFault
-module_fault memory = first_fault (module_faults memory)
+module_fault memory = refused_by memory module_reasons
 
 unfoldable pub identity_fault : Memory → Option SffFault
-identity_fault memory = first_fault (identity_faults memory)
+identity_fault memory = refused_by memory identity_reasons
 
 unfoldable pub threshold_fault : Memory → Option SffFault
-threshold_fault memory = first_fault (threshold_faults memory)
+threshold_fault memory = refused_by memory threshold_reasons

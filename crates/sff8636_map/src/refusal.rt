@@ -1,9 +1,9 @@
 ghost use Rattle.std.specs.Prelude.{◌≡◌};
-ghost use Rattle.sff8636_map.specs.Refusals.{identity_fault, is_qsfp, module_fault, threshold_fault};
+ghost use Rattle.sff8636_map.specs.Refusals.{identity_fault, module_fault, threshold_fault};
 
 use bus_model::Dev;
 use field_tables::{Field, SffFault, bit, number};
-use paged_memory::{Image, Key};
+use paged_memory::{Family, Image, Key};
 
 /// Why the module of an image is none of this standard.
 #[tactic(auto, unfolding(crate::specs::Refusals::module_fault))]
@@ -15,17 +15,10 @@ pub fn module_refusal(image: &Image) -> Option<SffFault>
         return Some(SffFault::Absent(lower));
     }
     let identifier = number(image, Field::QIdentifier);
-    if !is_qsfp(identifier) {
+    if !Family::Sff8636.has(identifier) {
         return Some(SffFault::WrongIdentifier(identifier));
     }
     None
-}
-
-/// Whether the identifier is one of QSFP, QSFP+ or QSFP28 (SFF-8024).
-pub fn is_qsfp(identifier: u8) -> bool
-    ensures { result ≡ is_qsfp identifier }
-{
-    matches!(identifier, 0x0C | 0x0D | 0x11)
 }
 
 /// Why an image has no identity.
