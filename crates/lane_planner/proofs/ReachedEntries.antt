@@ -27,7 +27,7 @@ use Rattle.lane_planner.proofs.TableGains.{gain_in}
 abbrev IsMarkedEntry : List Bool → List ℕ → Entry → Type 0
 IsMarkedEntry marks table entry = IsMarked marks (entry_place entry) × (entry ≡ entry_at table (entry_place entry))
 
-place_is : (table : List ℕ) (place : ℕ) → entry_place (entry_at table place) ≡ place
+pub place_is : (table : List ℕ) (place : ℕ) → entry_place (entry_at table place) ≡ place
 place_is table place = omega arith
 
 pub one_entry_more : (marks : List Bool) (table : List ℕ) (place : ℕ) (entries : List Entry) → AreEntries marks table place entries → place < 2304 → IsMarked marks place → AreEntries marks table (place + 1) (entries ++ entry_at table place ∷ [])

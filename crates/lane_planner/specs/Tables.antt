@@ -1,6 +1,6 @@
 -- The planner's table of gains, by the places of states, and the plan that it reads off. (docs/planning.md, "The planner";
 -- this project's own)
-use Rattle.std.specs.Prelude.{◌≡◌, ℕ, Bool, ◌+◌, ◌-◌, ◌*◌, ◌/◌, ◌%◌, ◌<◌, ◌≤◌, ◌==◌, ◌&&◌, ◌||◌, ◌⊎◌, nat_lt, List, [], ◌∷◌, Option, All, AllPairs, Contains, find, length, slice_index}
+use Rattle.std.specs.Prelude.{◌≡◌, ℕ, Bool, ◌+◌, ◌-◌, ◌*◌, ◌/◌, ◌%◌, ◌<◌, ◌≤◌, ◌==◌, ◌&&◌, ◌||◌, ◌⊎◌, nat_lt, List, [], ◌∷◌, ◌++◌, Option, All, AllPairs, Contains, find, length, replicate, slice_index}
 use Rattle.applications.specs.Advertised.{Advertised}
 use Rattle.applications.specs.Weights.{HostWeights}
 use Rattle.plan_certificate.specs.declared.path.Path.{Path}
@@ -25,6 +25,15 @@ abbrev pub joined : List ℕ → List ℕ → List ℕ
 joined [] highs = []
 joined (low ∷ lows) [] = []
 joined (low ∷ lows) (high ∷ highs) = (low + 4294967296 * high) ∷ joined lows highs
+
+-- and 0 for each of the 256 states at the last boundary
+abbrev pub numbers_of : List ℕ → List ℕ → List ℕ
+numbers_of lows highs = joined lows highs ++ replicate 256 0
+
+-- those parts are there for each of the states before it
+pub record AreParts (lows highs : List ℕ) : Type 0 where
+  pub low : length lows ≡ 2048
+  pub high : length highs ≡ 2048
 
 -- a number for each state; each lane that is still to be decided adds at most a weight of 32 bits
 pub record IsTable (table : List ℕ) : Type 0 where

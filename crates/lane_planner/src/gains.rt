@@ -7,7 +7,7 @@ ghost use Rattle.lane_planner.specs.Tables.{HasGains, IsMost, IsTable};
 
 use crate::table::Table;
 use applications::{Advert, Weights};
-use plan_certificate::{HOST_LANES, Move, Moves, Path, STATES, State};
+use plan_certificate::{FollowedMoves, HOST_LANES, Move, Path, STATES, State};
 
 /// Puts the gains of the marked states into the table, by their places.
 pub fn put_gains(
@@ -22,7 +22,7 @@ pub fn put_gains(
     requires blank { table.old ≡ replicate STATES 0 }
     ensures { HasGains advert.now weights.now kept.now 0 table.new }
 {
-    let mut moves = Moves::none();
+    let mut moves = FollowedMoves::none();
     for boundary in (0..HOST_LANES).rev() {
         moves.list(advert, weights, kept, boundary);
         for used in (0..256usize).rev() {
@@ -30,7 +30,7 @@ pub fn put_gains(
             if marks[place] {
                 let state = State::at(place);
                 let free = moves.may_stay_free;
-                let gain = most(free, moves.heaviest.as_slice(), table, &state);
+                let gain = most(free, moves.moves.as_slice(), table, &state);
                 table.put(place, gain);
             }
         }

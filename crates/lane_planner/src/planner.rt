@@ -18,7 +18,9 @@ use crate::reached::reached;
 use crate::table::Table;
 use applications::{Advert, Weights};
 use arrayvec::ArrayVec;
-use plan_certificate::{Certificate, Entry, HOST_LANES, Path, Plan, STATES, State, moves_at};
+use plan_certificate::{
+    Certificate, Entries, Entry, HOST_LANES, Path, Plan, STATES, State, put_moves,
+};
 
 /// The first plan of those that weigh most, with what can still be gained from each state that steps from the start reach.
 pub fn plan(advert: &Advert, weights: &Weights) -> Certificate<STATES>
@@ -86,8 +88,9 @@ pub fn read_off(advert: &Advert, weights: &Weights, kept: &[Path], table: &Table
 {
     let mut state = State::start();
     let mut paths = ArrayVec::new();
+    let mut moves = ArrayVec::new();
     while state.boundary < HOST_LANES {
-        let moves = moves_at(advert, weights, kept, state.boundary + 1);
+        put_moves(&mut moves, advert, weights, kept, state.boundary + 1);
         match chosen(moves.as_slice(), kept, table, &state) {
             Some(one) => {
                 paths.push(one.path);
@@ -100,11 +103,11 @@ pub fn read_off(advert: &Advert, weights: &Weights, kept: &[Path], table: &Table
 }
 
 // The entries of the marked states.
-fn entries_of(marks: &[bool], table: &Table) -> ArrayVec<Entry, STATES>
+fn entries_of(marks: &[bool], table: &Table) -> Entries<STATES>
     requires { length marks.now ≡ STATES }
-    ensures { AreEntries marks.now table.now STATES result.items }
+    ensures { AreEntries marks.now table.now STATES result }
 {
-    let mut entries = ArrayVec::new();
+    let mut entries = Entries::new();
     for place in 0..STATES {
         if marks[place] {
             entries.push(entry_at(table, place));

@@ -5,7 +5,7 @@ ghost use Rattle.plan_certificate.specs.Moves.{LeadsOn, steps_by};
 ghost use Rattle.lane_planner.specs.Marks.{MarksEnds, MarksReached};
 
 use applications::{Advert, Weights};
-use plan_certificate::{HOST_LANES, Move, Moves, Path, STATES, State};
+use plan_certificate::{FollowedMoves, HOST_LANES, Move, Path, STATES, State};
 
 /// Marks, by their places, the states that steps from the start reach.
 pub fn reached(advert: &Advert, weights: &Weights, kept: &[Path], marks: &mut [bool; STATES])
@@ -13,7 +13,7 @@ pub fn reached(advert: &Advert, weights: &Weights, kept: &[Path], marks: &mut [b
     requires blank { marks.old ≡ replicate STATES false }
     ensures { MarksReached advert.now weights.now kept.now marks.new }
 {
-    let mut moves = Moves::none();
+    let mut moves = FollowedMoves::none();
     marks[0] = true;
     for boundary in 0..HOST_LANES {
         moves.list(advert, weights, kept, boundary);
@@ -22,7 +22,7 @@ pub fn reached(advert: &Advert, weights: &Weights, kept: &[Path], marks: &mut [b
             if marks[place] {
                 let state = State::at(place);
                 let free = moves.may_stay_free;
-                mark_ends(marks, free, moves.heaviest.as_slice(), &state);
+                mark_ends(marks, free, moves.moves.as_slice(), &state);
             }
         }
     }

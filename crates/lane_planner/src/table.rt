@@ -3,22 +3,26 @@ ghost use Rattle.std.specs.Prelude.{◌≡◌, ◌<◌, replicate, slice_index, 
 use plan_certificate::STATES;
 use std::marker::Model;
 
-/// A number below 2 ^ 40 for each state, by their places. Each takes five bytes and not eight, for firmware has little stack.
+/// How many states there are before the last boundary.
+const OPEN_STATES: usize = 2048;
+
+/// A number below 2 ^ 40 for each state, by their places: 0 for those at the last boundary, from which nothing can be gained. Of
+/// the others each takes five bytes and not eight, for firmware has little stack.
 #[derive(Drop)]
 pub struct Table {
-    low: [u32; STATES],
-    high: [u8; STATES],
+    low: [u32; OPEN_STATES],
+    high: [u8; OPEN_STATES],
 }
 
 impl Model for Table {
-    ghost use Rattle.std.specs.Prelude.{◌≡◌, List, ℕ, length};
-    ghost use Rattle.lane_planner.specs.Tables.{joined};
+    ghost use Rattle.std.specs.Prelude.{List, ℕ};
+    ghost use Rattle.lane_planner.specs.Tables.{AreParts, numbers_of};
 
     ghost Value = { List ℕ };
 
-    ghost view = { λ table. joined table.low table.high };
+    ghost view = { λ table. numbers_of table.low table.high };
 
-    ghost invariant = { λ table. length table.low ≡ length table.high };
+    ghost invariant = { λ table. AreParts table.low table.high };
 }
 
 impl Table {
@@ -27,8 +31,8 @@ impl Table {
         ensures { result ≡ replicate STATES 0 }
     {
         Table {
-            low: [0; STATES],
-            high: [0; STATES],
+            low: [0; OPEN_STATES],
+            high: [0; OPEN_STATES],
         }
     }
 
@@ -36,11 +40,16 @@ impl Table {
         requires { place < STATES }
         ensures { result ≡ slice_index self.now place }
     {
-        u64::from(self.low[place]) + 4294967296 * u64::from(self.high[place])
+        let (low, high) = (&self.low, &self.high);
+        if place < OPEN_STATES {
+            u64::from(low[place]) + 4294967296 * u64::from(high[place])
+        } else {
+            0
+        }
     }
 
     pub fn put(&mut self, place: usize, number: u64)
-        requires place { place < STATES }
+        requires place { place < OPEN_STATES }
         requires small { number < 1099511627776 }
         ensures { self.new ≡ slice_set self.old place number }
     {

@@ -2,7 +2,6 @@
 use Rattle.std.proofs.Common.{◌≡◌, ◌≢◌, ◌≤◌, ◌<◌, ◌-◌, ℕ, zero, suc, List, [], ◌∷◌, ◌++◌, length, get_or, map, refl, sym, ap, subst, ◌∙◌, inl, inr, append_assoc, arith}
 use Rattle.std.specs.List.{All, AllPairs, AllByRecursion}
 use Rattle.std.proofs.lemmas.List.{append-nil, length-append, map-append, get_or_append_left}
-use Rattle.std.proofs.lemmas.Bool.{cases_lt}
 use Rattle.std.proofs.lemmas.List.Quantifiers.{all_pairs_push}
 use Rattle.std.proofs.lemmas.List.Elements.{All-append}
 use Rattle.std.proofs.Math.Seq.{get_or-append_seam}
@@ -218,23 +217,6 @@ module _ (states : ℕ) (stage : Stage) (certificate : Claim) (path : Path) (may
 
 abbrev pub IsAbove : List Entry → Entry → Type 0
 IsAbove entries entry = All (λ before. entry_place before < entry_place entry) entries
-
--- what is above the last entry is above all
-pub above_last : (entries : List Entry) (last entry : Entry) → HasStates entries → 0 < length entries → ((d : Entry) → last ≡ get_or entries (length entries - 1) d) → entry_place last < entry_place entry → IsAbove entries entry
-above_last entries last entry states some is less k d lt =
-    elim (cases_lt k (length entries - 1)) [
-      | inl earlier ↦
-          let pair = states.rising k (length entries - 1) d earlier (omega arith) in
-          omega (arith, pair, ap entry_place (is d))
-      | inr later ↦
-          let here : k ≡ length entries - 1 = omega arith in
-          rw (here, ← is d) less
-    ]
-
-pub last_above : (entries : List Entry) (last entry : Entry) → 0 < length entries → ((d : Entry) → last ≡ get_or entries (length entries - 1) d) → IsAbove entries entry → entry_place last < entry_place entry
-last_above entries last entry some is above =
-    let here = above (length entries - 1) last (omega arith) in
-    omega (arith, here, ap entry_place (is last))
 
 above_at : (entries more : List Entry) (entry : Entry) → AllPairs (λ before later. entry_place before < entry_place later) (entries ++ entry ∷ more) → IsAbove entries entry
 above_at entries more entry rising k d lt =

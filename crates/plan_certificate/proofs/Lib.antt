@@ -2,6 +2,7 @@ pub mod LaneRuns
 pub mod Lists
 pub mod Ranks
 mod Lookups
+mod EntryPlaces
 mod NoFlaw
 pub mod PathTakenOut
 pub mod KeptPaths

@@ -1,12 +1,11 @@
 -- A list of moves in which a move replaces a lighter one on its lanes.
-use Rattle.std.proofs.Common.{◌≡◌, ◌≢◌, ◌⊎◌, ℕ, suc, ◌+◌, ◌<◌, ◌≤◌, List, [], ◌∷◌, ◌++◌, length, get_or, set, take, refl, sym, subst, ap, ◌∙◌, inl, inr, arith}
+use Rattle.std.proofs.Common.{◌≡◌, ◌≢◌, ◌⊎◌, ℕ, ◌+◌, ◌<◌, ◌≤◌, List, [], ◌∷◌, ◌++◌, length, get_or, set, refl, sym, subst, ap, ◌∙◌, inl, inr, arith}
 use Rattle.std.proofs.Common.{get_or-set_same, get_or-set_other}
 use Rattle.std.specs.List.{All, Contains, HoldsAt}
 use Rattle.std.proofs.Math.ListN.{length-set}
-use Rattle.std.proofs.Math.Seq.{take-length, take-suc}
 use Rattle.std.proofs.lemmas.Bool.{cases_eq}
 use Rattle.std.proofs.lemmas.List.{get_or_default, length-append}
-use Rattle.std.proofs.lemmas.List.Elements.{All-contains, All-contains_itself, All-more, All-push, All-weaker, Contains-append_left, Contains-get_or, Contains-push}
+use Rattle.std.proofs.lemmas.List.Elements.{All-contains, All-contains_itself, All-push, All-weaker, Contains-append_left, Contains-get_or, Contains-push}
 use Rattle.plan_certificate.specs.declared.moves.Move.{Move}
 use Rattle.plan_certificate.specs.Moves.{AreHeaviest, HasLanesOf, IsOutweighed}
 
@@ -63,12 +62,6 @@ module _ (moves : List Move) (place : ℕ) (new : Move) (below : place < length 
 
 -- ---- the heaviest of one move more
 
-one_more : (moves : List Move) (k : ℕ) (move : Move) → k < length moves → move ≡ get_or moves k move → take (k + 1) moves ≡ take k moves ++ move ∷ []
-one_more moves k move below is =
-    let one : k + 1 ≡ suc k = omega arith in
-    let split = take-suc moves k move below in
-    cc
-
 outweighed_on : (moves more : List Move) (move : Move) → All (IsOutweighed more) moves → IsOutweighed moves move → IsOutweighed more move
 outweighed_on moves more move all by =
     let next = All-contains (IsOutweighed more) moves by.other all by.listed in
@@ -80,27 +73,20 @@ outweighed_on moves more move all by =
     }
 
 -- one move more, where the list has been extended by it
-pub heaviest_more : (moves retained more : List Move) (k : ℕ) (new : Move) → k < length moves → new ≡ get_or moves k new → AreHeaviest (take k moves) retained → All (AmongOrNew retained new) more → All (IsOutweighed more) retained → IsOutweighed more new → length more ≤ length retained + 1
-    → AreHeaviest (take (k + 1) moves) more
-heaviest_more moves retained more k new below is are among outweighed added few = record {
-  among = All-weaker (AmongOrNew retained new) (Contains (take (k + 1) moves)) (λ one from. elim (from) [
-    | inl old ↦ subst (λ (ms : List Move). Contains ms one) (sym (one_more moves k new below is)) (Contains-append_left (take k moves) (new ∷ []) one (All-contains (Contains (take k moves)) retained one are.among old))
-    | inr same ↦ subst (λ (ms : List Move). Contains ms one) (sym (one_more moves k new below is)) (subst (λ (m : Move). Contains (take k moves ++ new ∷ []) m) (sym same) (Contains-push (take k moves) new))
+pub heaviest_more : (moves retained more : List Move) (new : Move) → AreHeaviest moves retained → All (AmongOrNew retained new) more → All (IsOutweighed more) retained → IsOutweighed more new → length more ≤ length retained + 1
+    → AreHeaviest (moves ++ new ∷ []) more
+heaviest_more moves retained more new are among outweighed added few = record {
+  among = All-weaker (AmongOrNew retained new) (Contains (moves ++ new ∷ [])) (λ one from. elim (from) [
+    | inl old ↦ Contains-append_left moves (new ∷ []) one (All-contains (Contains moves) retained one are.among old)
+    | inr same ↦ subst (λ (m : Move). Contains (moves ++ new ∷ []) m) (sym same) (Contains-push moves new)
   ]) more among;
-  outweighed = All-more (IsOutweighed more) moves k new below
-      (All-weaker (IsOutweighed retained) (IsOutweighed more) (λ move by. outweighed_on retained more move outweighed by) (take k moves) are.outweighed)
-      (subst (IsOutweighed more) is added);
-  few = omega (arith, few, are.few, ap (λ (ms : List Move). length ms) (one_more moves k new below is), length-append (take k moves) (new ∷ []));
+  outweighed = All-push (IsOutweighed more) moves new (All-weaker (IsOutweighed retained) (IsOutweighed more) (λ move by. outweighed_on retained more move outweighed by) moves are.outweighed) added;
+  few = omega (arith, few, are.few, length-append moves (new ∷ []));
 }
 
-pub heaviest_of_none : (moves retained : List Move) → retained ≡ [] → AreHeaviest (take 0 moves) retained
-heaviest_of_none moves retained none = record {
-  among = λ k d below. absurd (omega (arith, below, ap (λ (ms : List Move). length ms) none));
+pub none_heaviest : AreHeaviest [] []
+none_heaviest = record {
+  among = λ k d below. absurd (omega (arith, below));
   outweighed = λ k d below. absurd (omega (arith, below));
-  few = omega (arith, ap (λ (ms : List Move). length ms) none);
+  few = omega arith;
 }
-
-pub heaviest_of_all : (moves retained : List Move) (k : ℕ) → k ≡ length moves → AreHeaviest (take k moves) retained → AreHeaviest moves retained
-heaviest_of_all moves retained k end are =
-    let whole : take k moves ≡ moves = ap (λ (n : ℕ). take n moves) end ∙ take-length moves in
-    subst (λ (ms : List Move). AreHeaviest ms retained) whole are

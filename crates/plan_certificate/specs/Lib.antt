@@ -6,7 +6,7 @@ pub mod States
 pub mod ReachedStates
 pub mod Moves
 pub mod Certificates
-pub mod Lookups
+pub mod EntryPlaces
 pub mod Verdicts
 pub mod CertificateText
 pub mod CertificateFaults

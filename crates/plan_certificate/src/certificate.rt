@@ -1,9 +1,10 @@
+mod entries;
 mod reading;
 mod writing;
 
 use crate::plan::Plan;
 use crate::state::State;
-use arrayvec::ArrayVec;
+pub use entries::Entries;
 use field_tables::LaneSet;
 use std::marker::Model;
 pub use writing::{write_end, write_entry, write_head};
@@ -50,7 +51,7 @@ pub struct Certificate<const STATES: usize> {
     pub kept: Plan,
     pub plan: Plan,
     /// The states rise by boundary, then by the byte of used media lanes.
-    pub entries: ArrayVec<Entry, STATES>,
+    pub entries: Entries<STATES>,
 }
 
 impl<const STATES: usize> Model for Certificate<STATES> {
@@ -58,7 +59,7 @@ impl<const STATES: usize> Model for Certificate<STATES> {
 
     ghost Value = { Claim };
 
-    ghost view = { λ certificate. record { weight = certificate.weight; kept = certificate.kept; paths = certificate.plan; entries = certificate.entries.items } };
+    ghost view = { λ certificate. record { weight = certificate.weight; kept = certificate.kept; paths = certificate.plan; entries = certificate.entries } };
 
-    ghost invariant = { λ certificate. HasStates certificate.entries.items };
+    ghost invariant = { λ certificate. HasStates certificate.entries };
 }

@@ -2,16 +2,15 @@ ghost use Rattle.std.specs.Prelude.{◌≡◌, ◌↔◌, ◌<◌, ◌≤◌, �
 ghost use Rattle.field_tables.specs.FirstFault.{first_fault};
 ghost use Rattle.plan_certificate.specs.Plans.{AreAllowed, IsBest};
 ghost use Rattle.plan_certificate.specs.Moves.{AreMoves, LeadsOn, steps_by};
-ghost use Rattle.plan_certificate.specs.Certificates.{HasStates, IsGood, state_of};
+ghost use Rattle.plan_certificate.specs.Certificates.{IsGood, state_of};
 ghost use Rattle.plan_certificate.specs.Verdicts as spec;
 
-use crate::certificate::{Certificate, Entry};
+use crate::certificate::{Certificate, Entries, Entry};
 use crate::flaws::paths_flaw;
-use crate::lookup::{Entries, number};
 use crate::moves::{Move, Moves};
 use crate::path::Path;
 use crate::plan::{Plan, weight_of};
-use crate::state::{HOST_LANES, STATES, State, Step};
+use crate::state::{HOST_LANES, State, Step};
 use crate::verdict::{Reason, Verdict};
 use applications::{Advert, Weights};
 
@@ -31,22 +30,21 @@ pub fn check<const STATES: usize>(
         certificate.weight,
         &certificate.kept,
         &certificate.plan,
-        certificate.entries.as_slice(),
+        &certificate.entries,
     ) {
         None => Verdict::Good,
         Some((reason, number)) => Verdict::Bad(reason, number),
     }
 }
 
-fn flaw(
+fn flaw<const ROOM: usize>(
     advert: &Advert,
     weights: &Weights,
     weight: u64,
     kept: &Plan,
     plan: &Plan,
-    entries: &[Entry],
+    entries: &Entries<ROOM>,
 ) -> Option<(Reason, usize)>
-    requires { HasStates entries.now }
     ensures { result ≡ first_fault (spec.all_flaws advert.now weights.now (record { weight = weight; kept = kept.now; paths = plan.now; entries = entries.now })) }
 {
     let (kept, paths) = (kept.paths.as_slice(), plan.paths.as_slice());
@@ -56,23 +54,15 @@ fn flaw(
     if weight != weight_of(advert, weights, plan) {
         return Some((Reason::WeightWrong, 0));
     }
-    let mut numbers = [0; STATES];
-    number(entries, &mut numbers);
-    bound_flaw(
-        advert,
-        weights,
-        kept,
-        &Entries::of(entries, &numbers),
-        weight,
-    )
+    bound_flaw(advert, weights, kept, entries, weight)
 }
 
 // What is wrong with the entries, as bounds on what can be gained.
-fn bound_flaw(
+fn bound_flaw<const ROOM: usize>(
     advert: &Advert,
     weights: &Weights,
     kept: &[Path],
-    entries: &Entries,
+    entries: &Entries<ROOM>,
     weight: u64,
 ) -> Option<(Reason, usize)>
     requires { AreAllowed advert.now kept.now }
@@ -90,18 +80,18 @@ fn bound_flaw(
     None
 }
 
-fn entries_flaw(
+fn entries_flaw<const ROOM: usize>(
     advert: &Advert,
     weights: &Weights,
     kept: &[Path],
-    entries: &Entries,
+    entries: &Entries<ROOM>,
 ) -> Option<(Reason, usize)>
     requires { AreAllowed advert.now kept.now }
     ensures { result ≡ first_fault (spec.entries_flaws advert.now weights.now kept.now entries.now) }
 {
     let mut moves = Moves::at(advert, weights, kept, 0);
-    let all = entries.all();
-    for (place, entry) in all.iter().enumerate() {
+    for place in 0..entries.len() {
+        let entry = entries.at(place);
         if let Some(flaw) = entry_flaw(
             advert,
             weights,
@@ -109,7 +99,7 @@ fn entries_flaw(
             &mut moves,
             entries,
             place + 1,
-            entry,
+            &entry,
         ) {
             return Some(flaw);
         }
@@ -118,12 +108,12 @@ fn entries_flaw(
 }
 
 // Where the steps of the heaviest moves have no flaw, none has.
-fn entry_flaw(
+fn entry_flaw<const ROOM: usize>(
     advert: &Advert,
     weights: &Weights,
     kept: &[Path],
     moves: &mut Moves,
-    entries: &Entries,
+    entries: &Entries<ROOM>,
     number: usize,
     entry: &Entry,
 ) -> Option<(Reason, usize)>
@@ -146,10 +136,10 @@ fn entry_flaw(
 }
 
 // The first flaw of the free lane's step, where it may stay free, and those of moves.
-fn steps_flaw(
+fn steps_flaw<const ROOM: usize>(
     may_stay_free: bool,
     moves: &[Move],
-    entries: &Entries,
+    entries: &Entries<ROOM>,
     number: usize,
     entry: &Entry,
 ) -> Option<(Reason, usize)>
@@ -175,8 +165,8 @@ fn steps_flaw(
     None
 }
 
-fn step_flaw(
-    entries: &Entries,
+fn step_flaw<const ROOM: usize>(
+    entries: &Entries<ROOM>,
     number: usize,
     entry: &Entry,
     step: &Step,

@@ -1,13 +1,13 @@
-ghost use Rattle.std.specs.Prelude.{◌≡◌, ◌≤◌, ◌<◌, ◌+◌, ◌-◌, ◌++◌, ◌⊎◌, [], length, true, false, All, AllPairs, Contains, IfSome};
-ghost use Rattle.std.specs.List.{HoldsAt};
-ghost use Rattle.plan_certificate.specs.Paths.{IsLower, is_allowed};
+ghost use Rattle.std.specs.Prelude.{◌≡◌, ◌≤◌, ◌<◌, ◌+◌, ◌-◌, ◌++◌, [], length, false, All, AllPairs};
+ghost use Rattle.plan_certificate.specs.Paths.{IsLower};
 ghost use Rattle.plan_certificate.specs.Plans.{AreAllowed};
 ghost use Rattle.plan_certificate.specs.States.{paths_of_app};
-ghost use Rattle.plan_certificate.specs.Moves.{AreHeaviest, AreMoves, HasLanesOf, IsOutweighed, LeadsOn};
+ghost use Rattle.plan_certificate.specs.Moves.{AreMoves, LeadsOn};
 ghost use Rattle.plan_certificate.specs.Moves as spec;
 
 use crate::kept::{is_eligible_as, may_stay_free};
 use crate::path::Path;
+use crate::retained::put_heaviest;
 use crate::state::{State, Step};
 use applications::{Advert, Weights};
 use arrayvec::ArrayVec;
@@ -114,26 +114,9 @@ impl Moves {
     }
 }
 
-/// The moves of the paths from a host lane on that a plan with the kept ones may hold, by rising Application and media
-/// lane.
-pub fn moves_at(
-    advert: &Advert,
-    weights: &Weights,
-    kept: &[Path],
-    host: u8,
-) -> ArrayVec<Move, MAX_MOVES>
-    requires { AreAllowed advert.now kept.now }
-    ensures moves { result.items ≡ spec.moves_at advert.now weights.now kept.now host }
-    ensures rising { AllPairs (λ one later. IsLower one.path later.path) result.items }
-    ensures lead_on { All (LeadsOn (host - 1)) result.items }
-{
-    let mut moves = ArrayVec::new();
-    put_moves(&mut moves, advert, weights, kept, host);
-    moves
-}
-
-// Puts them in the place of others.
-fn put_moves(
+/// Puts the moves of the paths from a host lane on that a plan with the kept ones may hold in the place of others, by rising
+/// Application and media lane.
+pub fn put_moves(
     moves: &mut ArrayVec<Move, MAX_MOVES>,
     advert: &Advert,
     weights: &Weights,
@@ -151,16 +134,16 @@ fn put_moves(
     }
 }
 
-// Those of one Application.
-fn push_moves(
-    moves: &mut ArrayVec<Move, MAX_MOVES>,
+/// Adds those of one Application.
+pub(crate) fn push_moves<const ROOM: usize>(
+    moves: &mut ArrayVec<Move, ROOM>,
     advert: &Advert,
     weights: &Weights,
     kept: &[Path],
     host: u8,
     app: u8,
 )
-    requires room { length moves.old.items + 8 ≤ MAX_MOVES }
+    requires room { length moves.old.items + 8 ≤ ROOM }
     requires kept { AreAllowed advert.now kept.now }
     ensures moves { moves.new.items ≡ moves.old.items ++ spec.moves_of advert.now weights.now kept.now (paths_of_app host app) }
     ensures few { length moves.new.items ≤ length moves.old.items + 8 }
@@ -190,55 +173,4 @@ fn push_moves(
             });
         }
     }
-}
-
-// Puts in the place of others, of moves on the same lanes, one that weighs most.
-fn put_heaviest(heaviest: &mut ArrayVec<Move, MAX_MOVES>, moves: &[Move])
-    requires { length moves.now ≤ MAX_MOVES }
-    ensures { AreHeaviest moves.now heaviest.new.items }
-{
-    heaviest.clear();
-    for one in moves {
-        retain(heaviest, one);
-    }
-}
-
-// Adds a move, or puts it in the place of a lighter one on its lanes.
-fn retain(retained: &mut ArrayVec<Move, MAX_MOVES>, new: &Move)
-    requires { length retained.old.items < MAX_MOVES }
-    ensures among { All (λ one. Contains retained.old.items one ⊎ (one ≡ new.now)) retained.new.items }
-    ensures outweighed { All (IsOutweighed retained.new.items) retained.old.items }
-    ensures added { IsOutweighed retained.new.items new.now }
-    ensures few { length retained.new.items ≤ length retained.old.items + 1 }
-{
-    match place_on_lanes_of(retained.as_slice(), new) {
-        Some(place) => replace_lighter(retained.as_mut_slice(), place, new),
-        None => retained.push(*new),
-    }
-}
-
-fn replace_lighter(retained: &mut [Move], place: usize, new: &Move)
-    requires place { place < length retained.old }
-    requires lanes { HoldsAt (HasLanesOf new.now) retained.old place }
-    ensures among { All (λ one. Contains retained.old one ⊎ (one ≡ new.now)) retained.new }
-    ensures outweighed { All (IsOutweighed retained.new) retained.old }
-    ensures added { IsOutweighed retained.new new.now }
-{
-    let old = retained[place];
-    if old.weight < new.weight {
-        retained[place] = *new;
-    }
-}
-
-// Where a move on the same lanes stands.
-fn place_on_lanes_of(moves: &[Move], new: &Move) -> Option<usize>
-    ensures { IfSome result (λ place. place < length moves.now × HoldsAt (HasLanesOf new.now) moves.now place) }
-{
-    for (place, one) in moves.iter().enumerate() {
-        let (lanes, others) = (one.media_lanes.byte(), new.media_lanes.byte());
-        if one.host_lanes == new.host_lanes && lanes == others {
-            return Some(place);
-        }
-    }
-    None
 }

@@ -11,7 +11,7 @@ ghost use Rattle.plan_certificate.specs.CertificateText.{line_text, IsLineInRang
 ghost use Rattle.plan_certificate.specs.CertificateFaults.{IsLineFault, IsFirstFault};
 ghost use Rattle.plan_certificate.specs.CertificateDrafts.{lines_so_far, text_so_far, HasKeptAlone, MayCome, IsDraft};
 
-use super::{Certificate, Entry};
+use super::{Certificate, Entries};
 use crate::fault::CertificateFault;
 use crate::line::{Line, read_line};
 use crate::path::Path;
@@ -45,7 +45,7 @@ impl<const STATES: usize> Certificate<STATES> {
             plan: Plan {
                 paths: ArrayVec::new(),
             },
-            entries: ArrayVec::new(),
+            entries: Entries::new(),
         }
     }
 
@@ -146,12 +146,13 @@ impl<const STATES: usize> Certificate<STATES> {
                 Ok(Stage::Weighed)
             }
             Line::StateLine(entry) => {
-                if !is_above_all(&self.entries, entry) {
+                if !self.entries.are_below(&entry) {
                     return Err(CertificateFault::OutOfOrder(number));
                 }
-                if self.entries.try_push(entry).is_err() {
+                if self.entries.is_full() {
                     return Err(CertificateFault::TooMany);
                 }
+                self.entries.push(entry);
                 Ok(Stage::Weighed)
             }
             Line::End => Ok(Stage::Ended),
@@ -176,14 +177,4 @@ fn add_path(plan: &mut Plan, path: Path) -> bool
     ensures full { OnFalse result (length plan.old ≡ MAX_PATHS) }
 {
     plan.paths.try_push(path).is_ok()
-}
-
-fn is_above_all(entries: &[Entry], entry: Entry) -> bool
-    requires { HasStates entries.now }
-    ensures { IsTrue result ↔ All (λ before. entry_place before < entry_place entry) entries.now }
-{
-    match entries.last() {
-        Some(last) => last.place() < entry.place(),
-        None => true,
-    }
 }

@@ -1,15 +1,14 @@
 // Writing a certificate's text.
-ghost use Rattle.std.specs.Prelude.{◌≡◌, ◌≤◌, ◌++◌, ◌∷◌, [], IfOk, OnOk, codes, map};
+ghost use Rattle.std.specs.Prelude.{◌≡◌, ◌≤◌, ◌++◌, ◌∷◌, [], IfOk, OnOk, codes, length, map};
 ghost use Rattle.std.specs.Fmt.{decimal};
 ghost use Rattle.hex.specs.Hex.{encode_lower};
 ghost use Rattle.std.specs.String.{string_bytes};
 ghost use Rattle.std.specs.List.{AllByRecursion};
 ghost use Rattle.text_lines.specs.Lines.{lines_of, text_of};
 ghost use Rattle.plan_certificate.specs.declared.line.Line.{Line};
-ghost use Rattle.plan_certificate.specs.Certificates.{HasStates};
 ghost use Rattle.plan_certificate.specs.CertificateText.{header_of, line_text, certificate_lines, IsPathInRange, IsEntryInRange, IsHead, IsReadable, IsTextOf};
 
-use super::{Certificate, Entry};
+use super::{Certificate, Entries, Entry};
 use crate::line::Line;
 use crate::path::Path;
 use crate::plan::Plan;
@@ -106,13 +105,16 @@ fn write_path(text: &mut String, path: Path) -> Result<(), AllocError>
 }
 
 // Most lines are states, so these are put together byte by byte, with no formatter.
-fn write_entries(text: &mut Vec<u8>, entries: &[Entry]) -> Result<(), AllocError>
-    requires { HasStates entries.now }
+fn write_entries<const STATES: usize>(
+    text: &mut Vec<u8>,
+    entries: &Entries<STATES>,
+) -> Result<(), AllocError>
     ensures written { OnOk result (text.new.items ≡ text.old.items ++ text_of (map line_text (map (λ entry. Line.StateLine entry) entries.now))) }
     ensures each { OnOk result (AllByRecursion IsEntryInRange entries.now) }
+    ensures few { OnOk result (length entries.now ≤ STATES) }
 {
-    for entry in entries {
-        write_entry(text, *entry)?;
+    for index in 0..entries.len() {
+        write_entry(text, entries.at(index))?;
     }
     Ok(())
 }

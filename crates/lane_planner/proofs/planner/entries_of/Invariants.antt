@@ -3,4 +3,4 @@ use Rattle.lane_planner.proofs.planner.entries_of.Given as goal
 
 -- the entries so far
 abbrev pub invariant-loop-place : goal.invariant-loop-place
-invariant-loop-place l = AreEntries l.marks l.table l.place l.entries.items
+invariant-loop-place l = AreEntries l.marks l.table l.place l.entries

@@ -36,7 +36,7 @@ returns-clause-good c =
     let kept : List Path = c.copy_of.result in
     let marks = c.reached.new.marks in
     let table = c.put_gains.new.table in
-    let entries : List Entry = c.entries_of.result.items in
+    let entries : List Entry = c.entries_of.result in
     let same : c.as_slice-paths.result.now ≡ kept = (let read = c.as_slice-paths.ensures.value in let seen = c.kept.view_is in let copied = c.copy_of.ensures in cc) in
     let reached = subst (λ (paths : List Path). MarksReached advert weights paths marks) same c.reached.ensures in
     let has = subst (λ (paths : List Path). HasGains advert weights paths 0 table) same c.put_gains.ensures in
@@ -76,7 +76,7 @@ returns-clause-gains c =
     let same : c.as_slice-paths.result.now ≡ kept = (let read = c.as_slice-paths.ensures.value in let seen = c.kept.view_is in cc) in
     let reached = subst (λ (paths : List Path). MarksReached advert weights paths marks) same c.reached.ensures in
     let has = subst (λ (paths : List Path). HasGains advert weights paths 0 table) same c.put_gains.ensures in
-    each_gain advert weights kept marks table c.entries_of.result.items reached has c.entries_of.ensures
+    each_gain advert weights kept marks table c.entries_of.result reached has c.entries_of.ensures
 
 pub returns-clause-states : goal.returns-clause-states
 returns-clause-states c =
@@ -88,4 +88,4 @@ returns-clause-states c =
     let same : c.as_slice-paths.result.now ≡ kept = (let read = c.as_slice-paths.ensures.value in let seen = c.kept.view_is in cc) in
     let reached = subst (λ (paths : List Path). MarksReached advert weights paths marks) same c.reached.ensures in
     let has = subst (λ (paths : List Path). HasGains advert weights paths 0 table) same c.put_gains.ensures in
-    states_are advert weights kept marks table c.entries_of.result.items reached has c.entries_of.ensures
+    states_are advert weights kept marks table c.entries_of.result reached has c.entries_of.ensures

@@ -21,14 +21,14 @@ step-state-requires c =
     let state : State = c.loop-state.state in
     let test = move_keeps_gain c.args.kept.now c.args.table.now state in
     let found = ap (find test) (sym c.as_slice.ensures.value) ∙ sym c.chosen.ensures ∙ c.in-Some.is in
-    (chosen_leads_on state.boundary test c.moves_at-moves.result.items c.in-Some.one found c.moves_at-moves.ensures.lead_on).within
+    (chosen_leads_on state.boundary test c.put_moves.new.moves.items c.in-Some.one found c.put_moves.ensures.lead_on).within
 
 pub loop-state-smaller-in-Some : goal.loop-state-smaller-in-Some
 loop-state-smaller-in-Some c =
     let state : State = c.loop-state.state in
     let test = move_keeps_gain c.args.kept.now c.args.table.now state in
     let found = ap (find test) (sym c.as_slice.ensures.value) ∙ sym c.chosen.ensures ∙ c.in-Some.is in
-    let leads = chosen_leads_on state.boundary test c.moves_at-moves.result.items c.in-Some.one found c.moves_at-moves.ensures.lead_on in
+    let leads = chosen_leads_on state.boundary test c.put_moves.new.moves.items c.in-Some.one found c.put_moves.ensures.lead_on in
     omega (arith, ap (λ (s : Step). s.end.boundary) c.step-state.ensures, leads.further, c.loop-state-test.true)
 
 pub loop-state-preserved-in-Some : goal.loop-state-preserved-in-Some
@@ -40,10 +40,10 @@ loop-state-preserved-in-Some c =
     let state : State = c.loop-state.state in
     let So : State → List Path → Type 0 = IsSoFar advert weights kept table in
     let paths : List Path = c.loop-state.paths.items ++ c.in-Some.one.path ∷ [] in
-    let listed = c.as_slice.ensures.value ∙ c.moves_at-moves.ensures.moves in
+    let listed = c.as_slice.ensures.value ∙ c.put_moves.ensures.moves in
     let found = sym c.chosen.ensures ∙ c.in-Some.is in
     let chosen = chosen_move advert weights kept table state c.as_slice.result.now c.in-Some.one listed found in
-    let rising : AllPairs (λ one later. IsLower one.path later.path) c.as_slice.result.now = subst (AllPairs (λ one later. IsLower one.path later.path)) (sym c.as_slice.ensures.value) c.moves_at-moves.ensures.rising in
+    let rising : AllPairs (λ one later. IsLower one.path later.path) c.as_slice.result.now = subst (AllPairs (λ one later. IsLower one.path later.path)) (sym c.as_slice.ensures.value) c.put_moves.ensures.rising in
     let lowest = chosen_is_lowest advert weights kept table state c.as_slice.result.now c.in-Some.one listed rising found in
     let more = path_more advert weights kept table state c.loop-state.paths.items c.in-Some.one.path c.requires.kept c.requires.gains c.loop-state.invariant c.loop-state-test.true chosen.path lowest in
     let end : c.step-state.result.end ≡ _ = ap (λ (s : Step). s.end) c.step-state.ensures ∙ chosen.end in
@@ -56,7 +56,7 @@ loop-state-preserved c =
     let kept = c.args.kept.now in
     let table = c.args.table.now in
     let state : State = c.loop-state.state in
-    let listed = c.as_slice.ensures.value ∙ c.moves_at-moves.ensures.moves in
+    let listed = c.as_slice.ensures.value ∙ c.put_moves.ensures.moves in
     let none = no_chosen_move advert weights kept table state c.as_slice.result.now listed (sym c.chosen.ensures ∙ c.in-None.is) in
     let more = free_more advert weights kept table state c.loop-state.paths.items c.requires.gains c.loop-state.invariant c.loop-state-test.true none in
     subst (λ (s : State). IsSoFar advert weights kept table s c.loop-state.paths.items) (ap (λ (s : Step). s.end) (sym c.free_step-state.ensures)) more

@@ -4,7 +4,7 @@ use Rattle.plan_certificate.specs.declared.moves.Move.{Move}
 use Rattle.plan_certificate.specs.declared.state.State.{State}
 use Rattle.plan_certificate.specs.declared.state.Step.{Step}
 use Rattle.plan_certificate.specs.States.{state_at}
-use Rattle.plan_certificate.specs.Moves.{LeadsOn, steps_by}
+use Rattle.plan_certificate.specs.Moves.{LeadsOn, moves_at, steps_by}
 use Rattle.plan_certificate.proofs.HeaviestMoves.{heaviest_lead_on}
 use Rattle.plan_certificate.proofs.MoveSteps.{listed_are_steps}
 use Rattle.lane_planner.specs.Marks.{AreMarks, IsMarked, MarksEnds}
@@ -19,10 +19,10 @@ loop-boundary-init c = subst (λ (blank : List Bool). AreMarks c.args.advert.now
 pub mark_ends-requires-clause-lead_on : goal.mark_ends-requires-clause-lead_on
 mark_ends-requires-clause-lead_on c =
     let boundary : ℕ = c.loop-boundary.boundary in
-    let are = c.list.ensures.moves in
+    let are = c.list.ensures in
     let at : boundary ≡ c.at-state.result.boundary = omega (arith, ap (λ (s : State). s.boundary) c.at-state.ensures, c.from.ensures, c.loop-used-test.true) in
-    let each = heaviest_lead_on boundary c.list.new.self.all.items c.list.new.self.heaviest.items are.heavy are.lead_on in
-    subst (λ (moves : List Move). All (LeadsOn c.at-state.result.boundary) moves) (sym c.as_slice.ensures.value) (subst (λ (n : ℕ). All (LeadsOn n) c.list.new.self.heaviest.items) at each)
+    let each = heaviest_lead_on boundary (moves_at c.args.advert.now c.args.weights.now c.args.kept.now (boundary + 1)) c.list.new.self.moves.items are.heavy are.lead_on in
+    subst (λ (moves : List Move). All (LeadsOn c.at-state.result.boundary) moves) (sym c.as_slice.ensures.value) (subst (λ (n : ℕ). All (LeadsOn n) c.list.new.self.moves.items) at each)
 
 pub loop-used-preserved : goal.loop-used-preserved
 loop-used-preserved c =
@@ -38,14 +38,14 @@ loop-used-preserved c =
       | then-marks-place w ↦
           let state : State = state_at place in
           let after = w.mark_ends.new.marks in
-          let all = c.list.new.self.all.items in
-          let are = c.list.ensures.moves in
+          let all = (moves_at c.args.advert.now c.args.weights.now c.args.kept.now (boundary + 1)) in
+          let are = c.list.ensures in
           let low : state.boundary ≡ boundary = omega (arith, c.loop-used-test.true) in
           let free : Bool = c.list.new.self.may_stay_free in
-          let steps = listed_are_steps advert weights kept state boundary free all c.list.new.self.heaviest.items low c.loop-boundary-test.true are in
+          let steps = listed_are_steps advert weights kept state boundary free all c.list.new.self.moves.items low c.loop-boundary-test.true are in
           let at_state = subst (λ (s : State). MarksEnds (steps_by free s w.as_slice.result.now) before after) (w.at-state.ensures ∙ ap state_at read) w.mark_ends.ensures in
           let of_heaviest = subst (λ (moves : List Move). MarksEnds (steps_by free state moves) before after) w.as_slice.ensures.value at_state in
-          let new = subst (λ (ss : List Step). MarksEnds ss before after) steps (ends_of_heaviest free state all c.list.new.self.heaviest.items before after are.heavy of_heaviest) in
+          let new = subst (λ (ss : List Step). MarksEnds ss before after) steps (ends_of_heaviest free state all c.list.new.self.moves.items before after are.heavy of_heaviest) in
           let below : place < 2304 = omega (arith, c.loop-boundary-test.true, c.loop-used-test.true) in
           let marked : IsMarked before place = subst (IsMarked before) read w.if-marks-place.true in
           subst (AreMarks advert weights kept (place + 1)) (sym w.marks-is) (marks_more advert weights kept place before after c.loop-used.invariant below marked new)

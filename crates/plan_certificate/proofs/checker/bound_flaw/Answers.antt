@@ -12,14 +12,14 @@ last_flaws found weight = (not (unwrap_or found 0 == weight), (StartNotWeight, 0
 
 pub returns-in_default : goal.returns-in_default
 unfolding bound_flaws
-returns-in_default c =
+returns-in_default g c =
     let found = potential_of c.args.entries.now start in
     let none : found ≡ None = ap (potential_of c.args.entries.now) (sym c.start.ensures) ∙ sym c.potential_of.ensures ∙ c.in_default.is in
     sym (applies (is_none found) (NoStart, 0) (entries_flaws c.args.advert.now c.args.weights.now c.args.kept.now c.args.entries.now ++ last_flaws found c.args.weight) (ap is_none none))
 
 pub returns-in-Some-entries_flaw : goal.returns-in-Some-entries_flaw
 unfolding bound_flaws
-returns-in-Some-entries_flaw c =
+returns-in-Some-entries_flaw g c =
     let found = potential_of c.args.entries.now start in
     let some : found ≡ Some c.in-Some.start = ap (potential_of c.args.entries.now) (sym c.start.ensures) ∙ sym c.potential_of.ensures ∙ c.in-Some.is in
     let entries = entries_flaws c.args.advert.now c.args.weights.now c.args.kept.now c.args.entries.now in
@@ -28,7 +28,7 @@ returns-in-Some-entries_flaw c =
 
 pub returns-then-start-weight : goal.returns-then-start-weight
 unfolding bound_flaws
-returns-then-start-weight c =
+returns-then-start-weight g c =
     let found = potential_of c.args.entries.now start in
     let some : found ≡ Some c.in-Some.start = ap (potential_of c.args.entries.now) (sym c.start.ensures) ∙ sym c.potential_of.ensures ∙ c.in-Some.is in
     let entries = entries_flaws c.args.advert.now c.args.weights.now c.args.kept.now c.args.entries.now in
@@ -39,7 +39,7 @@ returns-then-start-weight c =
 
 pub returns : goal.returns
 unfolding bound_flaws
-returns c =
+returns g c =
     let found = potential_of c.args.entries.now start in
     let some : found ≡ Some c.in-Some.start = ap (potential_of c.args.entries.now) (sym c.start.ensures) ∙ sym c.potential_of.ensures ∙ c.in-Some.is in
     let entries = entries_flaws c.args.advert.now c.args.weights.now c.args.kept.now c.args.entries.now in

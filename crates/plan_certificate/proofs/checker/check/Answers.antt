@@ -11,8 +11,7 @@ pub returns-in-None-clause-verdict : goal.returns-in-None-clause-verdict
 unfolding verdict
 returns-in-None-clause-verdict g c =
     let of : Claim → Option (Reason × ℕ) = λ certificate. first_fault (all_flaws c.args.advert.now c.args.weights.now certificate) in
-    let whole : record { weight = c.certificate.inside.weight; kept = c.certificate.inside.kept; paths = c.certificate.inside.plan; entries = c.as_slice.result.now } ≡ c.args.certificate.now =
-    (λ i. record { weight = c.certificate.inside.weight; kept = c.certificate.inside.kept; paths = c.certificate.inside.plan; entries = c.as_slice.ensures.value i }) ∙ c.certificate.view_is in
+    let whole : record { weight = c.certificate.inside.weight; kept = c.certificate.inside.kept; paths = c.certificate.inside.plan; entries = c.certificate.inside.entries } ≡ c.args.certificate.now = c.certificate.view_is in
     ap judged (sym c.in-None.is ∙ c.flaw.ensures ∙ ap of whole)
 
 pub returns-in-None-clause-good : goal.returns-in-None-clause-good
@@ -28,8 +27,7 @@ pub returns-in-Some-clause-verdict : goal.returns-in-Some-clause-verdict
 unfolding verdict
 returns-in-Some-clause-verdict g c =
     let of : Claim → Option (Reason × ℕ) = λ certificate. first_fault (all_flaws c.args.advert.now c.args.weights.now certificate) in
-    let whole : record { weight = c.certificate.inside.weight; kept = c.certificate.inside.kept; paths = c.certificate.inside.plan; entries = c.as_slice.result.now } ≡ c.args.certificate.now =
-    (λ i. record { weight = c.certificate.inside.weight; kept = c.certificate.inside.kept; paths = c.certificate.inside.plan; entries = c.as_slice.ensures.value i }) ∙ c.certificate.view_is in
+    let whole : record { weight = c.certificate.inside.weight; kept = c.certificate.inside.kept; paths = c.certificate.inside.plan; entries = c.certificate.inside.entries } ≡ c.args.certificate.now = c.certificate.view_is in
     ap judged (sym c.in-Some.is ∙ c.flaw.ensures ∙ ap of whole)
 
 pub returns-in-Some-clause-good : goal.returns-in-Some-clause-good

@@ -7,7 +7,7 @@ use Rattle.plan_certificate.proofs.checker.entries_flaw.Given as goal
 
 -- the entries so far have no flaw
 abbrev pub invariant-loop-place : goal.invariant-loop-place
-invariant-loop-place l = record {
+invariant-loop-place g l = record {
   none :
       first_fault (flat_map (entry_flaws l.advert l.weights l.kept l.entries) (drop l.place (enumerate_from 1 l.entries)))
       ≡ first_fault (entries_flaws l.advert l.weights l.kept l.entries);

@@ -1,4 +1,4 @@
-use Rattle.std.proofs.Common.{◌≡◌, ℕ, List, None, Option, not, sym, subst, ap, ◌∙◌}
+use Rattle.std.proofs.Common.{◌≡◌, ℕ, List, None, Option, not, sym, subst, ap, ◌∙◌, rules}
 use Rattle.std.specs.List.{All}
 use Rattle.field_tables.specs.FirstFault.{first_fault}
 use Rattle.plan_certificate.specs.declared.moves.Move.{Move}
@@ -11,17 +11,18 @@ use Rattle.plan_certificate.proofs.MoveFlaws.{ended_has_none, entry_flaws_are, n
 use Rattle.plan_certificate.proofs.checker.entry_flaw.Goals as goal
 
 pub returns-then-entry-ge-HOST_LANES-clause-flaw : goal.returns-then-entry-ge-HOST_LANES-clause-flaw
-returns-then-entry-ge-HOST_LANES-clause-flaw c =
+returns-then-entry-ge-HOST_LANES-clause-flaw g c =
     sym (ended_has_none c.args.advert.now c.args.weights.now c.args.kept.now c.args.entries.now c.args.number c.args.entry.now c.if-entry-ge-HOST_LANES.true)
 
-pub steps_flaw-requires-clause-lead_on : goal.steps_flaw-requires-clause-lead_on
-steps_flaw-requires-clause-lead_on c =
+pub steps_flaw-requires : goal.steps_flaw-requires
+steps_flaw-requires g c =
     let boundary : ℕ = c.args.entry.now.boundary in
     let are = c.turn_to.ensures.moves in
-    subst (All (LeadsOn boundary)) (sym c.as_slice.ensures.value) (heaviest_lead_on boundary c.turn_to.new.self.all.items c.turn_to.new.self.heaviest.items are.heavy are.lead_on)
+    let lead = subst (All (LeadsOn boundary)) (sym c.as_slice.ensures.value) (heaviest_lead_on boundary c.turn_to.new.self.all.items c.turn_to.new.self.heaviest.items are.heavy are.lead_on) in
+    (search rules, (c.if-entry-ge-HOST_LANES.false, lead))
 
 pub returns-then-is_none-clause-flaw : goal.returns-then-is_none-clause-flaw
-returns-then-is_none-clause-flaw c =
+returns-then-is_none-clause-flaw g c =
     let entry = c.args.entry.now in
     let entries = c.args.entries.now in
     let all = c.turn_to.new.self.all.items in
@@ -34,7 +35,7 @@ returns-then-is_none-clause-flaw c =
     ∙ none_of_heaviest entries (c.args.number, entry) c.turn_to.new.self.may_stay_free (state_of entry) all heaviest are.heavy of_heaviest)
 
 pub returns-clause-flaw : goal.returns-clause-flaw
-returns-clause-flaw c =
+returns-clause-flaw g c =
     let entry = c.args.entry.now in
     let entries = c.args.entries.now in
     let all = c.turn_to.new.self.all.items in

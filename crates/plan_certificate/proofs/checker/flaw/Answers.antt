@@ -11,7 +11,7 @@ abbrev weight_flaw : ℕ → ℕ → Bool
 weight_flaw weight right = not (weight == right)
 
 pub returns-in-Some : goal.returns-in-Some
-returns-in-Some c =
+returns-in-Some g c =
     let kept = c.args.kept.now in
     let plan = c.args.plan.now in
     let flaws = paths_flaws c.args.advert.now kept plan in
@@ -22,7 +22,7 @@ returns-in-Some c =
     sym (first_then flaws rest c.in-Some.flaw (same ∙ c.in-Some.is))
 
 pub returns-then-weight-weight_of : goal.returns-then-weight-weight_of
-returns-then-weight-weight_of c =
+returns-then-weight-weight_of g c =
     let kept = c.args.kept.now in
     let plan = c.args.plan.now in
     let flaws = paths_flaws c.args.advert.now kept plan in
@@ -35,7 +35,7 @@ returns-then-weight-weight_of c =
     sym (none_then flaws ((weight_flaw c.args.weight right, (WeightWrong, 0)) ∷ bounds) (same ∙ c.in_default.is) ∙ applies (weight_flaw c.args.weight right) (WeightWrong, 0) bounds wrong)
 
 pub returns : goal.returns
-returns c =
+returns g c =
     let kept = c.args.kept.now in
     let plan = c.args.plan.now in
     let flaws = paths_flaws c.args.advert.now kept plan in
@@ -45,5 +45,5 @@ returns c =
     let plan_is = c.as_slice-paths.ensures.value ∙ c.plan.view_is in
     let same : first_fault flaws ≡ c.paths_flaw.result = (λ i. first_fault (paths_flaws c.args.advert.now (sym kept_is i) (sym plan_is i))) ∙ sym c.paths_flaw.ensures.flaw in
     let is_right : weight_flaw c.args.weight right ≡ false = ap not (eq-eqb c.args.weight right (c.if-weight-weight_of.false ∙ c.weight_of.ensures)) in
-    let found : c.bound_flaw.result ≡ first_fault bounds = c.bound_flaw.ensures ∙ (λ i. first_fault (bound_flaws c.args.advert.now c.args.weights.now (kept_is i) (c.of.ensures i) c.args.weight)) in
+    let found : c.bound_flaw.result ≡ first_fault bounds = c.bound_flaw.ensures ∙ (λ i. first_fault (bound_flaws c.args.advert.now c.args.weights.now (kept_is i) c.args.entries.now c.args.weight)) in
     sym (none_then flaws ((weight_flaw c.args.weight right, (WeightWrong, 0)) ∷ bounds) (same ∙ c.in_default.is) ∙ passes (weight_flaw c.args.weight right) (WeightWrong, 0) bounds is_right ∙ sym found)

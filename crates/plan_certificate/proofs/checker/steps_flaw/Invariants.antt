@@ -8,6 +8,6 @@ use Rattle.plan_certificate.proofs.checker.steps_flaw.Given as goal
 
 -- the steps so far have no flaw
 abbrev pub invariant-loop-one : goal.invariant-loop-one
-invariant-loop-one l =
+invariant-loop-one g l =
     first_fault (flaws_by (step_flaws l.entries (l.number, l.entry)) l.state (drop l.one-index l.moves))
     ≡ first_fault (steps_flaws l.entries (l.number, l.entry) (steps_by l.may_stay_free (state_of l.entry) l.moves))

@@ -17,7 +17,7 @@ use Rattle.plan_certificate.proofs.moves.push_moves.Goals.{then-is_eligible_as, 
 
 pub loop-before-init : goal.loop-before-init
 unfolding moves_of
-loop-before-init c = record {
+loop-before-init g c = record {
   moves = sym (append-nil c.args.moves.now.items);
   few = omega arith;
 }
@@ -28,17 +28,17 @@ unfolding app_of
 same_app advert app host media other = refl
 
 pub is_eligible_as-requires-clause-app : goal.is_eligible_as-requires-clause-app
-is_eligible_as-requires-clause-app c = c.application-application.ensures ∙ same_app c.args.advert.now c.args.app c.args.host 1 (c.loop-before.before + 1)
+is_eligible_as-requires-clause-app g c = c.application-application.ensures ∙ same_app c.args.advert.now c.args.app c.args.host 1 (c.loop-before.before + 1)
 
 pub run-media_lanes-requires-clause-to_eight : goal.run-media_lanes-requires-clause-to_eight
-run-media_lanes-requires-clause-to_eight c =
+run-media_lanes-requires-clause-to_eight g c =
     let one : Path = record { app = c.args.app; host = c.args.host; media = c.loop-before.before + 1 } in
     let lanes = allowed c.args.advert.now one (eligible_allowed c.args.advert.now c.args.kept.now one (sym c.is_eligible_as.ensures ∙ c.if-is_eligible_as.true)) in
     let same = c.application-application.ensures ∙ same_app c.args.advert.now c.args.app c.args.host 1 (c.loop-before.before + 1) in
     omega (arith, lanes.media_to, ap (λ (a : App). a.media_lanes) same)
 
 pub loop-before-preserved : goal.loop-before-preserved
-loop-before-preserved c =
+loop-before-preserved g c =
     let host : ℕ = c.args.host in
     let before = c.loop-before.before in
     let one : Path = record { app = c.args.app; host = host; media = before + 1 } in

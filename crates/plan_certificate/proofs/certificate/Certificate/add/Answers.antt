@@ -1,4 +1,5 @@
-use Rattle.std.proofs.Common.{◌≡◌, ◌≤◌, List, ◌∷◌, ◌++◌, [], length, sym, ap, subst, ◌∙◌, rules}
+use Rattle.std.proofs.Common.{◌≡◌, ◌<◌, ◌≤◌, List, ◌∷◌, ◌++◌, [], length, sym, ap, subst, ◌∙◌, arith, rules}
+use Rattle.std.proofs.lemmas.List.{length-append}
 use Rattle.plan_certificate.specs.declared.certificate.Entry.{Entry}
 use Rattle.plan_certificate.specs.Certificates.{Claim}
 use Rattle.plan_certificate.specs.declared.line.Line.TheVariants.{StateLine}
@@ -56,47 +57,46 @@ returns-else-not-add_path-2-clause-drafted g c =
     (λ i. record { weight = (view i).weight; kept = (view i).kept; paths = (pushed ∙ ap (λ (v : Claim). v.paths ++ c.in-PathLine.path ∷ []) view) i; entries = (view i).entries })
     few c.requires.drafted.readable
 
-pub returns-then-not-is_above_all-clause-fault : goal.returns-then-not-is_above_all-clause-fault
-returns-then-not-is_above_all-clause-fault g c =
+pub returns-then-not-are_below-clause-fault : goal.returns-then-not-are_below-clause-fault
+returns-then-not-are_below-clause-fault g c =
     let weighed = rw c.in-StateLine.is at c.requires.in_turn in
     let fits = rw c.in-StateLine.is at c.requires.fits in
     let counted = rw weighed at c.requires.counted in
     let ranges = c.requires.drafted.readable.ordered.in_range in
-    let entries = c.deref.ensures.0 ∙ ap (λ (v : Claim). v.entries) c.self.view_is in
+    let entries = ap (λ (v : Claim). v.entries) c.self.view_is in
     let low : ¬ (IsAbove c.args.self.now.entries c.in-StateLine.entry) = λ above.
-    let yes = c.is_above_all.ensures.1 (subst (λ (l : List Entry). IsAbove l c.in-StateLine.entry) (sym entries) above) in
+    let yes = c.are_below.ensures.1 (subst (λ (l : List Entry). IsAbove l c.in-StateLine.entry) (sym entries) above) in
     search rules in
     let text = line_text (StateLine c.in-StateLine.entry) in
     let stops = low_state g.row.STATES c.args.self.now c.in-StateLine.entry fits ranges low in
     rw (c.in-StateLine.is, weighed) (number_is Weighed c.args.self.now ranges text c.args.number counted, stops.0, stops.1)
 
-pub returns-then-is_err-clause-fault : goal.returns-then-is_err-clause-fault
-returns-then-is_err-clause-fault g c =
+pub returns-then-is_full-clause-fault : goal.returns-then-is_full-clause-fault
+returns-then-is_full-clause-fault g c =
     let weighed = rw c.in-StateLine.is at c.requires.in_turn in
     let fits = rw c.in-StateLine.is at c.requires.fits in
-    let here : IsAbove c.deref.result.now c.in-StateLine.entry = c.is_above_all.ensures.0 (search rules) in
+    let here : IsAbove c.self.inside.entries c.in-StateLine.entry = c.are_below.ensures.0 (search rules) in
     let entries = ap (λ (v : Claim). v.entries) c.self.view_is in
-    let above = subst (λ (l : List Entry). IsAbove l c.in-StateLine.entry) (c.deref.ensures.0 ∙ entries) here in
-    let items : length c.self.inside.entries.items ≡ g.row.STATES = search rules in
-    rw (c.in-StateLine.is, weighed) (last_state g.row.STATES c.args.self.now c.in-StateLine.entry fits c.requires.drafted.readable.ordered above (sym (ap (λ (l : List Entry). length l) entries) ∙ items))
+    let above = subst (λ (l : List Entry). IsAbove l c.in-StateLine.entry) entries here in
+    let full : length c.self.inside.entries ≡ g.row.STATES = search rules in
+    rw (c.in-StateLine.is, weighed) (last_state g.row.STATES c.args.self.now c.in-StateLine.entry fits c.requires.drafted.readable.ordered above (sym (ap (λ (l : List Entry). length l) entries) ∙ full))
 
 pub invariant_of-self-in-StateLine : goal.invariant_of-self-in-StateLine
 invariant_of-self-in-StateLine g c =
     let fits = rw c.in-StateLine.is at c.requires.fits in
-    let here : IsAbove c.deref.result.now c.in-StateLine.entry = c.is_above_all.ensures.0 (search rules) in
-    let above = subst (λ (l : List Entry). IsAbove l c.in-StateLine.entry) c.deref.ensures.0 here in
-    let pushed : c.try_push.new.self.items ≡ c.self.inside.entries.items ++ c.in-StateLine.entry ∷ [] = search rules in
-    rw pushed (states_more c.self.inside.entries.items c.in-StateLine.entry c.self.invariant fits above)
+    let above : IsAbove c.self.inside.entries c.in-StateLine.entry = c.are_below.ensures.0 (search rules) in
+    rw c.push.ensures (states_more c.self.inside.entries c.in-StateLine.entry c.self.invariant fits above)
 
-pub returns-else-is_err-clause-drafted : goal.returns-else-is_err-clause-drafted
-returns-else-is_err-clause-drafted g c =
+pub returns-else-is_full-clause-drafted : goal.returns-else-is_full-clause-drafted
+returns-else-is_full-clause-drafted g c =
     let fits = rw c.in-StateLine.is at c.requires.fits in
-    let here : IsAbove c.deref.result.now c.in-StateLine.entry = c.is_above_all.ensures.0 (search rules) in
+    let here : IsAbove c.self.inside.entries c.in-StateLine.entry = c.are_below.ensures.0 (search rules) in
     let view = c.self.view_is in
     let entries = ap (λ (v : Claim). v.entries) view in
-    let above = subst (λ (l : List Entry). IsAbove l c.in-StateLine.entry) (c.deref.ensures.0 ∙ entries) here in
-    let pushed : c.try_push.new.self.items ≡ c.self.inside.entries.items ++ c.in-StateLine.entry ∷ [] = search rules in
-    let few : length c.try_push.new.self.items ≤ g.row.STATES = search rules in
+    let above = subst (λ (l : List Entry). IsAbove l c.in-StateLine.entry) entries here in
+    let room : length c.self.inside.entries < g.row.STATES = search rules in
+    let more = ap (λ (l : List Entry). length l) c.push.ensures ∙ length-append c.self.inside.entries (c.in-StateLine.entry ∷ []) in
+    let few : length c.push.new.self ≤ g.row.STATES = omega (arith, room, more) in
     state_fits g.row.STATES c.args.self.now c.in-StateLine.entry fits _
-    (λ i. record { weight = (view i).weight; kept = (view i).kept; paths = (view i).paths; entries = (pushed ∙ ap (λ (l : List Entry). l ++ c.in-StateLine.entry ∷ []) entries) i })
+    (λ i. record { weight = (view i).weight; kept = (view i).kept; paths = (view i).paths; entries = (c.push.ensures ∙ ap (λ (l : List Entry). l ++ c.in-StateLine.entry ∷ []) entries) i })
     few above c.requires.drafted.readable

@@ -3,7 +3,7 @@ use Rattle.std.specs.List.{All}
 use Rattle.plan_certificate.specs.declared.moves.Move.{Move}
 use Rattle.plan_certificate.specs.Moves.{IsOutweighed}
 use Rattle.plan_certificate.proofs.RetainedMoves.{AmongOrNew, pushed_added, pushed_among, pushed_outweighed}
-use Rattle.plan_certificate.proofs.moves.retain.Goals as goal
+use Rattle.plan_certificate.proofs.retained.retain.Goals as goal
 
 pub returns-in-None-clause-among : goal.returns-in-None-clause-among
 returns-in-None-clause-among c =

@@ -2,7 +2,7 @@ use Rattle.std.proofs.Common.{◌≡◌, ◌≤◌, get_or, ap, ◌∙◌, arith
 use Rattle.std.proofs.lemmas.List.{get_or_default}
 use Rattle.plan_certificate.specs.declared.moves.Move.{Move}
 use Rattle.plan_certificate.proofs.RetainedMoves.{all_themselves, retained_added, replaced_added, replaced_outweighed}
-use Rattle.plan_certificate.proofs.moves.replace_lighter.Goals as goal
+use Rattle.plan_certificate.proofs.retained.replace_lighter.Goals as goal
 
 pub returns-then-old-new-clause-outweighed : goal.returns-then-old-new-clause-outweighed
 returns-then-old-new-clause-outweighed c =
