@@ -6,7 +6,7 @@ use Rattle.control_sets.specs.declared.fault.ProvisionFault.{ProvisionFault}
 use Rattle.control_sets.specs.declared.fault.ProvisionFault.TheVariants.{GaveUp, Bus}
 use Rattle.control_sets.specs.declared.procedures.task.Task.{Task}
 use Rattle.control_sets.specs.Pages.{EachStep, History}
-use Rattle.control_sets.specs.Procedures.{EachAnswers, EachGoesOn, EachIsNext, EndsFirst, EndsIn as EndsTasks, GivesUp as GivesTasksUp, GoesOn, fault_by, in_hand}
+use Rattle.control_sets.specs.Procedures.{EachAnswers, EachGoesOn, EachIsNext, EndsFirst, EndsTasks, GivesTasksUp, GoesOn, fault_by, in_hand}
 use Rattle.control_sets.specs.OutcomeAnswers.{Answer, EndsIn, IsAnswer, NoneEnds}
 use Rattle.control_sets.proofs.OutcomeTurns.{each_turn}
 use Rattle.control_sets.proofs.OutcomeSelections.{Here, each_here}

@@ -9,7 +9,7 @@ use Rattle.datapath_states.specs.Lanes.{code_in, codes_in}
 use Rattle.datapath_states.specs.StateCodes.{state_at as path_state_at}
 use Rattle.datapath_states.specs.StatusCodes.{status_at}
 use Rattle.control_sets.specs.HostPaths.{IsLane}
-use Rattle.control_sets.specs.Judgements.{all_have, at_lane, differing_lane, is_rejection, is_reserved_state, is_reserved_status, lowest_lane}
+use Rattle.control_sets.specs.Judgements.{all_lanes_have, at_lane, differing_lane, is_rejection, is_reserved_state, is_reserved_status, lowest_lane}
 use Rattle.control_sets.specs.OutcomeCodes.{AllHave, DiffersAt, HasSuch, IsLowest, IsLowestSuch, IsRejection, IsReservedPathState, IsReservedStatus, NoneHas, byte_at}
 use Rattle.field_tables.proofs.TrueTests.{in_range, range_passes}
 use Rattle.control_sets.proofs.LanesOfPaths.{implied}
@@ -163,12 +163,12 @@ implies : (a b : Bool) → (a ≡ true → b ≡ true) → (not a || b) ≡ true
 implies true b h = h refl
 implies false b h = refl
 
-pub each_has : (code : ℕ) (lanes : Lanes) (bytes : List ℕ) → all_have code lanes (codes_in bytes 8) ≡ true → AllHave code lanes bytes
+pub each_has : (code : ℕ) (lanes : Lanes) (bytes : List ℕ) → all_lanes_have code lanes (codes_in bytes 8) ≡ true → AllHave code lanes bytes
 each_has code lanes bytes e lane of =
     let here = in_range (λ lane. not (set.contains lanes lane) || at_lane (codes_in bytes 8) lane == code) 1 8 lane e of.0.0 (omega (arith, of.0.1)) in
     sym (code_is bytes lane of.0) ∙ eqb-true (at_lane (codes_in bytes 8) lane) code (implied _ _ here of.1)
 
-pub has_each : (code : ℕ) (lanes : Lanes) (bytes : List ℕ) → AllHave code lanes bytes → all_have code lanes (codes_in bytes 8) ≡ true
+pub has_each : (code : ℕ) (lanes : Lanes) (bytes : List ℕ) → AllHave code lanes bytes → all_lanes_have code lanes (codes_in bytes 8) ≡ true
 has_each code lanes bytes all =
     range_passes (λ lane. not (set.contains lanes lane) || at_lane (codes_in bytes 8) lane == code) 1 8 (λ lane low high.
     let is_lane : IsLane lane = (low, omega (arith, high)) in

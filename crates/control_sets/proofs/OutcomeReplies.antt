@@ -15,7 +15,7 @@ use Rattle.control_sets.specs.declared.procedures.task.Task.{Task}
 use Rattle.control_sets.specs.declared.procedures.task.Task.TheVariants.{FindReady, Deinitialize, AwaitDeactivated, Stage, CheckStaged, Apply, AwaitApplied, CheckActive, AwaitActivated}
 use Rattle.control_sets.specs.declared.procedures.judgement.Judgement.{Judgement}
 use Rattle.control_sets.specs.declared.procedures.judgement.Judgement.TheVariants.{Met, NotYet, Fails}
-use Rattle.control_sets.specs.Judgements.{all_have, at_lane, differing_lane, is_rejection, is_reserved_state, is_reserved_status, judged, lowest_lane, met_if, met_in, met_unless, unless_rejected, unless_reserved}
+use Rattle.control_sets.specs.Judgements.{all_lanes_have, at_lane, differing_lane, is_rejection, is_reserved_state, is_reserved_status, judged, lowest_lane, met_if, met_in, met_unless, unless_rejected, unless_reserved}
 use Rattle.control_sets.specs.OutcomeCodes.{AllHave, DiffersAt, HasSuch, IsInNoState, IsInOtherState, IsLowestReserved, IsReady, IsRejectedAt, IsRejection, IsReservedPathState, IsReservedStatus, NoneHas, module_code}
 use Rattle.control_sets.proofs.OutcomeWords.{contradicts}
 use Rattle.control_sets.proofs.OutcomeLanes.{agree_bytes, bytes_agree, differs_at, each_has, has_each, no_such_lane, rejection, reserved_state, reserved_status, such_lane}
@@ -103,24 +103,24 @@ up_shows_none lanes bytes none _ s = s
 unreserved : (lanes : Lanes) (bytes : List ℕ) (lane : ℕ) → AllHave (code_of Deactivated) lanes bytes → HasSuch IsReservedPathState lanes bytes lane → ⊥
 unreserved lanes bytes lane all such = let h : Some Deactivated ≡ None = ap path_state_at (sym (all lane such.0)) ∙ such.1 in cc
 
-told_down_by : (lanes : Lanes) (bytes : List ℕ) (all : Bool) → NoneHas IsReservedPathState lanes bytes → all_have (code_of Deactivated) lanes (codes_in bytes 8) ≡ all → Told (AwaitDeactivated lanes) bytes (met_if all)
+told_down_by : (lanes : Lanes) (bytes : List ℕ) (all : Bool) → NoneHas IsReservedPathState lanes bytes → all_lanes_have (code_of Deactivated) lanes (codes_in bytes 8) ≡ all → Told (AwaitDeactivated lanes) bytes (met_if all)
 told_down_by lanes bytes true none e = (each_has (code_of Deactivated) lanes bytes e, down_shows_none lanes bytes none)
 told_down_by lanes bytes false none e = (λ all. contradicts (has_each (code_of Deactivated) lanes bytes all) e, down_shows_none lanes bytes none)
 
 told_down : (lanes : Lanes) (bytes : List ℕ) (found : Option ℕ) → lowest_lane is_reserved_state lanes (codes_in bytes 8) ≡ found →
-    Told (AwaitDeactivated lanes) bytes (unless_reserved (codes_in bytes 8) found (met_if (all_have (code_of Deactivated) lanes (codes_in bytes 8))))
-told_down lanes bytes None e = told_down_by lanes bytes (all_have (code_of Deactivated) lanes (codes_in bytes 8)) (no_such_lane is_reserved_state IsReservedPathState lanes bytes reserved_state e) refl
+    Told (AwaitDeactivated lanes) bytes (unless_reserved (codes_in bytes 8) found (met_if (all_lanes_have (code_of Deactivated) lanes (codes_in bytes 8))))
+told_down lanes bytes None e = told_down_by lanes bytes (all_lanes_have (code_of Deactivated) lanes (codes_in bytes 8)) (no_such_lane is_reserved_state IsReservedPathState lanes bytes reserved_state e) refl
 told_down lanes bytes (Some lane) e =
     let such = such_lane is_reserved_state IsReservedPathState lanes bytes lane reserved_state e in
     (λ all. unreserved lanes bytes lane all such.lowest.holds, (lane, such))
 
-told_up_by : (lanes : Lanes) (bytes : List ℕ) (all : Bool) → NoneHas IsReservedPathState every_lane bytes → all_have (code_of Activated) lanes (codes_in bytes 8) ≡ all → Told (AwaitActivated lanes) bytes (met_if all)
+told_up_by : (lanes : Lanes) (bytes : List ℕ) (all : Bool) → NoneHas IsReservedPathState every_lane bytes → all_lanes_have (code_of Activated) lanes (codes_in bytes 8) ≡ all → Told (AwaitActivated lanes) bytes (met_if all)
 told_up_by lanes bytes true none e = ((none, each_has (code_of Activated) lanes bytes e), up_shows_none lanes bytes none)
 told_up_by lanes bytes false none e = (λ all. contradicts (has_each (code_of Activated) lanes bytes all.1) e, up_shows_none lanes bytes none)
 
 told_up : (lanes : Lanes) (bytes : List ℕ) (found : Option ℕ) → lowest_lane is_reserved_state every_lane (codes_in bytes 8) ≡ found →
-    Told (AwaitActivated lanes) bytes (unless_reserved (codes_in bytes 8) found (met_if (all_have (code_of Activated) lanes (codes_in bytes 8))))
-told_up lanes bytes None e = told_up_by lanes bytes (all_have (code_of Activated) lanes (codes_in bytes 8)) (no_such_lane is_reserved_state IsReservedPathState every_lane bytes reserved_state e) refl
+    Told (AwaitActivated lanes) bytes (unless_reserved (codes_in bytes 8) found (met_if (all_lanes_have (code_of Activated) lanes (codes_in bytes 8))))
+told_up lanes bytes None e = told_up_by lanes bytes (all_lanes_have (code_of Activated) lanes (codes_in bytes 8)) (no_such_lane is_reserved_state IsReservedPathState every_lane bytes reserved_state e) refl
 told_up lanes bytes (Some lane) e =
     let such = such_lane is_reserved_state IsReservedPathState every_lane bytes lane reserved_state e in
     (λ all. all.0 lane such.lowest.holds, (lane, such))
@@ -141,19 +141,19 @@ one_passes code e = ap is_rejection e
 success_unrejected : (lanes : Lanes) (bytes : List ℕ) (lane : ℕ) → AllHave (status_code_of Success) lanes bytes → HasSuch IsRejection lanes bytes lane → ⊥
 success_unrejected lanes bytes lane all such = contradicts (rejection.passes (code_in bytes lane) such.1) (one_passes (code_in bytes lane) (all lane such.0))
 
-told_applied_by : (lanes : Lanes) (bytes : List ℕ) (all : Bool) → NoneHas IsReservedStatus lanes bytes → NoneHas IsRejection lanes bytes → all_have 1 lanes (codes_in bytes 8) ≡ all → Told (AwaitApplied lanes) bytes (met_if all)
+told_applied_by : (lanes : Lanes) (bytes : List ℕ) (all : Bool) → NoneHas IsReservedStatus lanes bytes → NoneHas IsRejection lanes bytes → all_lanes_have 1 lanes (codes_in bytes 8) ≡ all → Told (AwaitApplied lanes) bytes (met_if all)
 told_applied_by lanes bytes true none none_rejected e = (each_has 1 lanes bytes e, applied_shows_none lanes bytes none none_rejected)
 told_applied_by lanes bytes false none none_rejected e = (λ all. contradicts (has_each 1 lanes bytes all) e, applied_shows_none lanes bytes none none_rejected)
 
 told_rejected : (lanes : Lanes) (bytes : List ℕ) (found : Option ℕ) → NoneHas IsReservedStatus lanes bytes → lowest_lane is_rejection lanes (codes_in bytes 8) ≡ found →
-    Told (AwaitApplied lanes) bytes (unless_rejected (codes_in bytes 8) found (met_if (all_have 1 lanes (codes_in bytes 8))))
-told_rejected lanes bytes None none e = told_applied_by lanes bytes (all_have 1 lanes (codes_in bytes 8)) none (no_such_lane is_rejection IsRejection lanes bytes rejection e) refl
+    Told (AwaitApplied lanes) bytes (unless_rejected (codes_in bytes 8) found (met_if (all_lanes_have 1 lanes (codes_in bytes 8))))
+told_rejected lanes bytes None none e = told_applied_by lanes bytes (all_lanes_have 1 lanes (codes_in bytes 8)) none (no_such_lane is_rejection IsRejection lanes bytes rejection e) refl
 told_rejected lanes bytes (Some lane) none e =
     let such = such_lane is_rejection IsRejection lanes bytes lane rejection e in
     (λ all. success_unrejected lanes bytes lane all such.lowest.holds, (none, such))
 
 told_statuses : (lanes : Lanes) (bytes : List ℕ) (found : Option ℕ) → lowest_lane is_reserved_status lanes (codes_in bytes 8) ≡ found →
-    Told (AwaitApplied lanes) bytes (unless_reserved (codes_in bytes 8) found (unless_rejected (codes_in bytes 8) (lowest_lane is_rejection lanes (codes_in bytes 8)) (met_if (all_have 1 lanes (codes_in bytes 8)))))
+    Told (AwaitApplied lanes) bytes (unless_reserved (codes_in bytes 8) found (unless_rejected (codes_in bytes 8) (lowest_lane is_rejection lanes (codes_in bytes 8)) (met_if (all_lanes_have 1 lanes (codes_in bytes 8)))))
 told_statuses lanes bytes None e = told_rejected lanes bytes (lowest_lane is_rejection lanes (codes_in bytes 8)) (no_such_lane is_reserved_status IsReservedStatus lanes bytes reserved_status e) refl
 told_statuses lanes bytes (Some lane) e =
     let such = such_lane is_reserved_status IsReservedStatus lanes bytes lane reserved_status e in

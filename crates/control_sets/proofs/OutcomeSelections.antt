@@ -10,7 +10,7 @@ use Rattle.bus_model.specs.Operations.{Answers}
 use Rattle.control_sets.specs.declared.procedures.task.Task.{Task}
 use Rattle.control_sets.specs.declared.procedures.task.Task.TheVariants.{FindReady, Deinitialize, AwaitDeactivated, Stage, CheckStaged, Apply, AwaitApplied, CheckActive, AwaitActivated}
 use Rattle.bus_model.specs.SameOperation.{same_op}
-use Rattle.control_sets.specs.Pages.{EachStep, History, confirms, is_open, is_read, leaves_open, may_select, read_selection, selection}
+use Rattle.control_sets.specs.Pages.{EachStep, History, is_page_confirmed, is_open, is_read, leaves_open, may_select, read_selection, selection}
 use Rattle.control_sets.specs.Tasks.{operation, page_of}
 use Rattle.control_sets.specs.Procedures.{EachAnswers, EachGoesOn}
 use Rattle.control_sets.specs.OutcomeSteps.{Newest}
@@ -136,13 +136,13 @@ page_selected page other e = ap page_in e
 
 pub record Missing (tasks : List Task) (page : ℕ) (turn_task : Task) (before : History) : Type 0 where
   pub needs : page_of turn_task ≡ Some page
-  pub missing : confirms page before ≡ false
+  pub missing : is_page_confirmed page before ≡ false
 
 pub missing_page : (tasks : List Task) (page : ℕ) (step : Step) (before : History) (turn : Turn tasks step before) → step.op ≡ selection page → Missing tasks page turn.task before
 missing_page tasks page step before turn is = elim turn.does as (λ _. Missing tasks page turn.task before) [
   | inl reads ↦ absurd (not_store page (sym is ∙ reads.is))
   | inr (inl selects) ↦
       let same = page_selected selects.page page (sym selects.is ∙ is) in
-      record { needs = selects.needs ∙ ap (λ (page : ℕ). Some page) same; missing = ap (λ (page : ℕ). confirms page before) (sym same) ∙ selects.missing }
+      record { needs = selects.needs ∙ ap (λ (page : ℕ). Some page) same; missing = ap (λ (page : ℕ). is_page_confirmed page before) (sym same) ∙ selects.missing }
   | inr (inr works) ↦ absurd (no_selection turn.task page (sym works.is ∙ is))
 ]

@@ -10,7 +10,7 @@ use Rattle.control_sets.specs.declared.procedures.task.Task.TheVariants.{FindRea
 use Rattle.control_sets.specs.declared.procedures.judgement.Judgement.{Judgement}
 use Rattle.control_sets.specs.declared.procedures.judgement.Judgement.TheVariants.{Met, NotYet, Fails}
 use Rattle.bus_model.specs.SameOperation.{same_op}
-use Rattle.control_sets.specs.Pages.{EachStep, History, confirms, is_open, read_selection, selection}
+use Rattle.control_sets.specs.Pages.{EachStep, History, is_page_confirmed, is_open, read_selection, selection}
 use Rattle.control_sets.specs.Tasks.{operation, page_of}
 use Rattle.control_sets.specs.Judgements.{judgement}
 use Rattle.control_sets.specs.Procedures.{EachIsNext, in_hand, is_met, is_on, judgement_at, meets, next_operation, operation_on, was_met}
@@ -28,7 +28,7 @@ pub record Selects (task : Task) (op : Op) (before : History) : Type 0 where
   pub needs : page_of task ≡ Some page
   pub is : op ≡ selection page
   pub closed : is_open before ≡ false
-  pub missing : confirms page before ≡ false
+  pub missing : is_page_confirmed page before ≡ false
 
 -- the task's own operation, on its page
 pub record Works (task : Task) (op : Op) (before : History) : Type 0 where
@@ -44,7 +44,7 @@ pub record Turn (tasks : List Task) (step : Step) (before : History) : Type 0 wh
 on_page : (task : Task) (op : Op) (before : History) (page : Option ℕ) → page_of task ≡ page → is_open before ≡ false → op ≡ operation_on before task page → Selects task op before ⊎ Works task op before
 on_page task op before None needs closed e = inr (record { is = e; closed = closed; there = ap (λ (page : Option ℕ). is_on page before) needs })
 on_page task op before (Some page) needs closed e =
-    elim (cases_Bool (confirms page before)) as (λ _. Selects task op before ⊎ Works task op before) [
+    elim (cases_Bool (is_page_confirmed page before)) as (λ _. Selects task op before ⊎ Works task op before) [
       | inl there ↦ inr (record {
         is = e ∙ ap (λ (b : Bool). if b then operation task else selection page) there;
         closed = closed;

@@ -10,7 +10,7 @@ use Rattle.bus_model.specs.declared.operation.Reply.{Reply}
 use Rattle.bus_model.specs.declared.operation.Reply.TheVariants.{Bytes, Done, Refused}
 use Rattle.bus_model.specs.declared.operation.Step.{Step}
 use Rattle.bus_model.proofs.SameOperations.{ops_are}
-use Rattle.control_sets.specs.Pages.{EachStep, History, confirms, is_page, is_selection_of, may_select, read_selection, reads_back}
+use Rattle.control_sets.specs.Pages.{EachStep, History, is_page_confirmed, is_page, is_selection_of, may_select, read_selection, reads_back}
 use Rattle.control_sets.specs.OutcomeOperations.{Confirms, CoversSelection, read_back_of}
 
 not_both : (b : Bool) → b ≡ true → b ≡ false → ⊥
@@ -63,16 +63,16 @@ read_back_is page step e =
 reads_it_back : (page : ℕ) → reads_back page (read_back_of page) ≡ true
 reads_it_back page = eq-eqb page page refl
 
-not_covering : (step : Step) (before : History) (page : ℕ) → (not (may_select step.op) && confirms page before) ≡ true → (may_select step.op ≡ false) × (confirms page before ≡ true)
+not_covering : (step : Step) (before : History) (page : ℕ) → (not (may_select step.op) && is_page_confirmed page before) ≡ true → (may_select step.op ≡ false) × (is_page_confirmed page before ≡ true)
 not_covering step before page e = by (may_select step.op) refl e where
-  by : (b : Bool) → may_select step.op ≡ b → (not b && confirms page before) ≡ true → (may_select step.op ≡ false) × (confirms page before ≡ true)
+  by : (b : Bool) → may_select step.op ≡ b → (not b && is_page_confirmed page before) ≡ true → (may_select step.op ≡ false) × (is_page_confirmed page before ≡ true)
   by true is e = cc
   by false is e = (is, e)
 
-pub confirms_page : (page : ℕ) (history : History) → confirms page history ≡ true → Confirms page history
+pub confirms_page : (page : ℕ) (history : History) → is_page_confirmed page history ≡ true → Confirms page history
 confirms_page page [] e = cc
 confirms_page page (step ∷ before) e =
-    elim (or_cases (reads_back page step) (not (may_select step.op) && confirms page before) e) as (λ _. Confirms page (step ∷ before)) [
+    elim (or_cases (reads_back page step) (not (may_select step.op) && is_page_confirmed page before) e) as (λ _. Confirms page (step ∷ before)) [
       | inl now ↦ record { since = []; before = before; split = ap (λ (step : Step). step ∷ before) (read_back_is page step now); kept = tt }
       | inr earlier ↦
           let parts = not_covering step before page earlier in
@@ -85,14 +85,14 @@ confirms_page page (step ∷ before) e =
           }
     ]
 
-still_confirmed : (page : ℕ) (since before : History) → AllByRecursion (λ step. ¬ (CoversSelection step.op)) since → confirms page (since ++ read_back_of page ∷ before) ≡ true
+still_confirmed : (page : ℕ) (since before : History) → AllByRecursion (λ step. ¬ (CoversSelection step.op)) since → is_page_confirmed page (since ++ read_back_of page ∷ before) ≡ true
 still_confirmed page [] before kept = or_left _ _ (reads_it_back page)
 still_confirmed page (step ∷ since) before kept = or_right _ _ (and_from _ _ (ap not (selects_not step.op kept.0)) (still_confirmed page since before kept.1))
 
-pub page_confirmed : (page : ℕ) (history : History) → Confirms page history → confirms page history ≡ true
-page_confirmed page history found = subst (λ (history : History). confirms page history ≡ true) (sym found.split) (still_confirmed page found.since found.before found.kept)
+pub page_confirmed : (page : ℕ) (history : History) → Confirms page history → is_page_confirmed page history ≡ true
+page_confirmed page history found = subst (λ (history : History). is_page_confirmed page history ≡ true) (sym found.split) (still_confirmed page found.since found.before found.kept)
 
-pub unconfirmed : (page : ℕ) (history : History) → confirms page history ≡ false → Confirms page history → ⊥
+pub unconfirmed : (page : ℕ) (history : History) → is_page_confirmed page history ≡ false → Confirms page history → ⊥
 unconfirmed page history missing found = contradicts (page_confirmed page history found) missing
 
 -- ---- steps

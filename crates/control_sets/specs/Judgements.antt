@@ -37,8 +37,8 @@ abbrev pub lowest_lane : (ℕ → Bool) → Lanes → List ℕ → Option ℕ
 lowest_lane test lanes codes = find (λ lane. set.contains lanes lane && test (at_lane codes lane)) (range_with_len 1 8)
 
 -- each lane of a set has the code
-abbrev pub all_have : ℕ → Lanes → List ℕ → Bool
-all_have code lanes codes = list_all (λ lane. not (set.contains lanes lane) || at_lane codes lane == code) (range_with_len 1 8)
+abbrev pub all_lanes_have : ℕ → Lanes → List ℕ → Bool
+all_lanes_have code lanes codes = list_all (λ lane. not (set.contains lanes lane) || at_lane codes lane == code) (range_with_len 1 8)
 
 -- the lowest lane whose bytes differ
 abbrev pub differing_lane : List ℕ → List ℕ → Option ℕ
@@ -81,13 +81,13 @@ judged_module code = met_in code (module_state_at code)
 -- state
 abbrev pub judged_states : Lanes → Lanes → PathState → List ℕ → Judgement
 judged_states looked waiting state codes =
-    unless_reserved codes (lowest_lane is_reserved_state looked codes) (met_if (all_have (code_of state) waiting codes))
+    unless_reserved codes (lowest_lane is_reserved_state looked codes) (met_if (all_lanes_have (code_of state) waiting codes))
 
 -- by configuration statuses: a reserved code counts before a rejection, and ConfigSuccess is 1
 abbrev pub judged_statuses : Lanes → List ℕ → Judgement
 judged_statuses lanes codes =
     unless_reserved codes (lowest_lane is_reserved_status lanes codes)
-    (unless_rejected codes (lowest_lane is_rejection lanes codes) (met_if (all_have 1 lanes codes)))
+    (unless_rejected codes (lowest_lane is_rejection lanes codes) (met_if (all_lanes_have 1 lanes codes)))
 
 -- what the bytes that were read say of the task; a store has none
 unfoldable pub judged : Task → List ℕ → Judgement

@@ -33,8 +33,8 @@ is_page = paging.is_page BankAndPage
 abbrev pub reads_back : ℕ → Step → Bool
 reads_back = paging.reads_back BankAndPage
 
-abbrev pub confirms : ℕ → History → Bool
-confirms = paging.confirms BankAndPage
+abbrev pub is_page_confirmed : ℕ → History → Bool
+is_page_confirmed = paging.is_page_confirmed BankAndPage
 
 abbrev pub is_read : Reply → Bool
 is_read = paging.is_read

@@ -14,7 +14,7 @@ use Rattle.control_sets.specs.declared.procedures.task.Task.{Task}
 use Rattle.control_sets.specs.declared.procedures.judgement.Judgement.{Judgement}
 use Rattle.control_sets.specs.declared.procedures.judgement.Judgement.TheVariants.{Met, NotYet, Fails}
 use Rattle.bus_model.specs.SameOperation.{same_op}
-use Rattle.control_sets.specs.Pages.{History, selection, read_selection, confirms, is_open}
+use Rattle.control_sets.specs.Pages.{History, selection, read_selection, is_page_confirmed, is_open}
 use Rattle.control_sets.specs.OutcomeAnswers.{most_steps}
 use Rattle.control_sets.specs.Tasks.{operation, page_of}
 use Rattle.control_sets.specs.Judgements.{judgement}
@@ -22,7 +22,7 @@ use Rattle.control_sets.specs.Judgements.{judgement}
 -- the page, where one is needed, is confirmed
 abbrev pub is_on : Option ℕ → History → Bool
 is_on None before = true
-is_on (Some page) before = confirms page before
+is_on (Some page) before = is_page_confirmed page before
 
 -- what a step says of a task: nothing, unless it is the task's operation on the page that it needs
 abbrev pub judgement_at : Task → Step → History → Judgement
@@ -48,7 +48,7 @@ in_hand tasks history = find (λ task. not (was_met task history)) tasks
 -- its own operation where the page that it needs is confirmed, and else a selection of that page
 abbrev pub operation_on : History → Task → Option ℕ → Op
 operation_on history task None = operation task
-operation_on history task (Some page) = if confirms page history then operation task else selection page
+operation_on history task (Some page) = if is_page_confirmed page history then operation task else selection page
 
 -- a selection is read back until that is answered; else it is the turn of the task in hand
 abbrev pub next_operation : History → Task → Op
@@ -85,9 +85,9 @@ fault_after tasks [] = None
 fault_after tasks (step ∷ before) = fault_by tasks step before
 
 -- the steps end in the answer: each task was met, or the last step shows the fault
-abbrev pub EndsIn : List Task → History → Result ℕ ProvisionFault → Type 0
-EndsIn tasks history (Ok steps) = (in_hand tasks history ≡ None) × (steps ≡ length history)
-EndsIn tasks history (Err fault) = fault_after tasks history ≡ Some fault
+abbrev pub EndsTasks : List Task → History → Result ℕ ProvisionFault → Type 0
+EndsTasks tasks history (Ok steps) = (in_hand tasks history ≡ None) × (steps ≡ length history)
+EndsTasks tasks history (Err fault) = fault_after tasks history ≡ Some fault
 
 -- the steps end in no answer
 pub record GoesOn (tasks : List Task) (history : History) : Type 0 where
@@ -101,8 +101,8 @@ EachGoesOn tasks (step ∷ before) = GoesOn tasks (step ∷ before) × EachGoesO
 
 -- they end in the answer, and no fewer of them end in any
 abbrev pub EndsFirst : List Task → History → Result ℕ ProvisionFault → Type 0
-EndsFirst tasks [] answer = EndsIn tasks [] answer
-EndsFirst tasks (step ∷ before) answer = EndsIn tasks (step ∷ before) answer × EachGoesOn tasks before
+EndsFirst tasks [] answer = EndsTasks tasks [] answer
+EndsFirst tasks (step ∷ before) answer = EndsTasks tasks (step ∷ before) answer × EachGoesOn tasks before
 
 -- two pages are needed, and they differ
 abbrev pub are_other_pages : Option ℕ → Option ℕ → Bool
@@ -119,7 +119,7 @@ all_apart [] = true
 all_apart (task ∷ later) = list_all (λ other. are_apart task other && are_apart other task) later && all_apart later
 
 -- as many steps were made as may be
-pub record GivesUp (tasks : List Task) (history : History) (answer : Result ℕ ProvisionFault) : Type 0 where
+pub record GivesTasksUp (tasks : List Task) (history : History) (answer : Result ℕ ProvisionFault) : Type 0 where
   pub fault : answer ≡ Err GaveUp
   pub all : length history ≡ most_steps
   pub goes_on : EachGoesOn tasks history
@@ -129,7 +129,7 @@ pub record HasEnded (tasks : List Task) (history : History) (answer : Result ℕ
   pub each : EachIsNext tasks history
   pub answers : EachAnswers history
   pub few : length history ≤ most_steps
-  pub answered : EndsFirst tasks history answer ⊎ GivesUp tasks history answer
+  pub answered : EndsFirst tasks history answer ⊎ GivesTasksUp tasks history answer
 
 -- the bus's list is full, and the steps end in no answer
 pub record RunsOut {S : Type 0} (tasks : List Task) (after : Seen S) (history : History) (answer : Result ℕ ProvisionFault) : Type 0 where

@@ -15,11 +15,11 @@ use Rattle.control_sets.specs.declared.procedures.procedure.Work.{Work}
 use Rattle.control_sets.specs.declared.procedures.procedure.Work.TheVariants.{Provisioning, Activation}
 use Rattle.control_sets.specs.declared.procedures.procedure.Procedure.{Procedure}
 
--- 0 for provisioning, 1 for activation
+-- 1 for provisioning, 2 for activation
 abbrev pub work_numbered : ℕ → List ℕ → ℕ → Option Work
 work_numbered number control lanes =
-    if number == 0 then Some (Provisioning control (lanes_in lanes))
-    else (if number == 1 then Some (Activation control (lanes_in lanes))
+    if number == 1 then Some (Provisioning control (lanes_in lanes))
+    else (if number == 2 then Some (Activation control (lanes_in lanes))
     else None)
 
 -- 0 where nothing is known, 1 where a read back is awaited, 2 where the page was read back

@@ -1,4 +1,5 @@
-//! What holds of control bytes, over all plans. Each function is a theorem: its contract says it, and its body is empty.
+//! What holds of control bytes, over all plans. Each function is a theorem: its contract says it, and its body is empty. In those over
+//! histories, `made` is the length of the whole list of steps that the bus keeps, and `room` how many steps that list takes.
 ghost use Rattle.std.specs.Prelude.{◌≡◌, ◌≢◌, ℕ, ◌<◌, ◌≤◌, List, None, All, Any, IsTrue, length, ◌+◌, [], ◌∷◌, Ok, Err, false};
 ghost use Rattle.std.specs.List.{AllByRecursion};
 ghost use Rattle.applications.specs.Advertised.{Advertised, InOrder};

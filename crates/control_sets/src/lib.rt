@@ -15,5 +15,5 @@ pub use host_path::{HostPath, agree, control_at, paths_of};
 pub use plan_bytes::{bytes_of, lanes_of, lanes_outside};
 pub use procedures::{
     Activated, MAX_STEPS, Next, Procedure, Provisioned, SavedFault, SavedProcedure, activate,
-    provision, provision_keeping,
+    can_have, provision, provision_keeping,
 };

@@ -10,7 +10,7 @@ mod session;
 mod task;
 
 pub use next::Next;
-pub use procedure::{Procedure, SavedProcedure};
+pub use procedure::{Procedure, SavedProcedure, can_have};
 pub use registers::MAX_STEPS;
 pub use runner::{Activated, Provisioned, activate, provision, provision_keeping};
 pub use saved_fault::SavedFault;

@@ -1,7 +1,7 @@
 ghost use Rattle.std.specs.Prelude.{◌≡◌, ◌<◌, ◌≤◌, length, IfSome};
 ghost use Rattle.bus_model.specs.Operations.{Answers};
 ghost use Rattle.control_sets.specs.HostPaths.{IsLane};
-ghost use Rattle.control_sets.specs.Judgements.{HasCount, all_have, at_lane, differing_lane, is_rejection, is_reserved_state, is_reserved_status, judged, judged_module, judged_states, judged_statuses, judgement, lowest_lane, met_if, unless_rejected};
+ghost use Rattle.control_sets.specs.Judgements.{HasCount, all_lanes_have, at_lane, differing_lane, is_rejection, is_reserved_state, is_reserved_status, judged, judged_module, judged_states, judged_statuses, judgement, lowest_lane, met_if, unless_rejected};
 ghost use Rattle.control_sets.specs.Tasks.{operation};
 
 use crate::fault::ProvisionFault;
@@ -83,7 +83,7 @@ fn judge_states(codes: [u8; 8], looked: LaneSet, waiting: LaneSet, state: PathSt
 {
     match lowest_reserved_state(&codes, looked) {
         Some(lane) => Judgement::Fails(ProvisionFault::Reserved(at_lane(&codes, lane))),
-        None => met_if(all_have(&codes, waiting, state.code())),
+        None => met_if(all_lanes_have(&codes, waiting, state.code())),
     }
 }
 
@@ -97,11 +97,11 @@ fn judge_statuses(codes: [u8; 8], lanes: LaneSet) -> Judgement
 }
 
 fn judge_rejections(codes: [u8; 8], lanes: LaneSet) -> Judgement
-    ensures { result ≡ unless_rejected codes (lowest_lane is_rejection lanes codes) (met_if (all_have 1 lanes codes)) }
+    ensures { result ≡ unless_rejected codes (lowest_lane is_rejection lanes codes) (met_if (all_lanes_have 1 lanes codes)) }
 {
     match lowest_rejection(&codes, lanes) {
         Some(lane) => Judgement::Fails(ProvisionFault::Rejected(lane, at_lane(&codes, lane))),
-        None => met_if(all_have(&codes, lanes, 1)),
+        None => met_if(all_lanes_have(&codes, lanes, 1)),
     }
 }
 
@@ -136,8 +136,8 @@ fn lowest_rejection(codes: &[u8; 8], lanes: LaneSet) -> Option<u8>
     (1..9).find(|lane| lanes.contains(*lane) && is_rejection(at_lane(codes, *lane)))
 }
 
-fn all_have(codes: &[u8; 8], lanes: LaneSet, code: u8) -> bool
-    ensures { result ≡ all_have code lanes codes.now }
+fn all_lanes_have(codes: &[u8; 8], lanes: LaneSet, code: u8) -> bool
+    ensures { result ≡ all_lanes_have code lanes codes.now }
 {
     (1..9).all(|lane| !lanes.contains(lane) || at_lane(codes, lane) == code)
 }

@@ -177,8 +177,8 @@ impl Procedure {
     }
 }
 
-// Whether the operation can have the reply: its kind, and so many bytes.
-fn can_have(op: &Op, reply: &Reply) -> bool
+/// Whether the operation can have the reply: its kind, and so many bytes.
+pub fn can_have(op: &Op, reply: &Reply) -> bool
     ensures { IsTrue result ↔ Answers op.now reply.now }
 {
     match op {

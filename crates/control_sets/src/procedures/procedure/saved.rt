@@ -15,7 +15,7 @@ pub struct SavedProcedure {
     pub met: usize,
     /// How many steps were told.
     pub steps: u16,
-    /// 0 for provisioning, 1 for activation.
+    /// 1 for provisioning, 2 for activation.
     pub work: u8,
     /// Bit i-1 is 1 for lane i.
     pub lanes: u8,
@@ -34,8 +34,8 @@ impl SavedProcedure {
     {
         let (control, lanes) = (self.control, LaneSet::from(self.lanes));
         match self.work {
-            0 => Some(Work::Provisioning { control, lanes }),
-            1 => Some(Work::Activation { control, lanes }),
+            1 => Some(Work::Provisioning { control, lanes }),
+            2 => Some(Work::Activation { control, lanes }),
             _ => None,
         }
     }
@@ -94,8 +94,8 @@ fn numbers_of_work(work: &Work) -> (u8, [u8; 8], u8)
     ensures { work_numbered result.0 result.1 result.2 ≡ Some work.now }
 {
     match work {
-        Work::Provisioning { control, lanes } => (0, *control, lanes.byte()),
-        Work::Activation { control, lanes } => (1, *control, lanes.byte()),
+        Work::Provisioning { control, lanes } => (1, *control, lanes.byte()),
+        Work::Activation { control, lanes } => (2, *control, lanes.byte()),
     }
 }
 
