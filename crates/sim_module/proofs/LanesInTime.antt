@@ -96,6 +96,10 @@ moved_left : (sim : SimModule) (lane : ℕ) → (ticked_lane sim lane).left ≡ 
 unfolding ticked_lane
 moved_left sim lane = but_for_apply (λ (l : Lane). l.left) same_left (is_last sim.apply_left) (moved_lane sim.delays (lane_at sim lane) (next_path_state sim lane))
 
+-- among all lanes after a tick
+pub path_after : (sim : SimModule) (lane : ℕ) → IsLane lane → (get_or (map (ticked_lane sim) all_lanes) (lane - 1) no_lane).path ≡ next_path_state sim lane
+path_after sim lane within = ap (λ (l : Lane). l.path) (made_lane (ticked_lane sim) lane within) ∙ moved_path sim lane
+
 pub comes_up : LanesComeUp
 comes_up sim lane within deactivated up =
     let path : next_path_state sim lane ≡ Init =

@@ -1,8 +1,13 @@
 pub mod EachLane
+pub mod SavedBack
 pub mod LaneTests
+pub mod HeldPaths
 pub mod LanesInTime
+pub mod TickedParts
+pub mod StillModule
 pub mod SoundModule
 pub mod SoundRuns
+pub mod UnchangingParts
 pub mod RestingModule
 pub mod IdleModule
 pub mod ProvisioningKeeps

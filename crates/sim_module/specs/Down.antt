@@ -27,6 +27,10 @@ is_ready sim = code_of sim.state == code_of Ready
 abbrev pub holds_down : SimModule → ℕ → Bool
 holds_down sim lane = set.contains sim.deinit lane || is_in_progress (lane_at sim lane)
 
+-- some lane does
+abbrev pub is_held : SimModule → Bool
+is_held sim = list_any (holds_down sim) all_lanes
+
 -- a lane of the lane's active path holds it down
 abbrev pub is_path_down : SimModule → ℕ → Bool
 is_path_down sim lane = list_any (λ other. agree (active_bytes sim) lane other && holds_down sim other) all_lanes

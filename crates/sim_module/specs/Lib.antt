@@ -1,12 +1,16 @@
+pub mod Record
 pub mod Registers
 pub mod Lanes
 pub mod Down
 pub mod Starts
 pub mod Ticks
+pub mod Resting
 pub mod Applies
 pub mod ShownBytes
 pub mod Stores
 pub mod Modules
+pub mod Unchanging
+pub mod SavedModules
 pub mod Soundness
 pub mod ActiveSets
 pub mod KeptPaths

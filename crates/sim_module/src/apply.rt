@@ -1,36 +1,38 @@
 //! What a store to ApplyDPInit makes of a module.
-use crate::SimModule;
+use crate::fixed::Fixed;
 use crate::lane::Lane;
+use crate::moving::Moving;
 use applications::{Advert, App, LaneSet};
 use control_sets::{agree, control_at};
 use datapath_states::ConfigStatus;
 
-impl SimModule {
+impl Moving {
     ghost use Rattle.std.specs.Prelude.{◌≡◌, map};
     ghost use Rattle.control_sets.specs.HostPaths.{IsLane};
     ghost use Rattle.sim_module.specs.Lanes.{all_lanes};
+    ghost use Rattle.sim_module.specs.Record.{bare, module_of};
     ghost use Rattle.sim_module.specs.Applies as spec;
 
     // Why a lane can't be applied together with the lanes of a mask.
     #[tactic(auto, unfolding(crate::specs::Applies::refusal))]
-    fn refusal(&self, mask: LaneSet, lane: u8) -> Option<ConfigStatus>
+    fn refusal(&self, fixed: &Fixed, mask: LaneSet, lane: u8) -> Option<ConfigStatus>
         requires { IsLane lane }
-        ensures { result ≡ spec.refusal self.now mask lane }
+        ensures { result ≡ spec.refusal (module_of fixed.now self.now) mask lane }
     {
         if !self.is_deactivated(lane) {
             return Some(ConfigStatus::RejectedLanesInUse);
         }
         let staged = self.is_staged(lane);
-        if staged && self.staged_app(lane).is_none() {
+        if staged && self.staged_app(fixed, lane).is_none() {
             return Some(ConfigStatus::RejectedInvalidAppSel);
         }
         if staged && self.is_explicit(lane) {
             return Some(ConfigStatus::RejectedInvalidSi);
         }
-        if staged && !self.is_path_right(lane) {
+        if staged && !self.is_path_right(fixed, lane) {
             return Some(ConfigStatus::RejectedInvalidDataPath);
         }
-        if !self.are_paths_within(mask, lane) {
+        if !self.are_paths_within(fixed, mask, lane) {
             return Some(ConfigStatus::RejectedPartialDataPath);
         }
         None
@@ -38,33 +40,33 @@ impl SimModule {
 
     fn is_staged(&self, lane: u8) -> bool
         requires { IsLane lane }
-        ensures { result ≡ spec.is_staged self.now lane }
+        ensures { result ≡ spec.is_staged (bare self.now) lane }
     {
         control_at(&self.staged(), lane).is_used()
     }
 
     // The Application that a staged lane asks for.
-    fn staged_app(&self, lane: u8) -> Option<App>
+    fn staged_app(&self, fixed: &Fixed, lane: u8) -> Option<App>
         requires { IsLane lane }
-        ensures { result ≡ spec.staged_app self.now lane }
+        ensures { result ≡ spec.staged_app (module_of fixed.now self.now) lane }
     {
         let number = control_at(&self.staged(), lane).app_sel_code;
-        app_numbered(&self.advert, number)
+        app_numbered(&fixed.advert, number)
     }
 
     fn is_explicit(&self, lane: u8) -> bool
         requires { IsLane lane }
-        ensures { result ≡ spec.is_explicit self.now lane }
+        ensures { result ≡ spec.is_explicit (bare self.now) lane }
     {
         self.lane(lane).staged & 1 == 1
     }
 
-    fn is_path_right(&self, lane: u8) -> bool
+    fn is_path_right(&self, fixed: &Fixed, lane: u8) -> bool
         requires { IsLane lane }
-        ensures { result ≡ spec.is_path_right self.now lane }
+        ensures { result ≡ spec.is_path_right (module_of fixed.now self.now) lane }
     {
         let first = control_at(&self.staged(), lane).first_lane();
-        match self.staged_app(lane) {
+        match self.staged_app(fixed, lane) {
             Some(app) => self.is_path_for(lane, first, app),
             None => true,
         }
@@ -74,7 +76,7 @@ impl SimModule {
     fn is_path_for(&self, lane: u8, first: u8, app: App) -> bool
         requires lane { IsLane lane }
         requires first { IsLane first }
-        ensures { result ≡ spec.is_path_for self.now lane first app }
+        ensures { result ≡ spec.is_path_for (bare self.now) lane first app }
     {
         if app.host_lanes > 9 - first || !app.host_starts.contains(first) {
             return false;
@@ -85,30 +87,31 @@ impl SimModule {
 
     fn are_staged_alike(&self, lanes: LaneSet, lane: u8) -> bool
         requires { IsLane lane }
-        ensures { result ≡ spec.are_staged_alike self.now lanes lane }
+        ensures { result ≡ spec.are_staged_alike (bare self.now) lanes lane }
     {
         let staged = self.staged();
         (1..9).all(|other| !lanes.contains(other) || agree(&staged, lane, other))
     }
 
     // Whether the lanes of both paths of a lane are in a mask.
-    fn are_paths_within(&self, mask: LaneSet, lane: u8) -> bool
+    fn are_paths_within(&self, fixed: &Fixed, mask: LaneSet, lane: u8) -> bool
         requires { IsLane lane }
-        ensures { result ≡ spec.are_paths_within self.now mask lane }
+        ensures { result ≡ spec.are_paths_within (module_of fixed.now self.now) mask lane }
     {
         (1..9).all(|other| {
             mask.contains(other)
-                || !(self.is_of_staged_path(lane, other) || self.is_of_active_path(lane, other))
+                || !(self.is_of_staged_path(fixed, lane, other)
+                    || self.is_of_active_path(lane, other))
         })
     }
 
-    fn is_of_staged_path(&self, lane: u8, other: u8) -> bool
+    fn is_of_staged_path(&self, fixed: &Fixed, lane: u8, other: u8) -> bool
         requires lane { IsLane lane }
         requires other { IsLane other }
-        ensures { result ≡ spec.is_of_staged_path self.now lane other }
+        ensures { result ≡ spec.is_of_staged_path (module_of fixed.now self.now) lane other }
     {
         let first = control_at(&self.staged(), lane).first_lane();
-        match self.staged_app(lane) {
+        match self.staged_app(fixed, lane) {
             Some(app) => first <= other && other - first < app.host_lanes,
             None => false,
         }
@@ -117,7 +120,7 @@ impl SimModule {
     fn is_of_active_path(&self, lane: u8, other: u8) -> bool
         requires lane { IsLane lane }
         requires other { IsLane other }
-        ensures { result ≡ spec.is_of_active_path self.now lane other }
+        ensures { result ≡ spec.is_of_active_path (bare self.now) lane other }
     {
         let active = self.active();
         control_at(&active, lane).is_used() && agree(&active, lane, other)
@@ -125,47 +128,50 @@ impl SimModule {
 
     // Whether each lane of a mask can be applied.
     #[tactic(auto, unfolding(crate::specs::Applies::is_applicable))]
-    fn is_applicable(&self, mask: LaneSet) -> bool
-        ensures { result ≡ spec.is_applicable self.now mask }
+    fn is_applicable(&self, fixed: &Fixed, mask: LaneSet) -> bool
+        ensures { result ≡ spec.is_applicable (module_of fixed.now self.now) mask }
     {
-        (1..9).all(|lane| !mask.contains(lane) || self.refusal(mask, lane).is_none())
+        (1..9).all(|lane| !mask.contains(lane) || self.refusal(fixed, mask, lane).is_none())
     }
 
     #[tactic(auto, unfolding(crate::specs::Applies::applied_to))]
-    fn applied_to(&self, mask: LaneSet, lane: u8) -> Lane
+    fn applied_to(&self, fixed: &Fixed, mask: LaneSet, lane: u8) -> Lane
         requires { IsLane lane }
-        ensures { result ≡ spec.applied_to self.now mask lane }
+        ensures { result ≡ spec.applied_to (module_of fixed.now self.now) mask lane }
     {
         let before = self.lane(lane);
         if !mask.contains(lane) {
             before.dropped()
-        } else if self.is_applicable(mask) {
+        } else if self.is_applicable(fixed, mask) {
             before.begun()
         } else {
-            before.refused(self.refusal(mask, lane).unwrap_or(ConfigStatus::Rejected))
+            before.refused(
+                self.refusal(fixed, mask, lane)
+                    .unwrap_or(ConfigStatus::Rejected),
+            )
         }
     }
 
-    fn lanes_applied_to(&self, mask: LaneSet) -> [Lane; 8]
-        ensures { result ≡ map (spec.applied_to self.now mask) all_lanes }
+    fn lanes_applied_to(&self, fixed: &Fixed, mask: LaneSet) -> [Lane; 8]
+        ensures { result ≡ map (spec.applied_to (module_of fixed.now self.now) mask) all_lanes }
     {
         let mut lanes = self.lanes;
         for (index, lane) in lanes.iter_mut().enumerate() {
-            *lane = self.applied_to(mask, index as u8 + 1);
+            *lane = self.applied_to(fixed, mask, index as u8 + 1);
         }
         lanes
     }
 
     // Applies the staged control bytes of the lanes of a mask.
     #[tactic(auto, unfolding(crate::specs::Applies::applied))]
-    pub(crate) fn apply(&mut self, mask: LaneSet)
-        ensures { self.new ≡ spec.applied self.old mask }
+    pub(crate) fn apply(&mut self, fixed: &Fixed, mask: LaneSet)
+        ensures { module_of fixed.now self.new ≡ spec.applied (module_of fixed.now self.old) mask }
     {
         if mask.is_empty() {
             return;
         }
-        let lanes = self.lanes_applied_to(mask);
-        self.apply_left = if self.is_applicable(mask) {
+        let lanes = self.lanes_applied_to(fixed, mask);
+        self.apply_left = if self.is_applicable(fixed, mask) {
             self.delays.apply
         } else {
             0

@@ -5,6 +5,7 @@ use module_states::ModuleState;
 pub const MAX_DELAY: u16 = 1000;
 
 /// How many ticks each work of a module takes, 1 to 1000.
+#[repr(C)]
 #[derive(Clone, Copy, Debug, PartialEq, Eq)]
 pub struct Delays {
     /// Applying staged control bytes.

@@ -16,9 +16,10 @@ impl Device for SimModule {
     fn fetch(&mut self, dev: Dev, offset: u8, count: u8) -> Option<ArrayVec<u8, MAX_FETCH>> {
         match dev {
             Dev::A0 => {
-                let answer = self.shown(offset, count);
+                let answer = self.moving.shown(&self.fixed, offset, count);
                 if answer.is_some() {
-                    self.clear(offset, count);
+                    self.rests = false;
+                    self.moving.clear(offset, count);
                 }
                 answer
             }
@@ -29,19 +30,24 @@ impl Device for SimModule {
     #[tactic(auto, unfolding(crate::specs::Stores::stored))]
     fn store(&mut self, dev: Dev, offset: u8, bytes: &[u8]) -> bool {
         match dev {
-            Dev::A0 if self.image.has(self.selection.key(dev, offset)) => {
-                self.store_bytes(offset, bytes);
+            Dev::A0 if self.fixed.image.has(self.moving.selection.key(dev, offset)) => {
+                self.rests = false;
+                self.moving.store_bytes(&self.fixed, offset, bytes);
                 true
             }
             _ => false,
         }
     }
 
+    // What rests stays as it is.
     fn tick(&mut self) {
-        self.pass_tick();
+        if !self.rests {
+            self.rests = self.moving.tick();
+        }
     }
 
     fn low_power_pin(&mut self, on: bool) {
-        self.pin = on;
+        self.rests = false;
+        self.moving.pin = on;
     }
 }

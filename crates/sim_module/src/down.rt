@@ -1,47 +1,64 @@
 //! Which lanes are to be deactivated, or kept so.
-use crate::SimModule;
+use crate::moving::Moving;
 use control_sets::{agree, control_at};
 use module_states::{ModuleState, low_power};
 
-impl SimModule {
+impl Moving {
     ghost use Rattle.std.specs.Prelude.{◌≡◌};
     ghost use Rattle.control_sets.specs.HostPaths.{IsLane};
+    ghost use Rattle.sim_module.specs.Lanes.{active_bytes};
+    ghost use Rattle.sim_module.specs.Record.{bare};
     ghost use Rattle.sim_module.specs.Down as spec;
 
     pub(crate) fn has_low_power(&self) -> bool
-        ensures { result ≡ spec.has_low_power self.now }
+        ensures { result ≡ spec.has_low_power (bare self.now) }
     {
         asks_low_power(self.control, self.pin)
     }
 
     fn is_ready(&self) -> bool
-        ensures { result ≡ spec.is_ready self.now }
+        ensures { result ≡ spec.is_ready (bare self.now) }
     {
         self.state == ModuleState::Ready
     }
 
     fn holds_down(&self, lane: u8) -> bool
         requires { IsLane lane }
-        ensures { result ≡ spec.holds_down self.now lane }
+        ensures { result ≡ spec.holds_down (bare self.now) lane }
     {
         self.deinit.contains(lane) || self.lane(lane).is_in_progress()
     }
 
-    fn is_path_down(&self, lane: u8) -> bool
-        requires { IsLane lane }
-        ensures { result ≡ spec.is_path_down self.now lane }
+    // Whether some lane does.
+    pub(crate) fn is_held(&self) -> bool
+        ensures { result ≡ spec.is_held (bare self.now) }
     {
-        let active = self.active();
-        (1..9).any(|other| agree(&active, lane, other) && self.holds_down(other))
+        (1..9).any(|lane| self.holds_down(lane))
     }
 
-    #[tactic(auto, unfolding(crate::specs::Down::is_down))]
-    pub(crate) fn is_down(&self, lane: u8) -> bool
-        requires { IsLane lane }
-        ensures { result ≡ spec.is_down self.now lane }
+    // Given the active bytes, and whether some lane holds down its path.
+    fn is_path_down(&self, active: &[u8; 8], held: bool, lane: u8) -> bool
+        requires lane { IsLane lane }
+        requires active { active.now ≡ active_bytes (bare self.now) }
+        requires held { held ≡ spec.is_held (bare self.now) }
+        ensures { result ≡ spec.is_path_down (bare self.now) lane }
     {
-        !control_at(&self.active(), lane).is_used()
-            || self.is_path_down(lane)
+        if !held {
+            return false;
+        }
+        (1..9).any(|other| agree(active, lane, other) && self.holds_down(other))
+    }
+
+    // Given the same.
+    #[tactic(auto, unfolding(crate::specs::Down::is_down))]
+    pub(crate) fn is_down(&self, active: &[u8; 8], held: bool, lane: u8) -> bool
+        requires lane { IsLane lane }
+        requires active { active.now ≡ active_bytes (bare self.now) }
+        requires held { held ≡ spec.is_held (bare self.now) }
+        ensures { result ≡ spec.is_down (bare self.now) lane }
+    {
+        !control_at(active, lane).is_used()
+            || self.is_path_down(active, held, lane)
             || !self.is_ready()
             || self.has_low_power()
     }

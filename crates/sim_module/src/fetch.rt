@@ -1,29 +1,31 @@
 //! What a module shows, and what a fetch makes of it.
-use crate::SimModule;
-use crate::module::LANE_FLAGS;
+use crate::fixed::Fixed;
+use crate::moving::{LANE_FLAGS, Moving};
 use crate::registers::{index_in, is_at, is_from};
 use arrayvec::ArrayVec;
 use bus_model::Dev;
 use field_tables::{Field, row};
 use paged_memory::PAGE_LEN;
 
-impl SimModule {
+impl Moving {
     ghost use Rattle.std.specs.Prelude.{◌≡◌, ◌≤◌, ◌<◌, ◌+◌, length, map, option_map, IfSome};
     ghost use Rattle.std.specs.List.{range_with_len};
     ghost use Rattle.bus_model.specs.declared.device.Dev.{Dev};
     ghost use Rattle.sim_module.specs.Registers as registers;
+    ghost use Rattle.sim_module.specs.Record.{bare, module_of};
+    ghost use Rattle.sim_module.specs.declared.fixed.Fixed.{Fixed};
     ghost use Rattle.sim_module.specs.ShownBytes as spec;
 
     // Whether a page of bank 0 is mapped.
     pub(crate) fn is_mapped(&self, page: u8) -> bool
-        ensures { result ≡ spec.is_mapped self.now page }
+        ensures { result ≡ spec.is_mapped (bare self.now) page }
     {
         self.selection.bank == 0 && self.selection.page == page
     }
 
     fn path_pair(&self, index: u8) -> u8
         requires { index < 4 }
-        ensures { result ≡ spec.pair_byte (spec.path_code self.now) index }
+        ensures { result ≡ spec.pair_byte (spec.path_code (bare self.now)) index }
     {
         let odd = self.lane(2 * index + 1).path;
         let even = self.lane(2 * index + 2).path;
@@ -32,7 +34,7 @@ impl SimModule {
 
     fn status_pair(&self, index: u8) -> u8
         requires { index < 4 }
-        ensures { result ≡ spec.pair_byte (spec.status_code self.now) index }
+        ensures { result ≡ spec.pair_byte (spec.status_code (bare self.now)) index }
     {
         let odd = self.lane(2 * index + 1).status;
         let even = self.lane(2 * index + 2).status;
@@ -41,7 +43,7 @@ impl SimModule {
 
     // A byte of lower memory, given the image's.
     fn lower_byte(&self, byte: u8, address: u8) -> u8
-        ensures { result ≡ spec.first_shown (spec.lower_bytes self.now byte address) byte }
+        ensures { result ≡ spec.first_shown (spec.lower_bytes (bare self.now) byte address) byte }
     {
         if is_at(Field::CModuleState, address) {
             (byte & 0xF1) + 2 * self.state.code()
@@ -60,7 +62,7 @@ impl SimModule {
 
     // A byte of page 10h, given the image's.
     fn configuration_byte(&self, byte: u8, address: u8) -> u8
-        ensures { result ≡ spec.first_shown (spec.configuration_bytes self.now address) byte }
+        ensures { result ≡ spec.first_shown (spec.configuration_bytes (bare self.now) address) byte }
     {
         if is_at(Field::CDPDeinit, address) {
             self.deinit.byte()
@@ -75,7 +77,7 @@ impl SimModule {
 
     // A byte of page 11h, given the image's.
     fn status_byte(&self, byte: u8, address: u8) -> u8
-        ensures { result ≡ spec.first_shown (spec.status_bytes self.now address) byte }
+        ensures { result ≡ spec.first_shown (spec.status_bytes (bare self.now) address) byte }
     {
         if let Some(index) = index_in(Field::CPathStates, 4, address) {
             self.path_pair(index)
@@ -92,7 +94,7 @@ impl SimModule {
 
     #[tactic(auto, unfolding(crate::specs::ShownBytes::shown_byte))]
     fn shown_byte(&self, page: &[u8; PAGE_LEN], address: u8) -> u8
-        ensures { result ≡ spec.shown_byte self.now page.now address }
+        ensures { result ≡ spec.shown_byte (bare self.now) page.now address }
     {
         if address < 128 {
             return self.lower_byte(page[usize::from(address)], address);
@@ -110,7 +112,7 @@ impl SimModule {
     fn shown_bytes(&self, page: &[u8; PAGE_LEN], first: u8, count: u8) -> ArrayVec<u8, 128>
         requires half { first + count ≤ 256 }
         requires room { count ≤ 128 }
-        ensures bytes { result.items ≡ map (spec.shown_byte self.now page.now) (range_with_len first count) }
+        ensures bytes { result.items ≡ map (spec.shown_byte (bare self.now) page.now) (range_with_len first count) }
         ensures count { length result.items ≡ count }
     {
         let mut bytes = ArrayVec::new();
@@ -121,14 +123,14 @@ impl SimModule {
     }
 
     // What a fetch on device A0 answers.
-    #[tactic(auto, unfolding(crate::specs::ShownBytes::fetched))]
-    pub(crate) fn shown(&self, first: u8, count: u8) -> Option<ArrayVec<u8, 128>>
+    #[tactic(auto, unfolding(crate::specs::ShownBytes::fetched, crate::specs::ShownBytes::shown_byte))]
+    pub(crate) fn shown(&self, fixed: &Fixed, first: u8, count: u8) -> Option<ArrayVec<u8, 128>>
         requires half { first + count ≤ 256 }
         requires room { count ≤ 128 }
-        ensures answer { option_map (λ bytes. bytes.items) result ≡ (spec.fetched self.now Dev.A0 first count).0 }
+        ensures answer { option_map (λ bytes. bytes.items) result ≡ (spec.fetched (module_of fixed.now self.now) Dev.A0 first count).0 }
         ensures count { IfSome result (λ bytes. length bytes.items ≡ count) }
     {
-        match self.image.page(self.selection.key(Dev::A0, first)) {
+        match fixed.image.page(self.selection.key(Dev::A0, first)) {
             Some(page) => Some(self.shown_bytes(page.bytes(), first, count)),
             None => None,
         }
@@ -138,7 +140,7 @@ impl SimModule {
     fn left_lane_flag(&self, first: u8, count: u8, index: u8) -> u8
         requires half { first + count ≤ 256 }
         requires index { index < LANE_FLAGS }
-        ensures { result ≡ spec.left_lane_flag self.now (registers.is_from first count) index }
+        ensures { result ≡ spec.left_lane_flag (bare self.now) (registers.is_from first count) index }
     {
         let flag = self.lane_flags[usize::from(index)];
         let address = row(Field::CPathStateChanged).offset + index;
@@ -151,7 +153,7 @@ impl SimModule {
 
     fn left_lane_flags(&self, first: u8, count: u8) -> [u8; LANE_FLAGS]
         requires { first + count ≤ 256 }
-        ensures { result ≡ spec.left_lane_flags self.now (registers.is_from first count) }
+        ensures { result ≡ spec.left_lane_flags (bare self.now) (registers.is_from first count) }
     {
         let mut flags = [0; LANE_FLAGS];
         for (index, flag) in flags.iter_mut().enumerate() {
@@ -164,7 +166,7 @@ impl SimModule {
     #[tactic(auto, unfolding(crate::specs::ShownBytes::cleared))]
     pub(crate) fn clear(&mut self, first: u8, count: u8)
         requires { first + count ≤ 256 }
-        ensures { self.new ≡ spec.cleared self.old (registers.is_from first count) }
+        ensures { (fixed : Fixed) → module_of fixed self.new ≡ spec.cleared (module_of fixed self.old) (registers.is_from first count) }
     {
         self.lane_flags = self.left_lane_flags(first, count);
         if is_from(first, count, row(Field::CModuleFlag).offset) {

@@ -23,6 +23,7 @@ impl Lane {
     ghost use Rattle.sim_module.specs.Lanes as lanes;
     ghost use Rattle.sim_module.specs.Ticks as ticks;
     ghost use Rattle.sim_module.specs.Applies as applies;
+    ghost use Rattle.sim_module.specs.Resting as resting;
 
     // Whether an apply of the lane has begun and is not done.
     pub(crate) fn is_in_progress(self) -> bool
@@ -40,6 +41,13 @@ impl Lane {
             left: next_left(path == self.path, self.left, delays.of_path(path)),
             ..self
         }
+    }
+
+    // Whether it keeps its state and its counter in the lane afterwards.
+    pub(crate) fn stays(self, after: Lane) -> bool
+        ensures { result ≡ resting.stays self after }
+    {
+        after.path == self.path && after.left == self.left
     }
 
     // The lane after its apply is done.

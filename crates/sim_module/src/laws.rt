@@ -13,11 +13,17 @@ ghost use Rattle.sim_module.specs.ActiveSets.{ActivationLeavesActive, ActiveIsPl
 ghost use Rattle.sim_module.specs.KeptPaths.{KeptPathsStayUp, KeptPathsStayUpAgain};
 ghost use Rattle.sim_module.specs.DeinitBits.{BitsFollowSuccess, BitsFollowTheStore, KeptBitsAreClear};
 ghost use Rattle.sim_module.specs.ReleasedLanes.{KeptLanesAreReleased};
+ghost use Rattle.sim_module.specs.Unchanging.{EventsLeaveFixed};
 
 /// A new module has eight lanes, the active bytes of its memory are active, and no apply is in progress.
 pub fn a_new_module_is_sound()
     ensures sound { (memory : Memory) (delays : Delays) → IsSound (start memory delays) }
     ensures at_rest { (memory : Memory) (delays : Delays) → IsAtRest (active_at_start memory) (start memory delays) }
+{}
+
+/// No fetch, store, tick or change of the pin changes the memory that a module had at the start, nor what that advertises.
+pub fn what_is_fixed_never_changes()
+    ensures { EventsLeaveFixed }
 {}
 
 /// Whatever happens to a module, the lanes of an apply in progress have the status ConfigInProgress.

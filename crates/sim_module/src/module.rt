@@ -1,89 +1,78 @@
-use crate::delays::Delays;
-use crate::lane::Lane;
-use applications::{Advert, LaneSet};
+use crate::fixed::Fixed;
+use crate::moving::Moving;
+use crate::saved::SavedModule;
+use applications::Advert;
 use datapath_states::PathState;
 use module_states::ModuleState;
-use paged_memory::{Image, Selection};
-use std::array;
-
-/// How many bytes of page 11h, from that of the changed path states on, have flags of the lanes.
-pub const LANE_FLAGS: usize = 19;
+use paged_memory::Image;
+use std::marker::Model;
 
 /// A simulated CMIS module.
 #[derive(Debug, Drop)]
 pub struct SimModule {
-    /// What its memory held at the start.
-    pub(crate) image: Image,
-    /// The Applications of that image.
-    pub(crate) advert: Advert,
-    pub(crate) delays: Delays,
-    pub(crate) selection: Selection,
-    /// Whether the host holds the low power pin.
-    pub(crate) pin: bool,
-    /// Byte 26 of lower memory, as it was stored.
-    pub(crate) control: u8,
-    pub(crate) state: ModuleState,
-    /// The ticks until the work of a transient module state is done, and 0 where none runs.
-    pub(crate) left: u16,
-    pub(crate) lanes: [Lane; 8],
-    /// The lanes whose DPDeinit bit is set.
-    pub(crate) deinit: LaneSet,
-    /// The ticks until an apply in progress is done, and 0 where none is.
-    pub(crate) apply_left: u16,
-    /// The latched flags of the module.
-    pub(crate) module_flags: u8,
-    /// The latched flags of the lanes, byte by byte.
-    pub(crate) lane_flags: [u8; LANE_FLAGS],
+    pub(crate) fixed: Fixed,
+    pub(crate) moving: Moving,
+    /// A note that nothing moves: it is made by a tick, and nothing has happened since.
+    pub(crate) rests: bool,
+}
+
+impl Model for SimModule {
+    ghost use Rattle.sim_module.specs.Record.{Simulated, coded_module, module_of};
+
+    ghost Value = { Simulated };
+
+    ghost coded = { coded_module };
+
+    ghost use Rattle.sim_module.specs.Resting.{RestsIf};
+
+    ghost view = { λ sim. module_of sim.fixed sim.moving };
+
+    ghost invariant = { λ sim. RestsIf sim.rests (module_of sim.fixed sim.moving) };
 }
 
 impl SimModule {
-    ghost use Rattle.std.specs.Prelude.{◌≡◌};
-    ghost use Rattle.control_sets.specs.HostPaths.{IsLane};
+    ghost use Rattle.std.specs.Prelude.{◌≡◌, Some, option_map};
     ghost use Rattle.sim_module.specs.Lanes as lanes;
+    ghost use Rattle.sim_module.specs.Record.{module_of, moving_of};
+    ghost use Rattle.sim_module.specs.SavedModules.{restored, saved};
 
     /// The control bytes of the Active Control Set, lane 1 first.
     pub fn active(&self) -> [u8; 8]
         ensures { result ≡ lanes.active_bytes self.now }
     {
-        array::from_fn(|index| self.lanes[index].active)
-    }
-
-    // The control bytes of Staged Control Set 0, lane 1 first.
-    pub(crate) fn staged(&self) -> [u8; 8]
-        ensures { result ≡ lanes.staged_bytes self.now }
-    {
-        array::from_fn(|index| self.lanes[index].staged)
+        self.moving.active()
     }
 
     /// The states of the lanes' data paths, lane 1 first.
     pub fn path_states(&self) -> [PathState; 8]
         ensures { result ≡ lanes.path_states self.now }
     {
-        let mut states = [PathState::Deactivated; 8];
-        for (index, state) in states.iter_mut().enumerate() {
-            *state = self.lanes[index].path;
-        }
-        states
+        self.moving.path_states()
     }
 
     /// The state of the module.
     pub fn state(&self) -> ModuleState
         ensures { result ≡ self.now.state }
     {
-        self.state
+        self.moving.state
     }
 
-    pub(crate) fn lane(&self, lane: u8) -> Lane
-        requires { IsLane lane }
-        ensures { result ≡ lanes.lane_at self.now lane }
+    /// The numbers of what changes of it.
+    pub fn save(&self) -> SavedModule
+        ensures numbers { result ≡ saved (moving_of self.now) }
+        ensures back { restored result ≡ Some (moving_of self.now) }
     {
-        self.lanes[usize::from(lane) - 1]
+        self.moving.save()
     }
 
-    pub(crate) fn is_deactivated(&self, lane: u8) -> bool
-        requires { IsLane lane }
-        ensures { result ≡ lanes.is_deactivated self.now lane }
+    /// The module of an image, with what that advertises, of which what changes has these numbers, if there is one.
+    pub fn restore(image: Image, advert: Advert, saved: &SavedModule) -> Option<SimModule>
+        ensures { result ≡ option_map (module_of (record { image = image; advert = advert })) (restored saved.now) }
     {
-        self.lane(lane).path == PathState::Deactivated
+        Some(SimModule {
+            fixed: Fixed { image, advert },
+            moving: Moving::restore(saved)?,
+            rests: false,
+        })
     }
 }

@@ -3,8 +3,9 @@ use crate::SimModule;
 use crate::delays::Delays;
 use crate::down::asks_low_power;
 use crate::fault::SimFault;
+use crate::fixed::Fixed;
 use crate::lane::Lane;
-use crate::module::LANE_FLAGS;
+use crate::moving::{LANE_FLAGS, Moving};
 use applications::{Advert, LaneSet};
 use bus_model::Dev;
 use control_sets::{ControlFault, paths_of};
@@ -129,9 +130,7 @@ fn start(image: &Image, advert: Advert, delays: Delays) -> SimModule
     ensures { result ≡ spec.start image.now delays }
 {
     let control = byte_of_field(image, Field::CSoftwareReset, 0);
-    SimModule {
-        image: image.copy(),
-        advert,
+    let moving = Moving {
         delays,
         selection: Selection::first_page(),
         pin: false,
@@ -143,5 +142,14 @@ fn start(image: &Image, advert: Advert, delays: Delays) -> SimModule
         apply_left: 0,
         module_flags: byte_of_field(image, Field::CModuleFlag, 0),
         lane_flags: lane_flags(image),
+    };
+    let fixed = Fixed {
+        image: image.copy(),
+        advert,
+    };
+    SimModule {
+        fixed,
+        moving,
+        rests: false,
     }
 }

@@ -1,57 +1,59 @@
 //! What a store makes of a module.
-use crate::SimModule;
+use crate::fixed::Fixed;
+use crate::moving::Moving;
 use crate::registers::{index_in, is_at};
 use applications::LaneSet;
 use field_tables::Field;
 use paged_memory::Selecting;
 
-impl SimModule {
+impl Moving {
     ghost use Rattle.std.specs.Prelude.{◌≡◌, ◌≤◌, ◌+◌, length};
+    ghost use Rattle.sim_module.specs.Record.{module_of};
     ghost use Rattle.sim_module.specs.Stores as spec;
 
     // In lower memory.
-    fn store_low(&mut self, address: u8, byte: u8)
-        ensures { self.new ≡ spec.stored_low self.old address byte }
+    fn store_low(&mut self, fixed: &Fixed, address: u8, byte: u8)
+        ensures { module_of fixed.now self.new ≡ spec.stored_low (module_of fixed.now self.old) address byte }
     {
         self.selection = self
             .selection
-            .selected(Selecting::BankAndPage, &self.image, address, byte);
+            .selected(Selecting::BankAndPage, &fixed.image, address, byte);
         if is_at(Field::CSoftwareReset, address) {
             self.control = byte;
         }
     }
 
     // On page 10h.
-    fn store_high(&mut self, address: u8, byte: u8)
-        ensures { self.new ≡ spec.stored_high self.old address byte }
+    fn store_high(&mut self, fixed: &Fixed, address: u8, byte: u8)
+        ensures { module_of fixed.now self.new ≡ spec.stored_high (module_of fixed.now self.old) address byte }
     {
         if is_at(Field::CDPDeinit, address) {
             self.deinit = LaneSet::from(byte);
         } else if is_at(Field::CApplyDPInit, address) {
-            self.apply(LaneSet::from(byte));
+            self.apply(fixed, LaneSet::from(byte));
         } else if let Some(index) = index_in(Field::CStagedAppSel, 8, address) {
             self.lanes[usize::from(index)].staged = byte;
         }
     }
 
     #[tactic(auto, unfolding(crate::specs::Stores::stored_byte))]
-    fn store_byte(&mut self, address: u8, byte: u8)
-        ensures { self.new ≡ spec.stored_byte self.old address byte }
+    fn store_byte(&mut self, fixed: &Fixed, address: u8, byte: u8)
+        ensures { module_of fixed.now self.new ≡ spec.stored_byte (module_of fixed.now self.old) address byte }
     {
         if address < 128 {
-            self.store_low(address, byte);
+            self.store_low(fixed, address, byte);
         } else if self.is_mapped(0x10) {
-            self.store_high(address, byte);
+            self.store_high(fixed, address, byte);
         }
     }
 
     // Stores bytes one by one, by rising address.
-    pub(crate) fn store_bytes(&mut self, address: u8, bytes: &[u8])
+    pub(crate) fn store_bytes(&mut self, fixed: &Fixed, address: u8, bytes: &[u8])
         requires { address + length bytes.now ≤ 256 }
-        ensures { self.new ≡ spec.stored_bytes self.old address bytes.now }
+        ensures { module_of fixed.now self.new ≡ spec.stored_bytes (module_of fixed.now self.old) address bytes.now }
     {
         for (index, byte) in bytes.iter().enumerate() {
-            self.store_byte(address + index as u8, *byte);
+            self.store_byte(fixed, address + index as u8, *byte);
         }
     }
 }

@@ -1,18 +1,22 @@
 //! What a tick makes of a module.
-use crate::SimModule;
 use crate::lane::{Lane, next_left};
+use crate::moving::{Moving, lane_in};
 use applications::LaneSet;
 use datapath_states::PathState;
 use module_states::ModuleState;
 
-impl SimModule {
-    ghost use Rattle.std.specs.Prelude.{◌≡◌, map};
+impl Moving {
+    ghost use Rattle.std.specs.Prelude.{◌≡◌, map, slice_set, true};
     ghost use Rattle.control_sets.specs.HostPaths.{IsLane};
-    ghost use Rattle.sim_module.specs.Lanes.{all_lanes};
+    ghost use Rattle.sim_module.specs.Lanes.{active_bytes, all_lanes};
+    ghost use Rattle.sim_module.specs.Record.{bare, module_of};
+    ghost use Rattle.sim_module.specs.declared.fixed.Fixed.{Fixed};
+    ghost use Rattle.sim_module.specs.Down.{is_held};
+    ghost use Rattle.sim_module.specs.Resting.{IsStill, RestsIf, all_stay};
     ghost use Rattle.sim_module.specs.Ticks as spec;
 
     fn next_module_state(&self) -> ModuleState
-        ensures { result ≡ spec.next_module_state self.now }
+        ensures { result ≡ spec.next_module_state (bare self.now) }
     {
         let inputs = module_states::Inputs {
             low_power: self.has_low_power(),
@@ -23,29 +27,34 @@ impl SimModule {
     }
 
     fn all_deactivated(&self) -> bool
-        ensures { result ≡ spec.all_deactivated self.now }
+        ensures { result ≡ spec.all_deactivated (bare self.now) }
     {
         (1..9).all(|lane| self.is_deactivated(lane))
     }
 
-    fn next_path_state(&self, lane: u8) -> PathState
-        requires { IsLane lane }
-        ensures { result ≡ spec.next_path_state self.now lane }
+    // Given the active bytes, and whether some lane holds down its path.
+    fn next_path_state(&self, active: &[u8; 8], held: bool, lane: u8) -> PathState
+        requires lane { IsLane lane }
+        requires active { active.now ≡ active_bytes (bare self.now) }
+        requires held { held ≡ is_held (bare self.now) }
+        ensures { result ≡ spec.next_path_state (bare self.now) lane }
     {
         let before = self.lane(lane);
         let inputs = datapath_states::Inputs {
-            down: self.is_down(lane),
+            down: self.is_down(active, held, lane),
             done: before.left == 1,
         };
         datapath_states::next(before.path, inputs)
     }
 
     #[tactic(auto, unfolding(crate::specs::Ticks::ticked_lane))]
-    fn ticked_lane(&self, lane: u8) -> Lane
-        requires { IsLane lane }
-        ensures { result ≡ spec.ticked_lane self.now lane }
+    fn ticked_lane(&self, active: &[u8; 8], held: bool, lane: u8) -> Lane
+        requires lane { IsLane lane }
+        requires active { active.now ≡ active_bytes (bare self.now) }
+        requires held { held ≡ is_held (bare self.now) }
+        ensures { result ≡ spec.ticked_lane (bare self.now) lane }
     {
-        let next = self.next_path_state(lane);
+        let next = self.next_path_state(active, held, lane);
         let moved = self.lane(lane).moved(self.delays, next);
         if self.apply_left == 1 {
             moved.applied()
@@ -55,50 +64,96 @@ impl SimModule {
     }
 
     fn ticked_lanes(&self) -> [Lane; 8]
-        ensures { result ≡ map (spec.ticked_lane self.now) all_lanes }
+        ensures { result ≡ map (spec.ticked_lane (bare self.now)) all_lanes }
     {
+        let active = self.active();
+        let held = self.is_held();
         let mut lanes = self.lanes;
         for (index, lane) in lanes.iter_mut().enumerate() {
-            *lane = self.ticked_lane(index as u8 + 1);
+            *lane = self.ticked_lane(&active, held, index as u8 + 1);
         }
         lanes
     }
 
+    // Given the lane's next state.
     #[tactic(auto, unfolding(crate::specs::Ticks::arrives))]
-    fn arrives(&self, lane: u8) -> bool
-        requires { IsLane lane }
-        ensures { result ≡ spec.arrives self.now lane }
+    fn arrives(&self, next: PathState, lane: u8) -> bool
+        requires lane { IsLane lane }
+        requires next { next ≡ spec.next_path_state (bare self.now) lane }
+        ensures { result ≡ spec.arrives (bare self.now) lane }
     {
-        let next = self.next_path_state(lane);
         next != self.lane(lane).path && is_steady(next)
     }
 
-    // The lanes whose flag of a changed path state is raised.
-    fn arriving(&self) -> LaneSet
-        ensures { result ≡ spec.arriving self.now }
+    // The lanes whose flag of a changed path state is raised, given all lanes after the tick.
+    fn arriving(&self, after: &[Lane; 8]) -> LaneSet
+        requires { after.now ≡ map (spec.ticked_lane (bare self.now)) all_lanes }
+        ensures { result ≡ spec.arriving (bare self.now) }
     {
         let mut lanes = LaneSet::empty();
         for lane in 1..9 {
-            if self.arrives(lane) {
+            let next = after[usize::from(lane) - 1].path;
+            if self.arrives(next, lane) {
                 lanes = lanes.union(LaneSet::run(lane, 1));
             }
         }
         lanes
     }
 
-    // Lets one tick pass: everything moves from its values before.
+    // Whether each lane stays, given all lanes after the tick.
+    fn all_stay(&self, after: &[Lane; 8]) -> bool
+        ensures { result ≡ all_stay (bare self.now) after.now }
+    {
+        (1..9).all(|lane| self.lane(lane).stays(lane_in(after, lane)))
+    }
+
+    // Whether a tick is seen to leave all as it is, given the module's next state, all lanes after the tick, and the flags of changed
+    // path states.
+    fn is_still(&self, state: ModuleState, after: &[Lane; 8], flags: u8) -> bool
+        requires state { state ≡ spec.next_module_state (bare self.now) }
+        requires after { after.now ≡ map (spec.ticked_lane (bare self.now)) all_lanes }
+        requires flags { slice_set self.now.lane_flags 0 flags ≡ spec.ticked_flags (bare self.now) }
+        ensures { result ≡ true → IsStill self.now }
+    {
+        if self.apply_left != 0 {
+            return false;
+        }
+        if self.left != 0 {
+            return false;
+        }
+        if state != self.state {
+            return false;
+        }
+        if flags != self.lane_flags[0] {
+            return false;
+        }
+        self.all_stay(after)
+    }
+
+    // Everything moves from its values before. Answers whether it was seen that all stays as it was.
     #[tactic(auto, unfolding(crate::specs::Ticks::ticked))]
-    pub(crate) fn pass_tick(&mut self)
-        ensures { self.new ≡ spec.ticked self.old }
+    fn pass_tick(&mut self) -> bool
+        ensures new { bare self.new ≡ spec.ticked (bare self.old) }
+        ensures rests { RestsIf result (bare self.new) }
     {
         let state = self.next_module_state();
         let lanes = self.ticked_lanes();
-        let arriving = self.arriving().byte();
+        let flags = self.lane_flags[0] | self.arriving(&lanes).byte();
+        let rests = self.is_still(state, &lanes, flags);
         self.left = next_left(state == self.state, self.left, self.delays.of_module(state));
         self.state = state;
         self.lanes = lanes;
-        self.lane_flags[0] |= arriving;
+        self.lane_flags[0] = flags;
         self.apply_left = self.apply_left.saturating_sub(1);
+        rests
+    }
+
+    /// Lets one tick pass, whatever never changes of the module. Answers whether it is seen that all further ticks leave all as it is.
+    pub fn tick(&mut self) -> bool
+        ensures new { (fixed : Fixed) → module_of fixed self.new ≡ spec.ticked (module_of fixed self.old) }
+        ensures rests { (fixed : Fixed) → RestsIf result (module_of fixed self.new) }
+    {
+        self.pass_tick()
     }
 }
 

@@ -1,0 +1,10 @@
+use Rattle.std.proofs.Common.{◌≡◌, ℕ, ◌<◌, get_or, length}
+use Rattle.sim_module.specs.Lanes.{no_lane}
+use Rattle.sim_module.specs.SavedModules.{no_numbers, saved_lane}
+use Rattle.sim_module.proofs.moving.Moving.saved_lanes.Given as goal
+
+abbrev pub invariant-loop-index : goal.invariant-loop-index
+invariant-loop-index l = record {
+  len : length l.lane-items ≡ 8;
+  each : (k : ℕ) → k < l.index → get_or l.lane-items k no_numbers ≡ saved_lane (get_or l.self.lanes k no_lane);
+}
