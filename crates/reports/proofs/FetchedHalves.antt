@@ -1,7 +1,6 @@
 -- What is read of an image over a scripted bus with a window of it behind: the halves agree with the image's.
-use Rattle.std.proofs.Common.{◌≡◌, inl, inr, ℕ, ◌<◌, ◌==◌, ◌||◌, ◌&&◌, Bool, true, false, List, [], ◌∷◌, take, Option, Some, None, Ok, reverse, refl, sym, ap, subst, ◌∙◌, if◌then◌else◌, arith}
-use Rattle.std.proofs.lemmas.Bool.{cases_Bool, or_cases, or_parts}
-use Rattle.std.proofs.lemmas.Bool.Decides.{nat_tests}
+use Rattle.std.proofs.Common.{◌≡◌, inl, inr, ℕ, ◌<◌, ◌&&◌, Bool, true, false, List, [], ◌∷◌, take, Option, Some, None, Ok, reverse, refl, sym, ap, subst, ◌∙◌, arith}
+use Rattle.std.proofs.lemmas.Bool.{cases_Bool}
 use Rattle.std.specs.Prelude.{IsTrue, MatchOption, is_some, not, option_map, pos, slice_index, unsigned_abs, unwrap_or}
 use Rattle.std.specs.FinMap as map
 use Rattle.std.specs.List.{AllByRecursion}
@@ -17,33 +16,34 @@ use Rattle.bus_model.specs.Runs.{IsFull, Ran, Seen}
 use Rattle.bus_model.specs.ScriptedBus.{script_rules, transacted}
 use Rattle.bus_model.proofs.Histories.{AnyPin, found_keeps, may_each}
 use Rattle.bus_model.proofs.ScriptRuns.{all_allow, fetched_at, step_keeps}
+use Rattle.paged_memory.specs.declared.family.Family.{Family}
+use Rattle.paged_memory.specs.declared.family.Family.TheVariants.{Cmis, Sff8636, Sff8472}
 use Rattle.paged_memory.specs.declared.paging.Paging.{Paging}
 use Rattle.paged_memory.specs.declared.paging.Paging.TheVariants.{BankAndPage, PageAlone}
 use Rattle.paged_memory.specs.declared.selection.Selecting.TheVariants as selecting
+use Rattle.paged_memory.specs.Families.{family_by, is_family}
 use Rattle.paged_memory.specs.Images.{Memory}
 use Rattle.paged_memory.specs.ImageText.{IsImage}
 use Rattle.paged_memory.specs.Keys.{lower_key, upper_key}
 use Rattle.paged_memory.specs.Paging.{History, reads_back, selection}
-use Rattle.paged_memory.specs.Selections.{selecting_by, selecting_on}
-use Rattle.paged_memory.specs.Windows.{Windowed, fetched, started, window_conduct}
+use Rattle.paged_memory.specs.Selections.{selecting_by, selecting_in, selecting_on}
+use Rattle.paged_memory.specs.Windows.{Windowed, window_fetched, started, window_conduct}
 use Rattle.paged_memory.proofs.WindowHistories.{IsOf, IsOfBank, IsSound, May, Shows, State, found, left, of_after, selecting_of, shows_confirmed, shows_fetch, shows_read_back, shows_selected, sound_after}
 use Rattle.paged_memory.proofs.WindowReads.{before_selection, half_page, reads_lower, reads_page}
 use Rattle.paged_memory.proofs.WindowRuns.{always}
-use Rattle.field_tables.specs.declared.field.Field.TheVariants.{CIdentifier, QFlatMemory}
+use Rattle.field_tables.specs.declared.field.Field.TheVariants.{CIdentifier}
 use Rattle.field_tables.specs.FieldValues.{value_in}
 use Rattle.field_tables.specs.Halves.{byte_in, is_absent}
-use Rattle.field_tables.specs.Readings.{bit, reading_at}
+use Rattle.field_tables.specs.Readings.{reading_at}
 use Rattle.field_tables.proofs.PlaceNumbers.{number-bits_up}
 use Rattle.field_tables.proofs.SameValues.{Agree, same_absent, same_number}
-use Rattle.applications.specs.Refusals.{is_cmis}
-use Rattle.sff8472_map.specs.Refusals.{is_sfp}
-use Rattle.sff8636_map.specs.Refusals.{is_qsfp}
-use Rattle.reports.specs.Families.{identifier, is_flat}
-use Rattle.reports.specs.FetchedImages.{IsFetch, IsFetching, IsImageOf, IsLeftOut, IsRead, IsSettled, IsShown, SomeStep, StoresNothing, WasSelected}
-use Rattle.reports.specs.Regions.{cmis_regions, has_diagnostics, key_of, operation, paging_of, qsfp_regions, regions_of}
-use Rattle.reports.specs.declared.fetching.region.Region.{Region}
-use Rattle.reports.specs.declared.fetching.region.Region.TheVariants.{Lower, FirstPage, Page}
-use Rattle.reports.proofs.RegionLaws.{begins_lower, contradicts}
+use Rattle.reports.specs.Families.{identifier}
+use Rattle.reports.specs.FetchedImages.{IsFetching}
+use Rattle.module_reading.specs.ReadImages.{IsFetch, IsImageOf, IsLeftOut, IsRead, IsSettled, IsShown, SomeStep, StoresNothing, WasSelected}
+use Rattle.module_reading.specs.Regions.{has_diagnostics, key_of, operation, paging_in, paging_of, regions_in, regions_of, sfp_regions}
+use Rattle.module_reading.specs.declared.region.Region.{Region}
+use Rattle.module_reading.specs.declared.region.Region.TheVariants.{Lower, FirstPage, Page}
+use Rattle.module_reading.proofs.RegionLaws.{begins_lower}
 
 -- ---- what a fetch of a half was answered by
 
@@ -67,7 +67,7 @@ record WasRead (paging : Paging) (region : Region) (bytes : List ℕ) (state : S
   before : History
   may : May state before
   shown : IsShown paging region before
-  answer : (fetched (found (left state before)) (device_of region) (offset_of region) 128).0 ≡ Some bytes
+  answer : (window_fetched (found (left state before)) (device_of region) (offset_of region) 128).0 ≡ Some bytes
 
 was_read : (paging : Paging) (region : Region) (bytes : List ℕ) (state : State) (history : History) → May state history → IsRead paging region bytes history → WasRead paging region bytes state
 was_read paging region bytes state [] may read = absurd read
@@ -130,13 +130,13 @@ module _ (memory copy : Memory) (paging : Paging) (state : State) (image : IsIma
     bank_of BankAndPage = tt
     bank_of PageAlone = ap (λ (window : Windowed). window.selection.bank) start
 
-  same_page : (page : ℕ) (there : State) (bytes : List ℕ) → Shows memory page there.1 → (fetched (found there) A0 128 128).0 ≡ Some bytes → map.get copy (upper_key A0 0 page) ≡ Some bytes →
+  same_page : (page : ℕ) (there : State) (bytes : List ℕ) → Shows memory page there.1 → (window_fetched (found there) A0 128 128).0 ≡ Some bytes → map.get copy (upper_key A0 0 page) ≡ Some bytes →
       Agree copy memory (upper_key A0 0 page)
   same_page page there bytes shows answer held =
       let now = found_keeps window_conduct (Shows memory page) (always (Shows memory page)) there shows in
       ap (option_map (take 128)) (held ∙ sym (reads_page memory page (found there) bytes image now answer))
 
-  same_lower : (dev : Dev) (there : State) (bytes : List ℕ) → IsOf memory there.1 → (fetched (found there) dev 0 128).0 ≡ Some bytes → map.get copy (lower_key dev) ≡ Some bytes → Agree copy memory (lower_key dev)
+  same_lower : (dev : Dev) (there : State) (bytes : List ℕ) → IsOf memory there.1 → (window_fetched (found there) dev 0 128).0 ≡ Some bytes → map.get copy (lower_key dev) ≡ Some bytes → Agree copy memory (lower_key dev)
   same_lower dev there bytes of answer held =
       let now = found_keeps window_conduct (IsOf memory) (always (IsOf memory)) there of in
       let read = reads_lower memory dev (found there) bytes image now answer in
@@ -187,24 +187,19 @@ identifier_is memory half image has =
     let page = half_page memory (lower_key A0) half image has in
     ap (λ (bytes : Option (List ℕ)). unsigned_abs (unwrap_or (option_map (λ bytes. value_in bytes CIdentifier 1) bytes) (pos 0))) has ∙ value_of_byte half (page.bytes 0)
 
-no_sfp : (id : ℕ) → is_cmis id ≡ true → (id == 0x03) ≡ false
-no_sfp id cmis = grind (arith, nat_tests)
+-- a module of this family is asked for more than its lower halves
+abbrev asks_pages : Option Family → Bool
+asks_pages (Some Cmis) = true
+asks_pages (Some Sff8636) = true
+asks_pages (Some Sff8472) = false
+asks_pages None = false
 
--- how a module is asked to select pages that is asked for more than its lower halves
-selecting_right : (id : ℕ) → (is_cmis id || is_qsfp id) ≡ true → selecting_by id ≡ selecting_of (if is_qsfp id then PageAlone else BankAndPage)
-selecting_right id paged =
-    elim (cases_Bool (is_qsfp id)) [
-      | inl alone ↦
-          let left : selecting_by id ≡ selecting.PageAlone = (λ i. if alone i then selecting.PageAlone else if id == 0x03 then selecting.Nothing else selecting.BankAndPage) in
-          let right : selecting_of (if is_qsfp id then PageAlone else BankAndPage) ≡ selecting.PageAlone = (λ i. selecting_of (if alone i then PageAlone else BankAndPage)) in
-          left ∙ sym right
-      | inr other ↦
-          let cmis : is_cmis id ≡ true = elim (or_cases (is_cmis id) (is_qsfp id) paged) [ inl is ↦ is | inr alone ↦ absurd (contradicts alone other) ] in
-          let none = no_sfp id cmis in
-          let left : selecting_by id ≡ selecting.BankAndPage = (λ i. if other i then selecting.PageAlone else if none i then selecting.Nothing else selecting.BankAndPage) in
-          let right : selecting_of (if is_qsfp id then PageAlone else BankAndPage) ≡ selecting.BankAndPage = (λ i. selecting_of (if other i then PageAlone else BankAndPage)) in
-          left ∙ sym right
-    ]
+-- and it selects pages as it is asked to
+selecting_right : (family : Option Family) → asks_pages family ≡ true → selecting_in family ≡ selecting_of (paging_in family)
+selecting_right (Some Cmis) asks = refl
+selecting_right (Some Sff8636) asks = refl
+selecting_right (Some Sff8472) asks = absurd cc
+selecting_right None asks = refl
 
 selecting_is : (memory : Memory) (half : List ℕ) → map.get memory (lower_key A0) ≡ Some half → selecting_on memory A0 ≡ selecting_by (slice_index half 0)
 selecting_is memory half has = ap (λ (bytes : Option (List ℕ)). unwrap_or (option_map selecting_by (option_map (λ bytes. slice_index bytes 0) bytes)) selecting.BankAndPage) has
@@ -224,14 +219,11 @@ half_of : (half : Option (List ℕ)) → not (is_some half) ≡ false → (bytes
 half_of None e = absurd cc
 half_of (Some bytes) e = (bytes, refl)
 
--- the lower halves of those that are asked for no page
-abbrev lowers : Bool → List Region
-lowers diagnosed = if diagnosed then Lower A0 ∷ Lower A2 ∷ [] else Lower A0 ∷ []
-
-lowers_alone : (copy : Memory) → (is_cmis (identifier copy) || is_qsfp (identifier copy)) ≡ false → regions_of copy ≡ lowers (is_sfp (identifier copy) && has_diagnostics copy)
-lowers_alone copy other =
-    let both = or_parts (is_cmis (identifier copy)) (is_qsfp (identifier copy)) other in
-    λ i. if both.0 i then cmis_regions (is_flat copy) else if both.1 i then qsfp_regions (bit copy QFlatMemory) else lowers (is_sfp (identifier copy) && has_diagnostics copy)
+lowers_alone : (family : Option Family) (copy : Memory) → asks_pages family ≡ false → regions_in family copy ≡ sfp_regions (is_family Sff8472 family && has_diagnostics copy)
+lowers_alone (Some Cmis) copy none = absurd cc
+lowers_alone (Some Sff8636) copy none = absurd cc
+lowers_alone (Some Sff8472) copy none = refl
+lowers_alone None copy none = refl
 
 module _ (memory copy : Memory) (state : State) (history : History) (image : IsImage memory) (start : state.1 ≡ started memory) (may : May state history) where
   agrees_settled : (region : Region) → SelectsBy memory (paging_of copy) region → IsSettled history copy region → Agree copy memory (key_of region)
@@ -242,7 +234,7 @@ module _ (memory copy : Memory) (state : State) (history : History) (image : IsI
   agree_all [] by settled = tt
   agree_all (region ∷ regions) by settled = (agrees_settled region (by region) settled.0, agree_all regions by settled.1)
 
-  agree_lowers : (diagnosed : Bool) → AllByRecursion (IsSettled history copy) (lowers diagnosed) → AllByRecursion (λ region. Agree copy memory (key_of region)) (lowers diagnosed)
+  agree_lowers : (diagnosed : Bool) → AllByRecursion (IsSettled history copy) (sfp_regions diagnosed) → AllByRecursion (λ region. Agree copy memory (key_of region)) (sfp_regions diagnosed)
   agree_lowers true settled = (agrees_settled (Lower A0) tt settled.0, (agrees_settled (Lower A2) tt settled.1.0, tt))
   agree_lowers false settled = (agrees_settled (Lower A0) tt settled.0, tt)
 
@@ -251,11 +243,11 @@ module _ (memory copy : Memory) (state : State) (history : History) (image : IsI
   selects_all by FirstPage = tt
   selects_all by (Page page) = by
 
-  same_selecting : Agree copy memory (lower_key A0) → is_absent memory (lower_key A0) ≡ false → (is_cmis (identifier copy) || is_qsfp (identifier copy)) ≡ true → selecting_on memory A0 ≡ selecting_of (paging_of copy)
+  same_selecting : Agree copy memory (lower_key A0) → is_absent memory (lower_key A0) ≡ false → asks_pages (family_by (identifier copy)) ≡ true → selecting_on memory A0 ≡ selecting_of (paging_of copy)
   same_selecting low there paged =
       let (half, has) = half_of (map.get memory (lower_key A0)) there in
       let id : identifier copy ≡ slice_index half 0 = same_number copy memory CIdentifier low refl refl ∙ identifier_is memory half image has in
-      selecting_is memory half has ∙ ap selecting_by (sym id) ∙ selecting_right (identifier copy) paged
+      selecting_is memory half has ∙ ap selecting_by (sym id) ∙ selecting_right (family_by (identifier copy)) paged
 
   halves_agree : IsImageOf history copy → HalvesAgree copy memory
   halves_agree is =
@@ -265,11 +257,12 @@ module _ (memory copy : Memory) (state : State) (history : History) (image : IsI
       let present : is_absent copy (lower_key A0) ≡ false = ap not (present_by (map.get copy (lower_key A0)) ⊥ (λ bytes. IsRead (paging_of copy) (Lower A0) bytes history) first (λ none. none)) in
       let there : is_absent memory (lower_key A0) ≡ false = sym (same_absent copy memory (lower_key A0) low) ∙ present in
       let all : AllByRecursion (λ region. Agree copy memory (key_of region)) (regions_of copy) =
-      elim (cases_Bool (is_cmis (identifier copy) || is_qsfp (identifier copy))) [
+      elim (cases_Bool (asks_pages (family_by (identifier copy)))) [
         | inl paged ↦ agree_all (regions_of copy) (selects_all (same_selecting low there paged)) each
         | inr other ↦
-            let regions = lowers_alone copy other in
-            subst (AllByRecursion (λ region. Agree copy memory (key_of region))) (sym regions) (agree_lowers (is_sfp (identifier copy) && has_diagnostics copy) (subst (AllByRecursion (IsSettled history copy)) regions each))
+            let regions = lowers_alone (family_by (identifier copy)) copy other in
+            let diagnosed = is_family Sff8472 (family_by (identifier copy)) && has_diagnostics copy in
+            subst (AllByRecursion (λ region. Agree copy memory (key_of region))) (sym regions) (agree_lowers diagnosed (subst (AllByRecursion (IsSettled history copy)) regions each))
       ] in
       record { agree = all; present = present }
 

@@ -1,21 +1,18 @@
 -- What is read of an image over a scripted bus has the image's reports.
-use Rattle.std.proofs.Common.{◌≡◌, ◌&&◌, Bool, true, false, List, [], ◌∷◌, refl, sym, subst, ◌∙◌, if◌then◌else◌}
+use Rattle.std.proofs.Common.{◌≡◌, Bool, true, false, List, Option, refl, sym, subst, ◌∙◌}
 use Rattle.std.proofs.lemmas.Bool.{true≢false}
 use Rattle.std.specs.List.{AllByRecursion}
-use Rattle.bus_model.specs.declared.device.Dev.TheVariants.{A0, A2}
+use Rattle.paged_memory.specs.declared.family.Family.{Family}
 use Rattle.paged_memory.specs.Images.{Memory}
 use Rattle.field_tables.specs.declared.field.Field.TheVariants.{QFlatMemory}
 use Rattle.field_tables.specs.Readings.{bit}
 use Rattle.field_tables.proofs.SameValues.{Agree}
-use Rattle.sff8472_map.specs.Refusals.{is_sfp}
-use Rattle.sff8636_map.specs.Refusals.{is_qsfp}
-use Rattle.reports.specs.Families.{identifier, is_flat}
-use Rattle.reports.specs.Regions.{cmis_regions, has_diagnostics, key_of, qsfp_regions}
+use Rattle.reports.specs.Families.{is_flat}
+use Rattle.module_reading.specs.Regions.{cmis_regions, has_diagnostics, key_of, qsfp_regions, regions_in, sfp_regions}
 use Rattle.reports.specs.SameReports.{FetchedReportsSame}
-use Rattle.reports.specs.declared.fetching.region.Region.{Region}
-use Rattle.reports.specs.declared.fetching.region.Region.TheVariants.{Lower}
+use Rattle.module_reading.specs.declared.region.Region.{Region}
 use Rattle.reports.proofs.FetchedHalves.{HalvesAgree, fetched_agree}
-use Rattle.reports.proofs.RegionLaws.{begins_lower}
+use Rattle.module_reading.proofs.RegionLaws.{begins_lower}
 use Rattle.reports.proofs.SameApps.{same_apps}
 use Rattle.reports.proofs.SameFamilies.{CmisAgree, FamilyAgrees, QsfpAgree, SfpAgree}
 use Rattle.reports.proofs.SameFlags.{same_flags}
@@ -34,20 +31,19 @@ module _ (a b : Memory) where
   qsfp_agree true is all = record { low = all.0; first = all.1.0; paged = λ paged. absurd (true≢false (sym is ∙ paged)) }
   qsfp_agree false is all = record { low = all.0; first = all.1.0; paged = λ paged. all.1.1.0 }
 
-  sfp_agree : (diagnosed : Bool) → has_diagnostics a ≡ diagnosed → AllAgree (if diagnosed then Lower A0 ∷ Lower A2 ∷ [] else Lower A0 ∷ []) → SfpAgree a b
+  sfp_agree : (diagnosed : Bool) → has_diagnostics a ≡ diagnosed → AllAgree (sfp_regions diagnosed) → SfpAgree a b
   sfp_agree true is all = record { low = all.0; diagnostics = λ diagnosed. all.1.0 }
   sfp_agree false is all = record { low = all.0; diagnostics = λ diagnosed. absurd (true≢false (sym diagnosed ∙ is)) }
 
   family_agrees : HalvesAgree a b → FamilyAgrees a b
   family_agrees halves =
       let all = halves.agree in
-      let last = λ (qsfp : Bool). if qsfp then qsfp_regions (bit a QFlatMemory) else (if is_sfp (identifier a) && has_diagnostics a then Lower A0 ∷ Lower A2 ∷ [] else Lower A0 ∷ []) in
+      let of = λ (family : Option Family). AllAgree (regions_in family a) in
       record {
         low = (subst AllAgree (begins_lower a) all).0;
-        cmis = λ cmis. cmis_agree (is_flat a) refl (subst AllAgree (λ i. if cmis i then cmis_regions (is_flat a) else last (is_qsfp (identifier a))) all);
-        qsfp = λ cmis qsfp. qsfp_agree (bit a QFlatMemory) refl (subst AllAgree (λ i. if cmis i then cmis_regions (is_flat a) else last (qsfp i)) all);
-        sfp = λ cmis qsfp sfp. sfp_agree (has_diagnostics a) refl (subst AllAgree
-            (λ i. if cmis i then cmis_regions (is_flat a) else if qsfp i then qsfp_regions (bit a QFlatMemory) else (if sfp i && has_diagnostics a then Lower A0 ∷ Lower A2 ∷ [] else Lower A0 ∷ [])) all);
+        cmis = λ is. cmis_agree (is_flat a) refl (subst of is all);
+        qsfp = λ is. qsfp_agree (bit a QFlatMemory) refl (subst of is all);
+        sfp = λ is. sfp_agree (has_diagnostics a) refl (subst of is all);
       }
 
 pub fetched_reports : FetchedReportsSame

@@ -1,11 +1,5 @@
 pub mod Numbered
 pub mod RaisedFlags
-pub mod TextsOfLines
-pub mod RegionLaws
-pub mod FetchSteps
-pub mod FetchUnderWay
-pub mod FetchTurns
-pub mod FetchTold
 pub mod FetchedHalves
 pub mod SameFamilies
 pub mod SameInventories

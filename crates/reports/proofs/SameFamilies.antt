@@ -1,12 +1,13 @@
 -- Memories that agree in the halves that are read of a module are of the same family, and are refused for the same reasons.
-use Rattle.std.proofs.Common.{◌≡◌, inl, inr, ℕ, ◌==◌, ◌&&◌, ◌||◌, Bool, true, false, List, [], ◌∷◌, ◌++◌, map, Option, Some, None, refl, sym, ap, subst, ◌∙◌, if◌then◌else◌, arith}
+use Rattle.std.proofs.Common.{◌≡◌, inl, inr, ℕ, ◌==◌, ◌&&◌, Bool, true, false, List, [], ◌∷◌, ◌++◌, map, Option, Some, None, refl, sym, ap, ◌∙◌, if◌then◌else◌}
 use Rattle.std.proofs.lemmas.Bool.{cases_Bool, not-false}
-use Rattle.std.proofs.lemmas.Bool.Decides.{nat_tests}
-use Rattle.std.proofs.lemmas.List.Folds.{find-append}
-use Rattle.std.specs.Prelude.{find, not, option_map}
+use Rattle.std.specs.Prelude.{is_some, not, option_map, unwrap_or}
 use Rattle.std.specs.List.{AllByRecursion}
 use Rattle.std.specs.Option.{option_or}
 use Rattle.bus_model.specs.declared.device.Dev.TheVariants.{A0, A2}
+use Rattle.paged_memory.specs.declared.family.Family.{Family}
+use Rattle.paged_memory.specs.declared.family.Family.TheVariants.{Cmis, Sff8636, Sff8472}
+use Rattle.paged_memory.specs.Families.{family_by, is_of}
 use Rattle.paged_memory.specs.Images.{Memory}
 use Rattle.paged_memory.specs.Keys.{lower_key, upper_key}
 use Rattle.field_tables.specs.declared.field.Field.TheVariants.{CFlatMemory, CIdentifier, CRevision, QFlatMemory}
@@ -15,17 +16,12 @@ use Rattle.field_tables.specs.FirstFault.{first_fault}
 use Rattle.field_tables.specs.Halves.{is_absent}
 use Rattle.field_tables.specs.Readings.{bit, number}
 use Rattle.field_tables.proofs.SameValues.{Agree, same_absent, same_number}
-use Rattle.applications.specs.Refusals.{is_cmis, is_read_revision}
-use Rattle.sff8472_map.specs.Refusals.{is_sfp}
-use Rattle.sff8636_map.specs.Refusals.{is_qsfp}
-use Rattle.reports.specs.declared.family.Family.{Family}
-use Rattle.reports.specs.declared.family.Family.TheVariants.{Cmis, Sff8636, Sff8472}
+use Rattle.applications.specs.Refusals.{is_read_revision}
 use Rattle.reports.specs.declared.fault.ReportFault.{ReportFault}
 use Rattle.reports.specs.declared.fault.ReportFault.TheVariants.{Absent, Unknown, Revision, Sff}
-use Rattle.reports.specs.Families.{absent_page, family_of, identifier, is_flat, is_known, module_fault, module_faults, of_sff, unless_flat}
-use Rattle.reports.specs.Regions.{has_diagnostics}
+use Rattle.reports.specs.Families.{absent_page, family_of, identifier, is_flat, module_fault, module_faults, of_sff, unless_flat}
+use Rattle.module_reading.specs.Regions.{has_diagnostics}
 use Rattle.reports.specs.SameReports.{IsSame}
-use Rattle.reports.proofs.RegionLaws.{contradicts}
 
 -- ---- reasons in order
 
@@ -34,16 +30,6 @@ pub none_applies : {F : Type 0} (faults : List (Bool × F)) → first_fault faul
 none_applies [] e = tt
 none_applies ((true, fault) ∷ faults) e = absurd cc
 none_applies ((false, fault) ∷ faults) e = (refl, none_applies faults e)
-
-map_or : {A B : Type 0} (f : A → B) (x y : Option A) → option_map f (option_or x y) ≡ option_or (option_map f x) (option_map f y)
-map_or f None y = refl
-map_or f (Some x) y = refl
-
--- earlier reasons come first
-pub first_of_both : {F : Type 0} (faults later : List (Bool × F)) → first_fault (faults ++ later) ≡ option_or (first_fault faults) (first_fault later)
-first_of_both {F = F} faults later =
-    ap (option_map (λ (fault : Bool × F). fault.1)) (find-append (λ (fault : Bool × F). fault.0) faults later)
-    ∙ map_or (λ (fault : Bool × F). fault.1) (find (λ (fault : Bool × F). fault.0) faults) (find (λ (fault : Bool × F). fault.0) later)
 
 -- what comes later counts where there was nothing before
 pub same_later : {F : Type 0} (x y u v : Option F) → x ≡ y → (x ≡ None → u ≡ v) → option_or x u ≡ option_or y v
@@ -89,9 +75,9 @@ pub record SfpAgree (a b : Memory) : Type 0 where
 -- the halves agree that are asked for of a module by its family
 pub record FamilyAgrees (a b : Memory) : Type 0 where
   pub low : Agree a b (lower_key A0)
-  pub cmis : is_cmis (identifier a) ≡ true → CmisAgree a b
-  pub qsfp : is_cmis (identifier a) ≡ false → is_qsfp (identifier a) ≡ true → QsfpAgree a b
-  pub sfp : is_cmis (identifier a) ≡ false → is_qsfp (identifier a) ≡ false → is_sfp (identifier a) ≡ true → SfpAgree a b
+  pub cmis : family_by (identifier a) ≡ Some Cmis → CmisAgree a b
+  pub qsfp : family_by (identifier a) ≡ Some Sff8636 → QsfpAgree a b
+  pub sfp : family_by (identifier a) ≡ Some Sff8472 → SfpAgree a b
 
 -- ---- by the lower half
 
@@ -115,13 +101,13 @@ module _ (a b : Memory) (low : Agree a b (lower_key A0)) where
   unfolding module_fault
   same_module_fault = λ i. first_fault (
       (same_lower i, Absent (lower_key A0))
-      ∷ (not (is_known (same_identifier i)), Unknown (same_identifier i))
-      ∷ (is_cmis (same_identifier i) && not (is_read_revision (same_revision i)), Revision (same_revision i))
+      ∷ (not (is_some (family_by (same_identifier i))), Unknown (same_identifier i))
+      ∷ (is_of Cmis (same_identifier i) && not (is_read_revision (same_revision i)), Revision (same_revision i))
       ∷ [])
 
   pub same_family : family_of a ≡ family_of b
   unfolding family_of
-  same_family = λ i. if is_qsfp (same_identifier i) then Sff8636 else if is_sfp (same_identifier i) then Sff8472 else Cmis
+  same_family = λ i. unwrap_or (family_by (same_identifier i)) Cmis
 
 -- ---- pages
 
@@ -156,54 +142,31 @@ same_unless_flat a b pages same agree =
 
 -- ---- by family
 
-cmis_id : (id : ℕ) → is_cmis id ≡ true → (is_qsfp id ≡ false) × (is_sfp id ≡ false)
-cmis_id id cmis = (grind (arith, nat_tests), grind (arith, nat_tests))
-
--- where no module fault applies the identifier is known
-pub is_one_of : (a : Memory) → module_fault a ≡ None → is_known (identifier a) ≡ true
+-- where no module fault applies the family is known
+is_known : (a : Memory) → module_fault a ≡ None → is_some (family_by (identifier a)) ≡ true
 unfolding module_fault
-is_one_of a none = not-false (is_known (identifier a)) (none_applies (module_faults a) none).1.0
-
-is_in : (a : Memory) (family : Family) (P : Family → Type 0) → family_of a ≡ family → P family → P (family_of a)
-is_in a family P is holds = subst P (sym is) holds
-
-of_qsfp : (a : Memory) → is_qsfp (identifier a) ≡ true → family_of a ≡ Sff8636
-unfolding family_of
-of_qsfp a qsfp = λ i. if qsfp i then Sff8636 else if is_sfp (identifier a) then Sff8472 else Cmis
-
-of_sfp : (a : Memory) → is_qsfp (identifier a) ≡ false → is_sfp (identifier a) ≡ true → family_of a ≡ Sff8472
-unfolding family_of
-of_sfp a qsfp sfp = λ i. if qsfp i then Sff8636 else if sfp i then Sff8472 else Cmis
-
-of_cmis : (a : Memory) → is_qsfp (identifier a) ≡ false → is_sfp (identifier a) ≡ false → family_of a ≡ Cmis
-unfolding family_of
-of_cmis a qsfp sfp = λ i. if qsfp i then Sff8636 else if sfp i then Sff8472 else Cmis
+is_known a none = not-false (is_some (family_by (identifier a))) (none_applies (module_faults a) none).1.0
 
 -- what holds in each family holds in the module's
-in_family : (P : Family → Type 0) (a b : Memory) → FamilyAgrees a b → (CmisAgree a b → P Cmis) → (QsfpAgree a b → P Sff8636) → (SfpAgree a b → P Sff8472) → is_known (identifier a) ≡ true → P (family_of a)
-in_family P a b agrees cmis qsfp sfp known =
-    let id = identifier a in
-    elim (cases_Bool (is_cmis id)) [
-      | inl is ↦ is_in a Cmis P (of_cmis a (cmis_id id is).0 (cmis_id id is).1) (cmis (agrees.cmis is))
-      | inr other ↦ elim (cases_Bool (is_qsfp id)) [
-        | inl is ↦ is_in a Sff8636 P (of_qsfp a is) (qsfp (agrees.qsfp other is))
-        | inr neither ↦ elim (cases_Bool (is_sfp id)) [
-          | inl is ↦ is_in a Sff8472 P (of_sfp a neither is) (sfp (agrees.sfp other neither is))
-          | inr none ↦ absurd (contradicts known (λ i. other i || neither i || none i))
-        ]
-      ]
-    ]
+in_family : (P : Family → Type 0) (a b : Memory) → FamilyAgrees a b → (CmisAgree a b → P Cmis) → (QsfpAgree a b → P Sff8636) → (SfpAgree a b → P Sff8472) → is_some (family_by (identifier a)) ≡ true → P (family_of a)
+unfolding family_of
+in_family P a b agrees cmis qsfp sfp known = by (family_by (identifier a)) refl known where
+  by : (family : Option Family) → family_by (identifier a) ≡ family → is_some family ≡ true → P (unwrap_or family Cmis)
+  by (Some Cmis) is known = cmis (agrees.cmis is)
+  by (Some Sff8636) is known = qsfp (agrees.qsfp is)
+  by (Some Sff8472) is known = sfp (agrees.sfp is)
+  by None is known = absurd cc
 
 -- a report that is the same in each family is the same
-pub by_family : (fault_in : Family → Memory → Option ReportFault) (lines_in : Family → Memory → List (List ℕ)) (a b : Memory) → FamilyAgrees a b →
-    (CmisAgree a b → IsSame (fault_in Cmis) (lines_in Cmis) a b) → (QsfpAgree a b → IsSame (fault_in Sff8636) (lines_in Sff8636) a b) → (SfpAgree a b → IsSame (fault_in Sff8472) (lines_in Sff8472) a b) →
-    IsSame (λ m. option_or (module_fault m) (fault_in (family_of m) m)) (λ m. lines_in (family_of m) m) a b
-by_family fault_in lines_in a b agrees cmis qsfp sfp = record {
+pub by_family : {A : Type 0} (fault_in : Family → Memory → Option ReportFault) (said_in : Family → Memory → A) (a b : Memory) → FamilyAgrees a b →
+    (CmisAgree a b → IsSame (fault_in Cmis) (said_in Cmis) a b) → (QsfpAgree a b → IsSame (fault_in Sff8636) (said_in Sff8636) a b) → (SfpAgree a b → IsSame (fault_in Sff8472) (said_in Sff8472) a b) →
+    IsSame (λ m. option_or (module_fault m) (fault_in (family_of m) m)) (λ m. said_in (family_of m) m) a b
+by_family {A} fault_in said_in a b agrees cmis qsfp sfp = record {
   fault = same_later (module_fault a) (module_fault b) (fault_in (family_of a) a) (fault_in (family_of b) b) (same_module_fault a b agrees.low)
       (λ none. (same none).fault ∙ ap (λ (family : Family). fault_in family b) (same_family a b agrees.low));
-  lines = λ e.
+  said = λ e.
       let none = none_before (module_fault a) (fault_in (family_of a) a) e in
-      (same none.0).lines none.1 ∙ ap (λ (family : Family). lines_in family b) (same_family a b agrees.low);
+      (same none.0).said none.1 ∙ ap (λ (family : Family). said_in family b) (same_family a b agrees.low);
 } where
-  same : module_fault a ≡ None → IsSame (fault_in (family_of a)) (lines_in (family_of a)) a b
-  same none = in_family (λ (family : Family). IsSame (fault_in family) (lines_in family) a b) a b agrees cmis qsfp sfp (is_one_of a none)
+  same : module_fault a ≡ None → IsSame (fault_in (family_of a)) (said_in (family_of a)) a b
+  same none = in_family (λ (family : Family). IsSame (fault_in family) (said_in family) a b) a b agrees cmis qsfp sfp (is_known a none)

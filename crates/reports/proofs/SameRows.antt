@@ -2,8 +2,8 @@
 use Rattle.std.proofs.Common.{◌≡◌, inl, inr, ℕ, zero, suc, ◌≤◌, ◌∙◌, sym, ◌+◌, ◌*◌, ◌^◌, ◌==◌, ◌&&◌, ◌||◌, Bool, true, false, List, [], ◌∷◌, ◌++◌, map, Option, Some, None, refl, ap, subst, if◌then◌else◌, nat_le, arith}
 use Rattle.std.proofs.lemmas.Bool.{and_parts, false≢true, not-true, or_cases, true≢false}
 use Rattle.std.proofs.lemmas.Bool.Decides.{nat_tests}
-use Rattle.std.specs.Prelude.{ℤ, pos, ◌*ℤ◌, codes, not}
-use Rattle.std.specs.List.{AllByRecursion, flat_map, list_all, list_any, range_with_len}
+use Rattle.std.specs.Prelude.{ℤ, pos, ◌*ℤ◌, not, unsigned_abs}
+use Rattle.std.specs.List.{AllByRecursion, list_all, list_any, range_with_len}
 use Rattle.std.specs.Ordering.{eq_by_cmp}
 use Rattle.paged_memory.specs.declared.key.Key.{Key}
 use Rattle.paged_memory.specs.Images.{Memory}
@@ -17,10 +17,11 @@ use Rattle.field_tables.specs.Sums.{sum_key}
 use Rattle.field_tables.specs.Texts.{text_key}
 use Rattle.field_tables.specs.Units.{millis_of}
 use Rattle.field_tables.proofs.SameValues.{Agree, is_selection, same_number, same_numbers, same_reading_at, same_sum_right, same_text}
-use Rattle.reports.specs.Entries.{Entry, entry, word, right, number, code, revision, text, oui, amount, lanes, limits}
-use Rattle.reports.specs.EntryText.{entry_lines}
-use Rattle.reports.specs.Rows.{Row, Source, Instead, Word, Either, Code, Revision, Next, Text, Oui, Right, Amount, Length, Lanes, Limits, Nothing, Says, rows_lines, amount_at, applies, decided_entries, deciding, levels_of, row_entries, rows_entries, source_said, times, unit_name, unit_of}
-use Rattle.reports.proofs.RegionLaws.{keys_are}
+use Rattle.reports.specs.Entries.{Entry, entry, word, right, number, code, revision, text, oui, amount, lanes, limits, state, lane_states}
+use Rattle.reports.specs.declared.entry.LaneState.{LaneState}
+use Rattle.reports.specs.declared.printed_unit.PrintedUnit.TheVariants.{Metre}
+use Rattle.reports.specs.Rows.{Row, Source, Instead, Word, Either, Code, Revision, Next, Text, Oui, Right, Amount, Length, Lanes, Limits, State, LaneStates, Nothing, Says, amount_at, applies, decided_entries, deciding, lane_state_at, levels_of, printed_unit, row_entries, rows_entries, source_said, times, unit_of}
+use Rattle.module_reading.proofs.RegionLaws.{keys_are}
 
 -- ---- the test
 
@@ -48,6 +49,8 @@ source_in keys (Amount field) = field_in keys 1 field
 source_in keys (Length base power) = field_in keys 1 base && field_in keys 1 power
 source_in keys (Lanes field power) = field_in keys 1 field && power_in keys power
 source_in keys (Limits field power) = field_in keys 4 field && power_in keys power
+source_in keys (State field) = field_in keys 1 field
+source_in keys (LaneStates paths statuses) = field_in keys 8 paths && field_in keys 8 statuses
 
 abbrev instead_in : List Key → Instead → Bool
 instead_in keys (Nothing field n) = field_in keys 1 field
@@ -114,6 +117,21 @@ module _ (a b : Memory) (keys : List Key) (all : AllByRecursion (λ key. Agree a
       let last = of 4 (omega arith) (omega arith) in
       λ i. record { high_alarm = one i; low_alarm = two i; high_warning = three i; low_warning = last i }
 
+  number_at_same : (field : Field) (n i : ℕ) → field_in keys n field ≡ true → 1 ≤ i → i ≤ n → readings.number_at a field i ≡ readings.number_at b field i
+  number_at_same field n i e first last =
+      let counted = field_counted field n e in
+      let many : n ≤ (row_of field).count = grind (arith, nat_tests) in
+      ap unsigned_abs (same_reading_at a b field i (field_agrees field n e) (field_other field n e) first (omega (arith, last, many)))
+
+  lane_states_same : (paths statuses : Field) → field_in keys 8 paths ≡ true → field_in keys 8 statuses ≡ true → (first count : ℕ) → 1 ≤ first → first + count ≤ 9 →
+      map (lane_state_at a paths statuses) (range_with_len first count) ≡ map (lane_state_at b paths statuses) (range_with_len first count)
+  lane_states_same paths statuses p s first zero from to = refl
+  lane_states_same paths statuses p s first (suc count) from to =
+      let path = number_at_same paths 8 first p from (omega (arith, to)) in
+      let status = number_at_same statuses 8 first s from (omega (arith, to)) in
+      let later = lane_states_same paths statuses p s (first + 1) count (omega (arith, from)) (omega (arith, to)) in
+      λ i. (record { path = path i; status = status i }) ∷ later i
+
   source_same : (s : Source) → source_in keys s ≡ true → source_said a s ≡ source_said b s
   unfolding source_said
   source_same (Word w) e = refl
@@ -126,18 +144,22 @@ module _ (a b : Memory) (keys : List Key) (all : AllByRecursion (λ key. Agree a
   source_same (Right sum) e = ap (λ (is_right : Bool). right is_right) (same_sum_right a b sum (agree_among a b keys all (sum_key sum) e))
   source_same (Amount field) e =
       let counted = field_counted field 1 e in
-      ap (λ (millis : ℤ). amount millis (unit_name (unit_of field))) (amount_same field None 1 1 e refl (omega arith) (grind (arith, nat_tests)))
+      ap (λ (millis : ℤ). amount millis (printed_unit field)) (amount_same field None 1 1 e refl (omega arith) (grind (arith, nat_tests)))
   source_same (Length base power) e =
       let parts = and_parts (field_in keys 1 base) (field_in keys 1 power) e in
       let of = number_same base parts.0 in
       let tens = number_same power parts.1 in
-      λ i. amount (pos (of i * 100 * 10 ^ tens i)) (codes "m")
+      λ i. amount (pos (of i * 100 * 10 ^ tens i)) Metre
   source_same (Lanes field power) e =
       let parts = and_parts (field_in keys 1 field) (power_in keys power) e in
-      ap (λ (values : List ℤ). lanes values (unit_name (unit_of field))) (amounts_same field power parts.0 parts.1 1 (row_of field).count (omega arith) (omega arith))
+      ap (λ (values : List ℤ). lanes values (printed_unit field)) (amounts_same field power parts.0 parts.1 1 (row_of field).count (omega arith) (omega arith))
   source_same (Limits field power) e =
       let parts = and_parts (field_in keys 4 field) (power_in keys power) e in
-      ap (λ (levels : Levels ℤ). limits levels (unit_name (unit_of field))) (limits_same field power parts.0 parts.1)
+      ap (λ (levels : Levels ℤ). limits levels (printed_unit field)) (limits_same field power parts.0 parts.1)
+  source_same (State field) e = ap (λ (n : ℕ). state n) (number_same field e)
+  source_same (LaneStates paths statuses) e =
+      let parts = and_parts (field_in keys 8 paths) (field_in keys 8 statuses) e in
+      ap (λ (states : List LaneState). lane_states states) (lane_states_same paths statuses parts.0 parts.1 1 8 (omega arith) (omega arith))
 
   applies_same : (case : Instead) → instead_in keys case ≡ true → applies a case ≡ applies b case
   applies_same (Nothing field n) e = ap (λ (m : ℕ). m == n) (number_same field e)
@@ -174,7 +196,7 @@ module _ (a b : Memory) (keys : List Key) (all : AllByRecursion (λ key. Agree a
         | inr reads ↦ read_same row reads
       ])
 
-  rows_same : (flat : Bool) (rows : List Row) → list_all (row_in flat keys) rows ≡ true → rows_entries a flat rows ≡ rows_entries b flat rows
+  pub rows_same : (flat : Bool) (rows : List Row) → list_all (row_in flat keys) rows ≡ true → rows_entries a flat rows ≡ rows_entries b flat rows
   rows_same flat [] e = refl
   rows_same flat (row ∷ rows) e =
       let parts = and_parts (row_in flat keys row) (list_all (row_in flat keys) rows) e in
@@ -182,9 +204,6 @@ module _ (a b : Memory) (keys : List Key) (all : AllByRecursion (λ key. Agree a
       let later = rows_same flat rows parts.1 in
       λ i. here i ++ later i
 
-  pub lines_same : (flat : Bool) (rows : List Row) → list_all (row_in flat keys) rows ≡ true → rows_lines a flat rows ≡ rows_lines b flat rows
-  lines_same flat rows e = ap (λ (entries : List Entry). flat_map entry_lines entries) (rows_same flat rows e)
-
 -- of modules that are both flat, or neither
-pub by_flat : (a b : Memory) (rows : List Row) (f g : Bool) → f ≡ g → ((flat : Bool) → f ≡ flat → rows_lines a flat rows ≡ rows_lines b flat rows) → rows_lines a f rows ≡ rows_lines b g rows
-by_flat a b rows f g e same = same f refl ∙ ap (λ (flat : Bool). rows_lines b flat rows) e
+pub by_flat : (a b : Memory) (rows : List Row) (f g : Bool) → f ≡ g → ((flat : Bool) → f ≡ flat → rows_entries a flat rows ≡ rows_entries b flat rows) → rows_entries a f rows ≡ rows_entries b g rows
+by_flat a b rows f g e same = same f refl ∙ ap (λ (flat : Bool). rows_entries b flat rows) e

@@ -1,32 +1,31 @@
 -- The states of a CMIS module and of its lanes, and the flags that it raises. (docs/formats.md, "flags"; OIF-CMIS-05.0,
 -- "Global Status Information" and "Module-Level Flags" of lower memory; of page 11h the data path states, the
 -- lane-specific flags and "Configuration Command Status")
-use Rattle.std.specs.Prelude.{ℕ, Bool, if◌then◌else◌, List, [], ◌∷◌, ◌++◌, map, codes}
-use Rattle.std.specs.List.{range_with_len}
+use Rattle.std.specs.Prelude.{ℕ, Bool, List, [], ◌∷◌, ◌++◌, codes}
 use Rattle.paged_memory.specs.Images.{Memory}
 use Rattle.field_tables.specs.declared.field.Field.TheVariants as fields
-use Rattle.field_tables.specs.Readings.{number, number_at}
 use Rattle.reports.specs.declared.flag.Flag.{Flag}
 use Rattle.reports.specs.declared.flag.Condition.TheVariants as conditions
 use Rattle.reports.specs.declared.flag.FlagName.TheVariants.{Holds, Passed}
 use Rattle.reports.specs.declared.flag.Level.TheVariants.{HighAlarm, LowAlarm, HighWarning, LowWarning}
 use Rattle.reports.specs.declared.flag_rows.FlagRow.{FlagRow}
 use Rattle.reports.specs.declared.quantity.Quantity.TheVariants.{Temperature, Vcc, TxPower, TxBias, RxPower}
-use Rattle.reports.specs.FlagRows.{of_paged_lanes, past_limits, rows_flags}
-use Rattle.reports.specs.Flags.{flag_lines, raised}
-use Rattle.reports.specs.Lines.{line}
+use Rattle.reports.specs.Entries.{Entry}
+use Rattle.reports.specs.FlagRows.{flags_entry, of_paged_lanes, past_limits, rows_flags}
+use Rattle.reports.specs.Flags.{raised}
 use Rattle.reports.specs.Families.{is_flat, unless_flat}
-use Rattle.reports.specs.States.{lane_codes_text, module_state_text}
+use Rattle.reports.specs.Rows.{Row, LaneStates, State, always, if_paged, rows_entries}
 
 -- the pages that it needs
 abbrev pub flag_pages : Memory → List ℕ
 flag_pages memory = unless_flat memory (0x11 ∷ [])
 
-unfoldable pub state_line : Memory → ℕ → List ℕ
-state_line memory lane = line (codes "lane") (lane_codes_text lane (number_at memory fields.CPathStates lane) (number_at memory fields.CConfigStatus lane))
-
-abbrev pub lane_states : Memory → List (List ℕ)
-lane_states memory = map (state_line memory) (range_with_len 1 8)
+-- a module with flat memory tells nothing of its lanes
+unfoldable pub state_rows : List Row
+state_rows =
+    always (codes "state") (State fields.CModuleState)
+    ∷ if_paged (codes "lane") (LaneStates fields.CPathStates fields.CConfigStatus) []
+    ∷ []
 
 abbrev lane_rows : List FlagRow
 lane_rows =
@@ -58,9 +57,5 @@ flag_rows = past_limits Temperature fields.CModuleFlag 1 ++ (past_limits Vcc fie
 unfoldable pub all_flags : Memory → List (Flag × Bool)
 all_flags memory = rows_flags memory (is_flat memory) flag_rows
 
-abbrev pub state_lines : Memory → List (List ℕ)
-state_lines memory = line (codes "state") (module_state_text (number memory fields.CModuleState)) ∷ (if is_flat memory then [] else lane_states memory)
-
--- a module with flat memory tells nothing of its lanes
-abbrev pub flags_lines : Memory → List (List ℕ)
-flags_lines memory = state_lines memory ++ flag_lines (raised (all_flags memory))
+abbrev pub flags_entries : Memory → List Entry
+flags_entries memory = rows_entries memory (is_flat memory) state_rows ++ flags_entry (raised (all_flags memory)) ∷ []

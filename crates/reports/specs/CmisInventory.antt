@@ -5,8 +5,9 @@ use Rattle.paged_memory.specs.Images.{Memory}
 use Rattle.field_tables.specs.declared.field.Field.TheVariants as fields
 use Rattle.field_tables.specs.declared.field.Sum.TheVariants as sums
 use Rattle.field_tables.specs.declared.field.TextField.TheVariants as texts
+use Rattle.reports.specs.Entries.{Entry}
 use Rattle.reports.specs.Families.{is_flat}
-use Rattle.reports.specs.Rows.{Row, Word, Either, Code, Revision, Next, Text, Oui, Right, Amount, Length, always, rows_lines}
+use Rattle.reports.specs.Rows.{Row, Word, Either, Code, Revision, Next, Text, Oui, Right, Amount, Length, always, rows_entries}
 
 -- the pages that it needs
 abbrev pub inventory_pages : List ℕ
@@ -33,5 +34,5 @@ inventory_rows =
     ∷ always (codes "sum-00h") (Right sums.CSum00)
     ∷ []
 
-unfoldable pub inventory_lines : Memory → List (List ℕ)
-inventory_lines memory = rows_lines memory (is_flat memory) inventory_rows
+unfoldable pub inventory_entries : Memory → List Entry
+inventory_entries memory = rows_entries memory (is_flat memory) inventory_rows

@@ -5,8 +5,9 @@ use Rattle.std.specs.Prelude.{ℕ, List, [], ◌∷◌, None, Some, codes}
 use Rattle.paged_memory.specs.Images.{Memory}
 use Rattle.field_tables.specs.declared.field.Field.TheVariants as fields
 use Rattle.field_tables.specs.declared.field.Sum.TheVariants as sums
+use Rattle.reports.specs.Entries.{Entry}
 use Rattle.reports.specs.Families.{is_flat, unless_flat}
-use Rattle.reports.specs.Rows.{Row, Instead, Amount, Lanes, Limits, Right, Nothing, Says, always, if_paged, rows_lines}
+use Rattle.reports.specs.Rows.{Row, Instead, Amount, Lanes, Limits, Right, Nothing, Says, always, if_paged, rows_entries}
 
 -- the pages that it needs
 abbrev pub monitor_pages : Memory → List ℕ
@@ -34,5 +35,5 @@ monitor_rows =
     ∷ if_paged (codes "sum-02h") (Right sums.CSum02) []
     ∷ []
 
-unfoldable pub monitors_lines : Memory → List (List ℕ)
-monitors_lines memory = rows_lines memory (is_flat memory) monitor_rows
+unfoldable pub monitors_entries : Memory → List Entry
+monitors_entries memory = rows_entries memory (is_flat memory) monitor_rows

@@ -1,11 +1,18 @@
 -- What a report says: names, each with a value. Its text and its JSON both follow from this. (docs/formats.md, "Reports";
 -- this project's own)
-use Rattle.std.specs.Prelude.{ℕ, Bool, ℤ, List, map, Vec}
+use Rattle.std.specs.Prelude.{◌≡◌, ℕ, Bool, ℤ, List, map, MatchOption, Option, Result, Ok, Err, Vec}
 use Rattle.std.specs.declared.alloc.Global.{Global}
 use Rattle.field_tables.specs.declared.readings.Levels.{Levels}
+use Rattle.field_tables.specs.LaneSets.{Lanes}
+use Rattle.applications.specs.declared.app.App.{App}
 use Rattle.reports.specs.declared.entry.Entry as rust
+use Rattle.reports.specs.declared.entry.LaneState.{LaneState}
 use Rattle.reports.specs.declared.entry.Said as rust_said
 use Rattle.reports.specs.declared.entry.Said.TheVariants as said
+use Rattle.reports.specs.declared.fault.ReportFault.{ReportFault}
+use Rattle.reports.specs.declared.fault.ReportFault.TheVariants.{Memory}
+use Rattle.reports.specs.declared.flag.Flag.{Flag}
+use Rattle.reports.specs.declared.printed_unit.PrintedUnit.{PrintedUnit}
 
 pub data Said : Type 0 where
   -- a word of the report's own
@@ -20,11 +27,20 @@ pub data Said : Type 0 where
   text : List ℕ → Said
   oui : List ℕ → Said
   -- thousandths of a unit
-  amount : ℤ → List ℕ → Said
+  amount : ℤ → PrintedUnit → Said
   -- the same of each lane, lane 1 first
-  lanes : List ℤ → List ℕ → Said
+  lanes : List ℤ → PrintedUnit → Said
   -- and of each level
-  limits : Levels ℤ → List ℕ → Said
+  limits : Levels ℤ → PrintedUnit → Said
+  -- the state of the module, by its code
+  state : ℕ → Said
+  -- of each lane, lane 1 first
+  lane_states : List LaneState → Said
+  -- those that are raised
+  flags : List Flag → Said
+  -- by rising number
+  apps : List App → Said
+  lane_set : Lanes → Said
 
 pub record Entry : Type 0 where
   pub name : List ℕ
@@ -43,9 +59,14 @@ said_of (said.Code byte) = code byte
 said_of (said.Revision byte) = revision byte
 said_of (said.Text bytes) = text bytes.items
 said_of (said.Oui bytes) = oui bytes
-said_of (said.Amount millis unit) = amount millis unit.now
-said_of (said.Lanes millis unit) = lanes millis.items unit.now
-said_of (said.Limits millis unit) = limits millis unit.now
+said_of (said.Amount millis unit) = amount millis unit
+said_of (said.Lanes millis unit) = lanes millis.items unit
+said_of (said.Limits millis unit) = limits millis unit
+said_of (said.State n) = state n
+said_of (said.LaneStates states) = lane_states states.items
+said_of (said.Flags raised) = flags raised.items
+said_of (said.Apps listed) = apps listed.items
+said_of (said.LaneSet set) = lane_set set
 
 abbrev pub entry_of : rust.Entry → Entry
 entry_of e = record { name = e.name.now; said = said_of e.said }
@@ -53,3 +74,12 @@ entry_of e = record { name = e.name.now; said = said_of e.said }
 -- what a list of them says
 unfoldable pub said_in : Vec rust.Entry Global → List Entry
 said_in entries = map entry_of entries.items
+
+-- these entries, if there is memory for them
+abbrev pub AreSaid : List Entry → Result (Vec rust.Entry Global) ReportFault → Type 0
+AreSaid entries (Ok said) = said_in said ≡ entries
+AreSaid entries (Err fault) = fault ≡ Memory
+
+-- this fault if there is one, and else these entries
+abbrev pub Says : Option ReportFault → List Entry → Result (Vec rust.Entry Global) ReportFault → Type 0
+Says refused entries result = MatchOption refused (AreSaid entries result) (λ fault. result ≡ Err fault)

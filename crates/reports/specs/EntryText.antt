@@ -4,21 +4,35 @@ use Rattle.std.specs.Fmt.{decimal}
 use Rattle.std.specs.List.{enumerate_from, flat_map}
 use Rattle.hex.specs.Hex.{encode_lower}
 use Rattle.field_tables.specs.declared.readings.Levels.{Levels}
+use Rattle.field_tables.specs.LaneSets.{byte_of}
 use Rattle.text_lines.specs.Lines.{text_of}
-use Rattle.reports.specs.Entries.{Entry, Said, word, right, number, code, revision, text, oui, amount, lanes, limits}
+use Rattle.reports.specs.AppText.{app_line}
+use Rattle.reports.specs.Entries.{Entry, Said, word, right, number, code, revision, text, oui, amount, lanes, limits, state, lane_states, flags, apps, lane_set}
+use Rattle.reports.specs.Flags.{flag_lines}
 use Rattle.reports.specs.Lines.{line}
 use Rattle.reports.specs.Monitors.{each_level, lane_measure, levels_text}
+use Rattle.reports.specs.PrintedUnits.{unit_name}
+use Rattle.reports.specs.States.{lane_codes_text, module_state_text}
+use Rattle.reports.specs.declared.entry.LaneState.{LaneState}
+use Rattle.reports.specs.declared.printed_unit.PrintedUnit.{PrintedUnit}
 use Rattle.reports.specs.declared.shown.Thousandths.{Thousandths}
 use Rattle.reports.specs.Shown as shown
 use Rattle.reports.specs.Shown.{byte_code, measure, printable, sum_word}
 
 -- an amount of a lane
-unfoldable pub lane_line : List ℕ → List ℕ → ℕ → ℤ → List ℕ
-lane_line name unit lane millis = line name (lane_measure lane (measure millis unit))
+unfoldable pub lane_line : List ℕ → PrintedUnit → ℕ → ℤ → List ℕ
+lane_line name unit lane millis = line name (lane_measure lane (measure millis (unit_name unit)))
 
 -- those of the lanes, lane 1 first
-abbrev pub lane_lines : List ℕ → List ℕ → List ℤ → List (List ℕ)
+abbrev pub lane_lines : List ℕ → PrintedUnit → List ℤ → List (List ℕ)
 lane_lines name unit values = map (λ (l : ℕ × ℤ). lane_line name unit l.0 l.1) (enumerate_from 1 values)
+
+-- the states of a lane
+unfoldable pub lane_state_line : List ℕ → ℕ → LaneState → List ℕ
+lane_state_line name lane s = line name (lane_codes_text lane s.path s.status)
+
+abbrev pub lane_state_lines : List ℕ → List LaneState → List (List ℕ)
+lane_state_lines name states = map (λ (l : ℕ × LaneState). lane_state_line name l.0 l.1) (enumerate_from 1 states)
 
 abbrev pub in_thousandths : Levels ℤ → Levels Thousandths
 in_thousandths levels = each_level (λ (millis : ℤ). record { 0 = millis }) levels
@@ -31,12 +45,20 @@ said_lines name (code byte) = line name (byte_code byte) ∷ []
 said_lines name (revision byte) = line name (shown.revision byte) ∷ []
 said_lines name (text bytes) = line name (printable bytes) ∷ []
 said_lines name (oui bytes) = line name (encode_lower bytes) ∷ []
-said_lines name (amount millis unit) = line name (measure millis unit) ∷ []
+said_lines name (amount millis unit) = line name (measure millis (unit_name unit)) ∷ []
 said_lines name (lanes values unit) = lane_lines name unit values
 said_lines name (limits levels unit) = line name (levels_text (in_thousandths levels)) ∷ []
+said_lines name (state n) = line name (module_state_text n) ∷ []
+said_lines name (lane_states states) = lane_state_lines name states
+said_lines name (flags raised) = flag_lines name raised
+said_lines name (apps listed) = map (app_line name) listed
+said_lines name (lane_set set) = line name (byte_code (byte_of set)) ∷ []
 
 abbrev pub entry_lines : Entry → List (List ℕ)
 entry_lines e = said_lines e.name e.said
 
+abbrev pub entries_lines : List Entry → List (List ℕ)
+entries_lines entries = flat_map entry_lines entries
+
 abbrev pub report_text : List Entry → List ℕ
-report_text entries = text_of (flat_map entry_lines entries)
+report_text entries = text_of (entries_lines entries)

@@ -1,7 +1,10 @@
--- The families of modules, and why no report speaks of a module. (docs/formats.md, "Modules that are read"; SFF-8024,
+-- Of which family a module is, and why no report speaks of a module. (docs/formats.md, "Modules that are read"; SFF-8024,
 -- "Identifier Values"; OIF-CMIS-05.0, "Management Characteristics")
-use Rattle.std.specs.Prelude.{ℕ, Bool, not, ◌&&◌, ◌||◌, ◌==◌, if◌then◌else◌, List, [], ◌∷◌, map, Option, option_map}
+use Rattle.std.specs.Prelude.{ℕ, Bool, not, ◌&&◌, ◌==◌, if◌then◌else◌, List, [], ◌∷◌, map, Option, is_some, option_map, unwrap_or}
 use Rattle.bus_model.specs.declared.device.Dev.TheVariants.{A0}
+use Rattle.paged_memory.specs.declared.family.Family.{Family}
+use Rattle.paged_memory.specs.declared.family.Family.TheVariants.{Cmis}
+use Rattle.paged_memory.specs.Families.{family_by, is_of}
 use Rattle.paged_memory.specs.Keys.{lower_key, upper_key}
 use Rattle.paged_memory.specs.Images.{Memory}
 use Rattle.field_tables.specs.declared.field.Field.TheVariants.{CIdentifier, CRevision, CFlatMemory}
@@ -9,11 +12,7 @@ use Rattle.field_tables.specs.declared.sff_fault.SffFault.{SffFault}
 use Rattle.field_tables.specs.FirstFault.{first_fault}
 use Rattle.field_tables.specs.Halves.{is_absent}
 use Rattle.field_tables.specs.Readings.{number}
-use Rattle.sff8636_map.specs.Refusals.{is_qsfp}
-use Rattle.sff8472_map.specs.Refusals.{is_sfp}
-use Rattle.applications.specs.Refusals.{is_cmis, is_read_revision}
-use Rattle.reports.specs.declared.family.Family.{Family}
-use Rattle.reports.specs.declared.family.Family.TheVariants.{Cmis, Sff8636, Sff8472}
+use Rattle.applications.specs.Refusals.{is_read_revision}
 use Rattle.reports.specs.declared.fault.ReportFault.{ReportFault}
 use Rattle.reports.specs.declared.fault.ReportFault.TheVariants.{Absent, Unknown, Revision, Sff}
 
@@ -21,19 +20,16 @@ use Rattle.reports.specs.declared.fault.ReportFault.TheVariants.{Absent, Unknown
 abbrev pub identifier : Memory → ℕ
 identifier memory = number memory CIdentifier
 
-abbrev pub is_known : ℕ → Bool
-is_known id = is_cmis id || is_qsfp id || is_sfp id
-
--- of a known identifier
+-- if it is of one
 unfoldable pub family_of : Memory → Family
-family_of memory = if is_qsfp (identifier memory) then Sff8636 else if is_sfp (identifier memory) then Sff8472 else Cmis
+family_of memory = unwrap_or (family_by (identifier memory)) Cmis
 
 -- by its lower memory; the revision is asked for in CMIS alone
 abbrev pub module_faults : Memory → List (Bool × ReportFault)
 module_faults memory =
     (is_absent memory (lower_key A0), Absent (lower_key A0))
-    ∷ (not (is_known (identifier memory)), Unknown (identifier memory))
-    ∷ (is_cmis (identifier memory) && not (is_read_revision (number memory CRevision)), Revision (number memory CRevision))
+    ∷ (not (is_some (family_by (identifier memory))), Unknown (identifier memory))
+    ∷ (is_of Cmis (identifier memory) && not (is_read_revision (number memory CRevision)), Revision (number memory CRevision))
     ∷ []
 
 unfoldable pub module_fault : Memory → Option ReportFault

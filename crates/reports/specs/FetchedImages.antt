@@ -1,88 +1,23 @@
 -- What the reading of a module's memory over a bus is, over the whole list of its steps, the newest first. (docs/bus.md,
 -- "Reading an image"; this project's own)
-use Rattle.std.specs.Prelude.{◌≡◌, ◌⊎◌, ◌<◌, ◌≤◌, ℕ, IsTrue, MatchOption, List, [], ◌∷◌, length, Result, Ok, Err}
-use Rattle.std.specs.FinMap as map
-use Rattle.std.specs.List.{AllByRecursion}
+use Rattle.std.specs.Prelude.{◌≡◌, ◌<◌, length, Result, Ok, Err}
 use Rattle.bus_model.specs.declared.bus.BusFault.TheVariants.{TraceFull}
-use Rattle.bus_model.specs.declared.operation.Op.{Op}
-use Rattle.bus_model.specs.declared.operation.Op.TheVariants.{Fetch, Store}
-use Rattle.bus_model.specs.declared.operation.Step.{Step}
 use Rattle.control_sets.specs.OutcomeAnswers.{most_steps}
-use Rattle.control_sets.specs.OutcomeSteps.{Gives, IsAccepted}
-use Rattle.paged_memory.specs.declared.key.Key.{Key}
-use Rattle.paged_memory.specs.declared.paging.Paging.{Paging}
 use Rattle.paged_memory.specs.Images.{Memory}
-use Rattle.paged_memory.specs.Paging.{EachStep, History, confirms, reads_back, selection}
+use Rattle.paged_memory.specs.Paging.{History}
+use Rattle.module_reading.specs.ReadImages.{IsGivenUp, IsImageOf, IsReading, IsUnfinished}
 use Rattle.reports.specs.declared.fault.ReportFault.{ReportFault}
 use Rattle.reports.specs.declared.fault.ReportFault.TheVariants.{Bus, GaveUp}
-use Rattle.reports.specs.declared.fetching.region.Region.{Region}
-use Rattle.reports.specs.declared.fetching.region.Region.TheVariants.{Lower, FirstPage, Page}
-use Rattle.reports.specs.Regions.{key_of, operation, paging_of, regions_of}
-
--- among the steps is one of which, with those before it, P holds
-abbrev pub SomeStep : (Step → History → Type 0) → History → Type 0
-SomeStep P [] = ⊥
-SomeStep P (step ∷ before) = P step before ⊎ SomeStep P before
-
-abbrev pub IsFetch : Op → Type 0
-IsFetch (Fetch dev offset count) = Unit {0}
-IsFetch (Store dev offset bytes) = ⊥
-
--- nothing was stored
-abbrev pub StoresNothing : History → Type 0
-StoresNothing history = AllByRecursion (λ step. IsFetch step.op) history
-
--- the module shows the half: flat memory as long as nothing is stored, a page while the steps confirm it
-abbrev pub IsShown : Paging → Region → History → Type 0
-IsShown paging (Lower dev) before = Unit {0}
-IsShown paging FirstPage before = StoresNothing before
-IsShown paging (Page page) before = IsTrue (confirms paging page before)
-
--- a fetch of the half gave these bytes
-abbrev pub IsRead : Paging → Region → List ℕ → History → Type 0
-IsRead paging region bytes history = SomeStep (λ step before. Gives (operation region) bytes step × IsShown paging region before) history
-
--- the selection of the page was accepted, and nothing was stored since
-abbrev pub WasSelected : Paging → ℕ → History → Type 0
-WasSelected paging page [] = ⊥
-WasSelected paging page (step ∷ before) = IsAccepted (selection paging page) step ⊎ (IsFetch step.op × WasSelected paging page before)
-
--- page 00h of bank 0 was read back in place of another page that was selected
-abbrev pub IsLeftOut : Paging → Region → History → Type 0
-IsLeftOut paging (Lower dev) history = ⊥
-IsLeftOut paging FirstPage history = ⊥
-IsLeftOut paging (Page page) history =
-    (0 < page) × SomeStep (λ step before. IsTrue (reads_back paging 0 step) × WasSelected paging page before) history
-
--- the image has what was read of the half, or lacks it, and it was left out
-abbrev pub IsSettled : History → Memory → Region → Type 0
-IsSettled history image region =
-    MatchOption (map.get image (key_of region)) (IsLeftOut (paging_of image) region history) (λ bytes. IsRead (paging_of image) region bytes history)
-
-abbrev pub IsKeyAmong : List Region → Key → Type 0
-IsKeyAmong [] key = ⊥
-IsKeyAmong (region ∷ regions) key = (key ≡ key_of region) ⊎ IsKeyAmong regions key
-
--- the steps give the image: all halves that are asked for, and no other
-pub record IsImageOf (history : History) (image : Memory) : Type 0 where
-  pub each : AllByRecursion (IsSettled history image) (regions_of image)
-  pub only : (key : Key) → IsTrue (map.contains_key image key) → IsKeyAmong (regions_of image) key
-
--- some half that is asked for was neither read nor left out
-abbrev pub IsUnfinished : History → Type 0
-IsUnfinished history = (image : Memory) → ¬ (IsImageOf history image)
 
 -- what is answered: the image, or that it isn't finished after all steps that may be made, or on a full list of steps
 abbrev pub IsAnswered : Type 0 → History → Result Memory ReportFault → Type 0
 IsAnswered full history (Ok image) = IsImageOf history image
-IsAnswered full history (Err GaveUp) = (length history ≡ most_steps) × IsUnfinished history
+IsAnswered full history (Err GaveUp) = IsGivenUp history
 IsAnswered full history (Err (Bus fault)) = (fault ≡ TraceFull) × full × (length history < most_steps) × IsUnfinished history
 -- the faults of reports don't come
 IsAnswered full history (Err fault) = ⊥
 
 -- these steps and this answer are the reading of an image; full says that the bus's list is full after them
 pub record IsFetching (full : Type 0) (history : History) (answer : Result Memory ReportFault) : Type 0 where
-  pub at_most : length history ≤ most_steps
-  -- each step finds the image unfinished
-  pub brief : EachStep (λ step before. IsUnfinished before) history
+  pub reading : IsReading history
   pub answered : IsAnswered full history answer

@@ -1,12 +1,13 @@
 -- The flags that the rows of a report tell of a module's memory, and whether they are raised. (docs/formats.md, "flags";
 -- this project's own)
-use Rattle.std.specs.Prelude.{ℕ, ◌+◌, ◌&&◌, if◌then◌else◌, Bool, true, false, nat_le, List, [], ◌∷◌, Some, None}
+use Rattle.std.specs.Prelude.{ℕ, ◌+◌, ◌&&◌, if◌then◌else◌, Bool, true, false, nat_le, List, [], ◌∷◌, Some, None, codes}
 use Rattle.std.specs.List.{flat_map}
 use Rattle.paged_memory.specs.Images.{Memory}
 use Rattle.field_tables.specs.declared.field.Field.{Field}
 use Rattle.field_tables.specs.FieldRows.{row_of}
 use Rattle.field_tables.specs.FieldValues.{of_each}
 use Rattle.field_tables.specs.Readings.{bit_at, is_of_bytes}
+use Rattle.reports.specs.Entries.{Entry, entry, flags}
 use Rattle.reports.specs.declared.flag.Flag.{Flag}
 use Rattle.reports.specs.declared.flag.FlagName.{FlagName}
 use Rattle.reports.specs.declared.flag.FlagName.TheVariants.{Passed}
@@ -53,6 +54,10 @@ row_flags memory flat row = if row.paged && flat then [] else flags_at memory ro
 -- of a module whose memory is flat or not
 abbrev pub rows_flags : Memory → Bool → List FlagRow → List (Flag × Bool)
 rows_flags memory flat rows = flat_map (row_flags memory flat) rows
+
+-- what is said of those that are raised
+abbrev pub flags_entry : List Flag → Entry
+flags_entry raised = entry (codes "flag") (flags raised)
 
 -- ---- what each row keeps to
 

@@ -13,14 +13,14 @@ lane_suffix (Some lane) = 32 ∷ decimal lane
 unfoldable pub flag_text : Flag → List ℕ
 flag_text f = flag_name f.name ++ lane_suffix f.lane
 
-abbrev pub flag_line : Flag → List ℕ
-flag_line f = line (codes "flag") (flag_text f)
+abbrev pub flag_line : List ℕ → Flag → List ℕ
+flag_line name f = line name (flag_text f)
 
 -- those that are raised
 abbrev pub raised : List (Flag × Bool) → List Flag
 raised flags = map (λ (f : Flag × Bool). f.0) (filter (λ (f : Flag × Bool). f.1) flags)
 
 -- a line for each flag, or one that says that there is none
-abbrev pub flag_lines : List Flag → List (List ℕ)
-flag_lines [] = line (codes "flag") (codes "none") ∷ []
-flag_lines (f ∷ fs) = flag_line f ∷ map flag_line fs
+abbrev pub flag_lines : List ℕ → List Flag → List (List ℕ)
+flag_lines name [] = line name (codes "none") ∷ []
+flag_lines name (f ∷ fs) = flag_line name f ∷ map (flag_line name) fs

@@ -1,15 +1,17 @@
 -- What a module is, by its family. (docs/formats.md, "inventory"; this project's own)
 use Rattle.std.specs.Prelude.{ℕ, List, Option}
 use Rattle.std.specs.Option.{option_or}
+use Rattle.paged_memory.specs.declared.family.Family.{Family}
+use Rattle.paged_memory.specs.declared.family.Family.TheVariants.{Cmis, Sff8636, Sff8472}
 use Rattle.paged_memory.specs.Images.{Memory}
 use Rattle.sff8636_map.specs.Refusals as sff8636_refusals
 use Rattle.sff8472_map.specs.Refusals as sff8472_refusals
 use Rattle.reports.specs.CmisInventory as cmis
-use Rattle.reports.specs.declared.family.Family.{Family}
-use Rattle.reports.specs.declared.family.Family.TheVariants.{Cmis, Sff8636, Sff8472}
 use Rattle.reports.specs.declared.fault.ReportFault.{ReportFault}
+use Rattle.reports.specs.Entries.{Entry}
+use Rattle.reports.specs.EntryText.{entries_lines}
 use Rattle.reports.specs.Families.{absent_page, family_of, module_fault, of_sff}
-use Rattle.reports.specs.SffInventory.{qsfp_lines, sfp_lines}
+use Rattle.reports.specs.SffInventory.{qsfp_entries, sfp_entries}
 
 -- why there is none of a module of this family
 abbrev pub fault_in : Family → Memory → Option ReportFault
@@ -17,13 +19,16 @@ fault_in Cmis memory = absent_page cmis.inventory_pages memory
 fault_in Sff8636 memory = of_sff (sff8636_refusals.identity_fault memory)
 fault_in Sff8472 memory = of_sff (sff8472_refusals.module_fault memory)
 
-abbrev pub lines_in : Family → Memory → List (List ℕ)
-lines_in Cmis memory = cmis.inventory_lines memory
-lines_in Sff8636 memory = qsfp_lines memory
-lines_in Sff8472 memory = sfp_lines memory
+abbrev pub entries_in : Family → Memory → List Entry
+entries_in Cmis memory = cmis.inventory_entries memory
+entries_in Sff8636 memory = qsfp_entries memory
+entries_in Sff8472 memory = sfp_entries memory
 
 unfoldable pub inventory_fault : Memory → Option ReportFault
 inventory_fault memory = option_or (module_fault memory) (fault_in (family_of memory) memory)
 
+unfoldable pub inventory_entries : Memory → List Entry
+inventory_entries memory = entries_in (family_of memory) memory
+
 unfoldable pub inventory_lines : Memory → List (List ℕ)
-inventory_lines memory = lines_in (family_of memory) memory
+inventory_lines memory = entries_lines (inventory_entries memory)

@@ -15,12 +15,12 @@ pub mod Warned
 pub mod CmisInventory
 pub mod SffInventory
 pub mod Inventory
+pub mod AppText
 pub mod Apps
+pub mod PrintedUnits
 pub mod PlanText
 pub mod FaultWords
 pub mod Trace
-pub mod Regions
-pub mod ImageReading
 pub mod FetchedImages
 pub mod SameReports
 pub mod Entries

@@ -1,12 +1,14 @@
 -- What a module measures, by its family. (docs/formats.md, "monitors"; this project's own)
 use Rattle.std.specs.Prelude.{ℕ, List, Option}
 use Rattle.std.specs.Option.{option_or}
+use Rattle.paged_memory.specs.declared.family.Family.{Family}
+use Rattle.paged_memory.specs.declared.family.Family.TheVariants.{Cmis, Sff8636, Sff8472}
 use Rattle.paged_memory.specs.Images.{Memory}
 use Rattle.reports.specs.CmisMonitors as cmis
 use Rattle.reports.specs.SffMonitors as sff
-use Rattle.reports.specs.declared.family.Family.{Family}
-use Rattle.reports.specs.declared.family.Family.TheVariants.{Cmis, Sff8636, Sff8472}
 use Rattle.reports.specs.declared.fault.ReportFault.{ReportFault}
+use Rattle.reports.specs.Entries.{Entry}
+use Rattle.reports.specs.EntryText.{entries_lines}
 use Rattle.reports.specs.Families.{absent_page, family_of, module_fault}
 
 -- why there is no such report of a module of this family
@@ -15,13 +17,16 @@ fault_in Cmis memory = absent_page (cmis.monitor_pages memory) memory
 fault_in Sff8636 memory = sff.sff8636_fault memory
 fault_in Sff8472 memory = sff.sff8472_fault memory
 
-abbrev pub lines_in : Family → Memory → List (List ℕ)
-lines_in Cmis memory = cmis.monitors_lines memory
-lines_in Sff8636 memory = sff.sff8636_lines memory
-lines_in Sff8472 memory = sff.sff8472_lines memory
+abbrev pub entries_in : Family → Memory → List Entry
+entries_in Cmis memory = cmis.monitors_entries memory
+entries_in Sff8636 memory = sff.sff8636_entries memory
+entries_in Sff8472 memory = sff.sff8472_entries memory
 
 unfoldable pub monitors_fault : Memory → Option ReportFault
 monitors_fault memory = option_or (module_fault memory) (fault_in (family_of memory) memory)
 
+unfoldable pub monitors_entries : Memory → List Entry
+monitors_entries memory = entries_in (family_of memory) memory
+
 unfoldable pub monitors_lines : Memory → List (List ℕ)
-monitors_lines memory = lines_in (family_of memory) memory
+monitors_lines memory = entries_lines (monitors_entries memory)

@@ -7,7 +7,7 @@ use Rattle.reports.specs.declared.row.Instead.TheVariants as instead
 use Rattle.reports.specs.declared.row.Row as rust_row
 use Rattle.reports.specs.declared.row.Source as rust_source
 use Rattle.reports.specs.declared.row.Source.TheVariants as source
-use Rattle.reports.specs.Rows.{Row, Source, Instead, Word, Either, Code, Revision, Next, Text, Oui, Right, Amount, Length, Lanes, Limits, Nothing, Says}
+use Rattle.reports.specs.Rows.{Row, Source, Instead, Word, Either, Code, Revision, Next, Text, Oui, Right, Amount, Length, Lanes, Limits, State, LaneStates, Nothing, Says}
 
 -- by what its texts are
 abbrev pub source_of : {T : Type 0} → (T → List ℕ) → rust_source.Source T → Source
@@ -23,6 +23,8 @@ source_of text (source.Amount field) = Amount field
 source_of text (source.Length base power) = Length base power
 source_of text (source.Lanes field power) = Lanes field power
 source_of text (source.Limits field power) = Limits field power
+source_of text (source.State field) = State field
+source_of text (source.LaneStates paths statuses) = LaneStates paths statuses
 
 abbrev pub case_of : {T : Type 0} → (T → List ℕ) → rust_instead.Instead T → Instead
 case_of text (instead.Nothing field n) = Nothing field n

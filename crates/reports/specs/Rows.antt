@@ -1,6 +1,6 @@
 -- What the rows of a report say of a module's memory. (docs/formats.md, "Reports"; this project's own)
-use Rattle.std.specs.Prelude.{ℕ, ◌+◌, ◌*◌, ◌^◌, ◌==◌, ◌&&◌, if◌then◌else◌, Bool, true, false, nat_le, ℤ, pos, ◌*ℤ◌, unwrap_or, is_some, List, [], ◌∷◌, Option, Some, None, codes}
-use Rattle.std.specs.List.{find, flat_map, list_all}
+use Rattle.std.specs.Prelude.{ℕ, ◌+◌, ◌*◌, ◌^◌, ◌==◌, ◌&&◌, if◌then◌else◌, Bool, true, false, nat_le, ℤ, pos, ◌*ℤ◌, unwrap_or, is_some, List, [], ◌∷◌, map, Option, Some, None}
+use Rattle.std.specs.List.{find, flat_map, list_all, range_with_len}
 use Rattle.paged_memory.specs.Images.{Memory}
 use Rattle.field_tables.specs.declared.field.Field.{Field}
 use Rattle.field_tables.specs.declared.field.Sum.{Sum}
@@ -14,8 +14,11 @@ use Rattle.field_tables.specs.Readings as readings
 use Rattle.field_tables.specs.Readings.{all_numbers, is_of_bytes, is_sum_right, reading_at}
 use Rattle.field_tables.specs.RowPlaces.{width_by}
 use Rattle.field_tables.specs.Units.{millis_of}
-use Rattle.reports.specs.Entries.{Entry, Said, entry, word, right, number, code, revision, text, oui, amount, lanes, limits}
-use Rattle.reports.specs.EntryText.{entry_lines}
+use Rattle.reports.specs.Entries.{Entry, Said, entry, word, right, number, code, revision, text, oui, amount, lanes, limits, state, lane_states}
+use Rattle.reports.specs.PrintedUnits.{printed_in}
+use Rattle.reports.specs.declared.entry.LaneState.{LaneState}
+use Rattle.reports.specs.declared.printed_unit.PrintedUnit.{PrintedUnit}
+use Rattle.reports.specs.declared.printed_unit.PrintedUnit.TheVariants.{Metre}
 
 -- ---- rows
 
@@ -40,6 +43,10 @@ pub data Source : Type 0 where
   Lanes : Field → Option Field → Source
   -- of each level
   Limits : Field → Option Field → Source
+  -- the state of the module
+  State : Field → Source
+  -- of each of eight lanes the state of its data path, and by the second the status of its configuration
+  LaneStates : Field → Field → Source
 
 -- where a field has this number: nothing, or a word
 pub data Instead : Type 0 where
@@ -68,13 +75,9 @@ if_paged name source instead = record { name = name; source = source; paged = tr
 abbrev pub unit_of : Field → Unit
 unit_of field = unwrap_or (row_of field).unit units.ModulePower
 
--- the unit whose thousandths are printed
-unfoldable pub unit_name : Unit → List ℕ
-unit_name units.Temperature = codes "C"
-unit_name units.Voltage = codes "mV"
-unit_name units.OpticalPower = codes "uW"
-unit_name units.Bias = codes "mA"
-unit_name units.ModulePower = codes "W"
+-- and the one that its amounts print in
+abbrev pub printed_unit : Field → PrintedUnit
+printed_unit field = printed_in (unit_of field)
 
 -- steps that count more, by a field that says how often they are doubled
 abbrev pub times : Memory → ℤ → Option Field → ℤ
@@ -92,6 +95,9 @@ levels_of of = record { high_alarm = of 1; low_alarm = of 2; high_warning = of 3
 abbrev pub length_of : Memory → Field → Field → ℤ
 length_of memory base power = pos (readings.number memory base * 100 * 10 ^ readings.number memory power)
 
+abbrev pub lane_state_at : Memory → Field → Field → ℕ → LaneState
+lane_state_at memory paths statuses lane = record { path = readings.number_at memory paths lane; status = readings.number_at memory statuses lane }
+
 -- ---- what rows say
 
 unfoldable pub source_said : Memory → Source → Said
@@ -103,10 +109,12 @@ source_said memory (Next field) = number (readings.number memory field + 1)
 source_said memory (Text field) = text (readings.text memory field)
 source_said memory (Oui field) = oui (all_numbers memory field)
 source_said memory (Right sum) = right (is_sum_right memory sum)
-source_said memory (Amount field) = amount (amount_at memory field None 1) (unit_name (unit_of field))
-source_said memory (Length base power) = amount (length_of memory base power) (codes "m")
-source_said memory (Lanes field power) = lanes (of_each field (amount_at memory field power)) (unit_name (unit_of field))
-source_said memory (Limits field power) = limits (levels_of (amount_at memory field power)) (unit_name (unit_of field))
+source_said memory (Amount field) = amount (amount_at memory field None 1) (printed_unit field)
+source_said memory (Length base power) = amount (length_of memory base power) Metre
+source_said memory (Lanes field power) = lanes (of_each field (amount_at memory field power)) (printed_unit field)
+source_said memory (Limits field power) = limits (levels_of (amount_at memory field power)) (printed_unit field)
+source_said memory (State field) = state (readings.number memory field)
+source_said memory (LaneStates paths statuses) = lane_states (map (lane_state_at memory paths statuses) (range_with_len 1 8))
 
 -- the field has this number
 abbrev pub applies : Memory → Instead → Bool
@@ -127,9 +135,6 @@ row_entries memory flat row = if row.paged && flat then [] else decided_entries 
 -- of a module whose memory is flat or not
 abbrev pub rows_entries : Memory → Bool → List Row → List Entry
 rows_entries memory flat rows = flat_map (row_entries memory flat) rows
-
-abbrev pub rows_lines : Memory → Bool → List Row → List (List ℕ)
-rows_lines memory flat rows = flat_map entry_lines (rows_entries memory flat rows)
 
 -- ---- what each row keeps to
 
@@ -162,6 +167,8 @@ source_fits (Amount field) = (row_of field).count == 1 && is_some (row_of field)
 source_fits (Length base power) = is_counted base 1 && is_power power
 source_fits (Lanes field power) = nat_le (row_of field).count 8 && power_fits power && is_some (row_of field).unit
 source_fits (Limits field power) = (row_of field).count == 4 && power_fits power && is_some (row_of field).unit
+source_fits (State field) = is_counted field 1
+source_fits (LaneStates paths statuses) = is_counted paths 8 && is_counted statuses 8
 
 abbrev pub row_fits : Row → Bool
 row_fits row = list_all instead_fits row.instead && source_fits row.source

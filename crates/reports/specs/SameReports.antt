@@ -1,6 +1,6 @@
 -- When two memories have the same reports, and that what is read of an image over a scripted bus has the image's.
 -- (docs/bus.md, "Reading an image"; docs/formats.md, "inventory", "apps", "monitors" and "flags"; this project's own)
-use Rattle.std.specs.Prelude.{◌≡◌, ℕ, List, Option, None, Ok, reverse}
+use Rattle.std.specs.Prelude.{◌≡◌, List, Option, None, Ok, reverse}
 use Rattle.bus_model.specs.declared.script.Directive.{Directive}
 use Rattle.bus_model.specs.Runs.{IsFull, Ran, Seen}
 use Rattle.bus_model.specs.ScriptedBus.{script_rules}
@@ -16,10 +16,10 @@ use Rattle.reports.specs.Inventory.{inventory_fault, inventory_lines}
 use Rattle.reports.specs.Measured.{monitors_fault, monitors_lines}
 use Rattle.reports.specs.Warned.{flags_fault, flags_lines}
 
--- of both memories the report has the same fault, and where there is none the same lines
-pub record IsSame (fault_of : Memory → Option ReportFault) (lines_of : Memory → List (List ℕ)) (memory other : Memory) : Type 0 where
+-- of both memories the report has the same fault, and where there is none it says the same
+pub record IsSame {A : Type 0} (fault_of : Memory → Option ReportFault) (said_of : Memory → A) (memory other : Memory) : Type 0 where
   pub fault : fault_of memory ≡ fault_of other
-  pub lines : fault_of memory ≡ None → lines_of memory ≡ lines_of other
+  pub said : fault_of memory ≡ None → said_of memory ≡ said_of other
 
 -- so have the four reports of modules
 pub record ReportsSame (memory other : Memory) : Type 0 where

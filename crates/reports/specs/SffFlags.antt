@@ -12,8 +12,9 @@ use Rattle.reports.specs.declared.quantity.Quantity.{Quantity}
 use Rattle.reports.specs.declared.quantity.Quantity.TheVariants.{Temperature, Vcc, TxPower, TxBias, RxPower}
 use Rattle.field_tables.specs.declared.field.Field.{Field}
 use Rattle.field_tables.specs.declared.field.Field.TheVariants as fields
-use Rattle.reports.specs.FlagRows.{of_lanes, of_module, of_one_lane, past_limits, rows_flags}
-use Rattle.reports.specs.Flags.{flag_lines, raised}
+use Rattle.reports.specs.Entries.{Entry}
+use Rattle.reports.specs.FlagRows.{flags_entry, of_lanes, of_module, of_one_lane, past_limits, rows_flags}
+use Rattle.reports.specs.Flags.{raised}
 
 abbrev qsfp_lane_rows : List FlagRow
 qsfp_lane_rows =
@@ -42,8 +43,8 @@ qsfp_rows = past_limits Temperature fields.QTempFlag 1 ++ (past_limits Vcc field
 unfoldable pub qsfp_flags : Memory → List (Flag × Bool)
 qsfp_flags memory = rows_flags memory false qsfp_rows
 
-abbrev pub sff8636_lines : Memory → List (List ℕ)
-sff8636_lines memory = flag_lines (raised (qsfp_flags memory))
+abbrev pub sff8636_entries : Memory → List Entry
+sff8636_entries memory = flags_entry (raised (qsfp_flags memory)) ∷ []
 
 -- of a value: two alarms, then two warnings, which stand in the same bits of another field
 abbrev of_value : (FlagName → Field → ℕ → FlagRow) → Quantity → Field → Field → ℕ → List FlagRow
@@ -72,5 +73,5 @@ sfp_rows =
 unfoldable pub sfp_flags : Memory → List (Flag × Bool)
 sfp_flags memory = rows_flags memory false sfp_rows
 
-abbrev pub sff8472_lines : Memory → List (List ℕ)
-sff8472_lines memory = flag_lines (raised (sfp_flags memory))
+abbrev pub sff8472_entries : Memory → List Entry
+sff8472_entries memory = flags_entry (raised (sfp_flags memory)) ∷ []

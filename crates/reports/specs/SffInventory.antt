@@ -1,11 +1,12 @@
 -- What a module of SFF-8636 or SFF-8472 is. (docs/formats.md, "inventory"; SFF-8636, "Upper Page 00h"; SFF-8472, "Serial
 -- ID: Data Fields")
-use Rattle.std.specs.Prelude.{ℕ, false, List, [], ◌∷◌, codes}
+use Rattle.std.specs.Prelude.{false, List, [], ◌∷◌, codes}
 use Rattle.paged_memory.specs.Images.{Memory}
 use Rattle.field_tables.specs.declared.field.Field.TheVariants as fields
 use Rattle.field_tables.specs.declared.field.Sum.TheVariants as sums
 use Rattle.field_tables.specs.declared.field.TextField.TheVariants as texts
-use Rattle.reports.specs.Rows.{Row, Word, Code, Text, Oui, Right, always, rows_lines}
+use Rattle.reports.specs.Entries.{Entry}
+use Rattle.reports.specs.Rows.{Row, Word, Code, Text, Oui, Right, always, rows_entries}
 
 unfoldable pub qsfp_rows : List Row
 qsfp_rows =
@@ -22,8 +23,8 @@ qsfp_rows =
     ∷ always (codes "sum-ext") (Right sums.QSumExt)
     ∷ []
 
-unfoldable pub qsfp_lines : Memory → List (List ℕ)
-qsfp_lines memory = rows_lines memory false qsfp_rows
+unfoldable pub qsfp_entries : Memory → List Entry
+qsfp_entries memory = rows_entries memory false qsfp_rows
 
 unfoldable pub sfp_rows : List Row
 sfp_rows =
@@ -40,5 +41,5 @@ sfp_rows =
     ∷ always (codes "sum-ext") (Right sums.SSumExt)
     ∷ []
 
-unfoldable pub sfp_lines : Memory → List (List ℕ)
-sfp_lines memory = rows_lines memory false sfp_rows
+unfoldable pub sfp_entries : Memory → List Entry
+sfp_entries memory = rows_entries memory false sfp_rows

@@ -1,7 +1,7 @@
 -- What a module of SFF-8636 or SFF-8472 measures. (docs/formats.md, "monitors"; SFF-8636, "Free Side Device Monitors",
 -- "Channel Monitors" and their thresholds; SFF-8472, "Real Time Diagnostic and Control Registers" and "Alarm and Warning
 -- Thresholds")
-use Rattle.std.specs.Prelude.{ℕ, false, if◌then◌else◌, List, [], ◌∷◌, Option, None, codes}
+use Rattle.std.specs.Prelude.{false, if◌then◌else◌, List, [], ◌∷◌, Option, None, codes}
 use Rattle.std.specs.Option.{option_or}
 use Rattle.paged_memory.specs.Images.{Memory}
 use Rattle.field_tables.specs.declared.field.Field.TheVariants as fields
@@ -12,8 +12,9 @@ use Rattle.field_tables.specs.Readings.{bit}
 use Rattle.sff8636_map.specs.Refusals as qsfp_refusals
 use Rattle.sff8472_map.specs.Refusals as sfp_refusals
 use Rattle.reports.specs.declared.fault.ReportFault.{ReportFault}
+use Rattle.reports.specs.Entries.{Entry}
 use Rattle.reports.specs.Families.{of_sff}
-use Rattle.reports.specs.Rows.{Row, Amount, Lanes, Limits, Right, always, if_paged, rows_lines}
+use Rattle.reports.specs.Rows.{Row, Amount, Lanes, Limits, Right, always, if_paged, rows_entries}
 
 -- a module of SFF-8636 with flat memory has no limits
 unfoldable pub qsfp_limits_fault : Memory → Option SffFault
@@ -36,8 +37,8 @@ qsfp_rows =
     ∷ if_paged (codes "rx-power-limits") (Limits fields.QRxPowerLimits None) []
     ∷ []
 
-unfoldable pub sff8636_lines : Memory → List (List ℕ)
-sff8636_lines memory = rows_lines memory (bit memory QFlatMemory) qsfp_rows
+unfoldable pub sff8636_entries : Memory → List Entry
+sff8636_entries memory = rows_entries memory (bit memory QFlatMemory) qsfp_rows
 
 abbrev pub sff8472_fault : Memory → Option ReportFault
 sff8472_fault memory = of_sff (sfp_refusals.measured_fault memory)
@@ -57,5 +58,5 @@ sfp_rows =
     ∷ always (codes "sum-a2") (Right sums.SSumDmi)
     ∷ []
 
-unfoldable pub sff8472_lines : Memory → List (List ℕ)
-sff8472_lines memory = rows_lines memory false sfp_rows
+unfoldable pub sff8472_entries : Memory → List Entry
+sff8472_entries memory = rows_entries memory false sfp_rows

@@ -1,14 +1,16 @@
 -- What a module warns of, by its family. (docs/formats.md, "flags"; this project's own)
 use Rattle.std.specs.Prelude.{ℕ, List, Option}
 use Rattle.std.specs.Option.{option_or}
+use Rattle.paged_memory.specs.declared.family.Family.{Family}
+use Rattle.paged_memory.specs.declared.family.Family.TheVariants.{Cmis, Sff8636, Sff8472}
 use Rattle.paged_memory.specs.Images.{Memory}
 use Rattle.sff8636_map.specs.Refusals as sff8636_refusals
 use Rattle.sff8472_map.specs.Refusals as sff8472_refusals
 use Rattle.reports.specs.CmisFlags as cmis
 use Rattle.reports.specs.SffFlags as sff
-use Rattle.reports.specs.declared.family.Family.{Family}
-use Rattle.reports.specs.declared.family.Family.TheVariants.{Cmis, Sff8636, Sff8472}
 use Rattle.reports.specs.declared.fault.ReportFault.{ReportFault}
+use Rattle.reports.specs.Entries.{Entry}
+use Rattle.reports.specs.EntryText.{entries_lines}
 use Rattle.reports.specs.Families.{absent_page, family_of, module_fault, of_sff}
 
 -- why there is no such report of a module of this family
@@ -17,13 +19,16 @@ fault_in Cmis memory = absent_page (cmis.flag_pages memory) memory
 fault_in Sff8636 memory = of_sff (sff8636_refusals.module_fault memory)
 fault_in Sff8472 memory = of_sff (sff8472_refusals.flags_fault memory)
 
-abbrev pub lines_in : Family → Memory → List (List ℕ)
-lines_in Cmis memory = cmis.flags_lines memory
-lines_in Sff8636 memory = sff.sff8636_lines memory
-lines_in Sff8472 memory = sff.sff8472_lines memory
+abbrev pub entries_in : Family → Memory → List Entry
+entries_in Cmis memory = cmis.flags_entries memory
+entries_in Sff8636 memory = sff.sff8636_entries memory
+entries_in Sff8472 memory = sff.sff8472_entries memory
 
 unfoldable pub flags_fault : Memory → Option ReportFault
 flags_fault memory = option_or (module_fault memory) (fault_in (family_of memory) memory)
 
+unfoldable pub flags_entries : Memory → List Entry
+flags_entries memory = entries_in (family_of memory) memory
+
 unfoldable pub flags_lines : Memory → List (List ℕ)
-flags_lines memory = lines_in (family_of memory) memory
+flags_lines memory = entries_lines (flags_entries memory)

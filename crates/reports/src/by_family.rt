@@ -1,19 +1,29 @@
 // The reports of modules of whatever family.
+ghost use Rattle.reports.specs.Entries.{Says};
+ghost use Rattle.reports.specs.Inventory.{inventory_entries, inventory_fault, inventory_lines};
 ghost use Rattle.reports.specs.Lines.{Reports};
-ghost use Rattle.reports.specs.Inventory.{inventory_fault, inventory_lines};
-ghost use Rattle.reports.specs.Measured.{monitors_fault, monitors_lines};
-ghost use Rattle.reports.specs.Warned.{flags_fault, flags_lines};
+ghost use Rattle.reports.specs.Measured.{monitors_entries, monitors_fault, monitors_lines};
+ghost use Rattle.reports.specs.Warned.{flags_entries, flags_fault, flags_lines};
 
-use crate::family::{Family, family_of};
+use crate::entry::Entry;
+use crate::entry_text::text;
+use crate::family::family_of;
 use crate::fault::ReportFault;
 use crate::{cmis_flags, cmis_inventory, cmis_monitors, sff_flags, sff_inventory, sff_monitors};
-use paged_memory::Image;
+use paged_memory::{Family, Image};
 use std::alloc::Global;
 
 /// What the module is, line by line.
-#[tactic(auto, unfolding(crate::specs::Inventory::inventory_fault, crate::specs::Inventory::inventory_lines))]
+#[tactic(auto, unfolding(crate::specs::Entries::said_in, crate::specs::Inventory::inventory_lines))]
 pub fn inventory(alloc: Global, image: &Image) -> Result<Vec<u8>, ReportFault>
     ensures { Reports (inventory_fault image.now) (inventory_lines image.now) result }
+{
+    Ok(text(alloc, &inventory_entries(alloc, image)?)?)
+}
+
+#[tactic(auto, unfolding(crate::specs::Inventory::inventory_fault, crate::specs::Inventory::inventory_entries))]
+fn inventory_entries(alloc: Global, image: &Image) -> Result<Vec<Entry>, ReportFault>
+    ensures { Says (inventory_fault image.now) (inventory_entries image.now) result }
 {
     match family_of(image)? {
         Family::Cmis => cmis_inventory::inventory(alloc, image),
@@ -23,9 +33,16 @@ pub fn inventory(alloc: Global, image: &Image) -> Result<Vec<u8>, ReportFault>
 }
 
 /// What the module measures, line by line.
-#[tactic(auto, unfolding(crate::specs::Measured::monitors_fault, crate::specs::Measured::monitors_lines))]
+#[tactic(auto, unfolding(crate::specs::Entries::said_in, crate::specs::Measured::monitors_lines))]
 pub fn monitors(alloc: Global, image: &Image) -> Result<Vec<u8>, ReportFault>
     ensures { Reports (monitors_fault image.now) (monitors_lines image.now) result }
+{
+    Ok(text(alloc, &monitors_entries(alloc, image)?)?)
+}
+
+#[tactic(auto, unfolding(crate::specs::Measured::monitors_fault, crate::specs::Measured::monitors_entries))]
+fn monitors_entries(alloc: Global, image: &Image) -> Result<Vec<Entry>, ReportFault>
+    ensures { Says (monitors_fault image.now) (monitors_entries image.now) result }
 {
     match family_of(image)? {
         Family::Cmis => cmis_monitors::monitors(alloc, image),
@@ -35,9 +52,16 @@ pub fn monitors(alloc: Global, image: &Image) -> Result<Vec<u8>, ReportFault>
 }
 
 /// The flags that are raised, and of a CMIS module the states before them, line by line.
-#[tactic(auto, unfolding(crate::specs::Warned::flags_fault, crate::specs::Warned::flags_lines))]
+#[tactic(auto, unfolding(crate::specs::Entries::said_in, crate::specs::Warned::flags_lines))]
 pub fn flags(alloc: Global, image: &Image) -> Result<Vec<u8>, ReportFault>
     ensures { Reports (flags_fault image.now) (flags_lines image.now) result }
+{
+    Ok(text(alloc, &flags_entries(alloc, image)?)?)
+}
+
+#[tactic(auto, unfolding(crate::specs::Warned::flags_fault, crate::specs::Warned::flags_entries))]
+fn flags_entries(alloc: Global, image: &Image) -> Result<Vec<Entry>, ReportFault>
+    ensures { Says (flags_fault image.now) (flags_entries image.now) result }
 {
     match family_of(image)? {
         Family::Cmis => cmis_flags::flags(alloc, image),

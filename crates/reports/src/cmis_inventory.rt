@@ -1,21 +1,22 @@
-ghost use Rattle.reports.specs.CmisInventory.{inventory_lines, inventory_pages};
+ghost use Rattle.reports.specs.CmisInventory.{inventory_entries, inventory_pages};
+ghost use Rattle.reports.specs.Entries.{Says};
 ghost use Rattle.reports.specs.Families.{absent_page};
-ghost use Rattle.reports.specs.Lines.{Reports};
 
+use crate::entry::Entry;
 use crate::family::{absent_page, is_flat};
 use crate::fault::ReportFault;
-use crate::said_rows::rows_text;
+use crate::said_rows::said_by;
 use crate::tables;
 use paged_memory::Image;
 use std::alloc::Global;
 
-/// What the module is, line by line.
-#[tactic(auto, unfolding(crate::specs::CmisInventory::inventory_lines))]
-pub fn inventory(alloc: Global, image: &Image) -> Result<Vec<u8>, ReportFault>
-    ensures { Reports (absent_page inventory_pages image.now) (inventory_lines image.now) result }
+/// What the module is.
+#[tactic(auto, unfolding(crate::specs::CmisInventory::inventory_entries))]
+pub fn inventory(alloc: Global, image: &Image) -> Result<Vec<Entry>, ReportFault>
+    ensures { Says (absent_page inventory_pages image.now) (inventory_entries image.now) result }
 {
     if let Some(fault) = absent_page(image, &[0x00]) {
         return Err(fault);
     }
-    Ok(rows_text(alloc, image, is_flat(image), tables::cmis_inventory())?)
+    Ok(said_by(alloc, image, is_flat(image), tables::cmis_inventory())?)
 }

@@ -2,8 +2,11 @@
 ghost use Rattle.std.specs.Prelude.{◌≡◌, ◌++◌, ◌∷◌, [], OnOk};
 ghost use Rattle.reports.specs.Entries.{entry, said_in, said_of};
 
+use crate::flag::Flag;
+use crate::printed_unit::PrintedUnit;
+use applications::{App, MAX_APPS};
 use arrayvec::ArrayVec;
-use field_tables::Levels;
+use field_tables::{LaneSet, Levels};
 use std::alloc::AllocError;
 
 /// What is said under a name.
@@ -21,11 +24,27 @@ pub enum Said {
     Text(ArrayVec<u8, 16>),
     Oui([u8; 3]),
     /// Thousandths of a unit.
-    Amount(i64, &'static str),
+    Amount(i64, PrintedUnit),
     /// The same of each lane, lane 1 first.
-    Lanes(ArrayVec<i64, 8>, &'static str),
+    Lanes(ArrayVec<i64, 8>, PrintedUnit),
     /// And of each level.
-    Limits(Levels<i64>, &'static str),
+    Limits(Levels<i64>, PrintedUnit),
+    /// The state of the module, by its code.
+    State(u8),
+    /// Of each lane, lane 1 first.
+    LaneStates(ArrayVec<LaneState, 8>),
+    /// The flags that are raised.
+    Flags(Vec<Flag>),
+    /// Applications by rising number.
+    Apps(ArrayVec<App, MAX_APPS>),
+    LaneSet(LaneSet),
+}
+
+/// Of a lane, by their codes, the state of its data path and the status of its configuration.
+#[derive(Clone, Copy, Default)]
+pub struct LaneState {
+    pub path: u8,
+    pub status: u8,
 }
 
 /// A name and what is said under it.

@@ -2,12 +2,20 @@
 ghost use Rattle.std.specs.Prelude.{◌≡◌, ◌≤◌, ◌++◌, ◌∷◌, [], length, map, OnOk, IfOk};
 ghost use Rattle.text_lines.specs.Lines.{text_of};
 ghost use Rattle.reports.specs.Entries.{entry_of, said_of};
-ghost use Rattle.reports.specs.EntryText.{lane_line, in_thousandths, lane_lines, report_text, said_lines};
+ghost use Rattle.reports.specs.AppText.{app_line};
+ghost use Rattle.reports.specs.EntryText.{lane_line, in_thousandths, lane_lines, lane_state_line, lane_state_lines, report_text, said_lines};
+ghost use Rattle.reports.specs.Flags.{flag_lines};
+ghost use Rattle.reports.specs.PrintedUnits.{unit_name};
 
-use crate::entry::{Entry, Said};
+use crate::entry::{Entry, LaneState, Said};
+use crate::flag::Flag;
 use crate::monitor::{LaneMeasure, LevelsText};
+use crate::printed_unit::PrintedUnit;
 use crate::report::Report;
-use crate::shown::{Code, Measure, Revision, TextIn, Thousandths, sum_word};
+use crate::shown::{Code, LanesCode, Measure, Revision, TextIn, Thousandths, sum_word};
+use crate::shown_app::ShownApp;
+use crate::shown_state::{LaneCodes, ModuleStateCode};
+use applications::App;
 use field_tables::Levels;
 use std::alloc::{AllocError, Global};
 use text_lines::Hexadecimal;
@@ -42,9 +50,14 @@ fn push_said(report: &mut Report, name: &'static str, said: &Said) -> Result<(),
         Said::Revision(byte) => report.line(name, Revision(*byte)),
         Said::Text(bytes) => report.line(name, TextIn(bytes.as_slice())),
         Said::Oui(bytes) => report.line(name, Hexadecimal(bytes)),
-        Said::Amount(millis, unit) => report.line(name, Measure(*millis, unit)),
-        Said::Lanes(millis, unit) => push_lanes(report, name, millis.as_slice(), unit),
+        Said::Amount(millis, unit) => report.line(name, Measure(*millis, unit.name())),
+        Said::Lanes(millis, unit) => push_lanes(report, name, millis.as_slice(), *unit),
         Said::Limits(levels, _) => report.line(name, LevelsText(in_thousandths(*levels))),
+        Said::State(code) => report.line(name, ModuleStateCode(*code)),
+        Said::LaneStates(states) => push_lane_states(report, name, states.as_slice()),
+        Said::Flags(flags) => push_flags(report, name, flags),
+        Said::Apps(apps) => push_apps(report, name, apps.as_slice()),
+        Said::LaneSet(lanes) => report.line(name, LanesCode(*lanes)),
     }
 }
 
@@ -52,13 +65,13 @@ fn push_lanes(
     report: &mut Report,
     name: &'static str,
     values: &[i64],
-    unit: &'static str,
+    unit: PrintedUnit,
 ) -> Result<(), AllocError>
     requires { length values.now ≤ 8 }
-    ensures { OnOk result (report.new ≡ report.old ++ text_of (lane_lines name.now unit.now values.now)) }
+    ensures { OnOk result (report.new ≡ report.old ++ text_of (lane_lines name.now unit values.now)) }
 {
     for (index, millis) in values.iter().enumerate() {
-        push_lane(report, name, index as u8 + 1, Measure(*millis, unit))?;
+        push_lane(report, name, index as u8 + 1, *millis, unit)?;
     }
     Ok(())
 }
@@ -68,12 +81,73 @@ fn push_lane(
     report: &mut Report,
     name: &'static str,
     lane: u8,
-    amount: Measure,
+    millis: i64,
+    unit: PrintedUnit,
 ) -> Result<(), AllocError>
-    ensures { OnOk result (report.new ≡ report.old
-        ++ (lane_line name.now amount.1.now lane amount.0 ++ 10 ∷ [])) }
+    ensures { OnOk result (report.new ≡ report.old ++ (lane_line name.now unit lane millis ++ 10 ∷ [])) }
 {
-    report.line(name, LaneMeasure(lane, amount))
+    report.line(name, LaneMeasure(lane, Measure(millis, unit.name())))
+}
+
+fn push_lane_states(
+    report: &mut Report,
+    name: &'static str,
+    states: &[LaneState],
+) -> Result<(), AllocError>
+    requires { length states.now ≤ 8 }
+    ensures { OnOk result (report.new ≡ report.old ++ text_of (lane_state_lines name.now states.now)) }
+{
+    for (index, state) in states.iter().enumerate() {
+        push_lane_state(report, name, index as u8 + 1, *state)?;
+    }
+    Ok(())
+}
+
+#[tactic(auto, unfolding(crate::specs::EntryText::lane_state_line))]
+fn push_lane_state(
+    report: &mut Report,
+    name: &'static str,
+    lane: u8,
+    lane_state: LaneState,
+) -> Result<(), AllocError>
+    ensures { OnOk result (report.new ≡ report.old ++ (lane_state_line name.now lane lane_state ++ 10 ∷ [])) }
+{
+    let codes = LaneCodes {
+        lane,
+        state: lane_state.path,
+        status: lane_state.status,
+    };
+    report.line(name, codes)
+}
+
+// A line for each flag, or one that says that there is none.
+#[tactic(auto, using(crate::proofs::RaisedFlags::lines_of_none, crate::proofs::RaisedFlags::lines_of_some))]
+fn push_flags(report: &mut Report, name: &'static str, flags: &[Flag]) -> Result<(), AllocError>
+    ensures { OnOk result (report.new ≡ report.old ++ text_of (flag_lines name.now flags.now)) }
+{
+    if flags.is_empty() {
+        return report.line(name, "none");
+    }
+    for flag in flags {
+        report.line(name, *flag)?;
+    }
+    Ok(())
+}
+
+fn push_apps(report: &mut Report, name: &'static str, apps: &[App]) -> Result<(), AllocError>
+    ensures { OnOk result (report.new ≡ report.old ++ text_of (map (app_line name.now) apps.now)) }
+{
+    for app in apps {
+        push_app(report, name, *app)?;
+    }
+    Ok(())
+}
+
+#[tactic(auto, unfolding(crate::specs::AppText::app_line))]
+fn push_app(report: &mut Report, name: &'static str, app: App) -> Result<(), AllocError>
+    ensures { OnOk result (report.new ≡ report.old ++ (app_line name.now app ++ 10 ∷ [])) }
+{
+    report.line(name, ShownApp(app))
 }
 
 fn in_thousandths(levels: Levels<i64>) -> Levels<Thousandths>

@@ -3,22 +3,9 @@ ghost use Rattle.reports.specs.Families as spec;
 ghost use Rattle.reports.specs.Families.{absent_page, is_flat, module_fault};
 
 use crate::fault::ReportFault;
-use applications::{is_cmis, is_read_revision};
+use applications::is_read_revision;
 use field_tables::{Field, number};
-use paged_memory::{Dev, Image, Key};
-use sff8472_map::is_sfp;
-use sff8636_map::is_qsfp;
-
-/// The families of modules: each has a standard of its own for what stands where in its memory.
-#[derive(Clone, Copy)]
-pub enum Family {
-    /// OIF-CMIS-05.0.
-    Cmis,
-    /// SFF-8636.
-    Sff8636,
-    /// SFF-8472.
-    Sff8472,
-}
+use paged_memory::{Dev, Family, Image, Key};
 
 /// The family of the module of an image, or why no report speaks of it.
 #[tactic(auto, unfolding(crate::specs::Families::module_fault, crate::specs::Families::family_of))]
@@ -30,20 +17,14 @@ pub fn family_of(image: &Image) -> Result<Family, ReportFault>
         return Err(ReportFault::Absent(lower));
     }
     let identifier = number(image, Field::CIdentifier);
-    if is_qsfp(identifier) {
-        return Ok(Family::Sff8636);
-    }
-    if is_sfp(identifier) {
-        return Ok(Family::Sff8472);
-    }
-    if !is_cmis(identifier) {
+    let Some(family) = Family::of(identifier) else {
         return Err(ReportFault::Unknown(identifier));
-    }
+    };
     let revision = number(image, Field::CRevision);
-    if !is_read_revision(revision) {
+    if family == Family::Cmis && !is_read_revision(revision) {
         return Err(ReportFault::Revision(revision));
     }
-    Ok(Family::Cmis)
+    Ok(family)
 }
 
 /// The first of these pages of bank 0 that the image lacks.

@@ -1,5 +1,5 @@
 // The flags of a report as rows: what each tells, and which bits of a module's memory raise it.
-ghost use Rattle.std.specs.Prelude.{◌≡◌, ◌++◌, IfOk, IsTrue, OnOk};
+ghost use Rattle.std.specs.Prelude.{◌≡◌, ◌++◌, ◌∷◌, [], IfOk, IsTrue, OnOk};
 ghost use Rattle.std.specs.List.{list_all};
 ghost use Rattle.field_tables.specs.FieldRows.{row_of};
 ghost use Rattle.field_tables.specs.FieldValues.{of_each};
@@ -8,7 +8,6 @@ ghost use Rattle.reports.specs.FlagRows.{flag_row_fits, lane_flag, row_flags, ro
 ghost use Rattle.reports.specs.Flags.{raised};
 
 use crate::flag::{Flag, FlagName};
-use crate::raised::push_flag;
 use field_tables::{Field, bit_at, row};
 use paged_memory::Image;
 use std::alloc::{AllocError, Global};
@@ -84,6 +83,20 @@ fn push_lanes(
     for before in 0..row(field).count {
         let is_raised = bit_at(image, field, before + 1);
         push_flag(flags, name, Some(before + 1), is_raised)?;
+    }
+    Ok(())
+}
+
+fn push_flag(
+    flags: &mut Vec<Flag>,
+    name: FlagName,
+    lane: Option<u8>,
+    is_raised: bool,
+) -> Result<(), AllocError>
+    ensures { OnOk result (flags.new.items ≡ flags.old.items ++ raised ((record { name = name; lane = lane }, is_raised) ∷ [])) }
+{
+    if is_raised {
+        flags.push(Flag { name, lane })?;
     }
     Ok(())
 }

@@ -24,6 +24,10 @@ pub enum Source<T> {
     Lanes(Field, Option<Field>),
     /// Of each level, as those of lanes.
     Limits(Field, Option<Field>),
+    /// The state of the module.
+    State(Field),
+    /// Of each of eight lanes the state of its data path, and by the second the status of its configuration.
+    LaneStates(Field, Field),
 }
 
 /// Where a field has a number: nothing is said, or this word.

@@ -1,44 +1,44 @@
 // What rows say of a module's memory.
-ghost use Rattle.std.specs.Prelude.{◌≡◌, ◌++◌, ◌<◌, ◌≤◌, ◌≤ℤ◌, ◌^◌, pos, neg_ℤ, FitsSigned, IfOk, IsTrue, OnOk, option_map};
+ghost use Rattle.std.specs.Prelude.{◌≡◌, ◌++◌, ◌<◌, ◌≤◌, ◌≤ℤ◌, ◌^◌, pos, neg_ℤ, FitsSigned, IfOk, IsTrue, OnOk, map, option_map};
 ghost use Rattle.std.specs.Int.{w64};
-ghost use Rattle.std.specs.List.{list_all};
+ghost use Rattle.std.specs.List.{list_all, range_with_len};
 ghost use Rattle.field_tables.specs.FieldRows.{row_of};
 ghost use Rattle.field_tables.specs.FieldValues.{of_each};
 ghost use Rattle.field_tables.specs.Readings.{IsWord};
-ghost use Rattle.text_lines.specs.Lines.{text_of};
 ghost use Rattle.reports.specs.Entries.{said_in, said_of};
 ghost use Rattle.reports.specs.RowTables.{case_in, cases_in, row_in, rows_in, source_in};
 ghost use Rattle.reports.specs.Rows as spec;
-ghost use Rattle.reports.specs.Rows.{instead_fits, is_counted, is_power, levels_of, power_fits, row_entries, row_fits, rows_entries, rows_lines, source_fits, source_said};
+ghost use Rattle.reports.specs.Rows.{instead_fits, is_counted, is_power, lane_state_at, levels_of, power_fits, printed_unit, row_entries, row_fits, rows_entries, source_fits, source_said};
 
-use crate::entry::{Entry, Said, say};
-use crate::entry_text;
+use crate::entry::{Entry, LaneState, Said, say};
+use crate::printed_unit::PrintedUnit;
 use crate::row::{Instead, Line, Source};
 use arrayvec::ArrayVec;
 use field_tables::{
-    Field, Levels, Unit, all_numbers, is_sum_right, millis, number, reading_at, row, text,
+    Field, Levels, Unit, all_numbers, is_sum_right, millis, number, number_at, reading_at, row,
+    text,
 };
 use paged_memory::Image;
 use std::alloc::{AllocError, Global};
 
-/// The text of what these rows say of a module, whose memory is flat or not.
+/// What these rows say of a module, whose memory is flat or not.
 #[tactic(auto, unfolding(crate::specs::Entries::said_in))]
-pub fn rows_text(
+pub fn said_by(
     alloc: Global,
     image: &Image,
     flat: bool,
     rows: &'static [Line],
-) -> Result<Vec<u8>, AllocError>
+) -> Result<Vec<Entry>, AllocError>
     requires { IsTrue (list_all row_fits (rows_in rows.now)) }
-    ensures { IfOk result (λ text. text.items ≡ text_of (rows_lines image.now flat (rows_in rows.now))) }
+    ensures { IfOk result (λ entries. said_in entries ≡ rows_entries image.now flat (rows_in rows.now)) }
 {
     let mut entries = Vec::new(alloc);
     say_rows(&mut entries, image, flat, rows)?;
-    entry_text::text(alloc, &entries)
+    Ok(entries)
 }
 
-/// Adds what these rows say of a module, whose memory is flat or not.
-pub fn say_rows(
+// Adds what these rows say of a module, whose memory is flat or not.
+fn say_rows(
     entries: &mut Vec<Entry>,
     image: &Image,
     flat: bool,
@@ -121,14 +121,18 @@ fn said(image: &Image, source: &Source<&'static str>) -> Said
         Source::Oui(field) => Said::Oui(all_numbers(image, field)),
         Source::Right(sum) => Said::Right(is_sum_right(image, sum)),
         Source::Amount(field) => {
-            Said::Amount(amount_at(image, field, None, 1), unit_name(unit_of(field)))
+            Said::Amount(amount_at(image, field, None, 1), printed_unit(field))
         }
-        Source::Length(base, power) => Said::Amount(length(image, base, power), "m"),
+        Source::Length(base, power) => Said::Amount(length(image, base, power), PrintedUnit::Metre),
         Source::Lanes(field, power) => {
-            Said::Lanes(amounts(image, field, power), unit_name(unit_of(field)))
+            Said::Lanes(amounts(image, field, power), printed_unit(field))
         }
         Source::Limits(field, power) => {
-            Said::Limits(levels(image, field, power), unit_name(unit_of(field)))
+            Said::Limits(levels(image, field, power), printed_unit(field))
+        }
+        Source::State(field) => Said::State(number(image, field)),
+        Source::LaneStates(paths, statuses) => {
+            Said::LaneStates(lane_states(image, paths, statuses))
         }
     }
 }
@@ -227,16 +231,23 @@ fn unit_of(field: Field) -> Unit
     row(field).unit.unwrap_or(Unit::ModulePower)
 }
 
-/// The unit whose thousandths are printed.
-#[tactic(auto, unfolding(crate::specs::Rows::unit_name))]
-fn unit_name(unit: Unit) -> &'static str
-    ensures { result.now ≡ spec.unit_name unit }
+fn printed_unit(field: Field) -> PrintedUnit
+    ensures { result ≡ printed_unit field }
 {
-    match unit {
-        Unit::Temperature => "C",
-        Unit::Voltage => "mV",
-        Unit::OpticalPower => "uW",
-        Unit::Bias => "mA",
-        Unit::ModulePower => "W",
+    PrintedUnit::of(unit_of(field))
+}
+
+fn lane_states(image: &Image, paths: Field, statuses: Field) -> ArrayVec<LaneState, 8>
+    requires paths { IsTrue (is_counted paths 8) }
+    requires statuses { IsTrue (is_counted statuses 8) }
+    ensures { result.items ≡ map (lane_state_at image.now paths statuses) (range_with_len 1 8) }
+{
+    let mut states = ArrayVec::new();
+    for before in 0..8 {
+        states.push(LaneState {
+            path: number_at(image, paths, before + 1),
+            status: number_at(image, statuses, before + 1),
+        });
     }
+    states
 }

@@ -2,26 +2,27 @@
 ghost use Rattle.std.specs.Prelude.{◌≡◌};
 ghost use Rattle.std.specs.Option.{option_or};
 ghost use Rattle.sff8636_map.specs.Refusals as qsfp_refusals;
-ghost use Rattle.reports.specs.Lines.{Reports};
-ghost use Rattle.reports.specs.SffMonitors.{qsfp_limits_fault, sff8472_fault, sff8472_lines, sff8636_fault, sff8636_lines};
+ghost use Rattle.reports.specs.Entries.{Says};
+ghost use Rattle.reports.specs.SffMonitors.{qsfp_limits_fault, sff8472_fault, sff8472_entries, sff8636_fault, sff8636_entries};
 
+use crate::entry::Entry;
 use crate::fault::ReportFault;
-use crate::said_rows::rows_text;
+use crate::said_rows::said_by;
 use crate::tables;
 use field_tables::{Field, SffFault, bit};
 use paged_memory::Image;
 use std::alloc::Global;
 
-/// What a module of SFF-8636 measures, line by line.
-#[tactic(auto, unfolding(crate::specs::SffMonitors::sff8636_lines))]
-pub fn sff8636(alloc: Global, image: &Image) -> Result<Vec<u8>, ReportFault>
-    ensures { Reports (sff8636_fault image.now) (sff8636_lines image.now) result }
+/// What a module of SFF-8636 measures.
+#[tactic(auto, unfolding(crate::specs::SffMonitors::sff8636_entries))]
+pub fn sff8636(alloc: Global, image: &Image) -> Result<Vec<Entry>, ReportFault>
+    ensures { Says (sff8636_fault image.now) (sff8636_entries image.now) result }
 {
     if let Some(fault) = qsfp_refusal(image) {
         return Err(ReportFault::Sff(fault));
     }
     let flat = bit(image, Field::QFlatMemory);
-    Ok(rows_text(alloc, image, flat, tables::qsfp_monitors())?)
+    Ok(said_by(alloc, image, flat, tables::qsfp_monitors())?)
 }
 
 // A module of SFF-8636 with flat memory has no limits.
@@ -38,13 +39,13 @@ fn qsfp_refusal(image: &Image) -> Option<SffFault>
     sff8636_map::threshold_refusal(image)
 }
 
-/// What a module of SFF-8472 measures, line by line.
-#[tactic(auto, unfolding(crate::specs::SffMonitors::sff8472_lines))]
-pub fn sff8472(alloc: Global, image: &Image) -> Result<Vec<u8>, ReportFault>
-    ensures { Reports (sff8472_fault image.now) (sff8472_lines image.now) result }
+/// What a module of SFF-8472 measures.
+#[tactic(auto, unfolding(crate::specs::SffMonitors::sff8472_entries))]
+pub fn sff8472(alloc: Global, image: &Image) -> Result<Vec<Entry>, ReportFault>
+    ensures { Says (sff8472_fault image.now) (sff8472_entries image.now) result }
 {
     if let Some(fault) = sff8472_map::measured_refusal(image) {
         return Err(ReportFault::Sff(fault));
     }
-    Ok(rows_text(alloc, image, false, tables::sfp_monitors())?)
+    Ok(said_by(alloc, image, false, tables::sfp_monitors())?)
 }

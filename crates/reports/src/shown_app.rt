@@ -1,6 +1,6 @@
 // How an Application is shown in reports.
 ghost use Rattle.std.specs.Prelude.{◌≡◌, Some};
-ghost use Rattle.reports.specs.Apps.{app_text, kind_text, lanes_text, starts_text, usable_word};
+ghost use Rattle.reports.specs.AppText.{app_text, kind_text, lanes_text, starts_text, usable_word};
 
 use crate::shown::{Code, LanesCode};
 use applications::App;
@@ -12,7 +12,7 @@ pub struct ShownApp(pub App);
 impl fmt::Display for ShownApp {
     ghost output = { λ shown. Some (app_text shown.0) };
 
-    #[tactic(auto, unfolding(crate::specs::Apps::app_text))]
+    #[tactic(auto, unfolding(crate::specs::AppText::app_text))]
     fn fmt<W: fmt::Write>(&self, f: &mut fmt::Formatter<W>) -> fmt::Result {
         let (kind, lanes, starts) = (ShownKind(self.0), ShownLanes(self.0), ShownStarts(self.0));
         let usable = usable_word(self.0.is_usable());
@@ -26,7 +26,7 @@ struct ShownKind(App);
 impl fmt::Display for ShownKind {
     ghost output = { λ shown. Some (kind_text shown.0) };
 
-    #[tactic(auto, unfolding(crate::specs::Apps::kind_text))]
+    #[tactic(auto, unfolding(crate::specs::AppText::kind_text))]
     fn fmt<W: fmt::Write>(&self, f: &mut fmt::Formatter<W>) -> fmt::Result {
         let number = self.0.number;
         let (host, media) = (Code(self.0.host_id), Code(self.0.media_id));
@@ -40,7 +40,7 @@ struct ShownLanes(App);
 impl fmt::Display for ShownLanes {
     ghost output = { λ shown. Some (lanes_text shown.0) };
 
-    #[tactic(auto, unfolding(crate::specs::Apps::lanes_text))]
+    #[tactic(auto, unfolding(crate::specs::AppText::lanes_text))]
     fn fmt<W: fmt::Write>(&self, f: &mut fmt::Formatter<W>) -> fmt::Result {
         let (host, media) = (self.0.host_lanes, self.0.media_lanes);
         write!(f, "host-lanes {host} media-lanes {media}")
@@ -53,7 +53,7 @@ struct ShownStarts(App);
 impl fmt::Display for ShownStarts {
     ghost output = { λ shown. Some (starts_text shown.0) };
 
-    #[tactic(auto, unfolding(crate::specs::Apps::starts_text))]
+    #[tactic(auto, unfolding(crate::specs::AppText::starts_text))]
     fn fmt<W: fmt::Write>(&self, f: &mut fmt::Formatter<W>) -> fmt::Result {
         let (host, media) = (
             LanesCode(self.0.host_starts),

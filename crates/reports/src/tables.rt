@@ -28,6 +28,7 @@ macro_rules! source {
     (Lanes $field:ident $power:ident) => { Source::Lanes(Field::$field, Some(Field::$power)) };
     (Limits $field:ident) => { Source::Limits(Field::$field, None) };
     (Limits $field:ident $power:ident) => { Source::Limits(Field::$field, Some(Field::$power)) };
+    (LaneStates $paths:ident $statuses:ident) => { Source::LaneStates(Field::$paths, Field::$statuses) };
     ($kind:ident $field:ident) => { Source::$kind(Field::$field) };
 }
 
@@ -193,6 +194,20 @@ pub fn sfp_monitors() -> &'static [Line]
     ensures fit { IsTrue (list_all row_fits (rows_in result.now)) }
 {
     SFP_MONITORS
+}
+
+const CMIS_STATES: &[Line] = line_table! {
+    "state": [State CModuleState];
+    "lane": [LaneStates CPathStates CConfigStatus] paged;
+};
+
+/// The states of a CMIS module and of its lanes.
+#[tactic(auto, unfolding(crate::specs::CmisFlags::state_rows))]
+pub fn cmis_states() -> &'static [Line]
+    ensures rows { rows_in result.now ≡ spec_cmis_flags.state_rows }
+    ensures fit { IsTrue (list_all row_fits (rows_in result.now)) }
+{
+    CMIS_STATES
 }
 
 macro_rules! flag_name {

@@ -8,7 +8,7 @@ use Rattle.reports.proofs.entry_text.push_lanes.Goals as goal
 pub loop-index-preserved : goal.loop-index-preserved
 loop-index-preserved c =
     let name = c.args.name.now in
-    let unit = c.args.unit.now in
+    let unit = c.args.unit in
     let values = c.args.values.now in
     let k = c.loop-index.index in
     let below : k < length values = omega (arith, c.loop-index-test.true) in

@@ -1,0 +1,86 @@
+-- The halves of a module that are read over a bus, those that its reports speak of. (docs/bus.md, "Reading an image";
+-- OIF-CMIS-05.0, "Management Memory Map"; SFF-8636, "Memory Map"; SFF-8472, "Memory Organization" and "Diagnostic Monitoring
+-- Type")
+use Rattle.std.specs.Prelude.{ℕ, ◌==◌, ◌&&◌, not, nat_lt, Bool, false, List, [], ◌∷◌, Option, Some, None, if◌then◌else◌}
+use Rattle.bus_model.specs.declared.device.Dev.TheVariants.{A0, A2}
+use Rattle.bus_model.specs.declared.operation.Op.{Op}
+use Rattle.bus_model.specs.declared.operation.Op.TheVariants.{Fetch}
+use Rattle.paged_memory.specs.declared.family.Family.{Family}
+use Rattle.paged_memory.specs.declared.family.Family.TheVariants.{Cmis, Sff8636, Sff8472}
+use Rattle.paged_memory.specs.declared.key.Key.{Key}
+use Rattle.paged_memory.specs.declared.paging.Paging.{Paging}
+use Rattle.paged_memory.specs.declared.paging.Paging.TheVariants.{BankAndPage, PageAlone}
+use Rattle.paged_memory.specs.Families.{family_by}
+use Rattle.paged_memory.specs.Images.{Memory}
+use Rattle.paged_memory.specs.Keys.{lower_key, upper_key}
+use Rattle.field_tables.specs.declared.field.Field.TheVariants.{CFlatMemory, CIdentifier, QFlatMemory, SAddressChange, SDiagPresent}
+use Rattle.field_tables.specs.Readings.{bit, number}
+use Rattle.module_reading.specs.declared.region.Region.{Region}
+use Rattle.module_reading.specs.declared.region.Region.TheVariants.{Lower, FirstPage, Page}
+
+abbrev pub operation : Region → Op
+operation (Lower dev) = Fetch dev 0 128
+operation FirstPage = Fetch A0 128 128
+operation (Page page) = Fetch A0 128 128
+
+-- the page that has to be selected
+abbrev pub page_of : Region → Option ℕ
+page_of (Lower dev) = None
+page_of FirstPage = None
+page_of (Page page) = Some page
+
+abbrev pub key_of : Region → Key
+key_of (Lower dev) = lower_key dev
+key_of FirstPage = upper_key A0 0 0
+key_of (Page page) = upper_key A0 0 page
+
+-- a selected page other than 00h
+abbrev pub may_lack : Region → Bool
+may_lack (Lower dev) = false
+may_lack FirstPage = false
+may_lack (Page page) = nat_lt 0 page
+
+-- all families have the identifier in the same byte
+abbrev pub identifier : Memory → ℕ
+identifier memory = number memory CIdentifier
+
+-- a CMIS module that has no pages but 00h
+abbrev pub is_flat : Memory → Bool
+is_flat memory = number memory CFlatMemory == 1
+
+abbrev pub flat_regions : List Region
+flat_regions = Lower A0 ∷ FirstPage ∷ []
+
+abbrev pub cmis_regions : Bool → List Region
+cmis_regions flat = if flat then flat_regions else Lower A0 ∷ Page 0x00 ∷ Page 0x01 ∷ Page 0x02 ∷ Page 0x11 ∷ []
+
+abbrev pub qsfp_regions : Bool → List Region
+qsfp_regions flat = if flat then flat_regions else Lower A0 ∷ Page 0x00 ∷ Page 0x03 ∷ []
+
+abbrev pub sfp_regions : Bool → List Region
+sfp_regions diagnosed = if diagnosed then Lower A0 ∷ Lower A2 ∷ [] else Lower A0 ∷ []
+
+-- device A2 has diagnostics, and they can be read without an address change
+abbrev pub has_diagnostics : Memory → Bool
+has_diagnostics memory = bit memory SDiagPresent && not (bit memory SAddressChange)
+
+-- of a module of this family
+abbrev pub regions_in : Option Family → Memory → List Region
+regions_in (Some Cmis) memory = cmis_regions (is_flat memory)
+regions_in (Some Sff8636) memory = qsfp_regions (bit memory QFlatMemory)
+regions_in (Some Sff8472) memory = sfp_regions (has_diagnostics memory)
+regions_in None memory = Lower A0 ∷ []
+
+-- of a module whose lower half of A0 is in memory; that half alone where it isn't, or where its identifier is none that is read
+abbrev pub regions_of : Memory → List Region
+regions_of memory = regions_in (family_by (identifier memory)) memory
+
+-- how the pages of a module of this family are selected
+abbrev pub paging_in : Option Family → Paging
+paging_in (Some Cmis) = BankAndPage
+paging_in (Some Sff8636) = PageAlone
+paging_in (Some Sff8472) = BankAndPage
+paging_in None = BankAndPage
+
+abbrev pub paging_of : Memory → Paging
+paging_of memory = paging_in (family_by (identifier memory))

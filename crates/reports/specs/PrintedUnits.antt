@@ -1,0 +1,22 @@
+-- The units that amounts print in, in thousandths. (docs/formats.md, "Values in reports"; this project's own)
+use Rattle.std.specs.Prelude.{ℕ, List, codes}
+use Rattle.field_tables.specs.declared.units.Unit.{Unit}
+use Rattle.field_tables.specs.declared.units.Unit.TheVariants as units
+use Rattle.reports.specs.declared.printed_unit.PrintedUnit.{PrintedUnit}
+use Rattle.reports.specs.declared.printed_unit.PrintedUnit.TheVariants.{Celsius, Millivolt, Microwatt, Milliampere, Watt, Metre}
+
+-- of a field whose row has this unit
+abbrev pub printed_in : Unit → PrintedUnit
+printed_in units.Temperature = Celsius
+printed_in units.Voltage = Millivolt
+printed_in units.OpticalPower = Microwatt
+printed_in units.Bias = Milliampere
+printed_in units.ModulePower = Watt
+
+unfoldable pub unit_name : PrintedUnit → List ℕ
+unit_name Celsius = codes "C"
+unit_name Millivolt = codes "mV"
+unit_name Microwatt = codes "uW"
+unit_name Milliampere = codes "mA"
+unit_name Watt = codes "W"
+unit_name Metre = codes "m"

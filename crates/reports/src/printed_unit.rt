@@ -1,0 +1,45 @@
+ghost use Rattle.std.specs.Prelude.{◌≡◌};
+ghost use Rattle.reports.specs.PrintedUnits.{printed_in, unit_name};
+
+use field_tables::Unit;
+
+/// A unit whose thousandths are printed.
+#[derive(Clone, Copy)]
+pub enum PrintedUnit {
+    Celsius,
+    Millivolt,
+    Microwatt,
+    Milliampere,
+    Watt,
+    Metre,
+}
+
+impl PrintedUnit {
+    /// The unit in which a field's amounts print.
+    pub fn of(unit: Unit) -> PrintedUnit
+        ensures { result ≡ printed_in unit }
+    {
+        match unit {
+            Unit::Temperature => PrintedUnit::Celsius,
+            Unit::Voltage => PrintedUnit::Millivolt,
+            Unit::OpticalPower => PrintedUnit::Microwatt,
+            Unit::Bias => PrintedUnit::Milliampere,
+            Unit::ModulePower => PrintedUnit::Watt,
+        }
+    }
+
+    /// As it is printed.
+    #[tactic(auto, unfolding(crate::specs::PrintedUnits::unit_name))]
+    pub fn name(self) -> &'static str
+        ensures { result.now ≡ unit_name self }
+    {
+        match self {
+            PrintedUnit::Celsius => "C",
+            PrintedUnit::Millivolt => "mV",
+            PrintedUnit::Microwatt => "uW",
+            PrintedUnit::Milliampere => "mA",
+            PrintedUnit::Watt => "W",
+            PrintedUnit::Metre => "m",
+        }
+    }
+}
