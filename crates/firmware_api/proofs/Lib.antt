@@ -2,3 +2,5 @@ mod HalfMemories
 mod SavedLaws
 mod ModuleRefusals
 mod Padding
+mod HeldModules
+mod ReadingLaws

@@ -1,5 +1,5 @@
 -- Which refusal comes first of halves, and what is read of them where none does.
-use Rattle.std.proofs.Common.{◌≡◌, ℕ, ◌<◌, ◌≤◌, Bool, true, false, List, length, Option, Some, None, Result, Ok, Err, refl, ap, subst, nat_lt, arith}
+use Rattle.std.proofs.Common.{◌≡◌, ℕ, ◌<◌, ◌≤◌, Bool, true, false, List, length, Option, Some, None, Result, Ok, Err, refl, ap, subst, not, if◌then◌else◌, nat_lt, arith}
 use Rattle.std.specs.Prelude.{MatchOption}
 use Rattle.std.specs.List.{list_all}
 use Rattle.std.specs.Option.{option_map}
@@ -55,3 +55,19 @@ pub reads : (halves : List Half) (memory : Memory) (read : Result Advertised Adv
     memory ≡ memory_of halves → IsRead read memory → IsPassed (passed read) halves
 reads halves memory read few all same is =
     rw (placed halves few all) (passes_on (advert_fault (memory_of halves)) read (advertised_by (memory_of halves)) (subst (IsRead read) same is))
+
+few : (halves : List Half) → module_refusal halves ≡ None → length halves ≤ 16
+unfolding module_refusal
+few halves none = by (nat_lt 16 (length halves)) (if not (list_all has_place halves) then Some NoPlace else option_map Advert (advert_fault (memory_of halves))) refl none where
+  by : (many : Bool) (later : Option Refusal) → nat_lt 16 (length halves) ≡ many → (if many then Some TooManyHalves else later) ≡ None → length halves ≤ 16
+  by true later e none = absurd (let same = none in cc)
+  by false later e none = ltb-false 16 (length halves) e
+
+few_by : (halves : List Half) (advert : Advertised) (found : Option Refusal) → module_refusal halves ≡ found →
+    MatchOption found (◌≡◌ {A = Result Advertised Refusal} (Ok advert) (Ok (advertised_by (memory_of halves)))) (λ refusal. ◌≡◌ {A = Result Advertised Refusal} (Ok advert) (Err refusal)) → length halves ≤ 16
+few_by halves advert None e read = few halves e
+few_by halves advert (Some refusal) e read = absurd (let same = read in cc)
+
+-- of halves that a module's Applications were read of
+pub few_if_read : (halves : List Half) (advert : Advertised) → IsPassed (Ok advert) halves → length halves ≤ 16
+few_if_read halves advert read = few_by halves advert (module_refusal halves) refl read

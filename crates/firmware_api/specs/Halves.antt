@@ -8,7 +8,7 @@ use Rattle.bus_model.specs.declared.device.Dev.{Dev}
 use Rattle.bus_model.specs.declared.device.Dev.TheVariants.{A0, A2}
 use Rattle.paged_memory.specs.declared.key.Key.{Key}
 use Rattle.paged_memory.specs.Keys.{lower_key, upper_key}
-use Rattle.paged_memory.specs.Images.{Memory}
+use Rattle.paged_memory.specs.Images.{Memory, most_pages}
 use Rattle.applications.specs.Refusals.{advert_fault}
 use Rattle.firmware_api.specs.declared.half.Half.{Half}
 use Rattle.firmware_api.specs.declared.status.Refusal.{Refusal}
@@ -31,13 +31,9 @@ key_of half = if half.upper == 0 then lower_key (device_of half) else upper_key 
 unfoldable pub memory_of : List Half → Memory
 memory_of halves = finmap.from_entries (map (λ half. (key_of half, half.bytes)) halves)
 
--- the most halves of a module
-abbrev pub most_halves : ℕ
-most_halves = 16
-
 -- of the halves themselves, or of the module that has them: the first that applies
 unfoldable pub module_refusal : List Half → Option Refusal
 module_refusal halves =
-    if nat_lt most_halves (length halves) then Some TooManyHalves
+    if nat_lt most_pages (length halves) then Some TooManyHalves
     else (if not (list_all has_place halves) then Some NoPlace
     else option_map Advert (advert_fault (memory_of halves)))

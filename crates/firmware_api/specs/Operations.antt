@@ -26,11 +26,12 @@ address_of A2 = 162
 abbrev pub padded : List ℕ → List ℕ
 padded bytes = bytes ++ replicate (most_stored - length bytes) 0
 
-abbrev pub operation_of : Op → Operation
-operation_of (Fetch dev offset count) =
-    record { kind = 0; device = address_of dev; offset = offset; count = count; bytes = replicate most_stored 0 }
-operation_of (Store dev offset bytes) =
-    record { kind = 1; device = address_of dev; offset = offset; count = length bytes.items; bytes = padded bytes.items }
+-- with the number that says whether it is to be made after a pause
+abbrev pub operation_of : Op → ℕ → Operation
+operation_of (Fetch dev offset count) wait =
+    record { kind = 0; device = address_of dev; offset = offset; count = count; bytes = replicate most_stored 0; wait = wait }
+operation_of (Store dev offset bytes) wait =
+    record { kind = 1; device = address_of dev; offset = offset; count = length bytes.items; bytes = padded bytes.items; wait = wait }
 
 -- 0 for a refusal, 1 for a store that was taken, 2 for bytes that were fetched
 abbrev pub reply_of : ℕ → List ℕ → Option Reply

@@ -1,11 +1,10 @@
 -- Procedures whose numbers C keeps: what they ask for, and what becomes of them. (docs/firmware.md, "Procedures"; this
 -- project's own)
-use Rattle.std.specs.Prelude.{◌≡◌, ℕ, List, Option, Some, None, Result, Ok, Err}
+use Rattle.std.specs.Prelude.{◌≡◌, ◌==◌, ◌&&◌, ℕ, nat_le, List, Option, Some, None, Result, Ok, Err, if◌then◌else◌}
 use Rattle.std.specs.Option.{option_map}
 use Rattle.bus_model.specs.declared.operation.Reply.{Reply}
 use Rattle.bus_model.specs.Operations.{Answers}
 use Rattle.control_sets.specs.declared.fault.ProvisionFault.{ProvisionFault}
-use Rattle.control_sets.specs.declared.procedures.procedure.saved.SavedProcedure.{SavedProcedure}
 use Rattle.control_sets.specs.declared.procedures.procedure.Procedure.{Procedure}
 use Rattle.control_sets.specs.declared.procedures.next.Next.{Next}
 use Rattle.control_sets.specs.declared.procedures.next.Next.TheVariants as next
@@ -15,24 +14,35 @@ use Rattle.control_sets.specs.Pages.{History}
 use Rattle.control_sets.specs.Progress.{IsAt}
 use Rattle.control_sets.specs.Progress as progress
 use Rattle.firmware_api.specs.declared.procedure.Answer.{Answer}
+use Rattle.firmware_api.specs.declared.procedure.KeptProcedure.{KeptProcedure}
 use Rattle.firmware_api.specs.declared.operation.Operation.{Operation}
 use Rattle.firmware_api.specs.declared.status.Refusal.TheVariants.{Ended, NoProcedure, NoReply, NotEnded}
 use Rattle.firmware_api.specs.Operations.{operation_of}
 use Rattle.firmware_api.specs.Statuses.{done, status_of}
+use Rattle.firmware_api.specs.Waits.{wait_for}
+
+-- what stands in each procedure: DCP1, in ASCII
+abbrev pub procedure_magic : ℕ
+procedure_magic = 0x44435031
+
+-- the procedure that has these numbers; none for memory that is no procedure
+unfoldable pub procedure_in : KeptProcedure → Option Procedure
+procedure_in kept = if kept.magic == procedure_magic && nat_le kept.wait 1 then restored kept.saved else None
 
 -- these are the numbers of a procedure of these tasks that was told these steps, the newest first
-abbrev pub IsSavedAt : List Task → History → SavedProcedure → Type 0
-IsSavedAt tasks history saved = (procedure : Procedure) × (restored saved ≡ Some procedure) × IsAt tasks history procedure
+abbrev pub IsSavedAt : List Task → History → KeptProcedure → Type 0
+IsSavedAt tasks history kept =
+    (procedure : Procedure) × (procedure_in kept ≡ Some procedure) × IsAt tasks history procedure × (kept.wait ≡ wait_for history (progress.next procedure))
 
 -- what the procedure with these numbers asks for, where one has them
-abbrev pub asked : SavedProcedure → Option Next
-asked saved = option_map progress.next (restored saved)
+abbrev pub asked : KeptProcedure → Option Next
+asked kept = option_map progress.next (procedure_in kept)
 
 -- what C is told of that
-abbrev pub IsNextTold : ℕ → Operation → Option Next → Type 0
-IsNextTold status after None = status ≡ status_of NoProcedure
-IsNextTold status after (Some (next.Do op)) = (status ≡ done) × (after ≡ operation_of op)
-IsNextTold status after (Some (next.Done answer)) = status ≡ status_of Ended
+abbrev pub IsNextTold : ℕ → Operation → ℕ → Option Next → Type 0
+IsNextTold status after wait None = status ≡ status_of NoProcedure
+IsNextTold status after wait (Some (next.Do op)) = (status ≡ done) × (after ≡ operation_of op wait)
+IsNextTold status after wait (Some (next.Done answer)) = status ≡ status_of Ended
 
 -- which status tells of a reply: it is taken exactly where the operation can have it
 abbrev pub IsReplyTold : ℕ → Option Reply → Option Next → Type 0

@@ -5,8 +5,10 @@ use Rattle.applications.specs.declared.fault.AdvertFault.{AdvertFault}
 use Rattle.applications.specs.declared.fault.AdvertFault.TheVariants.{NotCmis, Revision, NotEightLanes, FlatMemory, Absent, BadSum}
 use Rattle.plan_certificate.specs.declared.fault.CertificateFault.{CertificateFault}
 use Rattle.plan_certificate.specs.declared.fault.CertificateFault.TheVariants.{BadLine, OutOfOrder, TooMany, NoEnd}
+use Rattle.sim_module.specs.declared.fault.SimFault.{SimFault}
+use Rattle.sim_module.specs.declared.fault.SimFault.TheVariants as sim_fault
 use Rattle.firmware_api.specs.declared.status.Refusal.{Refusal}
-use Rattle.firmware_api.specs.declared.status.Refusal.TheVariants.{TooManyHalves, NoPlace, Advert, Certificate, TooManyKept, KeptNotAdmissible, NoProcedure, Ended, NotEnded, NoReply}
+use Rattle.firmware_api.specs.declared.status.Refusal.TheVariants.{TooManyHalves, NoPlace, Advert, Certificate, TooManyKept, KeptNotAdmissible, NoProcedure, Ended, NotEnded, NoReply, GaveUp, TooFewBytes, NoStart, NoModule, NoRange, NotTaken}
 
 -- of a call that did what it is for
 abbrev pub done : ℕ
@@ -27,6 +29,13 @@ certificate_status (OutOfOrder line) = 22
 certificate_status TooMany = 23
 certificate_status NoEnd = 24
 
+-- in the order in which they are looked for
+abbrev pub start_status : SimFault → ℕ
+start_status (sim_fault.Absent key) = 51
+start_status (sim_fault.Advert fault) = advert_status fault
+start_status sim_fault.BadDelay = 53
+start_status (sim_fault.ActiveNotPaths lane) = 54
+
 abbrev pub status_of : Refusal → ℕ
 status_of TooManyHalves = 1
 status_of NoPlace = 2
@@ -36,8 +45,14 @@ status_of NoProcedure = 31
 status_of Ended = 32
 status_of NotEnded = 33
 status_of NoReply = 34
+status_of GaveUp = 35
+status_of TooFewBytes = 36
 status_of TooManyKept = 42
 status_of KeptNotAdmissible = 43
+status_of (NoStart fault) = start_status fault
+status_of NoModule = 61
+status_of NoRange = 62
+status_of NotTaken = 63
 
 -- a call is refused, or does what it is for
 abbrev pub status_by : Option Refusal → ℕ

@@ -1,7 +1,8 @@
 ghost use Rattle.std.specs.Prelude.{◌≡◌, ◌≤◌, length, MatchOption, Ok, Err};
 ghost use Rattle.std.specs.List.{list_all};
 ghost use Rattle.applications.specs.Advertised.{advertised_by};
-ghost use Rattle.firmware_api.specs.Halves.{has_place, key_of, memory_of, module_refusal, most_halves};
+ghost use Rattle.firmware_api.specs.Halves.{has_place, key_of, memory_of, module_refusal};
+ghost use Rattle.paged_memory.specs.Images.{most_pages};
 
 use crate::status::Refusal;
 use applications::Advert;
@@ -65,15 +66,15 @@ pub fn read_advert(halves: &[Half]) -> Result<Advert, Refusal>
     }
 }
 
-fn all_have_places(halves: &[Half]) -> bool
+pub fn all_have_places(halves: &[Half]) -> bool
     ensures { result ≡ list_all has_place halves.now }
 {
     halves.iter().all(|half| half.has_place())
 }
 
-// Of halves at one place the first counts, so the last is put first.
-fn image_of(halves: &[Half]) -> Image
-    requires { length halves.now ≤ most_halves }
+/// The memory that has these halves. Of halves at one place the first counts, so the last is put first.
+pub fn image_of(halves: &[Half]) -> Image
+    requires { length halves.now ≤ most_pages }
     ensures { result ≡ memory_of halves.now }
 {
     let mut image = Image::new();

@@ -18,15 +18,15 @@ pub struct Operation {
     pub count: u8,
     /// Those of a store, and zeros behind them.
     pub bytes: [u8; MAX_STORE],
+    /// 1 if it is to be made after a pause, else 0.
+    pub wait: u8,
 }
 
-impl From<&Op> for Operation {
-    ghost use Rattle.std.specs.Prelude.{◌≡◌};
-    ghost use Rattle.firmware_api.specs.Operations.{operation_of};
-
-    ghost from_gives = { λ op operation. operation ≡ operation_of op.now };
-
-    fn from(op: &Op) -> Operation {
+impl Operation {
+    /// The operation, with the number that says whether it is to be made after a pause.
+    pub fn of(op: &Op, wait: u8) -> Operation
+        ensures { result ≡ operation_of op.now wait }
+    {
         match op {
             Op::Fetch { dev, offset, count } => Operation {
                 kind: 0,
@@ -34,6 +34,7 @@ impl From<&Op> for Operation {
                 offset: *offset,
                 count: *count,
                 bytes: [0; MAX_STORE],
+                wait,
             },
             Op::Store { dev, offset, bytes } => Operation {
                 kind: 1,
@@ -41,6 +42,7 @@ impl From<&Op> for Operation {
                 offset: *offset,
                 count: bytes.len() as u8,
                 bytes: padded(bytes),
+                wait,
             },
         }
     }

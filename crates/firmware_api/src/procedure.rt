@@ -2,6 +2,7 @@ ghost use Rattle.std.specs.Prelude.{◌≡◌, ◌≢◌, ◌∷◌, [], IfOk, L
 ghost use Rattle.field_tables.specs.LaneSets.{lanes_in};
 ghost use Rattle.bus_model.specs.declared.operation.Op.{Op};
 ghost use Rattle.bus_model.specs.declared.operation.Reply.{Reply};
+ghost use Rattle.bus_model.specs.SameOperation.{same_device};
 ghost use Rattle.control_sets.specs.declared.fault.ProvisionFault.{ProvisionFault};
 ghost use Rattle.control_sets.specs.declared.procedures.next.Next.{Next};
 ghost use Rattle.control_sets.specs.declared.procedures.next.Next.TheVariants as nexts;
@@ -9,16 +10,31 @@ ghost use Rattle.control_sets.specs.declared.procedures.task.Task.{Task};
 ghost use Rattle.control_sets.specs.Asking.{step_with};
 ghost use Rattle.control_sets.specs.Pages.{History};
 ghost use Rattle.control_sets.specs.Procedures.{HasEnded};
-ghost use Rattle.control_sets.specs.Progress.{Follows, IsAt};
+ghost use Rattle.control_sets.specs.Progress.{Follows, next};
 ghost use Rattle.control_sets.specs.Tasks.{activation, provisioning};
-ghost use Rattle.firmware_api.specs.SavedProcedures.{IsAnswerTold, IsSavedAt, IsNextTold, IsReplyTold, answer_of, asked};
+ghost use Rattle.firmware_api.specs.SavedProcedures.{IsAnswerTold, IsSavedAt, IsNextTold, IsReplyTold, answer_of, asked, procedure_in};
+ghost use Rattle.firmware_api.specs.Waits.{is_same_fetch, wait_for, wait_number, waits_after};
 ghost use Rattle.firmware_api.specs.Operations.{reply_of};
 ghost use Rattle.firmware_api.specs.Statuses.{done, status_in};
 
 use crate::operation::{Operation, reply_of};
 use crate::status::{DONE, Refusal};
+use bus_model::{Dev, Op, Reply, Step};
 use control_sets::{Next, Procedure, ProvisionFault, SavedFault, SavedProcedure};
 use field_tables::LaneSet;
+
+/// What stands in each procedure, so that other memory is none: `DCP1`.
+const PROCEDURE: u32 = 0x4443_5031;
+
+/// A procedure under way, as C keeps it.
+#[repr(C)]
+#[derive(Clone, Copy)]
+pub struct KeptProcedure {
+    pub magic: u32,
+    /// 1 if the step before was refused, or its operation is asked for again; else 0.
+    pub wait: u8,
+    pub saved: SavedProcedure,
+}
 
 /// How a procedure ended.
 #[repr(C)]
@@ -32,37 +48,41 @@ pub struct Answer {
 
 /// Puts the procedure into `procedure` that makes these control bytes active, by taking down and applying these lanes.
 #[unsafe(no_mangle)]
-pub extern "C" fn dovecounter_provision(
-    control: &[u8; 8],
-    lanes: u8,
-    procedure: &mut SavedProcedure,
-)
+pub extern "C" fn dovecounter_provision(control: &[u8; 8], lanes: u8, procedure: &mut KeptProcedure)
     ensures { IsSavedAt (provisioning control.now (lanes_in lanes)) [] procedure.new }
 {
-    *procedure = Procedure::provisioning(*control, LaneSet::from(lanes)).save();
+    *procedure = kept(
+        &Procedure::provisioning(*control, LaneSet::from(lanes)),
+        false,
+    );
 }
 
 /// Puts the procedure into `procedure` that brings up the data paths of these lanes, where these control bytes are active,
 /// and takes down those of all others.
 #[unsafe(no_mangle)]
-pub extern "C" fn dovecounter_activate(control: &[u8; 8], lanes: u8, procedure: &mut SavedProcedure)
+pub extern "C" fn dovecounter_activate(control: &[u8; 8], lanes: u8, procedure: &mut KeptProcedure)
     ensures { IsSavedAt (activation control.now (lanes_in lanes)) [] procedure.new }
 {
-    *procedure = Procedure::activation(*control, LaneSet::from(lanes)).save();
+    *procedure = kept(
+        &Procedure::activation(*control, LaneSet::from(lanes)),
+        false,
+    );
 }
 
 /// Puts the operation into `operation` that is to be made now.
-#[tactic(auto, using(crate::proofs::SavedLaws::saved_follows))]
+#[tactic(auto, using(crate::proofs::SavedLaws::saved_follows, crate::proofs::SavedLaws::saved_waits))]
 #[unsafe(no_mangle)]
-pub extern "C" fn dovecounter_next(procedure: &SavedProcedure, operation: &mut Operation) -> u32
-    ensures told { IsNextTold result operation.new (asked procedure.now) }
+pub extern "C" fn dovecounter_next(procedure: &KeptProcedure, operation: &mut Operation) -> u32
+    ensures told { IsNextTold result operation.new procedure.now.wait (asked procedure.now) }
     ensures refused { result ≢ done → operation.new ≡ operation.old }
     ensures follows { (tasks : List Task) (history : History) (next : Next) → IsSavedAt tasks history procedure.now →
         asked procedure.now ≡ Some next → Follows tasks history next }
+    ensures waits { result ≡ done → (tasks : List Task) (history : History) (op : Op) → IsSavedAt tasks history procedure.now →
+        asked procedure.now ≡ Some (nexts.Do op) → operation.new.wait ≡ wait_for history (nexts.Do op) }
 {
     match wanted(procedure) {
         Ok(Next::Do(op)) => {
-            *operation = Operation::from(&op);
+            *operation = Operation::of(&op, procedure.wait);
             DONE
         }
         Ok(Next::Done(_)) => Refusal::Ended.status(),
@@ -72,7 +92,7 @@ pub extern "C" fn dovecounter_next(procedure: &SavedProcedure, operation: &mut O
 
 /// Tells the procedure the reply to the operation that was to be made.
 #[unsafe(no_mangle)]
-pub extern "C" fn dovecounter_reply(procedure: &mut SavedProcedure, reply: u8, bytes: &[u8]) -> u32
+pub extern "C" fn dovecounter_reply(procedure: &mut KeptProcedure, reply: u8, bytes: &[u8]) -> u32
     ensures told { IsReplyTold result (reply_of reply bytes.now) (asked procedure.old) }
     ensures taken { result ≡ done → (tasks : List Task) (history : History) (op : Op) (made : Reply) →
         IsSavedAt tasks history procedure.old → asked procedure.old ≡ Some (nexts.Do op) →
@@ -81,7 +101,7 @@ pub extern "C" fn dovecounter_reply(procedure: &mut SavedProcedure, reply: u8, b
 {
     match told(procedure, reply, bytes) {
         Ok(told) => {
-            *procedure = told.save();
+            *procedure = told;
             DONE
         }
         Err(refusal) => refusal.status(),
@@ -91,7 +111,7 @@ pub extern "C" fn dovecounter_reply(procedure: &mut SavedProcedure, reply: u8, b
 /// Puts into `answer` how the procedure ended.
 #[tactic(auto, using(crate::proofs::SavedLaws::saved_follows))]
 #[unsafe(no_mangle)]
-pub extern "C" fn dovecounter_answer(procedure: &SavedProcedure, answer: &mut Answer) -> u32
+pub extern "C" fn dovecounter_answer(procedure: &KeptProcedure, answer: &mut Answer) -> u32
     ensures told { IsAnswerTold result answer.new (asked procedure.now) }
     ensures refused { result ≢ done → answer.new ≡ answer.old }
     ensures ended { (tasks : List Task) (history : History) (ended : Result ℕ ProvisionFault) →
@@ -124,30 +144,98 @@ fn answer_of(ended: Result<u16, ProvisionFault>) -> Answer
 }
 
 // What the procedure with these numbers asks for.
-fn wanted(saved: &SavedProcedure) -> Result<Next, Refusal>
+fn wanted(saved: &KeptProcedure) -> Result<Next, Refusal>
     ensures { MatchOption (asked saved.now) (result ≡ Err Refusal.NoProcedure) (λ next. result ≡ Ok next) }
 {
-    match Procedure::restore(saved) {
+    match restore(saved) {
         Some(procedure) => Ok(procedure.next()),
         None => Err(Refusal::NoProcedure),
     }
 }
 
 // The procedure with these numbers after it was told the reply.
-fn told(saved: &SavedProcedure, reply: u8, bytes: &[u8]) -> Result<Procedure, Refusal>
+fn told(saved: &KeptProcedure, reply: u8, bytes: &[u8]) -> Result<KeptProcedure, Refusal>
     ensures told { IsReplyTold (status_in result) (reply_of reply bytes.now) (asked saved.now) }
-    ensures taken { IfOk result (λ procedure. (tasks : List Task) (history : History) (op : Op) (made : Reply) →
+    ensures taken { IfOk result (λ told. (tasks : List Task) (history : History) (op : Op) (made : Reply) →
         IsSavedAt tasks history saved.now → asked saved.now ≡ Some (nexts.Do op) →
-        reply_of reply bytes.now ≡ Some made → IsAt tasks (step_with op made ∷ history) procedure) }
+        reply_of reply bytes.now ≡ Some made → IsSavedAt tasks (step_with op made ∷ history) told) }
 {
-    let Some(mut procedure) = Procedure::restore(saved) else {
+    let Some(mut procedure) = restore(saved) else {
         return Err(Refusal::NoProcedure);
     };
-    if let Next::Done(_) = procedure.next() {
+    let Next::Do(op) = procedure.next() else {
         return Err(Refusal::Ended);
-    }
+    };
     match reply_of(reply, bytes) {
-        Some(reply) if procedure.try_take(&reply) => Ok(procedure),
+        Some(reply) if procedure.try_take(&reply) => Ok(kept_after(
+            &procedure,
+            &Step { op, reply },
+        )),
         _ => Err(Refusal::NoReply),
     }
+}
+
+// The procedure that has these numbers, where one has.
+#[tactic(auto, unfolding(crate::specs::SavedProcedures::procedure_in))]
+fn restore(kept: &KeptProcedure) -> Option<Procedure>
+    ensures { result ≡ procedure_in kept.now }
+{
+    if kept.magic == PROCEDURE && kept.wait <= 1 {
+        Procedure::restore(&kept.saved)
+    } else {
+        None
+    }
+}
+
+#[tactic(auto, unfolding(crate::specs::SavedProcedures::procedure_in))]
+fn kept(procedure: &Procedure, wait: bool) -> KeptProcedure
+    ensures same { procedure_in result ≡ Some procedure.now }
+    ensures wait { result.wait ≡ wait_number wait }
+{
+    KeptProcedure {
+        magic: PROCEDURE,
+        wait: if wait { 1 } else { 0 },
+        saved: procedure.save(),
+    }
+}
+
+// The procedure after this step.
+fn kept_after(procedure: &Procedure, step: &Step) -> KeptProcedure
+    ensures same { procedure_in result ≡ Some procedure.now }
+    ensures wait { (before : History) → result.wait ≡ wait_for (step.now ∷ before) (next procedure.now) }
+{
+    kept(procedure, waits_after(step, &procedure.next()))
+}
+
+fn waits_after(step: &Step, wanted: &Next) -> bool
+    ensures { result ≡ waits_after step.now wanted.now }
+{
+    match wanted {
+        Next::Do(op) => matches!(step.reply, Reply::Refused) || is_same_fetch(&step.op, op),
+        Next::Done(_) => false,
+    }
+}
+
+fn is_same_fetch(op: &Op, other: &Op) -> bool
+    ensures { result ≡ is_same_fetch op.now other.now }
+{
+    match (op, other) {
+        (
+            Op::Fetch { dev, offset, count },
+            Op::Fetch {
+                dev: other_dev,
+                offset: other_offset,
+                count: other_count,
+            },
+        ) => {
+            is_same_device(*dev, *other_dev) && *offset == *other_offset && *count == *other_count
+        }
+        _ => false,
+    }
+}
+
+fn is_same_device(dev: Dev, other: Dev) -> bool
+    ensures { result ≡ same_device dev other }
+{
+    matches!((dev, other), (Dev::A0, Dev::A0) | (Dev::A2, Dev::A2))
 }

@@ -1,8 +1,9 @@
 ghost use Rattle.std.specs.Prelude.{◌≡◌, ◌≢◌};
-ghost use Rattle.firmware_api.specs.Statuses.{advert_status, certificate_status, done, status_of};
+ghost use Rattle.firmware_api.specs.Statuses.{advert_status, certificate_status, done, start_status, status_of};
 
 use applications::AdvertFault;
 use plan_certificate::CertificateFault;
+use sim_module::SimFault;
 
 /// What a call answers where it did what it is for.
 pub const DONE: u32 = 0;
@@ -30,6 +31,18 @@ pub enum Refusal {
     NotEnded,
     /// The operation that is to be made has no such reply.
     NoReply,
+    /// As many operations were told as may be, and not all was read.
+    GaveUp,
+    /// The bus fetches too few bytes at once.
+    TooFewBytes,
+    /// The halves with the delays are no simulated module.
+    NoStart(SimFault),
+    /// The numbers are none of a simulated module.
+    NoModule,
+    /// There is no such device, or the bytes are none, too many or not in one half.
+    NoRange,
+    /// The simulated module refuses.
+    NotTaken,
 }
 
 impl Refusal {
@@ -47,8 +60,14 @@ impl Refusal {
             Refusal::Ended => 32,
             Refusal::NotEnded => 33,
             Refusal::NoReply => 34,
+            Refusal::GaveUp => 35,
+            Refusal::TooFewBytes => 36,
             Refusal::TooManyKept => 42,
             Refusal::KeptNotAdmissible => 43,
+            Refusal::NoStart(fault) => start_status(fault),
+            Refusal::NoModule => 61,
+            Refusal::NoRange => 62,
+            Refusal::NotTaken => 63,
         }
     }
 }
@@ -76,5 +95,17 @@ fn certificate_status(fault: CertificateFault) -> u32
         CertificateFault::OutOfOrder(_) => 22,
         CertificateFault::TooMany => 23,
         CertificateFault::NoEnd => 24,
+    }
+}
+
+fn start_status(fault: SimFault) -> u32
+    ensures status { result ≡ start_status fault }
+    ensures refused { result ≢ done }
+{
+    match fault {
+        SimFault::Absent(_) => 51,
+        SimFault::Advert(fault) => advert_status(fault),
+        SimFault::BadDelay => 53,
+        SimFault::ActiveNotPaths(_) => 54,
     }
 }

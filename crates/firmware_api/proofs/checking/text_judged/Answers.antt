@@ -1,4 +1,4 @@
-use Rattle.std.proofs.Common.{Ok, Err, IfErr, OnOk, sym, subst, ap, ◌∙◌, refl}
+use Rattle.std.proofs.Common.{Ok, Err, IfErr, OnOk, subst, ap, ◌∙◌, refl}
 use Rattle.text_lines.specs.Lines.{lines_of}
 use Rattle.applications.specs.Weights.{HostWeights}
 use Rattle.plan_certificate.specs.Limits.{most_states}
@@ -6,7 +6,6 @@ use Rattle.plan_certificate.specs.CertificateFaults.{IsFirstFault}
 use Rattle.plan_certificate.specs.CertificateText.{IsTextOf}
 use Rattle.plan_certificate.specs.Verdicts.{verdict}
 use Rattle.firmware_api.specs.Checks.{judgement_of}
-use Rattle.firmware_api.specs.declared.status.Refusal.TheVariants.{Certificate}
 use Rattle.firmware_api.proofs.checking.text_judged.Goals as goal
 
 pub returns-in-Ok-clause-judged : goal.returns-in-Ok-clause-judged

@@ -4,5 +4,9 @@ use Rattle.control_sets.specs.Tasks.{activation}
 use Rattle.firmware_api.proofs.procedure.dovecounter_activate.Goals as goal
 
 pub returns : goal.returns
-returns c =
-    (c.activation.result, c.save.ensures.same, subst (λ lanes. IsAt (activation c.args.control.now lanes) [] c.activation.result) c.from.ensures c.activation.ensures)
+returns c = (
+  c.activation.result,
+  c.kept.ensures.same,
+  subst (λ lanes. IsAt (activation c.args.control.now lanes) [] c.activation.result) c.from.ensures c.activation.ensures,
+  c.kept.ensures.wait,
+)

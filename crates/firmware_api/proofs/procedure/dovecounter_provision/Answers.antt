@@ -4,5 +4,9 @@ use Rattle.control_sets.specs.Tasks.{provisioning}
 use Rattle.firmware_api.proofs.procedure.dovecounter_provision.Goals as goal
 
 pub returns : goal.returns
-returns c =
-    (c.provisioning.result, c.save.ensures.same, subst (λ lanes. IsAt (provisioning c.args.control.now lanes) [] c.provisioning.result) c.from.ensures c.provisioning.ensures)
+returns c = (
+  c.provisioning.result,
+  c.kept.ensures.same,
+  subst (λ lanes. IsAt (provisioning c.args.control.now lanes) [] c.provisioning.result) c.from.ensures c.provisioning.ensures,
+  c.kept.ensures.wait,
+)

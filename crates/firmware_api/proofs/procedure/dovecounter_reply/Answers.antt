@@ -1,5 +1,4 @@
 use Rattle.firmware_api.proofs.procedure.dovecounter_reply.Goals as goal
 
 pub returns-in-Ok-clause-taken : goal.returns-in-Ok-clause-taken
-returns-in-Ok-clause-taken c done tasks history op made saved asks replied =
-    (c.in-Ok.told, c.save.ensures.same, c.in-Ok.ensures.taken tasks history op made saved asks replied)
+returns-in-Ok-clause-taken c done tasks history op made saved asks replied = c.in-Ok.ensures.taken tasks history op made saved asks replied

@@ -1,0 +1,124 @@
+-- Simulated modules of which C keeps what changes: why there is none, and what an event makes of the numbers.
+use Rattle.std.proofs.Common.{◌≡◌, List, Option, Some, None, Result, Ok, Err, refl, ap, sym, subst, ◌∙◌}
+use Rattle.std.specs.Prelude.{IfOk, MatchOption}
+use Rattle.std.specs.Option.{option_map}
+use Rattle.paged_memory.specs.Images.{Memory}
+use Rattle.applications.specs.Advertised.{Advertised, advertised_by}
+use Rattle.applications.specs.Refusals.{advert_fault}
+use Rattle.applications.specs.declared.fault.AdvertFault.{AdvertFault}
+use Rattle.sim_module.specs.declared.delays.Delays.{Delays}
+use Rattle.sim_module.specs.declared.fault.SimFault.{SimFault}
+use Rattle.sim_module.specs.declared.fixed.Fixed.{Fixed}
+use Rattle.sim_module.specs.declared.module.SimModule.{SimModule}
+use Rattle.sim_module.specs.declared.moving.Moving.{Moving}
+use Rattle.sim_module.specs.declared.saved.SavedModule.{SavedModule}
+use Rattle.sim_module.specs.Lanes.{active_bytes}
+use Rattle.sim_module.specs.Record.{bare, module_of}
+use Rattle.sim_module.specs.SavedModules.{restored}
+use Rattle.sim_module.specs.Starts.{start, start_fault}
+use Rattle.firmware_api.specs.declared.half.Half.{Half}
+use Rattle.firmware_api.specs.declared.status.Refusal.{Refusal}
+use Rattle.firmware_api.specs.declared.status.Refusal.TheVariants.{NoStart, NoModule}
+use Rattle.firmware_api.specs.Halves.{memory_of}
+use Rattle.firmware_api.specs.Plans.{refusal_before}
+use Rattle.firmware_api.specs.SimulatedModules.{begun, half_refusal, held, held_by, module_in, unless_refused}
+use Rattle.firmware_api.proofs.SavedLaws.{same_some}
+
+abbrev in_ok : {A E : Type 0} → A → Result A E → A
+in_ok other (Ok value) = value
+in_ok other (Err fault) = other
+
+same_ok : {A E : Type 0} (a b : A) → ◌≡◌ {A = Result A E} (Ok a) (Ok b) → a ≡ b
+same_ok a b same = ap (in_ok a) same
+
+pub when_ok : {A : Type 0} (r : Result A Refusal) (value : A) (P : A → Type 0) → r ≡ Ok value → P value → IfOk r P
+when_ok {A = A} r value P is holds = subst (λ (r : Result A Refusal). IfOk r P) (sym is) holds
+
+-- ---- halves that are not refused
+
+no_refusal : {A : Type 0} (refusal : Option Refusal) (right value : A) → unless_refused refusal right ≡ Ok value → refusal ≡ None
+no_refusal None right value is = refl
+no_refusal (Some refusal) right value is = cc
+
+right_value : {A : Type 0} (refusal : Option Refusal) (right value : A) → unless_refused refusal right ≡ Ok value → right ≡ value
+right_value None right value is = same_ok right value is
+right_value (Some refusal) right value is = cc
+
+-- ---- a module at the start
+
+-- its fault as a refusal
+abbrev passed : Result SimModule SimFault → Result SimModule Refusal
+passed (Ok sim) = Ok sim
+passed (Err fault) = Err (NoStart fault)
+
+passes : (refusal : Option Refusal) (fault : Option SimFault) (made : Result SimModule SimFault) (sim : SimModule) → refusal ≡ None →
+    MatchOption fault (made ≡ Ok sim) (λ f. made ≡ Err f) → unless_refused (refusal_before refusal (option_map NoStart fault)) sim ≡ passed made
+passes None None made sim none is = sym (ap passed is)
+passes None (Some fault) made sim none is = sym (ap passed is)
+passes (Some refusal) fault made sim none is = cc
+
+abbrev IsNew : Memory → Delays → Result SimModule SimFault → Type 0
+IsNew memory delays made = MatchOption (start_fault memory delays) (made ≡ Ok (start memory delays)) (λ fault. made ≡ Err fault)
+
+pub begun_fault : (halves : List Half) (delays : Delays) (image : Memory) (made : Result SimModule SimFault) (fault : SimFault) →
+    unless_refused (half_refusal halves) (memory_of halves) ≡ Ok image → IsNew image delays made → made ≡ Err fault → begun halves delays ≡ Err (NoStart fault)
+begun_fault halves delays image made fault reads new is =
+    let same = right_value (half_refusal halves) (memory_of halves) image reads in
+    passes (half_refusal halves) (start_fault (memory_of halves) delays) made (start (memory_of halves) delays)
+    (no_refusal (half_refusal halves) (memory_of halves) image reads) (subst (λ (memory : Memory). IsNew memory delays made) (sym same) new)
+    ∙ ap passed is
+
+-- ---- a module with its numbers
+
+abbrev pub module_or : Option SimModule → Result SimModule Refusal
+module_or None = Err NoModule
+module_or (Some sim) = Ok sim
+
+tells : (sim : Option SimModule) → held_by None None sim ≡ module_or sim
+tells None = refl
+tells (Some sim) = refl
+
+held_with : (refusal : Option Refusal) (fault : Option AdvertFault) (read : Result Advertised AdvertFault) (right advert : Advertised)
+    (sim : Advertised → Option SimModule) → refusal ≡ None → MatchOption fault (read ≡ Ok right) (λ f. read ≡ Err f) → read ≡ Ok advert →
+    held_by refusal fault (sim right) ≡ module_or (sim advert)
+held_with None None read right advert sim none reads is = tells (sim right) ∙ ap (λ (a : Advertised). module_or (sim a)) (same_ok right advert (sym reads ∙ is))
+held_with None (Some fault) read right advert sim none reads is = cc
+held_with (Some refusal) fault read right advert sim none reads is = cc
+
+abbrev IsRead : Memory → Result Advertised AdvertFault → Type 0
+IsRead memory read = MatchOption (advert_fault memory) (read ≡ Ok (advertised_by memory)) (λ fault. read ≡ Err fault)
+
+pub held_is : (halves : List Half) (numbers : SavedModule) (image : Memory) (read : Result Advertised AdvertFault) (advert : Advertised)
+    (sim : Option SimModule) → unless_refused (half_refusal halves) (memory_of halves) ≡ Ok image → IsRead image read → read ≡ Ok advert →
+    sim ≡ module_in (record { image = image; advert = advert }) numbers → held halves numbers ≡ module_or sim
+held_is halves numbers image read advert sim reads advertises is made =
+    let same = right_value (half_refusal halves) (memory_of halves) image reads in
+    held_with (half_refusal halves) (advert_fault (memory_of halves)) read (advertised_by (memory_of halves)) advert
+    (λ a. module_in (record { image = memory_of halves; advert = a }) numbers)
+    (no_refusal (half_refusal halves) (memory_of halves) image reads) (subst (λ (memory : Memory). IsRead memory read) (sym same) advertises) is
+    ∙ ap (λ (memory : Memory). module_or (module_in (record { image = memory; advert = advert }) numbers)) same
+    ∙ ap module_or (sym made)
+
+-- ---- numbers alone
+
+-- an event that takes a module to another one
+pub made_by : (event : SimModule → SimModule) (old new : SavedModule) (before after : Moving) → restored old ≡ Some before → restored new ≡ Some after →
+    ((fixed : Fixed) → module_of fixed after ≡ event (module_of fixed before)) → (fixed : Fixed) → module_in fixed new ≡ option_map event (module_in fixed old)
+made_by event old new before after was is happens fixed =
+    ap (option_map (module_of fixed)) is ∙ ap (λ (sim : SimModule). Some sim) (happens fixed)
+    ∙ sym (ap (λ (moving : Option Moving). option_map event (option_map (module_of fixed) moving)) was)
+
+pub none_by : (event : SimModule → SimModule) (numbers : SavedModule) → restored numbers ≡ None → (fixed : Fixed) → module_in fixed numbers ≡ option_map event (module_in fixed numbers)
+none_by event numbers none fixed =
+    ap (option_map (module_of fixed)) none ∙ sym (ap (λ (moving : Option Moving). option_map event (option_map (module_of fixed) moving)) none)
+
+pub active_in : (numbers : SavedModule) (moving : Moving) → restored numbers ≡ Some moving → (fixed : Fixed) (sim : SimModule) → module_in fixed numbers ≡ Some sim →
+    active_bytes (bare moving) ≡ active_bytes sim
+active_in numbers moving is fixed sim made =
+    ap active_bytes (same_some (module_of fixed moving) sim (sym (ap (option_map (module_of fixed)) is) ∙ made))
+
+not_both : {A : Type 0} (value : A) → ◌≡◌ {A = Option A} None (Some value) → ⊥
+not_both value same = cc
+
+pub no_active : (numbers : SavedModule) (fixed : Fixed) (sim : SimModule) → restored numbers ≡ None → module_in fixed numbers ≡ Some sim → ⊥
+no_active numbers fixed sim none made = not_both sim (sym (ap (option_map (module_of fixed)) none) ∙ made)

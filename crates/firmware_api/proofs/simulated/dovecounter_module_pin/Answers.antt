@@ -1,0 +1,14 @@
+use Rattle.std.proofs.Common.{sym, ◌∙◌}
+use Rattle.sim_module.specs.declared.module.SimModule.{SimModule}
+use Rattle.sim_module.specs.Ticks.{pinned}
+use Rattle.firmware_api.specs.SimulatedModules.{is_on}
+use Rattle.firmware_api.proofs.HeldModules.{made_by, none_by}
+use Rattle.firmware_api.proofs.simulated.dovecounter_module_pin.Goals as goal
+
+pub returns-in-Some-clause-done : goal.returns-in-Some-clause-done
+returns-in-Some-clause-done c =
+    made_by (λ (sim : SimModule). pinned sim (is_on c.args.on)) c.args.simulated.now c.save.result c.in-Some.moving c.low_power_pin.new.self
+    (sym c.restore.ensures ∙ c.in-Some.is) c.save.ensures.back c.low_power_pin.ensures
+
+pub returns-in-None-clause-done : goal.returns-in-None-clause-done
+returns-in-None-clause-done c = none_by (λ (sim : SimModule). pinned sim (is_on c.args.on)) c.args.simulated.now (sym c.restore.ensures ∙ c.in-None.is)

@@ -1,0 +1,83 @@
+ghost use Rattle.std.specs.Prelude.{◌≡◌, ◌≢◌, MatchOption, Ok, Err};
+ghost use Rattle.firmware_api.specs.Durations.{durations_of, longest};
+ghost use Rattle.firmware_api.specs.Halves.{memory_of, module_refusal};
+ghost use Rattle.firmware_api.specs.Statuses.{done, status_by};
+
+use crate::half::{Half, image_of, read_advert};
+use crate::status::{DONE, Refusal};
+use field_tables::{Field, number};
+use paged_memory::Image;
+
+/// How long states of a module and of its data paths last at most, in milliseconds; `u32::MAX` where it does not say.
+#[repr(C)]
+#[derive(Clone, Copy)]
+pub struct Durations {
+    pub module_power_up: u32,
+    pub module_power_down: u32,
+    pub path_init: u32,
+    pub path_deinit: u32,
+    pub path_tx_turn_on: u32,
+    pub path_tx_turn_off: u32,
+}
+
+/// Puts into `durations` how long states last at most of the module whose memory has these halves.
+#[unsafe(no_mangle)]
+pub extern "C" fn dovecounter_durations(halves: &[Half], durations: &mut Durations) -> u32
+    ensures status { result ≡ status_by (module_refusal halves.now) }
+    ensures done { result ≡ done → durations.new ≡ durations_of (memory_of halves.now) }
+    ensures refused { result ≢ done → durations.new ≡ durations.old }
+{
+    match read_durations(halves) {
+        Ok(read) => {
+            *durations = read;
+            DONE
+        }
+        Err(refusal) => refusal.status(),
+    }
+}
+
+#[tactic(auto, using(crate::proofs::ModuleRefusals::few_if_read))]
+fn read_durations(halves: &[Half]) -> Result<Durations, Refusal>
+    ensures { MatchOption (module_refusal halves.now) (result ≡ Ok (durations_of (memory_of halves.now)))
+        (λ refusal. result ≡ Err refusal) }
+{
+    match read_advert(halves) {
+        Ok(_advert) => Ok(durations_of(&image_of(halves))),
+        Err(refusal) => Err(refusal),
+    }
+}
+
+fn durations_of(image: &Image) -> Durations
+    ensures { result ≡ durations_of image.now }
+{
+    Durations {
+        module_power_up: longest(number(image, Field::CMaxDurationModulePwrUp)),
+        module_power_down: longest(number(image, Field::CMaxDurationModulePwrDn)),
+        path_init: longest(number(image, Field::CMaxDurationDPInit)),
+        path_deinit: longest(number(image, Field::CMaxDurationDPDeinit)),
+        path_tx_turn_on: longest(number(image, Field::CMaxDurationDPTxTurnOn)),
+        path_tx_turn_off: longest(number(image, Field::CMaxDurationDPTxTurnOff)),
+    }
+}
+
+// The end of the range that a code of durations stands for, in milliseconds.
+fn longest(code: u8) -> u32
+    ensures { result ≡ longest code }
+{
+    match code {
+        0 => 1,
+        1 => 5,
+        2 => 10,
+        3 => 50,
+        4 => 100,
+        5 => 500,
+        6 => 1_000,
+        7 => 5_000,
+        8 => 10_000,
+        9 => 60_000,
+        10 => 300_000,
+        11 => 600_000,
+        12 => 3_000_000,
+        _ => u32::MAX,
+    }
+}

@@ -1,0 +1,190 @@
+// A reading as plain numbers: those of a reading, and the reading that has them.
+ghost use Rattle.std.specs.Prelude.{◌≡◌, ◌≤◌, ◌<◌, IfSome, IsTrue, Some, length, take};
+ghost use Rattle.std.specs.FinMap as map;
+ghost use Rattle.std.specs.List.{list_all};
+ghost use Rattle.control_sets.specs.SavedNumbers.{selected_numbered};
+ghost use Rattle.module_reading.specs.PieceReading.{HasSize};
+ghost use Rattle.firmware_api.specs.Halves.{has_place, key_of, memory_of};
+ghost use Rattle.firmware_api.specs.SavedReadings.{IsFit, halves_in, is_sound, reading_in};
+ghost use Rattle.firmware_api.specs.Waits.{wait_number};
+
+use crate::half::{Half, all_have_places, image_of};
+use arrayvec::ArrayVec;
+use module_reading::{PieceReading, Reading};
+use paged_memory::{PAGE_LEN, Selected};
+
+/// What stands in each reading, so that other memory is none: `DCR1`.
+const READING: u32 = 0x4443_5231;
+
+/// As many halves are read of a module at most.
+pub const MAX_READ: usize = 5;
+
+/// The reading of a module's memory under way, as C keeps it.
+#[repr(C)]
+#[derive(Clone, Copy)]
+pub struct SavedReading {
+    pub magic: u32,
+    /// How many operations were told, but for pieces before the last one of their half.
+    pub steps: u16,
+    /// How many halves were read or left out.
+    pub settled: u8,
+    /// Of the page selection 0 where nothing is known, 1 where it was stored to, 2 where a page was read back.
+    pub selection: u8,
+    /// The page that was read back, or 0.
+    pub page: u8,
+    /// 1 where the last store on the selection was taken, else 0.
+    pub accepted: u8,
+    /// How many bytes a piece has.
+    pub piece: u8,
+    /// How many bytes of the half in hand were read.
+    pub read: u8,
+    /// 1 if the step before was refused, else 0.
+    pub wait: u8,
+    /// How many halves were read.
+    pub count: u8,
+    /// Those, the newest first.
+    pub halves: [Half; MAX_READ],
+    /// The bytes of the half in hand that were read.
+    pub part: [u8; PAGE_LEN],
+}
+
+const NO_HALF: Half = Half {
+    device: 0,
+    upper: 0,
+    bank: 0,
+    page: 0,
+    bytes: [0; PAGE_LEN],
+};
+
+/// The numbers of a reading that has read no half.
+#[tactic(auto, unfolding(crate::specs::Halves::memory_of))]
+pub fn of_nothing(read: &PieceReading) -> SavedReading
+    requires size { HasSize read.now }
+    requires settled { read.now.reading.settled ≤ 5 }
+    requires image { read.now.reading.image ≡ map.empty }
+    ensures same { reading_in result ≡ Some read.now }
+    ensures wait { result.wait ≡ 0 }
+{
+    numbers(read, false, 0, [NO_HALF; MAX_READ])
+}
+
+/// The numbers of a reading whose image has what it had before.
+pub fn without_half(before: &SavedReading, read: &PieceReading, wait: bool) -> SavedReading
+    requires fit { IsFit before.now read.now }
+    ensures same { reading_in result ≡ Some read.now }
+    ensures wait { result.wait ≡ wait_number wait }
+{
+    numbers(read, wait, before.count, before.halves)
+}
+
+/// The numbers of a reading whose image has this half more.
+pub fn with_half(before: &SavedReading, read: &PieceReading, wait: bool, half: Half) -> SavedReading
+    requires count { before.now.count < read.now.reading.settled }
+    requires settled { read.now.reading.settled ≤ 5 }
+    requires places { IsTrue (list_all has_place (halves_in before.now)) }
+    requires place { IsTrue (has_place half) }
+    requires image { read.now.reading.image ≡ map.insert (memory_of (halves_in before.now)) (key_of half) half.bytes }
+    requires size { HasSize read.now }
+    ensures same { reading_in result ≡ Some read.now }
+    ensures wait { result.wait ≡ wait_number wait }
+{
+    let mut halves = [half; MAX_READ];
+    halves[1..].copy_from_slice(&before.halves[..4]);
+    numbers(read, wait, before.count + 1, halves)
+}
+
+#[tactic(auto, unfolding(crate::specs::SavedReadings::reading_in))]
+fn numbers(read: &PieceReading, wait: bool, count: u8, halves: [Half; MAX_READ]) -> SavedReading
+    requires size { HasSize read.now }
+    requires count { count ≤ read.now.reading.settled }
+    requires settled { read.now.reading.settled ≤ 5 }
+    requires places { IsTrue (list_all has_place (take count halves)) }
+    requires image { read.now.reading.image ≡ memory_of (take count halves) }
+    ensures same { reading_in result ≡ Some read.now }
+    ensures wait { result.wait ≡ wait_number wait }
+{
+    let (selection, page) = numbers_of_selected(read.reading.selected);
+    SavedReading {
+        magic: READING,
+        steps: read.reading.steps,
+        settled: read.reading.settled as u8,
+        selection,
+        page,
+        accepted: if read.reading.accepted { 1 } else { 0 },
+        piece: read.piece,
+        read: read.part.len() as u8,
+        wait: if wait { 1 } else { 0 },
+        count,
+        halves,
+        part: padded(&read.part),
+    }
+}
+
+// With zeros behind.
+fn padded(part: &ArrayVec<u8, PAGE_LEN>) -> [u8; PAGE_LEN]
+    requires { length part.now.items < 128 }
+    ensures { take (length part.now.items) result ≡ part.now.items }
+{
+    let mut all = [0; PAGE_LEN];
+    all[..part.len()].copy_from_slice(part);
+    all
+}
+
+fn numbers_of_selected(selected: Selected) -> (u8, u8)
+    ensures { selected_numbered result.0 result.1 ≡ Some selected }
+{
+    match selected {
+        Selected::Unknown => (0, 0),
+        Selected::Open => (1, 0),
+        Selected::Page(page) => (2, page),
+    }
+}
+
+fn selected(saved: &SavedReading) -> Option<Selected>
+    ensures { result ≡ selected_numbered saved.now.selection saved.now.page }
+{
+    match saved.selection {
+        0 => Some(Selected::Unknown),
+        1 => Some(Selected::Open),
+        2 => Some(Selected::Page(saved.page)),
+        _ => None,
+    }
+}
+
+fn is_sound(saved: &SavedReading) -> bool
+    ensures { result ≡ is_sound saved.now }
+{
+    saved.magic == READING
+        && saved.settled <= 5
+        && saved.count <= saved.settled
+        && 0 < saved.piece
+        && saved.read < 128
+        && saved.wait <= 1
+}
+
+/// The reading that has these numbers, where one has.
+#[tactic(auto, using(crate::proofs::HalfMemories::memory_has_few), unfolding(crate::specs::SavedReadings::reading_in))]
+pub fn restore(saved: &SavedReading) -> Option<PieceReading>
+    ensures value { result ≡ reading_in saved.now }
+    ensures fit { IfSome result (λ read. IsFit saved.now read) }
+{
+    if !is_sound(saved) {
+        return None;
+    }
+    let halves = &saved.halves[..usize::from(saved.count)];
+    if !all_have_places(halves) {
+        return None;
+    }
+    let selected = selected(saved)?;
+    Some(PieceReading {
+        reading: Reading {
+            image: image_of(halves),
+            settled: usize::from(saved.settled),
+            steps: saved.steps,
+            selected,
+            accepted: saved.accepted == 1,
+        },
+        piece: saved.piece,
+        part: ArrayVec::try_from(&saved.part[..usize::from(saved.read)]).unwrap(),
+    })
+}

@@ -1,0 +1,230 @@
+ghost use Rattle.std.specs.Prelude.{◌≡◌, ◌≢◌, IfOk, Ok, Some, map, length, option_map};
+ghost use Rattle.sim_module.specs.declared.fixed.Fixed.{Fixed};
+ghost use Rattle.sim_module.specs.declared.module.SimModule.{SimModule};
+ghost use Rattle.sim_module.specs.Lanes.{active_bytes};
+ghost use Rattle.sim_module.specs.Record.{moving_of};
+ghost use Rattle.sim_module.specs.SavedModules.{restored};
+ghost use Rattle.sim_module.specs.Ticks.{pinned, ticked};
+ghost use Rattle.firmware_api.specs.Halves.{memory_of};
+ghost use Rattle.firmware_api.specs.SimulatedModules as spec;
+ghost use Rattle.firmware_api.specs.Statuses.{done, status_by, status_in};
+
+use crate::half::{Half, all_have_places, image_of};
+use crate::status::{DONE, Refusal};
+use applications::Advert;
+use arrayvec::ArrayVec;
+use bus_model::{Dev, Device, MAX_FETCH, MAX_STORE};
+use paged_memory::{Image, MAX_PAGES};
+use sim_module::{Delays, Moving, SavedModule, SimModule};
+
+/// Puts into `simulated` what changes of the module at its start that has these halves and delays.
+#[unsafe(no_mangle)]
+pub extern "C" fn dovecounter_module_begin(
+    halves: &[Half],
+    delays: &Delays,
+    simulated: &mut SavedModule,
+) -> u32
+    ensures status { result ≡ status_in (spec.begun halves.now delays.now) }
+    ensures done { IfOk (spec.begun halves.now delays.now) (λ sim. restored simulated.new ≡ Some (moving_of sim)) }
+    ensures refused { result ≢ done → simulated.new ≡ simulated.old }
+{
+    match begun(halves, *delays) {
+        Ok(begun) => {
+            *simulated = begun.save();
+            DONE
+        }
+        Err(refusal) => refusal.status(),
+    }
+}
+
+/// Fetches as many bytes as `bytes` has room for.
+#[unsafe(no_mangle)]
+pub extern "C" fn dovecounter_module_fetch(
+    halves: &[Half],
+    simulated: &mut SavedModule,
+    device: u8,
+    offset: u8,
+    bytes: &mut [u8],
+) -> u32
+    ensures status { result ≡ status_in (spec.fetched_by (spec.held halves.now simulated.old) device offset (length bytes.old)) }
+    ensures done { IfOk (spec.fetched_by (spec.held halves.now simulated.old) device offset (length bytes.old))
+        (λ answer. (bytes.new ≡ answer.0) × (restored simulated.new ≡ Some (moving_of answer.1))) }
+    ensures refused { result ≢ done → (simulated.new ≡ simulated.old) × (bytes.new ≡ bytes.old) }
+{
+    match fetched(halves, simulated, device, offset, bytes.len()) {
+        Ok((fetched, after)) => {
+            bytes.copy_from_slice(&fetched);
+            *simulated = after.save();
+            DONE
+        }
+        Err(refusal) => refusal.status(),
+    }
+}
+
+/// Stores bytes.
+#[unsafe(no_mangle)]
+pub extern "C" fn dovecounter_module_store(
+    halves: &[Half],
+    simulated: &mut SavedModule,
+    device: u8,
+    offset: u8,
+    bytes: &[u8],
+) -> u32
+    ensures status { result ≡ status_in (spec.stored_by (spec.held halves.now simulated.old) device offset bytes.now) }
+    ensures done { IfOk (spec.stored_by (spec.held halves.now simulated.old) device offset bytes.now)
+        (λ sim. restored simulated.new ≡ Some (moving_of sim)) }
+    ensures refused { result ≢ done → simulated.new ≡ simulated.old }
+{
+    match stored(halves, simulated, device, offset, bytes) {
+        Ok(after) => {
+            *simulated = after.save();
+            DONE
+        }
+        Err(refusal) => refusal.status(),
+    }
+}
+
+/// Lets one tick pass, of whichever halves the module is.
+#[unsafe(no_mangle)]
+pub extern "C" fn dovecounter_module_tick(simulated: &mut SavedModule) -> u32
+    ensures status { result ≡ status_by (spec.refusal_in (restored simulated.old)) }
+    ensures done { (fixed : Fixed) → spec.module_in fixed simulated.new ≡ option_map ticked (spec.module_in fixed simulated.old) }
+    ensures refused { result ≢ done → simulated.new ≡ simulated.old }
+{
+    match Moving::restore(simulated) {
+        Some(mut moving) => {
+            moving.tick();
+            *simulated = moving.save();
+            DONE
+        }
+        None => Refusal::NoModule.status(),
+    }
+}
+
+/// The host holds the low power pin, or leaves it where `on` is 0.
+#[unsafe(no_mangle)]
+pub extern "C" fn dovecounter_module_pin(simulated: &mut SavedModule, on: u8) -> u32
+    ensures status { result ≡ status_by (spec.refusal_in (restored simulated.old)) }
+    ensures done { (fixed : Fixed) → spec.module_in fixed simulated.new
+        ≡ option_map (λ (sim : SimModule). pinned sim (spec.is_on on)) (spec.module_in fixed simulated.old) }
+    ensures refused { result ≢ done → simulated.new ≡ simulated.old }
+{
+    match Moving::restore(simulated) {
+        Some(mut moving) => {
+            moving.low_power_pin(on != 0);
+            *simulated = moving.save();
+            DONE
+        }
+        None => Refusal::NoModule.status(),
+    }
+}
+
+/// Puts into `active` the control bytes of the Active Control Set, lane 1 first.
+#[unsafe(no_mangle)]
+pub extern "C" fn dovecounter_module_active(simulated: &SavedModule, active: &mut [u8; 8]) -> u32
+    ensures status { result ≡ status_by (spec.refusal_in (restored simulated.now)) }
+    ensures done { (fixed : Fixed) (sim : SimModule) → spec.module_in fixed simulated.now ≡ Some sim → active.new ≡ active_bytes sim }
+    ensures refused { result ≢ done → active.new ≡ active.old }
+{
+    match Moving::restore(simulated) {
+        Some(moving) => {
+            *active = moving.active();
+            DONE
+        }
+        None => Refusal::NoModule.status(),
+    }
+}
+
+fn image_in(halves: &[Half]) -> Result<Image, Refusal>
+    ensures { result ≡ spec.unless_refused (spec.half_refusal halves.now) (memory_of halves.now) }
+{
+    if halves.len() > MAX_PAGES {
+        return Err(Refusal::TooManyHalves);
+    }
+    if !all_have_places(halves) {
+        return Err(Refusal::NoPlace);
+    }
+    Ok(image_of(halves))
+}
+
+fn begun(halves: &[Half], delays: Delays) -> Result<SimModule, Refusal>
+    ensures { result ≡ spec.begun halves.now delays }
+{
+    let image = image_in(halves)?;
+    match SimModule::new(&image, delays) {
+        Ok(begun) => Ok(begun),
+        Err(fault) => Err(Refusal::NoStart(fault)),
+    }
+}
+
+// The module that has these halves and these numbers.
+fn held(halves: &[Half], saved: &SavedModule) -> Result<SimModule, Refusal>
+    ensures { result ≡ spec.held halves.now saved.now }
+{
+    let image = image_in(halves)?;
+    let advert = match Advert::of(&image) {
+        Ok(advert) => advert,
+        Err(fault) => return Err(Refusal::Advert(fault)),
+    };
+    match SimModule::restore(image, advert, saved) {
+        Some(held) => Ok(held),
+        None => Err(Refusal::NoModule),
+    }
+}
+
+fn fetched(
+    halves: &[Half],
+    saved: &SavedModule,
+    device: u8,
+    offset: u8,
+    count: usize,
+) -> Result<(ArrayVec<u8, MAX_FETCH>, SimModule), Refusal>
+    ensures answer { spec.with_items result ≡ spec.fetched_by (spec.held halves.now saved.now) device offset count }
+    ensures count { IfOk result (λ answer. length answer.0.items ≡ count) }
+{
+    let mut held = held(halves, saved)?;
+    if !is_range(device, offset, count) {
+        return Err(Refusal::NoRange);
+    }
+    match held.fetch(dev_of(device), offset, count as u8) {
+        Some(bytes) => Ok((bytes, held)),
+        None => Err(Refusal::NotTaken),
+    }
+}
+
+fn stored(
+    halves: &[Half],
+    saved: &SavedModule,
+    device: u8,
+    offset: u8,
+    bytes: &[u8],
+) -> Result<SimModule, Refusal>
+    ensures { result ≡ spec.stored_by (spec.held halves.now saved.now) device offset bytes.now }
+{
+    let mut held = held(halves, saved)?;
+    if bytes.len() > MAX_STORE || !is_range(device, offset, bytes.len()) {
+        return Err(Refusal::NoRange);
+    }
+    if held.store(dev_of(device), offset, bytes) {
+        Ok(held)
+    } else {
+        Err(Refusal::NotTaken)
+    }
+}
+
+// Whether there is such a device, and so many bytes, at least one, lie in one half.
+fn is_range(device: u8, offset: u8, count: usize) -> bool
+    ensures { result ≡ spec.is_range device offset count }
+{
+    let offset = usize::from(offset);
+    (device == 0xA0 || device == 0xA2)
+        && 0 < count
+        && count <= 128
+        && (offset + count <= 128 || 128 <= offset && offset + count <= 256)
+}
+
+fn dev_of(device: u8) -> Dev
+    ensures { result ≡ spec.dev_of device }
+{
+    if device == 0xA2 { Dev::A2 } else { Dev::A0 }
+}
