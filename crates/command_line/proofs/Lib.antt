@@ -6,9 +6,11 @@ mod GoodTexts
 mod KnownParts
 mod OwnAnswers
 mod PartCuts
+mod PlainChoices
 mod PlanAnswers
 mod ProcedureAnswers
 mod SameOverBus
 mod ReportAnswers
 mod TextBehind
 mod CheckedPlans
+pub mod RemarkLemmas

@@ -107,7 +107,7 @@ module _ (refusal : Memory → Option ReportFault) (lines : Memory → List (Lis
     plain : (parts : List (List ℕ)) (a : Answer) → IsReportAnswer true refusal lines parts a → a ≢ Err (fault.Report report.GaveUp) → IsReportAnswer false refusal lines parts a
     plain (text ∷ []) (Ok (t, None)) (fetched, read, none, said) ended =
         let alike = same read.memory fetched read.is_text.image read.fetched in
-        (read.memory, read.is_text, sym alike.fault ∙ none, said ∙ ap text_of (alike.lines none))
+        (read.memory, read.is_text, sym alike.fault ∙ none, said ∙ ap text_of (alike.said none))
     plain (text ∷ []) (Ok (t, Some f)) never ended = absurd never
     plain (text ∷ []) (Err (fault.Report f)) (inl unread) ended =
         absurd (ended (ap (λ (g : ReportFault). Err (fault.Report g)) (reading_fault unread.memory f unread.fetched)))

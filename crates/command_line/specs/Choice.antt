@@ -51,9 +51,10 @@ abbrev pub command_app : Entry → App
 command_app entry =
     fold (λ app flag. with_rule app (flag_rule flag)) (new_app entry.name) entry.flags
 
--- the program before its commands: one of them is required, and `help` is none of them
+-- the program before its commands: it has a version, one of them is required, and `help` is none of them
 abbrev pub bare_program : App
 bare_program = on_top (λ s. record s {
+  has_version = true;
   subcommand_required = true;
   disable_help_subcommand = true;
 }) (new_app (codes "cmisctl"))
@@ -84,6 +85,16 @@ choice_in = option_and_then (λ found. option_map (λ entry. record {
   keep = is_given keep found.1;
   first = is_given first found.1;
 }) (entry_named found.0))
+
+-- what a command's name alone asks for: the command, with none of its flags
+abbrev pub plain_choice : CommandName → Choice
+plain_choice command = record {
+  name = command;
+  bus = false;
+  activate = false;
+  keep = false;
+  first = false;
+}
 
 -- the choice that the words make
 abbrev pub choice_of : List Text → Option Choice

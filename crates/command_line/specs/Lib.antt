@@ -11,7 +11,10 @@ pub mod Input
 pub mod Parts
 pub mod PartsLeft
 pub mod Faults
+pub mod Places
+pub mod Remarks
 pub mod Runs
+pub mod RemarksBeside
 pub mod PartFaults
 pub mod OverBus
 pub mod ReportCommands

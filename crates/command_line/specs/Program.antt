@@ -1,6 +1,6 @@
 -- One run of the whole program, from the words of its command line and its input to what it writes and how it ends.
 -- (docs/formats.md; this project's own)
-use Rattle.std.specs.Prelude.{◌≡◌, ◌⊎◌, ◌++◌, ◌∷◌, ℕ, Bool, true, false, List, [], map, codes, string_bytes, Option, Some, Result, Ok, Err, Vec, String}
+use Rattle.std.specs.Prelude.{◌≡◌, ◌⊎◌, ◌++◌, ◌∷◌, ℕ, Bool, true, false, List, [], map, codes, string_bytes, Option, Some, IfSome, Result, Ok, Err, Vec, String}
 use Rattle.std.specs.Result.{result_map_both}
 use Rattle.std.specs.IoError.{error_kind}
 use Rattle.std.specs.Io.KnownBytes.{Appends}
@@ -17,7 +17,7 @@ use Rattle.command_line.specs.KeptParts.{count_with}
 use Rattle.command_line.specs.PlanCommand.{IsPlanAnswer}
 use Rattle.command_line.specs.ProvisionCommand.{IsProvisionAnswer, IsTraceAnswer}
 use Rattle.command_line.specs.ReportCommands.{IsInventoryAnswer, IsAppsAnswer, IsMonitorsAnswer, IsFlagsAnswer}
-use Rattle.command_line.specs.Runs.{Answer, IsAnswerTo, IsCommandRun, ended}
+use Rattle.command_line.specs.Runs.{Answer, IsAnswerTo, IsCommandRun, ended, ending_after}
 use Rattle.command_line.specs.StoppingWriter.{contents_of, writing_failed}
 use Rattle.command_line.specs.declared.choice.commands.Choice.{Choice}
 use Rattle.command_line.specs.declared.choice.commands.CommandName.{CommandName}
@@ -27,6 +27,10 @@ use Rattle.command_line.specs.declared.choice.fault.ChoiceFault.TheVariants.{Mem
 use Rattle.command_line.specs.declared.fault.Fault.TheVariants as fault
 use Rattle.command_line.specs.declared.input.counted_reader.CountedReader.{CountedReader}
 use Rattle.command_line.specs.declared.output.stopping_writer.StoppingWriter.{StoppingWriter}
+use Rattle.command_line.specs.Remarks.{remark_text}
+use Rattle.command_line.specs.declared.ending.Ending.{Ending}
+use Rattle.command_line.specs.declared.remark.Remark.{Remark}
+use Rattle.command_line.specs.declared.remark.Remark.TheVariants.{Nothing, NoMemory}
 use Rattle.command_line.specs.declared.status.Status.{Status}
 use Rattle.command_line.specs.declared.status.Status.TheVariants as status
 
@@ -72,18 +76,32 @@ IsWordsRefusalSaid error before after write_failed status =
     (status ≡ ended write_failed (words_status (error_kind error)))
     × (write_failed ≡ false → Appends before after (words_line (error_kind error)))
 
+-- what is said beside a refusal of the command line that ends with this status
+abbrev pub refusal_remark : Status → Remark
+refusal_remark status.Memory = NoMemory
+refusal_remark status = Nothing
+
+abbrev pub refusal_ending : Bool → Status → Ending
+refusal_ending write_failed status = ending_after write_failed status (refusal_remark status)
+
+-- where nothing fails, standard error gets what is said
+abbrev pub IsRemarkSaid : {E : Type 0} → (E → Option (List ℕ)) → Remark → StoppingWriter E → StoppingWriter E → Type 0
+IsRemarkSaid contents remark errors errors_after = writing_failed errors_after ≡ false
+    → IfSome (remark_text remark) (Appends (contents_of contents errors) (contents_of contents errors_after))
+
 -- a refusal of the command line: the reader is left as it was, and after a failed write nothing more is written
 pub record IsRefusalRun {R W : Type 0} (contents : W → Option (List ℕ)) (IsSaid : Option (List ℕ) → Option (List ℕ) → Bool → Status → Type 0)
-    (reader reader_after : CountedReader R) (writer writer_after : StoppingWriter W) (status : Status) : Type 0 where
+    (reader reader_after : CountedReader R) (writer writer_after : StoppingWriter W) (ending : Ending) : Type 0 where
   pub unread : reader_after ≡ reader
-  pub said : IsSaid (contents_of contents writer) (contents_of contents writer_after) (writing_failed writer_after) status
+  pub said : IsSaid (contents_of contents writer) (contents_of contents writer_after) (writing_failed writer_after) ending.status
+  pub remarked : ending ≡ refusal_ending (writing_failed writer_after) ending.status
   pub stopped : writing_failed writer ≡ true → writer_after ≡ writer
 
 -- the command that the words choose was run, or they were refused
 abbrev pub IsProgramRun : {R W : Type 0} → (R → Option (List ℕ)) → (W → Option (List ℕ)) → Result (List Text) Error
-    → CountedReader R → CountedReader R → StoppingWriter W → StoppingWriter W → Status → Type 0
-IsProgramRun remaining contents (Ok words) reader reader_after writer writer_after status =
-    ((choice : Choice) × (choice_of words ≡ Some choice) × IsCommandRun remaining contents (IsAnswerOf choice) reader reader_after writer writer_after status)
-    ⊎ ((fault : ChoiceFault) × IsRefusalOf words fault × IsRefusalRun contents (IsRefusalSaid fault) reader reader_after writer writer_after status)
-IsProgramRun remaining contents (Err error) reader reader_after writer writer_after status =
-    IsRefusalRun contents (IsWordsRefusalSaid error) reader reader_after writer writer_after status
+    → CountedReader R → CountedReader R → StoppingWriter W → StoppingWriter W → Ending → Type 0
+IsProgramRun remaining contents (Ok words) reader reader_after writer writer_after ending =
+    ((choice : Choice) × (choice_of words ≡ Some choice) × IsCommandRun remaining contents (IsAnswerOf choice) reader reader_after writer writer_after ending)
+    ⊎ ((fault : ChoiceFault) × IsRefusalOf words fault × IsRefusalRun contents (IsRefusalSaid fault) reader reader_after writer writer_after ending)
+IsProgramRun remaining contents (Err error) reader reader_after writer writer_after ending =
+    IsRefusalRun contents (IsWordsRefusalSaid error) reader reader_after writer writer_after ending

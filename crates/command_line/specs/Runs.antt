@@ -7,6 +7,11 @@ use Rattle.control_sets.specs.declared.fault.ProvisionFault.{ProvisionFault}
 use Rattle.command_line.specs.declared.fault.Fault.{Fault}
 use Rattle.command_line.specs.declared.fault.Fault.TheVariants.{Memory, Io, TooLong, Parts, Provision}
 use Rattle.command_line.specs.declared.told.Told.{Told}
+use Rattle.command_line.specs.Remarks.{opening_for}
+use Rattle.command_line.specs.declared.ending.Ending.{Ending}
+use Rattle.command_line.specs.declared.remark.Remark.{Remark}
+use Rattle.command_line.specs.declared.remark.Remark.TheVariants.{Unwritten, Refused, Warned}
+use Rattle.command_line.specs.declared.remark.warnings.Warnings.{Warnings}
 use Rattle.command_line.specs.declared.status.Status.{Status}
 use Rattle.command_line.specs.declared.status.Status.TheVariants.{Done, NotProvisioned, ReadOrWrite}
 use Rattle.command_line.specs.CountedReader.{reading_failed, reads_of, remaining_of}
@@ -72,22 +77,44 @@ IsWritten answer before after write_failed status =
 abbrev pub EndsByFailure : Bool → Bool → Status → Type 0
 EndsByFailure read_failed write_failed status = (status ≡ ReadOrWrite) ↔ ((read_failed || write_failed) ≡ true)
 
--- such an answer was written, and no more was read than it needs
-pub record IsAnswered {R W : Type 0} (remaining : R → Option (List ℕ)) (contents : W → Option (List ℕ)) (IsAnswer : Answer → Type 0)
-    (reader reader_after : CountedReader R) (writer writer_after : StoppingWriter W) (status : Status) : Type 0 where
+-- a fault is explained by how the input begins; which line of weights is named is left open
+abbrev pub IsExplained : List ℕ → Fault → Remark → Type 0
+IsExplained input fault remark =
+    (line : Option ℕ) × (remark ≡ Refused record { fault = fault; clue = record { opening = opening_for fault input; weights_line = line } })
+
+-- what is said beside an answer to this input that was written; what is warned of is left open
+abbrev pub IsRemarkOn : List ℕ → Answer → Remark → Type 0
+IsRemarkOn input (Err fault) remark = IsExplained input fault remark
+IsRemarkOn input (Ok (text, Some fault)) remark = IsExplained input (Provision fault) remark
+IsRemarkOn input (Ok (text, None)) remark = (warnings : Warnings) × (remark ≡ Warned warnings)
+
+-- of one that was not written whole, that alone
+abbrev pub IsSaidBeside : Bool → List ℕ → Answer → Remark → Type 0
+IsSaidBeside true input answer remark = remark ≡ Unwritten
+IsSaidBeside false input answer remark = IsRemarkOn input answer remark
+
+-- how a run ends with this status, and this to be said: after a failed write that alone
+abbrev pub ending_after : Bool → Status → Remark → Ending
+ending_after true status remark = record { status = status; remark = Unwritten }
+ending_after false status remark = record { status = status; remark = remark }
+
+-- such an answer was written, no more was read than it needs, and this is said beside it
+pub record IsAnswered {R W : Type 0} (remaining : R → Option (List ℕ)) (contents : W → Option (List ℕ)) (IsAnswer : List ℕ → Answer → Type 0) (input : List ℕ)
+    (reader reader_after : CountedReader R) (writer writer_after : StoppingWriter W) (ending : Ending) : Type 0 where
   pub answer : Answer
-  pub is_answer : IsAnswer answer
+  pub is_answer : IsAnswer input answer
   pub reading : SaysReading (reading_failed reader_after) answer
   pub taken : TakesWithinLimit (remaining_of remaining reader) (remaining_of remaining reader_after) (answer ≡ Err TooLong)
-  pub written : IsWritten answer (contents_of contents writer) (contents_of contents writer_after) (writing_failed writer_after) status
+  pub written : IsWritten answer (contents_of contents writer) (contents_of contents writer_after) (writing_failed writer_after) ending.status
+  pub remarked : IsSaidBeside (writing_failed writer_after) input answer ending.remark
 
 -- one run of a command on a reader and a writer, before and after, that answers its input so
 pub record IsCommandRun {R W : Type 0} (remaining : R → Option (List ℕ)) (contents : W → Option (List ℕ)) (IsAnswer : List ℕ → Answer → Type 0)
-    (reader reader_after : CountedReader R) (writer writer_after : StoppingWriter W) (status : Status) : Type 0 where
+    (reader reader_after : CountedReader R) (writer writer_after : StoppingWriter W) (ending : Ending) : Type 0 where
   -- the reads are counted within their limit
   pub reads : reads_of reader_after ≤ read_limit
-  pub failure : EndsByFailure (reading_failed reader_after) (writing_failed writer_after) status
+  pub failure : EndsByFailure (reading_failed reader_after) (writing_failed writer_after) ending.status
   -- after a failed write nothing more is written
   pub stopped : writing_failed writer ≡ true → writer_after ≡ writer
   -- where the reader's bytes are known
-  pub answered : IfSome (remaining_of remaining reader) (λ input. IsAnswered remaining contents (IsAnswer input) reader reader_after writer writer_after status)
+  pub answered : IfSome (remaining_of remaining reader) (λ input. IsAnswered remaining contents IsAnswer input reader reader_after writer writer_after ending)

@@ -1,11 +1,11 @@
 //! The command line: which command the words name, and which flags they give it.
-ghost use Rattle.std.specs.Prelude.{◌≡◌, ◌∷◌, map, codes, false, true, IfOk, IfErr, IsSome, Some};
+ghost use Rattle.std.specs.Prelude.{◌≡◌, ◌∷◌, map, codes, false, true, IfOk, IfErr, IfSome, IsSome, Some};
 ghost use Rattle.std.specs.Prelude.{[], string_bytes, option_map, MatchResult};
 ghost use Rattle.std.specs.List.{list_all};
 ghost use Rattle.clap.specs.declared.builder.command.Command.TheViews.{out-Command as fields_of};
 ghost use Rattle.clap.specs.Words.{Text, app_of, found_of, rows_of, rule_of, subcommand_rows_of, takes};
 ghost use Rattle.command_line.specs.Choice.{program, choice_of, choice_in, flag_rule, command_app};
-ghost use Rattle.command_line.specs.Choice.{commands, faults_of, is_given};
+ghost use Rattle.command_line.specs.Choice.{commands, faults_of, is_given, plain_choice};
 ghost use Rattle.command_line.specs.Program.{IsRefusalOf};
 ghost use Rattle.command_line.specs.Entries.{entry_of};
 
@@ -17,6 +17,7 @@ use clap::error::ErrorKind;
 use clap::{Arg, ArgAction, ArgMatches, Command};
 use commands::{Choice, CommandEntry, Flag, command_named};
 use fault::ChoiceFault;
+use notices::VERSION_WITH_TEXTS;
 use std::alloc::{AllocError, Global};
 
 /// The flag as an argument of its command.
@@ -51,6 +52,7 @@ fn program<'a>(alloc: Global) -> Result<Command<'a>, AllocError>
     ensures local { IfOk result (λ c. (fields_of c).has_globals ≡ false) }
 {
     let mut program = Command::new(alloc, "cmisctl")
+        .version(VERSION_WITH_TEXTS)
         .about("Manages pluggable optical modules through their memory map")
         .after_help(help::OF_PROGRAM)
         .subcommand_required(true)
@@ -87,8 +89,20 @@ fn chosen(matches: &ArgMatches<'_>) -> Choice
     }
 }
 
-/// What the words ask for, of which the first is the program's name.
-pub fn choice(alloc: Global, words: &[String]) -> Result<Choice, ChoiceFault>
+// The choice of a command's name alone, for which `clap` need not be asked.
+fn plain_choice(words: &[String]) -> Option<Choice>
+    ensures answer { IfSome result (λ choice. choice_of (map string_bytes words.now) ≡ Some choice) }
+    ensures taken { IfSome result (λ _. faults_of (map string_bytes words.now) ≡ []) }
+{
+    let [_, name] = words else {
+        return None;
+    };
+    let entry = command_named(name)?;
+    Some(Choice::plain(entry.command))
+}
+
+// What the words ask for, as `clap` reads them.
+fn parsed(alloc: Global, words: &[String]) -> Result<Choice, ChoiceFault>
     ensures answer { IfOk result (λ choice. choice_of (map string_bytes words.now) ≡ Some choice) }
     ensures taken { IfOk result (λ _. faults_of (map string_bytes words.now) ≡ []) }
     ensures refused { IfErr result (IsRefusalOf (map string_bytes words.now)) }
@@ -97,17 +111,28 @@ pub fn choice(alloc: Global, words: &[String]) -> Result<Choice, ChoiceFault>
     Ok(chosen(&matches))
 }
 
-/// Each command's name, alone after the program's own, is taken and chooses that command.
+/// What the words ask for, of which the first is the program's name.
+pub fn choice(alloc: Global, words: &[String]) -> Result<Choice, ChoiceFault>
+    ensures answer { IfOk result (λ choice. choice_of (map string_bytes words.now) ≡ Some choice) }
+    ensures taken { IfOk result (λ _. faults_of (map string_bytes words.now) ≡ []) }
+    ensures refused { IfErr result (IsRefusalOf (map string_bytes words.now)) }
+{
+    match plain_choice(words) {
+        Some(choice) => Ok(choice),
+        None => parsed(alloc, words),
+    }
+}
+
+/// Each command's name, alone after the program's own, is taken and chooses that command, without a flag.
 pub fn names_choose_their_commands()
     ensures taken { (program_name : Text)
         → list_all (λ entry. takes program (program_name ∷ entry.name ∷ [])) commands ≡ true }
     ensures chosen { (program_name : Text)
-        → map (λ entry. option_map (λ choice. choice.name)
-        (choice_of (program_name ∷ entry.name ∷ []))) commands
-        ≡ map (λ entry. Some entry.command) commands }
+        → map (λ entry. choice_of (program_name ∷ entry.name ∷ [])) commands
+        ≡ map (λ entry. Some (plain_choice entry.command)) commands }
 {}
 
-/// Help comes by its flags alone, `help` is no command, and some command is wanted.
+/// Help and the version come by their flags alone, `help` is no command, and some command is wanted.
 pub fn help_is_a_flag()
     ensures long { (program_name : Text)
         → faults_of (program_name ∷ codes "--help" ∷ []) ≡ ErrorKind.DisplayHelp ∷ [] }
@@ -115,6 +140,8 @@ pub fn help_is_a_flag()
         → faults_of (program_name ∷ codes "-h" ∷ []) ≡ ErrorKind.DisplayHelp ∷ [] }
     ensures word { (program_name : Text) → faults_of (program_name ∷ codes "help" ∷ [])
         ≡ ErrorKind.UnknownArgument ∷ ErrorKind.InvalidSubcommand ∷ [] }
+    ensures version { (program_name : Text)
+        → faults_of (program_name ∷ codes "--version" ∷ []) ≡ ErrorKind.DisplayVersion ∷ [] }
     ensures nothing { (program_name : Text)
         → faults_of (program_name ∷ []) ≡ ErrorKind.MissingSubcommand ∷ [] }
 {}

@@ -3,6 +3,7 @@
 
 pub mod choice;
 mod commands;
+mod ending;
 mod failure;
 mod fault;
 mod input;
@@ -10,6 +11,7 @@ pub mod laws;
 mod output;
 mod parts;
 mod program;
+mod remark;
 mod status;
 mod told;
 

@@ -34,6 +34,11 @@ pub fn parts(input: &[u8], count: usize) -> Result<ArrayVec<&[u8], MAX_PARTS>, F
     Ok(parts)
 }
 
+/// The part of this number, from 0 on, if there is one.
+pub fn part(input: &[u8], number: usize) -> Option<&[u8]> {
+    Pieces::of(input).nth(number)
+}
+
 // The parts of an input from the first to the last; none once the last has been given.
 #[derive(Clone, Copy)]
 struct Pieces<'a> {

@@ -1,6 +1,6 @@
 //! One run of the whole program.
 ghost use Rattle.std.specs.Prelude.{◌≡◌, true};
-ghost use Rattle.command_line.specs.Program.{IsAnswerOf, IsProgramRun, IsWordsRefusalSaid, words_of};
+ghost use Rattle.command_line.specs.Program.{IsAnswerOf, IsProgramRun, IsRemarkSaid, refusal_ending, refusal_remark, IsWordsRefusalSaid, words_of};
 ghost use Rattle.command_line.specs.Runs.{IsCommandRun};
 ghost use Rattle.command_line.specs.StoppingWriter.{contents_of, writing_failed};
 
@@ -8,32 +8,75 @@ use crate::choice::choice;
 use crate::choice::commands::{Choice, CommandName};
 use crate::choice::fault::choice_refused;
 use crate::commands;
+use crate::ending::Ending;
 use crate::fault::Fault;
 use crate::input::CountedReader;
 use crate::output::{OutputFault, StoppingWriter, write_answer};
+use crate::remark::Remark;
 use crate::status::Status;
 use std::alloc::Global;
 use std::io;
 use std::io::{ErrorKind, Read, Write};
 
 /// Does what the words of the command line ask for, or says why it does not, and answers how the program ends. The
-/// first word is the program's name.
-pub fn run<R: Read, W: Write>(
+/// first word is the program's name. What standard error says comes last, and changes neither the answer nor the status.
+pub fn run<R: Read, W: Write, E: Write>(
     alloc: Global,
     words: io::Result<Vec<String>>,
     reader: &mut CountedReader<R>,
     writer: &mut StoppingWriter<W>,
+    errors: &mut StoppingWriter<E>,
 ) -> Status
+    ensures { (remark : Remark) × IsProgramRun R.remaining W.contents (words_of words)
+        reader.old reader.new writer.old writer.new record { status = result; remark = remark }
+        × IsRemarkSaid E.contents remark errors.old errors.new }
+{
+    let ending = ending(alloc, words, reader, writer);
+    say(&ending.remark, errors);
+    ending.status
+}
+
+/// Says a remark, if it can be said.
+fn say<E: Write>(remark: &Remark, errors: &mut StoppingWriter<E>)
+    ensures { IsRemarkSaid E.contents remark.now errors.old errors.new }
+{
+    let _said = errors.put_text(remark);
+}
+
+/// Does what the words ask for, or says why it does not.
+fn ending<R: Read, W: Write>(
+    alloc: Global,
+    words: io::Result<Vec<String>>,
+    reader: &mut CountedReader<R>,
+    writer: &mut StoppingWriter<W>,
+) -> Ending
     ensures { IsProgramRun R.remaining W.contents (words_of words)
         reader.old reader.new writer.old writer.new result }
 {
     let words = match words {
         Ok(words) => words,
-        Err(error) => return words_refused(&error, writer),
+        Err(error) => return refused(words_refused(&error, writer), writer),
     };
     match choice(alloc, words.as_slice()) {
         Ok(choice) => command(alloc, choice, reader, writer),
-        Err(fault) => choice_refused(&fault, writer),
+        Err(fault) => refused(choice_refused(&fault, writer), writer),
+    }
+}
+
+/// How a run ends whose command line was refused with this status.
+fn refused<W>(status: Status, writer: &StoppingWriter<W>) -> Ending
+    ensures { result ≡ refusal_ending (writing_failed writer.now) status }
+{
+    Ending::after(status, refusal_remark(status), writer)
+}
+
+/// What is said beside it.
+fn refusal_remark(status: Status) -> Remark
+    ensures { result ≡ refusal_remark status }
+{
+    match status {
+        Status::Memory => Remark::NoMemory,
+        _ => Remark::Nothing,
     }
 }
 
@@ -43,7 +86,7 @@ fn command<R: Read, W: Write>(
     choice: Choice,
     reader: &mut CountedReader<R>,
     writer: &mut StoppingWriter<W>,
-) -> Status
+) -> Ending
     ensures { IsCommandRun R.remaining W.contents (IsAnswerOf choice)
         reader.old reader.new writer.old writer.new result }
 {

@@ -1,10 +1,12 @@
 //! What a command tells.
 
+use crate::remark::Warnings;
 use control_sets::ProvisionFault;
 
-/// A text, and why the procedure that it tells of ended without success, if it did.
+/// A text, why the procedure that it tells of ended without success, if it did, and what is odd about its plan.
 #[derive(Drop)]
 pub struct Told {
     pub text: Vec<u8>,
     pub fault: Option<ProvisionFault>,
+    pub warnings: Warnings,
 }

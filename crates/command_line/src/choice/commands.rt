@@ -1,6 +1,6 @@
 //! The commands of the program and their flags, one line each.
 ghost use Rattle.std.specs.Prelude.{◌≡◌, map, option_copied, option_map};
-ghost use Rattle.command_line.specs.Choice.{commands, entry_named};
+ghost use Rattle.command_line.specs.Choice.{commands, entry_named, plain_choice};
 ghost use Rattle.command_line.specs.Entries.{entry_of};
 
 /// What the program is asked to do.
@@ -28,6 +28,21 @@ pub struct Choice {
     pub keep: bool,
     /// Whether the plan of a certificate is to be compared with the one that `plan` gives.
     pub first: bool,
+}
+
+impl Choice {
+    /// What a command's name alone asks for.
+    pub fn plain(command: CommandName) -> Choice
+        ensures { result ≡ plain_choice command }
+    {
+        Choice {
+            name: command,
+            bus: false,
+            activate: false,
+            keep: false,
+            first: false,
+        }
+    }
 }
 
 /// A flag, given as `--name`.

@@ -7,7 +7,9 @@ pub const OF_PROGRAM: &str = "An image text tells a module's memory, in lines of
 'tools/module-image PORT' prints that of the module in a network port,
 'tools/module-image FILE' that of a dump (eeprom, hexdump, i2cdump ..);
 'cmisctl COMMAND --help' says what else a command reads. docs/formats.md
-describes all texts, and docs/faults.md what each fault means.";
+describes all texts, and docs/faults.md what each fault means.
+'plan' prints a certificate; 'check' prints its plan in words, and
+'provision' the control bytes.";
 
 // The end of a command's help: the parts of its input, its examples and a status of its own, if it has one. Each part is taken off
 // the first list, and its text put on the second.

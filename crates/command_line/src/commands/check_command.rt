@@ -8,10 +8,11 @@ ghost use Rattle.command_line.specs.Runs.{IsAnswerTo, IsCommandRun, IsOwnAnswer,
 
 use super::command::{Command, run};
 use super::planning_inputs::read_advert;
+use crate::ending::Ending;
 use crate::fault::Fault;
 use crate::input::CountedReader;
 use crate::output::StoppingWriter;
-use crate::status::Status;
+use crate::remark::Warnings;
 use crate::told::Told;
 use applications::{Advert, Weights};
 use lane_planner::first_best;
@@ -64,6 +65,7 @@ impl CheckCommand {
                 Verdict::Good => Ok(Told {
                     text: self.good_text(alloc, advert, weights, &read)?,
                     fault: None,
+                    warnings: Warnings::of(advert, weights, !read.plan.paths.is_empty()),
                 }),
                 Verdict::Bad(reason, number) => Err(Fault::Bad(reason, number)),
             },
@@ -140,7 +142,7 @@ pub fn check<R: Read, W: Write>(
     first: bool,
     reader: &mut CountedReader<R>,
     writer: &mut StoppingWriter<W>,
-) -> Status
+) -> Ending
     ensures { IsCommandRun R.remaining W.contents (IsAnswerTo 3 (IsCheckAnswer record { tells_first = first }))
         reader.old reader.new writer.old writer.new result }
 {

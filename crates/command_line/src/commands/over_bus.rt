@@ -2,7 +2,7 @@
 ghost use Rattle.std.specs.Prelude.{◌≤◌, MatchResult, Ok};
 ghost use Rattle.std.specs.FinMap as map;
 ghost use Rattle.command_line.specs.OverBus.{IsFetchRefusal, IsFetchedFrom, IsInputRefusal, IsToReport};
-ghost use Rattle.paged_memory.specs.declared.image.TheConstants.{MAX_PAGES};
+ghost use Rattle.paged_memory.specs.Images.{most_pages};
 
 use crate::fault::Fault;
 use bus_model::{Script, ScriptBus};
@@ -27,7 +27,7 @@ pub fn image_to_report(alloc: Global, text: &[u8], is_over_bus: bool) -> Result<
 
 // What is read over a bus of a module that has this image. The bus refuses nothing.
 fn fetched(alloc: Global, image: &Image) -> Result<Image, Fault>
-    requires { map.len image.now ≤ MAX_PAGES }
+    requires { map.len image.now ≤ most_pages }
     ensures { MatchResult result (λ read. IsFetchedFrom image.now (Ok read)) (IsFetchRefusal image.now) }
 {
     let module = Window::<MAX_PAGES>::of(image).unwrap();

@@ -8,10 +8,10 @@ use super::command::{Command, run};
 use super::kept_parts::{count_with, kept_part};
 use super::outcome::push_outcome;
 use super::session::{Session, carry_out, set_up};
+use crate::ending::Ending;
 use crate::fault::Fault;
 use crate::input::CountedReader;
 use crate::output::StoppingWriter;
-use crate::status::Status;
 use crate::told::Told;
 use bus_model::Step;
 use reports::trace_text;
@@ -42,6 +42,7 @@ impl Command for ProvisionCommand {
             advert,
             plan,
             kept,
+            warnings,
             mut bus,
         } = set_up(
             alloc,
@@ -53,7 +54,11 @@ impl Command for ProvisionCommand {
         let ended = carry_out(&mut bus, &advert, &plan, &kept, self.is_activated);
         let mut text = steps_text(alloc, self.is_traced, bus.steps())?;
         let fault = push_outcome(&mut text, ended, bus.device().active())?;
-        Ok(Told { text, fault })
+        Ok(Told {
+            text,
+            fault,
+            warnings,
+        })
     }
 }
 
@@ -77,7 +82,7 @@ pub fn provision<R: Read, W: Write>(
     keep: bool,
     reader: &mut CountedReader<R>,
     writer: &mut StoppingWriter<W>,
-) -> Status
+) -> Ending
     ensures { IsCommandRun R.remaining W.contents (IsAnswerTo (count_with keep 3) (IsProvisionAnswer activate keep))
         reader.old reader.new writer.old writer.new result }
 {
@@ -96,7 +101,7 @@ pub fn trace<R: Read, W: Write>(
     keep: bool,
     reader: &mut CountedReader<R>,
     writer: &mut StoppingWriter<W>,
-) -> Status
+) -> Ending
     ensures { IsCommandRun R.remaining W.contents (IsAnswerTo (count_with keep 3) (IsTraceAnswer activate keep))
         reader.old reader.new writer.old writer.new result }
 {

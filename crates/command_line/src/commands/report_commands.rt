@@ -8,10 +8,11 @@ ghost use Rattle.command_line.specs.Runs.{IsAnswerTo, IsCommandRun};
 
 use super::command::{Command, run};
 use super::over_bus::image_to_report;
+use crate::ending::Ending;
 use crate::fault::Fault;
 use crate::input::CountedReader;
 use crate::output::StoppingWriter;
-use crate::status::Status;
+use crate::remark::Warnings;
 use crate::told::Told;
 use paged_memory::Image;
 use reports::ReportFault;
@@ -59,6 +60,7 @@ impl<T: Report> Command for ReportCommand<T> {
         Ok(Told {
             text: self.report.text(alloc, &image)?,
             fault: None,
+            warnings: Warnings::none(),
         })
     }
 }
@@ -121,7 +123,7 @@ fn print<T: Report + Drop, R: Read, W: Write>(
     is_over_bus: bool,
     reader: &mut CountedReader<R>,
     writer: &mut StoppingWriter<W>,
-) -> Status
+) -> Ending
     ensures { IsCommandRun R.remaining W.contents (IsAnswerTo 1 (IsReportAnswer is_over_bus T.refusal T.lines))
         reader.old reader.new writer.old writer.new result }
 {
@@ -139,7 +141,7 @@ pub fn inventory<R: Read, W: Write>(
     bus: bool,
     reader: &mut CountedReader<R>,
     writer: &mut StoppingWriter<W>,
-) -> Status
+) -> Ending
     ensures { IsCommandRun R.remaining W.contents (IsAnswerTo 1 (IsInventoryAnswer bus))
         reader.old reader.new writer.old writer.new result }
 {
@@ -153,7 +155,7 @@ pub fn apps<R: Read, W: Write>(
     bus: bool,
     reader: &mut CountedReader<R>,
     writer: &mut StoppingWriter<W>,
-) -> Status
+) -> Ending
     ensures { IsCommandRun R.remaining W.contents (IsAnswerTo 1 (IsAppsAnswer bus))
         reader.old reader.new writer.old writer.new result }
 {
@@ -167,7 +169,7 @@ pub fn monitors<R: Read, W: Write>(
     bus: bool,
     reader: &mut CountedReader<R>,
     writer: &mut StoppingWriter<W>,
-) -> Status
+) -> Ending
     ensures { IsCommandRun R.remaining W.contents (IsAnswerTo 1 (IsMonitorsAnswer bus))
         reader.old reader.new writer.old writer.new result }
 {
@@ -181,7 +183,7 @@ pub fn flags<R: Read, W: Write>(
     bus: bool,
     reader: &mut CountedReader<R>,
     writer: &mut StoppingWriter<W>,
-) -> Status
+) -> Ending
     ensures { IsCommandRun R.remaining W.contents (IsAnswerTo 1 (IsFlagsAnswer bus))
         reader.old reader.new writer.old writer.new result }
 {

@@ -11,6 +11,7 @@ ghost use Rattle.command_line.specs.Sessions.{IsSessionOf};
 
 use super::planning_inputs::{read_kept, read_module};
 use crate::fault::Fault;
+use crate::remark::Warnings;
 use applications::{Advert, Weights};
 use bus_model::{Script, ScriptBus};
 use control_sets::{Activated, ProvisionFault, Provisioned, activate, provision_keeping};
@@ -25,12 +26,13 @@ const ROOM: usize = 8192;
 /// How many ticks each work of the module takes.
 const DELAY: u16 = 4;
 
-/// A module, by what it advertises, its plan, what the plan keeps, and its bus.
+/// A module, by what it advertises, its plan, what the plan keeps and what is odd about it, and its bus.
 #[derive(Drop)]
 pub struct Session {
     pub advert: Advert,
     pub plan: Plan,
     pub kept: Plan,
+    pub warnings: Warnings,
     pub bus: ScriptBus<SimModule>,
 }
 
@@ -66,11 +68,13 @@ pub fn set_up(
     let script = Script::read(script)?;
     let module = SimModule::new(&image, delays())?;
     let plan = first_plan(&advert, &weights, &kept);
+    let warnings = Warnings::of(&advert, &weights, !plan.paths.is_empty());
     let bus = ScriptBus::new(alloc, module, script, ROOM)?;
     Ok(Session {
         advert,
         plan,
         kept,
+        warnings,
         bus,
     })
 }

@@ -30,6 +30,13 @@ impl<W> StoppingWriter<W> {
         }
     }
 
+    /// Whether a write failed.
+    pub fn has_failed(&self) -> bool
+        ensures { result ≡ writing_failed self.now }
+    {
+        self.failed
+    }
+
     /// An error where a write has failed.
     fn ready(&self) -> io::Result<()>
         ensures { MatchResult result (λ _. writing_failed self.now ≡ false) (λ e. IsFailure e × (writing_failed self.now ≡ true)) }

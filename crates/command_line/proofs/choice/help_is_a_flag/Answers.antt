@@ -9,5 +9,6 @@ returns c = record {
   long = λ program_name. refl;
   short = λ program_name. refl;
   word = λ program_name. refl;
+  version = λ program_name. refl;
   nothing = λ program_name. refl;
 }

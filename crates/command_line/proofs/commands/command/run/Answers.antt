@@ -1,21 +1,28 @@
-use Rattle.std.proofs.Common.{rules, ap}
+use Rattle.std.proofs.Common.{◌∙◌, rules, ap}
 use Rattle.command_line.specs.CountedReader.{remaining_of}
 use Rattle.command_line.specs.Runs.{answer_of}
-use Rattle.command_line.proofs.OwnAnswers.{if_known}
+use Rattle.command_line.specs.StoppingWriter.{writing_failed}
+use Rattle.command_line.specs.CountedReader.{reading_failed}
+use Rattle.command_line.proofs.RemarkLemmas.{ending_status, ends_by_failure, if_known_both, said_beside}
 use Rattle.command_line.proofs.commands.command.run.Goals as goal
 
 pub returns : goal.returns
-returns g c = record {
-  reads = search rules;
-  failure = search rules;
-  stopped = search rules;
-  answered = if_known (remaining_of g.R.Read.remaining c.args.reader.now) _ _ (λ input told. record {
-    answer = answer_of c.answer-answer.result;
-    is_answer = told;
-    reading = c.answer-answer.ensures.reading;
-    taken =
-        let taken = c.answer-answer.ensures.taken in
-        (taken.0, record { consumed = taken.1.consumed; within = taken.1.within; at_once = λ more. ap answer_of (taken.1.at_once more) });
-    written = c.write_answer.ensures.written;
-  }) c.answer-answer.ensures.answer;
-}
+returns g c =
+    let answer = answer_of c.read_and_answer-answer.result.0 in
+    let failed = writing_failed c.write_answer-status.new.writer in
+    let status = ap (λ ending. ending.status) c.after.ensures ∙ ending_status failed c.write_answer-status.result c.beside-remark.result in
+    record {
+      reads = search rules;
+      failure = rw status (ends_by_failure (reading_failed c.read_and_answer-answer.new.reader) failed answer c.write_answer-status.result c.write_answer-status.ensures.written.0 c.read_and_answer-answer.ensures.reading);
+      stopped = search rules;
+      answered = if_known_both (remaining_of g.R.Read.remaining c.args.reader.now) _ _ _ (λ input told clue. record {
+        answer = answer;
+        is_answer = told;
+        reading = c.read_and_answer-answer.ensures.reading;
+        taken =
+            let taken = c.read_and_answer-answer.ensures.taken in
+            (taken.0, record { consumed = taken.1.consumed; within = taken.1.within; at_once = λ more. ap answer_of (taken.1.at_once more) });
+        written = rw status c.write_answer-status.ensures.written;
+        remarked = rw c.after.ensures (said_beside failed c.write_answer-status.result input answer _ c.beside-remark.result c.beside-remark.ensures clue);
+      }) c.read_and_answer-answer.ensures.answer c.read_and_answer-answer.ensures.clue;
+    }

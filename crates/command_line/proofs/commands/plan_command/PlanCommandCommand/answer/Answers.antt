@@ -40,9 +40,9 @@ returns-clause-answer c =
     let parts = c.args.parts.now in
     let keep = c.args.self.now.keeps in
     let kept_text = kept_part keep (texts_of parts) in
-    let given = c.in_ok-certificate_text.ensures in
+    let given = c.in_ok-text.ensures in
     let all = given.certified in
-    let planned : IsPlanned (part_at parts 0) (part_at parts 1) kept_text c.in_ok-certificate_text.field-0.items = record {
+    let planned : IsPlanned (part_at parts 0) (part_at parts 1) kept_text c.in_ok-text.text.items = record {
       certificate = given.certificate;
       given = is_given (part_at parts 0) (part_at parts 1) kept_text c.in_ok-advert.advert c.in_ok-weights.weights c.in_ok-kept.kept given.certificate
           all.keeps c.in_ok-advert.ensures c.in_ok-weights.ensures.answer (rw c.kept_part.ensures at c.in_ok-kept.ensures)
@@ -50,4 +50,4 @@ returns-clause-answer c =
       told = given.written;
       read_again = given.read_back;
     } in
-    planned_answer keep (texts_of parts) (part_at parts 0) (part_at parts 1) kept_text (kept_last keep parts c.requires) c.in_ok-certificate_text.field-0.items planned
+    planned_answer keep (texts_of parts) (part_at parts 0) (part_at parts 1) kept_text (kept_last keep parts c.requires) c.in_ok-text.text.items planned

@@ -4,7 +4,7 @@ use Rattle.clap.proofs.CallerLemmas.{subcommand_required}
 use Rattle.command_line.specs.Choice.{choice_in}
 use Rattle.command_line.specs.ChoiceFault.{fault_by_kind}
 use Rattle.command_line.proofs.CommandLineLemmas.{choice_known, fault_among, from_error, is_some-option_map, needs_command, simple, simple_and_free}
-use Rattle.command_line.proofs.choice.choice.Goals as goal
+use Rattle.command_line.proofs.choice.parsed.Goals as goal
 
 pub returns-in_err-matches-clause-refused : goal.returns-in_err-matches-clause-refused
 returns-in_err-matches-clause-refused c =

@@ -1,0 +1,78 @@
+-- What is said beside an answer is what its input gives cause for.
+use Rattle.std.proofs.Common.{◌≡◌, ◌∙◌, ℕ, Bool, true, false, List, Option, Some, None, IfSome, Result, Ok, Err, ap, sym, refl}
+use Rattle.command_line.specs.Input.{IsReadOf}
+use Rattle.command_line.specs.Remarks.{opening_for}
+use Rattle.command_line.specs.RemarksBeside.{IsRemarkBeside, opening_beside}
+use Rattle.command_line.specs.Runs.{Answer, EndsByFailure, IsSaidBeside, SaysReading, ended, ending_after, status_after}
+use Rattle.command_line.specs.declared.fault.Fault.{Fault}
+use Rattle.command_line.specs.declared.fault.Fault.TheVariants as fault
+use Rattle.command_line.specs.declared.remark.Remark.{Remark}
+use Rattle.command_line.specs.declared.remark.Remark.TheVariants.{Refused}
+use Rattle.command_line.specs.declared.remark.clue.Clue.{Clue}
+use Rattle.command_line.specs.declared.remark.opening.Opening.{Opening}
+use Rattle.command_line.specs.declared.remark.opening.Opening.TheVariants.{Other}
+use Rattle.command_line.specs.declared.status.Status.{Status}
+use Rattle.command_line.specs.declared.status.Status.TheVariants.{ReadOrWrite}
+use Rattle.command_line.specs.declared.ending.Ending.{Ending}
+use Rattle.command_line.specs.Program.{refusal_ending, refusal_remark}
+
+-- a fault of reading is explained without the input
+pub read_opening : (input : List ℕ) (f : Fault) → IsReadOf input (Err f) → Other ≡ opening_for f input
+read_opening input fault.TooLong is = refl
+read_opening input fault.Io is = refl
+read_opening input fault.Memory is = refl
+read_opening input f is = absurd is
+
+-- a remark with the opening that the input has
+with_opening : (f : Fault) (clue : Clue) (opening : Opening) (remark : Remark) → remark ≡ Refused record { fault = f; clue = clue } → clue.opening ≡ opening
+    → remark ≡ Refused record { fault = f; clue = record { opening = opening; weights_line = clue.weights_line } }
+with_opening f clue opening remark is same = is ∙ ap (λ o. Refused record { fault = f; clue = record { opening = o; weights_line = clue.weights_line } }) same
+
+pub said_beside : (failed : Bool) (status : Status) (input : List ℕ) (answer : Answer) (clue : Clue) (remark : Remark) → IsRemarkBeside answer clue remark
+    → clue.opening ≡ opening_beside answer input → IsSaidBeside failed input answer (ending_after failed status remark).remark
+said_beside true status input answer clue remark is same = refl
+said_beside false status input (Err f) clue remark is same = (clue.weights_line, with_opening f clue (opening_for f input) remark is same)
+said_beside false status input (Ok (text, Some f)) clue remark is same = (clue.weights_line, with_opening (fault.Provision f) clue Other remark is same)
+said_beside false status input (Ok (text, None)) clue remark is same = is
+
+-- what follows of two facts of the input holds of it, where it is known
+pub if_known_both : {T : Type 0} (o : Option T) (P Q R : T → Type 0) → ((x : T) → P x → Q x → R x) → IfSome o P → IfSome o Q → IfSome o R
+if_known_both None P Q R k p q = tt
+if_known_both (Some x) P Q R k p q = k x p q
+
+pub ending_status : (failed : Bool) (status : Status) (remark : Remark) → (ending_after failed status remark).status ≡ status
+ending_status true status remark = refl
+ending_status false status remark = refl
+
+-- a refusal ends with its status
+pub refusal_remarked : (failed : Bool) (status : Status) (ending : Ending) → ending ≡ refusal_ending failed status
+    → (ending.status ≡ status) × (ending ≡ refusal_ending failed ending.status)
+refusal_remarked failed status ending is =
+    let same : ending.status ≡ status = ap (λ (e : Ending). e.status) is ∙ ending_status failed status (refusal_remark status) in
+    (same, is ∙ ap (refusal_ending failed) (sym same))
+
+-- of all answers a failed read alone ends so
+only_reading : (answer : Answer) → status_after answer ≡ ReadOrWrite → answer ≡ Err fault.Io
+only_reading (Ok (text, None)) ends = cc
+only_reading (Ok (text, Some f)) ends = cc
+only_reading (Err fault.Io) ends = refl
+only_reading (Err fault.Memory) ends = cc
+only_reading (Err fault.TooLong) ends = cc
+only_reading (Err (fault.Parts n)) ends = cc
+only_reading (Err (fault.Image f)) ends = cc
+only_reading (Err (fault.Report f)) ends = cc
+only_reading (Err (fault.Advert f)) ends = cc
+only_reading (Err (fault.Weights f)) ends = cc
+only_reading (Err (fault.Kept f)) ends = cc
+only_reading (Err (fault.Certificate f)) ends = cc
+only_reading (Err (fault.Bad r n)) ends = cc
+only_reading (Err (fault.Script f)) ends = cc
+only_reading (Err (fault.Module f)) ends = cc
+only_reading (Err (fault.Provision f)) ends = cc
+
+pub ends_by_failure : (read write : Bool) (answer : Answer) (status : Status) → status ≡ ended write (status_after answer) → SaysReading read answer
+    → EndsByFailure read write status
+ends_by_failure true true answer status is says = (λ _. refl, λ _. is)
+ends_by_failure false true answer status is says = (λ _. refl, λ _. is)
+ends_by_failure true false answer status is says = (λ _. refl, λ _. is ∙ ap status_after (says.1 refl))
+ends_by_failure false false answer status is says = (λ ends. says.0 (only_reading answer (sym is ∙ ends)), λ failed. absurd cc)

@@ -1,0 +1,76 @@
+-- What standard error says beside an answer: of a fault its code, where it is, and a sentence on what is wrong and what to do.
+-- (docs/formats.md, "Standard error"; this project's own)
+use Rattle.std.specs.Prelude.{ℕ, Bool, true, false, not, List, [], ◌∷◌, ◌++◌, ◌==◌, ◌||◌, ◌&&◌, nat_le, if◌then◌else◌, length, take, Option, Some, None, codes}
+use Rattle.std.specs.List.{list_any, starts_with}
+use Rattle.std.specs.Option.{option_map_or}
+use Rattle.notices.specs.Sentences.{row_by_code}
+use Rattle.paged_memory.specs.declared.fault.ImageFault.TheVariants as image
+use Rattle.command_line.specs.Faults.{fault_words}
+use Rattle.command_line.specs.Places.{first_word, place_of, place_text}
+use Rattle.command_line.specs.declared.fault.Fault.{Fault}
+use Rattle.command_line.specs.declared.fault.Fault.TheVariants as fault
+use Rattle.command_line.specs.declared.remark.Explained.{Explained}
+use Rattle.command_line.specs.declared.remark.Remark.{Remark}
+use Rattle.command_line.specs.declared.remark.Remark.TheVariants.{Nothing, Unwritten, NoMemory, Refused, Warned}
+use Rattle.command_line.specs.declared.remark.opening.Opening.{Opening}
+use Rattle.command_line.specs.declared.remark.opening.Opening.TheVariants.{Empty, Mark, Returns, Binary, Other}
+
+-- the first bytes are these
+abbrev pub begins : List ℕ → List ℕ → Bool
+begins text first = starts_with (λ x y. x == y) text first
+
+-- of UTF-8, or of UTF-16 in one order or the other
+abbrev pub has_mark : List ℕ → Bool
+has_mark text = begins text (239 ∷ 187 ∷ 191 ∷ []) || begins text (255 ∷ 254 ∷ []) || begins text (254 ∷ 255 ∷ [])
+
+-- a character of ASCII that is printed, or a tab, an LF or a CR
+abbrev pub is_text : ℕ → Bool
+is_text byte = (nat_le 32 byte && nat_le byte 126) || byte == 9 || byte == 10 || byte == 13
+
+-- one of the first 128 bytes is none
+abbrev pub is_binary : List ℕ → Bool
+is_binary text = list_any (λ byte. not (is_text byte)) (take 128 text)
+
+-- how a text begins that is no image's
+abbrev pub opening_of : List ℕ → Opening
+opening_of text = if length text == 0 then Empty
+    else if has_mark text then Mark
+    else if begins text (codes "module-image 1" ++ 13 ∷ []) then Returns
+    else if is_binary text then Binary
+    else Other
+
+-- the code of the sentence that says so
+abbrev pub opening_key : Opening → List ℕ
+opening_key Empty = codes "IM1 empty"
+opening_key Mark = codes "IM1 mark"
+opening_key Returns = codes "IM1 returns"
+opening_key Binary = codes "IM1 binary"
+opening_key Other = codes "IM1"
+
+-- only that fault is explained by it
+abbrev pub opening_for : Fault → List ℕ → Opening
+opening_for (fault.Image image.BadHeader) input = opening_of input
+opening_for _ input = Other
+
+-- the sentence of a code
+abbrev pub sentence_of : List ℕ → List ℕ
+sentence_of code = option_map_or (λ row. row.text) (row_by_code code) []
+
+-- the code of a fault's sentence
+abbrev pub sentence_key : Fault → Opening → List ℕ
+sentence_key (fault.Image image.BadHeader) opening = opening_key opening
+sentence_key f opening = first_word (fault_words f)
+
+-- the line of a fault
+abbrev pub explained_text : Explained → List ℕ
+explained_text explained = codes "cmisctl: " ++ first_word (fault_words explained.fault)
+    ++ place_text (place_of explained.fault explained.clue.weights_line)
+    ++ codes ": " ++ sentence_of (sentence_key explained.fault explained.clue.opening) ++ codes " (docs/faults.md)\n"
+
+-- what is said; of warnings that is open
+abbrev pub remark_text : Remark → Option (List ℕ)
+remark_text Nothing = Some []
+remark_text Unwritten = Some (codes "cmisctl: " ++ sentence_of (codes "output") ++ codes " (docs/faults.md)\n")
+remark_text NoMemory = Some (codes "cmisctl: memory: " ++ sentence_of (codes "memory") ++ codes " (docs/faults.md)\n")
+remark_text (Refused explained) = Some (explained_text explained)
+remark_text (Warned warnings) = None

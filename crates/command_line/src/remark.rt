@@ -1,0 +1,121 @@
+//! What standard error says beside an answer: why there is none, or what is odd about it.
+ghost use Rattle.std.specs.Prelude.{◌≡◌, None, Some};
+ghost use Rattle.command_line.specs.Remarks.{explained_text, remark_text, sentence_key, sentence_of};
+ghost use Rattle.command_line.specs.RemarksBeside.{IsRemarkBeside};
+ghost use Rattle.command_line.specs.Runs.{answer_of};
+
+mod clue;
+mod named;
+mod opening;
+mod place;
+mod shown_byte;
+mod warnings;
+mod weights_lines;
+
+use crate::fault::Fault;
+use crate::told::Told;
+pub use clue::Clue;
+use named::Named;
+use notices::sentence_by_code;
+pub use opening::Opening;
+use paged_memory::ImageFault;
+use std::fmt;
+pub use warnings::Warnings;
+
+/// What is said beside an answer, once that is written.
+#[derive(Drop)]
+pub enum Remark {
+    /// The answer says all.
+    Nothing,
+    /// The answer could not be written whole.
+    Unwritten,
+    /// Memory ran out before the input was read.
+    NoMemory,
+    /// The answer is, or ends with, the line of a fault.
+    Refused(Explained),
+    /// The answer has no fault.
+    Warned(Warnings),
+}
+
+/// A fault, and what the input tells beside it.
+#[derive(Clone, Copy)]
+pub struct Explained {
+    pub fault: Fault,
+    pub clue: Clue,
+}
+
+impl Remark {
+    /// What is said beside this answer to an input that gives this clue.
+    pub fn beside(answer: &Result<Told, Fault>, clue: Clue) -> Remark
+        ensures { IsRemarkBeside (answer_of answer.now) clue result }
+    {
+        match answer {
+            Ok(told) => match told.fault {
+                Some(fault) => Remark::of(Fault::Provision(fault), clue),
+                None => Remark::Warned(told.warnings),
+            },
+            Err(fault) => Remark::of(*fault, clue),
+        }
+    }
+
+    /// What is said of a fault.
+    pub fn of(fault: Fault, clue: Clue) -> Remark
+        ensures { result ≡ Remark.Refused record { fault = fault; clue = clue } }
+    {
+        Remark::Refused(Explained { fault, clue })
+    }
+}
+
+impl Explained {
+    // What is wrong and what to do; of IM1 by the cause.
+    fn sentence(self) -> &'static str
+        ensures { result.now ≡ sentence_of (sentence_key self.fault self.clue.opening) }
+    {
+        match self.fault {
+            Fault::Image(ImageFault::BadHeader) => sentence(self.clue.opening.key()),
+            fault => sentence(Named::of(fault, None).code),
+        }
+    }
+}
+
+// The sentence of a code.
+fn sentence(code: &str) -> &'static str
+    ensures { result.now ≡ sentence_of code.now }
+{
+    match sentence_by_code(code) {
+        Some(sentence) => sentence.text,
+        None => "",
+    }
+}
+
+/// One line.
+impl fmt::Display for Explained {
+    ghost output = { λ explained. Some (explained_text explained) };
+
+    fn fmt<W: fmt::Write>(&self, f: &mut fmt::Formatter<W>) -> fmt::Result {
+        let Named { code, place } = Named::of(self.fault, self.clue.weights_line);
+        let sentence = self.sentence();
+        writeln!(f, "cmisctl: {code}{place}: {sentence} (docs/faults.md)")
+    }
+}
+
+/// A line, several or none.
+impl fmt::Display for Remark {
+    ghost output = { remark_text };
+
+    fn fmt<W: fmt::Write>(&self, f: &mut fmt::Formatter<W>) -> fmt::Result {
+        match self {
+            Remark::Nothing => Ok(()),
+            Remark::Unwritten => {
+                let sentence = sentence("output");
+                writeln!(f, "cmisctl: {sentence} (docs/faults.md)")
+            }
+            Remark::NoMemory => {
+                let sentence = sentence("memory");
+                writeln!(f, "cmisctl: memory: {sentence} (docs/faults.md)")
+            }
+            Remark::Refused(explained) => write!(f, "{explained}"),
+            Remark::Warned(warnings) => write!(f, "{warnings}"),
+        }
+    }
+}

@@ -1,0 +1,15 @@
+//! The version.
+
+macro_rules! version {
+    ($($more:literal)?) => {
+        concat!("0.1.0", $($more)?)
+    };
+}
+
+/// The version of all parts: the program, the library for C and the tools.
+pub const VERSION: &str = version!();
+
+/// The same, and the versions of the texts that are read and printed.
+pub const VERSION_WITH_TEXTS: &str = version!(
+    " (texts: module-image 1, certificate 1, certificate 2)"
+);
