@@ -18,5 +18,13 @@ fn words(rt: &HostRuntime) -> io::Result<Vec<String>> {
 fn main(rt: HostRuntime) -> ExitCode {
     let mut reader = CountedReader::new(rt.reader());
     let mut writer = StoppingWriter::new(io::writer(&rt));
-    ExitCode::from(run(rt.alloc(), words(&rt), &mut reader, &mut writer))
+    let stderr = rt.stderr();
+    let mut errors = StoppingWriter::new(io::writer(&stderr));
+    ExitCode::from(run(
+        rt.alloc(),
+        words(&rt),
+        &mut reader,
+        &mut writer,
+        &mut errors,
+    ))
 }

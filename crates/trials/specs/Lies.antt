@@ -38,12 +38,12 @@ told_at device address place = if lies device then lie device.number place else 
 abbrev pub told : LyingDevice → ℕ → ℕ → List ℕ
 told device address count = map (told_at device address) (range_with_len 0 count)
 
-abbrev pub fetched : LyingDevice → ℕ → ℕ → Option (List ℕ)
-fetched device address count = if refuses device then None else Some (told device address count)
+abbrev pub liar_fetched : LyingDevice → ℕ → ℕ → Option (List ℕ)
+liar_fetched device address count = if refuses device then None else Some (told device address count)
 
 abbrev pub lying_conduct : Conduct LyingDevice
 lying_conduct = record {
-  fetch = λ device dev address count. (fetched device address count, device);
+  fetch = λ device dev address count. (liar_fetched device address count, device);
   store = λ device dev address bytes. (not (refuses device), device);
   tick = λ device. record device { number = drawn device.number };
   low_power_pin = λ device on. device;

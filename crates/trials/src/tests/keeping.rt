@@ -4,7 +4,7 @@ use super::plans::{FOUR_PAIRS, bus_of, plan_of};
 use applications::{Advert, Weights};
 use control_sets::{ProvisionFault, Provisioned, provision_keeping};
 use datapath_states::PathState;
-use lane_planner::plan_keeping;
+use lane_planner::{certificate_text, plan_keeping};
 use plan_certificate::{Plan, kept_fault};
 use sample_modules::with_run;
 use sim_module::{Delays, SimModule};
@@ -180,5 +180,24 @@ fn kept_lanes_stay_up_whatever_is_refused(rt: HostRuntime) -> Result<(), Fail> {
         }
     }
     assert_eq!(rt; successes, 2000);
+    Ok(())
+}
+
+// Whether the certificate of a plan has the text that is made without it.
+fn has_its_text(alloc: Global, kept: &Plan) -> Result<bool, Fail> {
+    let advert = Advert::of(&image()?)?;
+    let weights = Weights::read(alloc, b"[host]\n0Dh = 101\n11h = 400\n")?;
+    if kept_fault(&advert, kept).is_some() {
+        return Ok(false);
+    }
+    let written = plan_keeping(&advert, &weights, kept).write(alloc)?;
+    let text = certificate_text(alloc, &advert, &weights, kept)?;
+    Ok(written.as_slice() == text.as_slice())
+}
+
+#[test]
+fn a_certificate_has_the_text_that_is_made_without_it(rt: HostRuntime) -> Result<(), Fail> {
+    assert!(rt; has_its_text(rt.alloc(), &plan_of(&[])?)?);
+    assert!(rt; has_its_text(rt.alloc(), &plan_of(&[[2, 1, 1], [2, 3, 2]])?)?);
     Ok(())
 }

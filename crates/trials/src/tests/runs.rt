@@ -65,7 +65,8 @@ fn inventory<R: Read + Drop, W: Write + Drop>(
     }
     let mut reader = CountedReader::new(reader);
     let mut writer = StoppingWriter::new(writer);
-    Ok(run(alloc, Ok(words), &mut reader, &mut writer))
+    let mut errors = StoppingWriter::new(Vec::new(alloc));
+    Ok(run(alloc, Ok(words), &mut reader, &mut writer, &mut errors))
 }
 
 #[test]
@@ -79,7 +80,9 @@ fn words_that_cannot_be_read_are_refused(rt: HostRuntime) -> Result<(), Fail> {
         let mut reader = CountedReader::new(b"an input".as_slice());
         let mut writer = StoppingWriter::new(&mut written);
         let words = Err(io::Error::from(kind));
-        assert_eq!(rt; run(rt.alloc(), words, &mut reader, &mut writer), ends);
+        let mut errors = StoppingWriter::new(Vec::new(rt.alloc()));
+        let ended = run(rt.alloc(), words, &mut reader, &mut writer, &mut errors);
+        assert_eq!(rt; ended, ends);
         assert_eq!(rt; reader.reads(), 0);
         assert_eq!(rt; written.as_slice(), text.as_bytes());
     }
