@@ -1,0 +1,162 @@
+/* The bus of a port: /dev/i2c-N, or the file that Linux's driver optoe shows. */
+#include "port.h"
+
+#include <err.h>
+#include <errno.h>
+#include <fcntl.h>
+#include <libgen.h>
+#include <linux/i2c-dev.h>
+#include <linux/i2c.h>
+#include <string.h>
+#include <sys/file.h>
+#include <sys/ioctl.h>
+#include <time.h>
+#include <unistd.h>
+
+enum { SILENCE = 1000, LONGEST_PAUSE = 32 }; /* milliseconds */
+
+int64_t now(void) {
+    struct timespec time;
+    clock_gettime(CLOCK_MONOTONIC, &time);
+    return (int64_t)time.tv_sec * 1000 + time.tv_nsec / 1000000;
+}
+
+void stop(struct port *port, const char *why) {
+    warnx("%s: %s", port->name, why);
+    port->ending = STOPPED;
+}
+
+/* Waits, unless a signal comes that ends the program. */
+void pause_ms(struct port *port, int64_t ms) {
+    struct timespec time = {ms / 1000, ms % 1000 * 1000000};
+    if (sigtimedwait(&port->signals, NULL, &time) > 0) stop(port, "interrupted");
+}
+
+/* Holds signals back, but for those that are ignored, as nohup has it. */
+void hold_signals(sigset_t *signals) {
+    struct sigaction action;
+    sigemptyset(signals);
+    for (const int *each = (const int[]){SIGINT, SIGTERM, SIGHUP, 0}; *each != 0; each++)
+        if (sigaction(*each, NULL, &action) == 0 && action.sa_handler != SIG_IGN) sigaddset(signals, *each);
+    sigprocmask(SIG_BLOCK, signals, NULL);
+    signal(SIGPIPE, SIG_IGN);
+}
+
+static bool transact_i2c(struct port *port, const struct dovecounter_operation *operation, uint8_t *bytes) {
+    bool stores = operation->kind == DOVECOUNTER_STORE;
+    uint16_t address = operation->device >> 1, count = operation->count;
+    uint8_t sent[1 + sizeof operation->bytes] = {operation->offset};
+    struct i2c_msg messages[] = {{address, 0, stores ? 1 + count : 1, sent}, {address, I2C_M_RD, count, bytes}};
+    struct i2c_rdwr_ioctl_data data = {messages, stores ? 1 : 2};
+    memcpy(sent + 1, operation->bytes, sizeof operation->bytes);
+    int made = ioctl(port->file, I2C_RDWR, &data);
+    if (made >= 0) errno = EIO; /* of fewer messages */
+    return made == (int)data.nmsgs;
+}
+
+/* optoe has the lower half first, then the pages; of an SFP module A2h after the 256 bytes of A0h. */
+static off_t place_in_row(const struct port *port, const struct dovecounter_operation *operation) {
+    if (operation->device == 0xA2) return 256 + operation->offset;
+    return operation->offset + (operation->offset < 128 ? 0 : 128 * port->selection[1]);
+}
+
+/* A selection is kept here, since optoe selects pages by itself. As in a module, it becomes page 00h if the page is not there. */
+static void transact_selection(struct port *port, const struct dovecounter_operation *operation, uint8_t *bytes) {
+    uint8_t byte, *selection = port->selection + operation->offset % 2;
+    bool stores = operation->kind == DOVECOUNTER_STORE;
+    memcpy(stores ? selection : bytes, stores ? operation->bytes : selection, operation->count);
+    if (stores && pread(port->file, &byte, 1, 128 + 128 * port->selection[1]) == 0) memset(port->selection, 0, 2);
+}
+
+static bool transact_in_a_row(struct port *port, const struct dovecounter_operation *operation, uint8_t *bytes) {
+    off_t place = place_in_row(port, operation);
+    size_t count = operation->count;
+    if (place == 126 || place == 127) return transact_selection(port, operation, bytes), true;
+    errno = ENODATA; /* if the file ends before */
+    if (operation->kind == DOVECOUNTER_FETCH) return pread(port->file, bytes, count, place) == (ssize_t)count;
+    return pwrite(port->file, operation->bytes, count, place) == (ssize_t)count;
+}
+
+/* Whether the file is an adapter that carries I2C, or no adapter. */
+static bool is_bus(struct port *port) {
+    unsigned long functions = 0;
+    bool is_adapter = ioctl(port->file, I2C_FUNCS, &functions) == 0;
+    port->carry = is_adapter ? transact_i2c : transact_in_a_row;
+    if (!is_adapter || functions & I2C_FUNC_I2C) return true;
+    warnx("%s: its adapter carries SMBus alone, and a module needs I2C", port->name);
+    return false;
+}
+
+static void name_driver(const struct port *port) {
+    char link[64], driver[256] = "";
+    const char *number = strrchr(port->name, '-');
+    snprintf(link, sizeof link, "/sys/bus/i2c/devices/%.9s-0050/driver", number != NULL ? number + 1 : "");
+    if (readlink(link, driver, sizeof driver - 1) > 0)
+        warnx("%s: the kernel has the module too, by the driver %s", port->name, basename(driver));
+}
+
+static bool open_bus(struct port *port) {
+    port->file = open(port->name, O_RDWR | O_CLOEXEC);
+    if (port->file < 0) warn("%s", port->name);
+    if (port->file < 0 || !is_bus(port)) return false;
+    if (flock(port->file, LOCK_EX | LOCK_NB) != 0) {
+        warn("%s: another program has locked it (fuser -v names it)", port->name);
+        return false;
+    }
+    if (port->carry == transact_i2c) name_driver(port);
+    return true;
+}
+
+bool open_port(struct port *port) {
+    bool simulates = strncmp(port->name, "sim:", 4) == 0;
+    port->carry = transact_simulated;
+    if (simulates ? !open_simulated(&port->simulated, port->name + 4) : !open_bus(port)) return false;
+    if (port->log_name == NULL) return true;
+    port->log = fopen(port->log_name, "w");
+    if (port->log == NULL) warn("%s", port->log_name);
+    return port->log != NULL;
+}
+
+/* A line as the command trace of cmisctl prints it. */
+static void log_operation(struct port *port, const struct dovecounter_operation *operation, bool answered,
+                          const uint8_t *bytes) {
+    bool stores = operation->kind == DOVECOUNTER_STORE;
+    fprintf(port->log, "%u %s %02X %u", port->made, stores ? "store" : "fetch", operation->device, operation->offset);
+    if (stores)
+        print_bytes(port->log, operation->bytes, operation->count);
+    else
+        fprintf(port->log, " %u", operation->count);
+    fputs(!answered ? " = refused" : stores ? " = done" : " =", port->log);
+    if (answered && !stores) print_bytes(port->log, bytes, operation->count);
+    fputc('\n', port->log);
+    fflush(port->log);
+}
+
+/* Waits, longer and longer, until the module is said to be silent. */
+static void take_refusal(struct port *port, const struct dovecounter_operation *operation, int64_t began, int error) {
+    bool too_long = error == EOPNOTSUPP || error == EMSGSIZE || error == EINVAL;
+    if (too_long && port->carry == transact_i2c && operation->count > 8) {
+        warnx("%s: its adapter fetches no %u bytes at once: %s", port->name, operation->count, strerror(error));
+        port->most = operation->count / 2;
+    }
+    if (port->refused++ == 0) port->refused_at = began;
+    pause_ms(port, port->refused < 5 ? 1 << port->refused : LONGEST_PAUSE);
+    if (port->ending != GOES_ON || now() - port->refused_at <= SILENCE) return;
+    warnx("%s: the module does not answer: %s", port->name, strerror(error));
+    port->ending = SILENT;
+}
+
+uint8_t transact(struct port *port, const struct dovecounter_operation *operation, uint8_t bytes[128]) {
+    int64_t began = now();
+    bool answered = port->carry(port, operation, bytes);
+    int error = errno;
+    port->made++;
+    if (port->log != NULL) log_operation(port, operation, answered, bytes);
+    if (answered) {
+        port->refused = 0;
+        pause_ms(port, 0); /* takes a signal */
+        return operation->kind == DOVECOUNTER_STORE ? DOVECOUNTER_STORED : DOVECOUNTER_FETCHED;
+    }
+    take_refusal(port, operation, began, error);
+    return DOVECOUNTER_REFUSED;
+}

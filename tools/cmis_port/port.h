@@ -1,0 +1,79 @@
+/* cmis-port: reads, plans and provisions the module in a port of a Linux machine, over the proved library (docs/port.md). */
+#ifndef PORT_H
+#define PORT_H
+#include "dovecounter.h"
+
+#include <signal.h>
+#include <stdbool.h>
+#include <stdio.h>
+
+enum status { DONE = 0, REFUSED = 1, COMMAND_LINE = 2, NOT_PROVISIONED = 3, NOT_WRITTEN = 6 };
+
+struct simulated {
+    struct dovecounter_half halves[16];
+    size_t count;
+    struct dovecounter_module module;
+    FILE *script;
+    unsigned left,
+        taken; /* of the directive in hand: transactions, and bytes that the module takes of a refused store */
+    bool refuses;
+};
+
+struct port {
+    /* what is asked for */
+    const char *name, *weights, *log_name;
+    bool activate, force, help;
+    struct dovecounter_path kept[9];
+    size_t kept_count;
+
+    /* the bus */
+    int file;
+    FILE *log;
+    bool (*carry)(struct port *port, const struct dovecounter_operation *operation, uint8_t *bytes); /* answered? */
+    struct simulated simulated;
+    uint8_t selection[2]; /* bank and page that would be selected */
+    uint8_t most;         /* bytes that the adapter fetches at once */
+    sigset_t signals;     /* they end the program between two operations */
+
+    /* what came of it */
+    unsigned made, refused;                   /* operations; those that were refused since one was answered */
+    int64_t refused_at;                       /* when the first of these began */
+    enum { GOES_ON, STOPPED, SILENT } ending; /* whether no further operation is to be made */
+    struct dovecounter_reading reading;
+    struct dovecounter_plan plan;
+};
+
+/* bus.c */
+int64_t now(void); /* in milliseconds */
+void stop(struct port *port, const char *why);
+void pause_ms(struct port *port, int64_t ms);
+void hold_signals(sigset_t *signals);
+bool open_port(struct port *port);
+uint8_t transact(struct port *port, const struct dovecounter_operation *operation, uint8_t bytes[128]);
+
+/* simulated.c */
+bool open_simulated(struct simulated *simulated, const char *names);
+bool transact_simulated(struct port *port, const struct dovecounter_operation *operation, uint8_t *bytes);
+
+/* module.c */
+enum { MODULE_STATE = 3, PATH_STATES = 128, CONFIG_STATUSES = 202, ACTIVE = 206 }; /* the last three on page 11h */
+enum { DEACTIVATED = 1, NO_ANSWER = 8 };
+typedef void begin_procedure(const uint8_t control[8], uint8_t lanes, struct dovecounter_procedure *procedure);
+bool is_other_family(const struct port *port);
+bool read_module(struct port *port, bool of_any_family);
+const uint8_t *bytes_at(const struct port *port, uint8_t offset);
+unsigned carry_out(struct port *port, begin_procedure *begin, uint8_t lanes, const char *what);
+
+/* weights.c */
+bool read_weights(const char *name, uint32_t weights[256]);
+
+/* words.c */
+extern const char *const module_states[16], *const path_states[16], *const config_statuses[16];
+unsigned code_of(const uint8_t codes[4], unsigned lane);
+const char *name_of(const char *const names[16], unsigned code);
+void print_bytes(FILE *out, const uint8_t *bytes, size_t count);
+void print_codes(FILE *out, const uint8_t codes[4], const char *const names[16]);
+void print_lanes(FILE *out, unsigned lanes);
+const char *sentence(uint32_t status);
+void say_fault(const char *name, struct dovecounter_fault fault);
+#endif
