@@ -48,7 +48,7 @@ def body_of(text, header):
     begins = re.compile(rf"^{indentation}(?! )[^\n]*(\{{|\{{\}})$", re.M).search(text, header.start())
     if not begins or begins[1] == "{}":
         return (begins.start(1), begins.end()) if begins else (None, None)
-    return begins.start(1), re.compile(rf"^{indentation}\}}$", re.M).search(text, begins.end()).end()
+    return begins.start(1), re.compile(rf"^{indentation}\}};?$", re.M).search(text, begins.end()).end()
 
 
 def functions_of(text):
