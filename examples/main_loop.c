@@ -14,24 +14,26 @@ void i2c_start(const struct dovecounter_operation *operation, uint8_t bytes[8]);
 /* Since some moment, modulo 2^32. */
 uint32_t milliseconds(void);
 
-/* An operation that is asked for again comes PAUSE milliseconds after it ended: a state is awaited, or the bus refused. The 4096
-   operations of a procedure then last almost seven minutes; raise PAUSE for a module that may take longer for one state. */
-enum { PAUSE = 100, MOST_BEGINNINGS = 3 };
+/* An operation whose member `wait` is 1 comes after a pause: a state is awaited, or the bus refused. PAUSE is the shortest, in
+   milliseconds: the 4096 operations of a procedure then last almost seven minutes. If the module may take longer for a state, pauses
+   are longer, but LONGEST_PAUSE at most. */
+enum { PAUSE = 100, LONGEST_PAUSE = 1000, MOST_BEGINNINGS = 3 };
 
 enum stage { IDLE, PROVISIONING, ACTIVATING, UP, FAILED };
 
 static enum stage stage = IDLE;
 static struct dovecounter_plan plan;
 static struct dovecounter_procedure procedure;
-static struct dovecounter_operation operation; /* the last one; its count is 0 when a procedure begins */
-static uint8_t bytes[8];                       /* of a fetch */
-static unsigned beginnings;                    /* of this stage */
-static uint32_t ended_at;                      /* when the last transaction was over */
-static bool under_way;                         /* a transaction is */
-static volatile bool over;                     /* set by the interrupt, */
-static volatile uint8_t outcome;               /* with what came of the transaction */
-static struct dovecounter_fault fault;         /* why it failed, */
-static uint32_t status;                        /* or the status of a reply that was none */
+static struct dovecounter_operation operation; /* the last one */
+static uint32_t module_pause = PAUSE;
+static uint8_t bytes[8];               /* of a fetch */
+static unsigned beginnings;            /* of this stage */
+static uint32_t ended_at;              /* when the last transaction was over */
+static bool under_way;                 /* a transaction is */
+static volatile bool over;             /* set by the interrupt, */
+static volatile uint8_t outcome;       /* with what came of the transaction */
+static struct dovecounter_fault fault; /* why it failed, */
+static uint32_t status;                /* or the status of a reply that was none */
 
 /* Called by the interrupt when a transaction is over, also when its driver gives it up: DOVECOUNTER_REFUSED. */
 void i2c_over(uint8_t what) {
@@ -42,30 +44,41 @@ void i2c_over(uint8_t what) {
 static void begin(enum stage wanted) {
     beginnings = wanted == stage ? beginnings + 1 : 1;
     stage = wanted;
-    operation.count = 0;
     if (wanted == PROVISIONING)
         dovecounter_provision(plan.control, plan.outside, &procedure);
     else
         dovecounter_activate(plan.control, plan.lanes, &procedure);
 }
 
-/* Begins to carry out the plan, unless one is being carried out. */
-bool carry_out(const struct dovecounter_plan *wanted) {
+/* So long that 4000 pauses last twice as long as any state of a data path. */
+static uint32_t pause_for(const struct dovecounter_durations *durations) {
+    const uint32_t most[] = {durations->path_init, durations->path_deinit, durations->path_tx_turn_on,
+                             durations->path_tx_turn_off};
+    uint32_t longest = PAUSE;
+    for (int i = 0; i < 4; i++)
+        if (most[i] / 2000 > longest) longest = most[i] / 2000;
+    return longest < LONGEST_PAUSE ? longest : LONGEST_PAUSE;
+}
+
+/* Begins to carry out the plan on a module of such durations, unless one is being carried out. */
+bool carry_out(const struct dovecounter_plan *wanted, const struct dovecounter_durations *durations) {
     if (stage == PROVISIONING || stage == ACTIVATING) return false;
     plan = *wanted;
+    module_pause = pause_for(durations);
     status = DOVECOUNTER_DONE;
     memset(&fault, 0, sizeof fault);
     begin(PROVISIONING);
     return true;
 }
 
-/* The procedure has ended. After PV4 the module may only have been slow, so the procedure is begun again. */
+/* The procedure has ended. After PV4 the module may only have been slow, and after PV3 it may have told of an earlier apply; so the
+   procedure is begun again. */
 static void end(void) {
     struct dovecounter_answer answer;
     status = dovecounter_answer(&procedure, &answer);
     if (status != DOVECOUNTER_DONE) {
         stage = FAILED;
-    } else if (answer.fault.code == 4 && beginnings < MOST_BEGINNINGS) {
+    } else if ((answer.fault.code == 3 || answer.fault.code == 4) && beginnings < MOST_BEGINNINGS) {
         begin(stage);
     } else if (answer.fault.code != 0) {
         fault = answer.fault;
@@ -85,7 +98,7 @@ static void go_on(void) {
         end();
     } else if (status != DOVECOUNTER_DONE) {
         stage = FAILED;
-    } else if (memcmp(&next, &operation, sizeof next) != 0 || milliseconds() - ended_at >= PAUSE) {
+    } else if (next.wait == 0 || milliseconds() - ended_at >= module_pause) {
         operation = next;
         over = false;
         under_way = true;

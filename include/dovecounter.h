@@ -1,15 +1,15 @@
-/* Dovecounter for C: plans the lanes of a pluggable optical module of CMIS (OIF-CMIS-05.0), checks certificates of plans, and
-   provisions a module over a bus that the caller owns.
+/* Dovecounter for C: reads a pluggable optical module, plans the lanes of one of CMIS (OIF-CMIS-05.0), checks certificates of plans,
+   provisions a module, over a bus that the caller owns, and simulates a module for tests.
 
    Each function is proved to return, and to do what is said here. None allocates, prints, waits, keeps a pointer or ends
    the process, and none has state of its own: calls may run at the same time, if none of them writes what another one
    reads or writes.
 
-   The caller owes what no function can see: each pointer points to as much as its type and its length say, and is not null,
-   also if a length is 0; what a pointer to const points to does not change during the call; and what a function writes
+   The caller has to see to what no function can see: each pointer points to as much as its type and its length say, and is not
+   null, even if a length is 0; what a pointer to const points to does not change during the call; and what a function writes
    overlaps nothing else that it is given. Numbers and bytes may have any value.
 
-   Bytes of lanes: bit i-1 is that of lane i, so 0x01 is lane 1 and 0x80 is lane 8. */
+   In a byte of lanes, bit i-1 stands for lane i: 0x01 is lane 1 and 0x80 is lane 8. */
 #ifndef DOVECOUNTER_H
 #define DOVECOUNTER_H
 
@@ -20,43 +20,56 @@
 extern "C" {
 #endif
 
-#define DOVECOUNTER_VERSION 1
+#define DOVECOUNTER_VERSION 2
 
-/* What a function answers. If it answers another status than DOVECOUNTER_DONE, it has written nothing. The comments name the
-   faults that the program cmisctl prints for the same. */
+/* What a function answers. On any status but DOVECOUNTER_DONE it has written nothing. The comments name the faults that the
+   program cmisctl prints for the same reason. */
 enum dovecounter_status {
     DOVECOUNTER_DONE = 0,
 
     /* of the halves of a module's memory, the first that applies */
     DOVECOUNTER_TOO_MANY_HALVES = 1, /* more than 16 */
-    DOVECOUNTER_NO_PLACE = 2,        /* of some half: another device than 0xA0 and 0xA2, or upper above 1, or upper 0 with a
+    DOVECOUNTER_NO_PLACE = 2,        /* a half has a device other than 0xA0 and 0xA2, or upper above 1, or upper 0 with a
                                         bank or a page other than 0 */
-    DOVECOUNTER_NOT_CMIS = 11,       /* AD1: the identifier, byte 0, is none of 0x18, 0x19 and 0x1E */
-    DOVECOUNTER_REVISION = 12,       /* AD2: the CMIS revision, byte 1, is of a major number other than 4 and 5 */
-    DOVECOUNTER_NOT_EIGHT_LANES = 16, /* AD6: the module has other than eight lanes */
-    DOVECOUNTER_FLAT_MEMORY = 13,    /* AD3: the module has no pages but 00h */
+    DOVECOUNTER_NOT_CMIS = 11,       /* AD1: the identifier, byte 0, isn't 0x18, 0x19 or 0x1E */
+    DOVECOUNTER_REVISION = 12,       /* AD2: the major number of the CMIS revision, byte 1, is neither 4 nor 5 */
+    DOVECOUNTER_NOT_EIGHT_LANES = 16, /* AD6: the module doesn't have eight lanes */
+    DOVECOUNTER_FLAT_MEMORY = 13,    /* AD3: the module has no page but 00h */
     DOVECOUNTER_ABSENT = 14,         /* AD4: device 0xA0 has no page 00h or 01h of bank 0, or no lower half, which is looked
                                         for before DOVECOUNTER_NOT_CMIS */
     DOVECOUNTER_BAD_SUM = 15,        /* AD5: the sum of page 00h or 01h is wrong */
 
     /* of a certificate's text, the first */
-    DOVECOUNTER_BAD_LINE = 21,     /* CT1: a line is none that may stand there */
+    DOVECOUNTER_BAD_LINE = 21,     /* CT1: a line may not stand there */
     DOVECOUNTER_OUT_OF_ORDER = 22, /* CT2: a state isn't above the one before it */
     DOVECOUNTER_TOO_MANY = 23,     /* CT3: a ninth kept path or a ninth path */
     DOVECOUNTER_NO_END = 24,       /* CT4: there is no line `end` */
 
-    /* of a procedure */
-    DOVECOUNTER_NO_PROCEDURE = 31, /* its numbers are none of a procedure */
-    DOVECOUNTER_ENDED = 32,        /* it has ended: no operation is to be made */
-    DOVECOUNTER_NOT_ENDED = 33,    /* it has not ended: an operation is to be made */
-    DOVECOUNTER_NO_REPLY = 34,     /* the operation that is to be made can't have this reply */
+    /* of a procedure or a reading */
+    DOVECOUNTER_NO_PROCEDURE = 31, /* its numbers aren't those of any; zeros aren't either */
+    DOVECOUNTER_ENDED = 32,        /* it has ended: there is no operation to make */
+    DOVECOUNTER_NOT_ENDED = 33,    /* it has not ended: there is an operation to make */
+    DOVECOUNTER_NO_REPLY = 34,     /* the operation to be made can't have this reply */
+    DOVECOUNTER_GAVE_UP = 35,      /* a reading was told as many operations as may be, and not all was read */
+    DOVECOUNTER_TOO_FEW_BYTES = 36, /* for a reading, the bus has to fetch 8 bytes at once */
 
     /* of kept paths, the first that applies */
     DOVECOUNTER_TOO_MANY_KEPT = 42,     /* KP2: more than 8 */
-    DOVECOUNTER_KEPT_NOT_ADMISSIBLE = 43 /* KP3: one of them isn't allowed, or shares a lane with another one */
+    DOVECOUNTER_KEPT_NOT_ADMISSIBLE = 43, /* KP3: one of them isn't allowed, or shares a lane with another one */
+
+    /* of halves and delays that make no simulated module, the first that applies; the statuses 11 to 16 come after the first */
+    DOVECOUNTER_NEEDED_HALF = 51,      /* SM1: device 0xA0 lacks its lower half, or page 00h, 01h, 10h or 11h of bank 0 */
+    DOVECOUNTER_BAD_DELAY = 53,        /* SM3: a delay is 0 or above 1000 */
+    DOVECOUNTER_ACTIVE_NOT_PATHS = 54, /* SM4: the bytes 206 to 213 of page 11h are no host paths */
+
+    /* of a simulated module, the first that applies */
+    DOVECOUNTER_NO_MODULE = 61, /* its numbers aren't those of any module; all zeros aren't */
+    DOVECOUNTER_NO_RANGE = 62,  /* BU2: a device other than 0xA0 and 0xA2, or no byte, or more than 128 to fetch or 8 to store,
+                                   or bytes of two halves */
+    DOVECOUNTER_NOT_TAKEN = 63  /* the module refuses */
 };
 
-/* 128 bytes of a module's memory, and where they stand. */
+/* 128 bytes of a module's memory, and their place. */
 struct dovecounter_half {
     uint8_t device; /* the address on the bus in its 8-bit form, 0xA0 or 0xA2; in the 7-bit form 0x50 or 0x51 */
     uint8_t upper;  /* 0 for the addresses 0 to 127, 1 for 128 to 255 */
@@ -67,7 +80,7 @@ struct dovecounter_half {
 
 /* An Application: what a data path may carry, and where it may begin. */
 struct dovecounter_application {
-    uint8_t number;       /* 1 to 15, its AppSelCode; 0 after the last one, as all else there */
+    uint8_t number;       /* 1 to 15, its AppSelCode; after the last one it is 0, like everything else there */
     uint8_t host_id;      /* HostInterfaceID (SFF-8024) */
     uint8_t media_id;     /* MediaInterfaceID (SFF-8024) */
     uint8_t host_lanes;   /* how many a data path takes */
@@ -83,10 +96,32 @@ struct dovecounter_advertisement {
     struct dovecounter_application applications[15];
 };
 
-/* Says what the module advertises that has these halves: of device 0xA0 at least the lower half and the pages 00h and 01h of
-   bank 0; others are not looked at. Of two halves at one place the first counts. Writes *advertisement. */
+/* Writes to *advertisement what the module with these halves advertises. Of device 0xA0 the lower half and the pages 00h and 01h
+   of bank 0 are needed; other halves are ignored. If two halves have the same place, the first counts. */
 uint32_t dovecounter_advertisement(const struct dovecounter_half *halves, size_t half_count,
                                    struct dovecounter_advertisement *advertisement);
+
+/* How long states last at most, in milliseconds, as the module advertises: the upper end of the range that its code stands for, and
+   DOVECOUNTER_UNBOUNDED if the range has none or the code is reserved. */
+struct dovecounter_durations {
+    uint32_t module_power_up;   /* MaxDurationModulePwrUp */
+    uint32_t module_power_down; /* MaxDurationModulePwrDn */
+    uint32_t path_init;         /* MaxDurationDPInit */
+    uint32_t path_deinit;       /* MaxDurationDPDeinit */
+    uint32_t path_tx_turn_on;   /* MaxDurationDPTxTurnOn */
+    uint32_t path_tx_turn_off;  /* MaxDurationDPTxTurnOff */
+};
+
+#define DOVECOUNTER_UNBOUNDED UINT32_MAX
+
+/* Writes to *durations how long states of the module with these halves last at most. The halves are those of
+   dovecounter_advertisement.
+
+   status   if
+   1, 2     the halves have no place
+   11 to 16 the halves do not say what the module advertises */
+uint32_t dovecounter_durations(const struct dovecounter_half *halves, size_t half_count,
+                               struct dovecounter_durations *durations);
 
 /* A data path: an Application on consecutive host lanes and consecutive media lanes. */
 struct dovecounter_path {
@@ -105,10 +140,10 @@ struct dovecounter_plan {
     struct dovecounter_path paths[8]; /* by rising host lane; zeros after the last one */
 };
 
-/* Says which plan is best for the module that has these halves: its paths are allowed, no two share a lane, the kept paths are
+/* Writes to *plan the best plan for the module with these halves: its paths are allowed, no two share a lane, the kept paths are
    among them, and no such plan weighs more. Of several such plans it is the first, in the order of docs/planning.md. A path
-   weighs what `weights` has at its HostInterfaceID. The kept paths may come in any order. Writes *plan; the statuses are
-   those of dovecounter_advertisement, and then those of kept paths.
+   weighs what `weights` has at its HostInterfaceID. The kept paths may come in any order. The statuses are those of
+   dovecounter_advertisement, and then those of kept paths.
 
    To provision the plan and leave the kept data paths alone, hand plan->control and plan->outside to dovecounter_provision,
    and then plan->control and plan->lanes to dovecounter_activate. */
@@ -117,29 +152,28 @@ uint32_t dovecounter_plan(const struct dovecounter_half *halves, size_t half_cou
 
 /* What a certificate is worth. */
 struct dovecounter_judgement {
-    uint8_t reason; /* 0: it is good, and no plan that holds the paths which the text keeps weighs more than its own; else the
-                       digit of VR1 to VR9 */
-    size_t number;  /* of VR1 and VR2 the path's number from 1, of VR8 and VR9 the kept path's, of VR5 and VR6 the entry's,
+    uint8_t reason; /* 0: it is good, and no plan with the paths that the text keeps weighs more than its own; else the digit of
+                       VR1 to VR9 */
+    size_t number;  /* for VR1 and VR2 the path's number from 1, for VR8 and VR9 the kept path's, for VR5 and VR6 the entry's,
                        else 0 */
 };
 
-/* Judges the certificate with this text, as the command plan of cmisctl prints it, for the module that has these halves and
-   for these weights. Which paths are kept is said by the text. Writes *judgement. Statuses of the halves come before
-   those of the text. */
+/* Judges the certificate with this text, as the command plan of cmisctl prints it, for the module with these halves and for these
+   weights, and writes to *judgement. The text says which paths are kept. Statuses of the halves come before those of the
+   text. */
 uint32_t dovecounter_check(const struct dovecounter_half *halves, size_t half_count, const uint32_t weights[256],
                            const uint8_t *text, size_t text_length, struct dovecounter_judgement *judgement);
 
-/* Why a procedure ended without success: the digit of PV1 to PV7, and that fault's values. Of PV5, which no procedure here
-   ends in, first is the digit of BU1 or BU2. */
+/* Why a procedure ended without success: the digit of PV1 to PV7, and that fault's values. For PV5, in which no procedure here
+   ends, first is the digit of BU1 or BU2. */
 struct dovecounter_fault {
     uint8_t code; /* 0 if there is none */
     uint8_t first;
     uint8_t second;
 };
 
-/* A procedure under way. Copy it and keep it as you like, and change nothing: other numbers are refused, or are another
-   procedure. */
-struct dovecounter_procedure {
+/* How far a procedure has come. */
+struct dovecounter_progress {
     size_t met;
     uint16_t steps;
     uint8_t work;
@@ -150,30 +184,44 @@ struct dovecounter_procedure {
     struct dovecounter_fault fault;
 };
 
-/* Begins to put the control bytes of host lanes 1 to 8, those of a plan, into the Active Control Set. The data paths of `lanes` are
-   taken down first, and the bytes are applied to them: `outside` of the plan, which is 0xFF, all lanes, if nothing is kept. After a
-   success these lanes are DPDeactivated until dovecounter_activate. No other lane is taken down or applied, but its DPDeinit bit is
-   stored as 0: one that is up stays up, if the module is ready, no apply is in progress and nothing else takes it down; one that the
-   host held down begins to come up. The bytes of other lanes in the Active Control Set have to be those of the plan already. Nobody else may use the module
-   meanwhile: no driver, no other process, no second master of the bus. Writes *procedure. */
+/* A procedure under way. Copy it and keep it as you like, but change nothing: other numbers are refused, or are another
+   procedure's. */
+struct dovecounter_procedure {
+    uint32_t magic;
+    uint8_t wait;
+    struct dovecounter_progress saved;
+};
+
+/* Begins to put a plan's control bytes of host lanes 1 to 8 into the Active Control Set, and writes to *procedure. The data paths of
+   `lanes` are taken down first, and the bytes are applied to these lanes: hand over `outside` of the plan, which is 0xFF, all lanes, if
+   nothing is kept. After a success they are DPDeactivated until dovecounter_activate. No other lane is taken down or applied, but its
+   DPDeinit bit is stored as 0: a lane that is up stays up if the module is ready, no apply is in progress and nothing else takes it
+   down; a lane that the host held down begins to come up. The bytes of these other lanes in the Active Control Set already have to be
+   those of the plan. Nobody else may use the module meanwhile: no driver, no other process, no second master of the bus. */
 void dovecounter_provision(const uint8_t control[8], uint8_t lanes, struct dovecounter_procedure *procedure);
 
 /* Begins to bring up the data paths of `lanes`, those of a plan whose control bytes are in the Active Control Set, and to take down
-   those of all other lanes. After a success the lanes are DPActivated. Writes *procedure. */
+   those of all other lanes; writes to *procedure. After a success the lanes are DPActivated. */
 void dovecounter_activate(const uint8_t control[8], uint8_t lanes, struct dovecounter_procedure *procedure);
 
 enum dovecounter_kind { DOVECOUNTER_FETCH = 0, DOVECOUNTER_STORE = 1 };
 
-/* What is to be done on the bus. */
+/* What to do on the bus. */
 struct dovecounter_operation {
     uint8_t kind;     /* DOVECOUNTER_FETCH or DOVECOUNTER_STORE */
     uint8_t device;   /* the address on the bus in its 8-bit form, 0xA0; in the 7-bit form 0x50 */
     uint8_t offset;   /* the address of the first byte */
-    uint8_t count;    /* how many bytes are fetched or stored, 1 to 8 */
-    uint8_t bytes[8]; /* those that are stored; zeros after them, and for a fetch */
+    uint8_t count;    /* how many bytes to fetch or to store: 1 to 8; for a reading up to 128 */
+    uint8_t bytes[8]; /* those to store; zeros after them, and for a fetch */
+    uint8_t wait;     /* 1 if the operation before was refused, or was the same fetch and its answer was `not yet`, so that a state of
+                         the module is awaited: then pause before this one. Else 0 */
 };
 
-/* Says what is to be done on the bus now. Writes *operation. DOVECOUNTER_ENDED if nothing is. */
+/* Writes to *operation what to do on the bus now.
+
+   status   if
+   31       the numbers are none of a procedure
+   32       the procedure has ended */
 uint32_t dovecounter_next(const struct dovecounter_procedure *procedure, struct dovecounter_operation *operation);
 
 enum dovecounter_outcome {
@@ -182,10 +230,15 @@ enum dovecounter_outcome {
     DOVECOUNTER_FETCHED = 2  /* it gave all bytes of a fetch */
 };
 
-/* Tells the procedure what came of that, once; with DOVECOUNTER_FETCHED also the bytes, as many as were asked for. A refused
-   operation is asked for again, up to 4096 operations in all. A module may take seconds to minutes for a state that is awaited, and
-   at 400 kHz 4096 operations are over much sooner: wait between operations that are asked for again. After PV4 the procedure may be
-   begun again. Writes *procedure. */
+/* Tells the procedure once what came of that operation, with DOVECOUNTER_FETCHED also the bytes, as many as were asked for; writes to
+   *procedure. A refused operation is asked for again, up to 4096 operations in all. A module may take seconds to minutes for a state
+   that is awaited, and at 400 kHz 4096 operations are over much sooner: pause before an operation whose `wait` is 1, so long that 4096
+   pauses last longer than the longest of dovecounter_durations. After PV3 and PV4 the procedure may be begun again.
+
+   status   if
+   31       the numbers are none of a procedure
+   32       the procedure has ended
+   34       the operation can't have this reply */
 uint32_t dovecounter_reply(struct dovecounter_procedure *procedure, uint8_t outcome, const uint8_t *bytes,
                            size_t byte_count);
 
@@ -195,9 +248,145 @@ struct dovecounter_answer {
     struct dovecounter_fault fault; /* its code is 0 if it succeeded */
 };
 
-/* Says how the procedure ended. After a success of provisioning the last operation has read the control bytes from the module's
-   Active Control Set. Writes *answer. DOVECOUNTER_NOT_ENDED if it has not ended. */
+/* Writes to *answer how the procedure ended. After a success of provisioning the last operation
+   has read the control bytes from the module's Active Control Set.
+
+   status   if
+   31       the numbers are none of a procedure
+   33       the procedure has not ended */
 uint32_t dovecounter_answer(const struct dovecounter_procedure *procedure, struct dovecounter_answer *answer);
+
+/* The reading of a module under way, and what it has read. Copy it and keep it as you like, but change nothing: other numbers are
+   refused, or are another reading's. */
+struct dovecounter_reading {
+    uint32_t magic;
+    uint16_t steps;
+    uint8_t settled;
+    uint8_t selection;
+    uint8_t page;
+    uint8_t accepted;
+    uint8_t piece;
+    uint8_t read;
+    uint8_t wait;
+    uint8_t count;                     /* how many halves were read */
+    struct dovecounter_half halves[5]; /* those, the newest first */
+    uint8_t part[128];
+};
+
+/* Begins to read the halves of a module that its reports and its plans need, and writes to *reading. For a CMIS module these are the
+   lower half and the pages 00h, 01h, 02h and 11h of bank 0, or the lower half and page 00h if its memory is flat; for an SFF-8636
+   module the lower half and the pages 00h and 03h, likewise; for an SFF-8472 module the lower half of 0xA0, and that of 0xA2 if it has
+   diagnostics without an address change; for other modules the lower half of 0xA0. The bus fetches at most `most` bytes at once: a half
+   comes in pieces of the largest multiple of 8 that is not above that, and with 128 at once. Nobody else may use the module meanwhile.
+
+   status   if
+   36       most is below 8 */
+uint32_t dovecounter_read(uint8_t most, struct dovecounter_reading *reading);
+
+/* Writes to *operation what to do on the bus now, as dovecounter_next does. After status 32 reading->halves and reading->count may be
+   handed to the functions that take halves.
+
+   status   if
+   31       the numbers are none of a reading
+   32       each half was read, or is a page that the module does not have
+   35       as many operations were told as may be, and not all was read */
+uint32_t dovecounter_read_next(const struct dovecounter_reading *reading, struct dovecounter_operation *operation);
+
+/* Tells the reading once what came of that operation, as dovecounter_reply does; writes to *reading. A refused operation is asked for
+   again, up to 4096 operations in all, of which the pieces of a half that were read count as one.
+
+   status   if
+   31       the numbers are none of a reading
+   32       all was read, or it gave up
+   34       the operation can't have this reply */
+uint32_t dovecounter_read_reply(struct dovecounter_reading *reading, uint8_t outcome, const uint8_t *bytes,
+                                size_t byte_count);
+
+/* How many ticks each work of a simulated module takes, 1 to 1000. */
+struct dovecounter_delays {
+    uint16_t apply;      /* applying staged control bytes */
+    uint16_t init;       /* DPInit */
+    uint16_t turn_on;    /* DPTxTurnOn */
+    uint16_t turn_off;   /* DPTxTurnOff */
+    uint16_t deinit;     /* DPDeinit */
+    uint16_t power_up;   /* ModulePwrUp */
+    uint16_t power_down; /* ModulePwrDn */
+};
+
+/* A host lane of a simulated module. */
+struct dovecounter_lane {
+    uint16_t left;  /* ticks until the work of its data path's state is done, 0 if none runs */
+    uint8_t path;   /* the code of that state, 1 to 7 */
+    uint8_t status; /* the code of what became of the last apply */
+    uint8_t custom; /* 1 if that is none of the standard's; no module that began here has such a status */
+    uint8_t staged; /* the control byte of Staged Control Set 0 */
+    uint8_t active; /* the control byte of the Active Control Set */
+    uint8_t keeps;  /* 1 if an apply in progress keeps a control byte for it */
+    uint8_t kept;   /* that byte, or 0 */
+};
+
+/* What changes of a simulated module (docs/module.md); its halves never do. Read what you like, copy it and keep it, and change
+   nothing: other numbers are refused, or are another module. On x86-64 its calls take at most so much stack: begin 16 KB, fetch 31 KB,
+   store 26 KB, and the others, which look at no halves, 1.1 KB. */
+struct dovecounter_module {
+    struct dovecounter_delays delays;
+    uint16_t left;       /* ticks until the work of the module's state is done, 0 if none runs */
+    uint16_t apply_left; /* ticks until an apply in progress is done, 0 if none is */
+    uint8_t bank;        /* that the upper half shows */
+    uint8_t page;        /* that the upper half shows */
+    uint8_t waiting;     /* the bank that waits for a page */
+    uint8_t pin;         /* 1 if the host holds the low power pin */
+    uint8_t control;     /* byte 26 of lower memory */
+    uint8_t state;       /* the code of the module's state, 1 to 5 */
+    uint8_t deinit;      /* the lanes whose DPDeinit bit is set */
+    uint8_t module_flags;
+    uint8_t lane_flags[19];           /* bytes 134 to 152 of page 11h */
+    struct dovecounter_lane lanes[8]; /* lane 1 first */
+};
+
+/* Begins a simulated module that has these halves: at least the lower half and the pages 00h, 01h, 10h and 11h of device 0xA0.
+   Writes *module.
+
+   status   if
+   1, 2     the halves have no place
+   51       a half is missing
+   11 to 16 the halves do not say what the module advertises
+   53       a delay is out of range
+   54       the active control bytes are no host paths */
+uint32_t dovecounter_module_begin(const struct dovecounter_half *halves, size_t half_count,
+                                  const struct dovecounter_delays *delays, struct dovecounter_module *module);
+
+/* Fetches 1 to 128 bytes of one half, from the address `offset` on, from the module that has these halves, which are to be those that
+   it began with. A flag that is read becomes 0. Writes *module and the bytes.
+
+   status   if
+   1, 2     the halves have no place
+   11 to 16 the halves do not say what the module advertises
+   61       the numbers are none of a module
+   62       there is no such device, or the bytes are none, too many or of two halves
+   63       the module does not answer: it lacks the half, or the device is 0xA2 */
+uint32_t dovecounter_module_fetch(const struct dovecounter_half *halves, size_t half_count,
+                                  struct dovecounter_module *module, uint8_t device, uint8_t offset, uint8_t *bytes,
+                                  size_t byte_count);
+
+/* Stores 1 to 8 bytes in one half, from the address `offset` on, one after the other. A store that is cut short is a store of its first
+   bytes. Writes *module. The statuses are those of dovecounter_module_fetch. */
+uint32_t dovecounter_module_store(const struct dovecounter_half *halves, size_t half_count,
+                                  struct dovecounter_module *module, uint8_t device, uint8_t offset,
+                                  const uint8_t *bytes, size_t byte_count);
+
+/* Lets one tick pass. Nothing else lets time pass. Writes *module.
+
+   status   if
+   61       the numbers are none of a module */
+uint32_t dovecounter_module_tick(struct dovecounter_module *module);
+
+/* The host holds the low power pin, or leaves it if `on` is 0. Writes *module. The status is that of dovecounter_module_tick. */
+uint32_t dovecounter_module_pin(struct dovecounter_module *module, uint8_t on);
+
+/* Says which control bytes are in the Active Control Set, lane 1 first. Writes the bytes. The status is that of
+   dovecounter_module_tick. */
+uint32_t dovecounter_module_active(const struct dovecounter_module *module, uint8_t active[8]);
 
 #ifdef __cplusplus
 }
