@@ -30,7 +30,7 @@ document_of text = if is_utf8 text then parse_document text else None
 abbrev pub host_table : Members → Option Members
 host_table document = option_and_then as_table (get_member (codes "host") document)
 
--- the members of that table; none where there is no document that has it
+-- the members of that table; none if no document has it
 abbrev pub host_members : Option Members → List Member
 host_members document = option_map_or members_of (option_and_then host_table document) []
 

@@ -18,7 +18,7 @@ is_host key = bytes_eq key (codes "host")
 abbrev pub has_other_key : List Member → Bool
 has_other_key members = list_any (λ (member : Member). not (is_host member.0)) members
 
--- of a member, where these HostInterfaceIDs are listed before it
+-- of a member, if these HostInterfaceIDs are listed before it
 abbrev pub member_faults : (ℕ → Bool) → Member → List (Bool × WeightsFault)
 member_faults is_listed member =
     (is_none (id_of_key member.0), BadKey)

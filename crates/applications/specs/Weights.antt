@@ -8,6 +8,6 @@ HostWeights = List ℕ
 abbrev pub IsHostWeights : HostWeights → Type 0
 IsHostWeights weights = (length weights ≡ 256) × All (λ weight. weight < 2 ^ 32) weights
 
--- the weight of a HostInterfaceID, 0 where the list doesn't reach
+-- the weight of a HostInterfaceID, 0 if the list doesn't reach
 abbrev pub weight_at : HostWeights → ℕ → ℕ
 weight_at weights host_id = slice_index weights host_id

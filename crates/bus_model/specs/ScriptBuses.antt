@@ -10,6 +10,6 @@ pub record Scripted (D : Type 0) : Type 0 where
   pub steps : List Step
   pub room : ℕ
 
--- what a bus with a device of this state is, where the device is its own state
+-- what a bus with a device of this state is, if the device is its own state
 abbrev pub seen_at : {D : Type 0} → Scripted D → Seen (List Directive × D)
 seen_at bus = record { steps = bus.steps; room = bus.room; state = (bus.script, bus.device) }

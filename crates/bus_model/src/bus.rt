@@ -56,7 +56,7 @@ pub trait Bus {
         ensures full { (result ≡ Err BusFault.TraceFull) ↔ (IsWellShaped op × IsFull (seen self.old)) }
         ensures refused { OnErr result (seen self.new ≡ seen self.old) };
 
-    /// Fetches so many bytes of one half, from an address on; `None` where the fetch was refused. Fails on a full
+    /// Fetches so many bytes of one half, from an address on; `None` if the fetch was refused. Fails on a full
     /// list alone.
     final fn fetch(
         &mut self,

@@ -15,7 +15,7 @@ pub enum Directive {
     Pass(u16),
     /// So many are refused, and the device sees nothing of them.
     Nack(u16),
-    /// One is refused, after a store has given so many of its bytes, or all where it has fewer.
+    /// One is refused, after a store has given so many of its bytes, or all if it has fewer.
     Cut(u8),
     /// So many units of time pass before the next transaction.
     Tick(u16),

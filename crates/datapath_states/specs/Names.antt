@@ -1,6 +1,6 @@
 -- The names of the data path states and of the configuration statuses (OIF-CMIS-05.0, section 6.3.3 Data Path State
--- Machine, and Configuration Command Status among the lane statuses of page 11h). The names of the codes 6, 7 and 13 to
--- 15 are this project's own.
+-- Machine, and Configuration Command Status among the lane statuses of page 11h). The names of the codes 13 to 15
+-- are this project's own.
 use Rattle.std.specs.Prelude.{ℕ, List, ◌++◌, codes}
 use Rattle.std.specs.Fmt.{decimal}
 use Rattle.datapath_states.specs.declared.state.PathState.{PathState}

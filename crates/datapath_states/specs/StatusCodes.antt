@@ -1,5 +1,5 @@
 -- The codes of the configuration statuses (OIF-CMIS-05.0, Configuration Command Status among the lane
--- statuses of page 11h). What the codes 6, 7 and 13 to 15 are called is this project's own.
+-- statuses of page 11h). What the codes 13 to 15 are called is this project's own.
 use Rattle.std.specs.Prelude.{ℕ, ◌==◌, Option, List, [], ◌∷◌, find}
 use Rattle.datapath_states.specs.declared.status.ConfigStatus.{ConfigStatus}
 use Rattle.datapath_states.specs.declared.status.ConfigStatus.TheVariants.{Undefined, Success, Rejected, RejectedInvalidAppSel, RejectedInvalidDataPath, RejectedInvalidSi, RejectedLanesInUse, RejectedPartialDataPath, InProgress, Custom}

@@ -32,6 +32,6 @@ transitions =
 abbrev pub fits : PathState → Inputs → Transition → Bool
 fits state inputs transition = (code_of transition.state == code_of state) && transition.condition inputs
 
--- the state after a turn is that of the row that fits; where none does, the state stays
+-- the state after a turn is that of the row that fits; if none does, the state stays
 unfoldable pub next_of : PathState → Inputs → PathState
 next_of state inputs = option_map_or (λ transition. transition.next) (find (fits state inputs) transitions) state

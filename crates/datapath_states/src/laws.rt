@@ -34,7 +34,7 @@ pub fn rows_exclude_each_other()
         count_by (fits state inputs) transitions ≤ 1 }
 {}
 
-/// A transient state is left exactly where its step is done. Any other doesn't look at that.
+/// A transient state is left if and only if its step is done. No other state looks at that.
 pub fn transient_states_wait()
     ensures transient { (state : PathState) (inputs : Inputs) → IsTrue (is_transient state) →
         (next_of state inputs ≡ state) ↔ IsFalse inputs.done }

@@ -48,7 +48,7 @@ pub record HasGains (advert : Advertised) (weights : HostWeights) (kept : List P
 abbrev pub gain_at : List ℕ → State → ℕ
 gain_at table state = slice_index table (state_place state)
 
--- the most that one of the steps weighs together with what the table has where it leads; 0 where there is none
+-- the most that one of the steps weighs together with what the table has where it leads; 0 if there is none
 pub record IsMost (table : List ℕ) (steps : List Step) (most : ℕ) : Type 0 where
   pub attained : (most ≡ 0) ⊎ ((step : Step) × Contains steps step × (step.weight + gain_at table step.end ≡ most))
   pub greatest : All (λ step. step.weight + gain_at table step.end ≤ most) steps

@@ -37,7 +37,7 @@ pub fn put_gains(
     }
 }
 
-// The most that a step from the state weighs together with what can be gained where it leads; 0 where there is none.
+// The most that a step from the state weighs together with what can be gained where it leads; 0 if there is none.
 fn most(may_stay_free: bool, moves: &[Move], table: &Table, state: &State) -> u64
     requires table { IsTable table.now }
     requires open { state.now.boundary < 8 }

@@ -71,7 +71,7 @@ regions_in (Some Sff8636) memory = qsfp_regions (bit memory QFlatMemory)
 regions_in (Some Sff8472) memory = sfp_regions (has_diagnostics memory)
 regions_in None memory = Lower A0 ∷ []
 
--- of a module whose lower half of A0 is in memory; that half alone where it isn't, or where its identifier is none that is read
+-- of a module whose lower half of A0 is in memory; that half alone if it isn't, or if its identifier is none that is read
 abbrev pub regions_of : Memory → List Region
 regions_of memory = regions_in (family_by (identifier memory)) memory
 

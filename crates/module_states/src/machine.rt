@@ -15,7 +15,7 @@ pub struct Inputs {
     pub done: bool,
 }
 
-/// Whether a module is asked for low power: by software, or by the pin where that is allowed.
+/// Whether a module is asked for low power: by software, or by the pin if that is allowed.
 pub fn low_power(allow_hw: bool, request_hw: bool, request_sw: bool) -> bool
     ensures { result ≡ is_low_power allow_hw request_hw request_sw }
 {

@@ -3,7 +3,7 @@ use Rattle.std.specs.Prelude.{ℕ, List, [], ◌∷◌, Option, find, codes}
 use Rattle.std.specs.Str.{bytes_eq}
 use Rattle.notices.specs.declared.table.Sentence.{Sentence}
 
--- a code, with a word for the cause where it has several, and its sentence
+-- a code, with a word for the cause if it has several, and its sentence
 pub record Row : Type 0 where
   pub code : List ℕ
   pub text : List ℕ

@@ -26,7 +26,7 @@ IsAboveAll memory key = All (λ entry. key_cmp entry.0 key ≡ Less) (finmap.ent
 abbrev pub next_number : Memory → ℕ
 next_number memory = finmap.len memory + 2
 
--- of faults in the order in which they are judged: this one where it applies, else what the rest says
+-- of faults in the order in which they are judged: this one if it applies, else what the rest says
 abbrev pub FirstOf : Type 0 → ImageFault → (ImageFault → Type 0) → ImageFault → Type 0
 FirstOf Applies this Rest fault = (Applies × (fault ≡ this)) ⊎ (¬ Applies × Rest fault)
 

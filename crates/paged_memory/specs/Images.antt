@@ -18,10 +18,10 @@ most_pages = 16
 abbrev pub key_at : Dev → ℕ → ℕ → Key
 key_at dev page address = if nat_lt address 128 then lower_key dev else upper_key dev 0 page
 
--- where the half that shows an address has it
+-- if the half that shows an address has it
 abbrev pub place_in_half : ℕ → ℕ
 place_in_half address = if nat_lt address 128 then address else address - 128
 
--- the byte at an address, where there is such a page
+-- the byte at an address, if there is such a page
 abbrev pub byte_at : Memory → Dev → ℕ → ℕ → Option ℕ
 byte_at memory dev page address = option_map (λ bytes. slice_index bytes (place_in_half address)) (map.get memory (key_at dev page address))

@@ -23,7 +23,7 @@ is_awaited Unknown = false
 is_awaited Open = true
 is_awaited (Page known) = false
 
--- the page that is needed, where it isn't known to be selected
+-- the page that is needed, if it isn't known to be selected
 abbrev pub missing_page : Selected → Option ℕ → Option ℕ
 missing_page selected None = None
 missing_page selected (Some page) = if is_known selected page then None else Some page
@@ -33,7 +33,7 @@ abbrev pub selecting_first : Paging → Op → Option ℕ → Op
 selecting_first paging op None = op
 selecting_first paging op (Some page) = selection paging page
 
--- what is asked for next where an operation is wanted that needs a page, or none
+-- what is asked for next if an operation is wanted that needs a page, or none
 abbrev pub wanted : Paging → Selected → Option ℕ → Op → Op
 wanted paging selected needed op = if is_awaited selected then read_selection paging else selecting_first paging op (missing_page selected needed)
 

@@ -26,7 +26,7 @@ abbrev pub first_byte : Paging → ℕ
 first_byte BankAndPage = 126
 first_byte PageAlone = 127
 
--- the page is asked for, and bank 0 where a bank is
+-- the page is asked for, and bank 0 if a bank is
 abbrev pub selection : Paging → ℕ → Op
 selection BankAndPage page = Store A0 126 (record { items = 0 ∷ page ∷ [] })
 selection PageAlone page = Store A0 127 (record { items = page ∷ [] })

@@ -32,7 +32,7 @@ selecting_on memory A2 = Nothing
 abbrev pub first_page : Selection
 first_page = record { bank = 0; page = 0; waiting = 0 }
 
--- a page of a bank, or the first page where the memory lacks it
+-- a page of a bank, or the first page if the memory lacks it
 abbrev pub mapped : Memory → ℕ → ℕ → Selection
 mapped memory bank page = if map.contains_key memory (upper_key A0 bank page) then record { bank = bank; page = page; waiting = bank } else first_page
 

@@ -25,7 +25,7 @@ pub record AreShown (entries : List (Key × List ℕ)) (selecting : Selecting) :
 abbrev pub started : Memory → Windowed
 started memory = record { memory = memory; selection = first_page }
 
--- what an address reads as, where the half that shows it has these bytes
+-- what an address reads as, if the half that shows it has these bytes
 abbrev pub read_at : Selecting → Selection → List ℕ → ℕ → ℕ
 read_at selecting selection half address = unwrap_or (shown_at selecting selection address) (slice_index half (place_in_half address))
 
@@ -33,7 +33,7 @@ read_at selecting selection half address = unwrap_or (shown_at selecting selecti
 abbrev pub bytes_from : Selecting → Selection → ℕ → ℕ → List ℕ → List ℕ
 bytes_from selecting selection address count half = map (read_at selecting selection half) (range_with_len address count)
 
--- the half that shows an address, where the memory has it
+-- the half that shows an address, if the memory has it
 abbrev pub half_at : Windowed → Dev → ℕ → Option (List ℕ)
 half_at window dev address = finmap.get window.memory (shown_key dev window.selection address)
 

@@ -57,7 +57,7 @@ fn is_same(a: Key, b: Key) -> bool
     a == b
 }
 
-/// Puts an entry in its place, where the key is held or there is room.
+/// Puts an entry in its place, if the key is held or there is room.
 pub fn put_entry(entries: &mut ArrayVec<(Key, Page), MAX_PAGES>, key: Key, page: Page) -> bool
     requires { IsTrue (is_sorted key_cmp entries.old.items) }
     ensures put { OnTrue result (entries.new.items ≡ put key_cmp key page entries.old.items) }

@@ -10,7 +10,7 @@ use crate::page::{PAGE_LEN, Page};
 use bus_model::Dev;
 use text_lines::{read_hex_byte, read_hexadecimal, split_words};
 
-/// The key and the page that a line has, where it has the form of a page line.
+/// The key and the page that a line has, if it has the form of a page line.
 pub fn read_page_line(line: &[u8]) -> Option<(Key, Page)>
     ensures { MatchOption result ((key : Key) (page : List ℕ) → IsPageLine line.now key page → ⊥) (λ entry. IsPageLine line.now entry.0 entry.1) }
 {

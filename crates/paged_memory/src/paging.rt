@@ -76,7 +76,7 @@ impl Selected {
         matches!(self, Selected::Open)
     }
 
-    /// The page that is needed, where it isn't known to be selected.
+    /// The page that is needed, if it isn't known to be selected.
     pub fn missing(self, needed: Option<u8>) -> Option<u8>
         ensures { result ≡ missing_page self needed }
     {
@@ -86,7 +86,7 @@ impl Selected {
         }
     }
 
-    /// What is to be made next where an operation is wanted that needs a page, or none.
+    /// What is to be made next if an operation is wanted that needs a page, or none.
     pub fn wanted(self, paging: Paging, needed: Option<u8>, op: Op) -> Op
         requires { IsWellShaped op }
         ensures operation { result ≡ wanted paging self needed op }

@@ -68,7 +68,7 @@ impl Selection {
         }
     }
 
-    // The selection of a page of a bank, or of the first page where there is no such page.
+    // The selection of a page of a bank, or of the first page if there is no such page.
     fn mapped(entries: &[(Key, Page)], bank: u8, page: u8) -> Selection
         requires { IsTrue (map.is_sorted key_cmp entries.now) }
         ensures { result ≡ spec.mapped (map.from_sorted entries.now) bank page }
@@ -113,7 +113,7 @@ impl Selection {
         }
     }
 
-    /// What an address (0 to 255) reads as where it shows the selection, and not what the memory has there.
+    /// What an address (0 to 255) reads as, if it shows the selection and not what the memory has there.
     pub fn shown_at(self, selecting: Selecting, address: u8) -> Option<u8>
         ensures { result ≡ spec.shown_at selecting self address }
     {

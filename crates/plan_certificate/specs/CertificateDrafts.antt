@@ -44,7 +44,7 @@ pub record IsDraft (states : ℕ) (stage : Stage) (certificate : Claim) : Type 0
   pub readable : IsReadable states certificate
   pub lists : IsAt stage certificate
 
--- kept paths were read, and nothing behind them
+-- kept paths were read, and nothing after them
 pub record HasKeptAlone (certificate : Claim) : Type 0 where
   pub kept : certificate.kept ≢ []
   pub paths : certificate.paths ≡ []

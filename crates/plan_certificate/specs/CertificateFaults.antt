@@ -9,7 +9,7 @@ use Rattle.plan_certificate.specs.CertificateText.{certificate_lines, IsInRange,
 abbrev pub Begins : (Claim → Type 0) → List (List ℕ) → Type 0
 Begins Is lines = (certificate : Claim) × Is certificate × (rest : List (List ℕ)) × (certificate_lines certificate ≡ lines ++ rest)
 
--- What is wrong with the last of these lines, where those before it begin a readable text: with it they begin no
+-- What is wrong with the last of these lines, if those before it begin a readable text: with it they begin no
 -- text; or only texts whose states don't rise; or only texts with too many kept paths, paths or states.
 abbrev pub IsLineFault : ℕ → List (List ℕ) → CertificateFault → Type 0
 IsLineFault states lines (BadLine number) = (number ≡ length lines) × ¬ (Begins IsInRange lines)

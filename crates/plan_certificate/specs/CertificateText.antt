@@ -1,5 +1,5 @@
 -- The text of a certificate: a header, the weight, the kept paths and the paths in their order, the entries by rising
--- states, and `end`. The header says version 2 where paths are kept, else version 1. (docs/formats.md, "Certificate"; this
+-- states, and `end`. The header says version 2 if paths are kept, else version 1. (docs/formats.md, "Certificate"; this
 -- project's own)
 use Rattle.std.specs.Prelude.{◌≡◌, ℕ, ◌<◌, ◌≤◌, ◌^◌, List, [], ◌∷◌, ◌++◌, length, map, codes}
 use Rattle.std.specs.List.{AllByRecursion}

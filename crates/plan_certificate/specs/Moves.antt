@@ -42,7 +42,7 @@ move_step state move = record {
 abbrev pub move_steps : State → List Move → List Step
 move_steps state moves = map (move_step state) (filter (is_open state) moves)
 
--- the free lane's step, where it may stay free, and those of the moves that are open
+-- the free lane's step, if it may stay free, and those of the moves that are open
 abbrev pub steps_by : Bool → State → List Move → List Step
 steps_by free state moves = free_steps free state ++ move_steps state moves
 

@@ -27,7 +27,7 @@ start = record { boundary = 0; used = set.empty }
 abbrev pub free_step : State → Step
 free_step state = record { weight = 0; end = record { boundary = state.boundary + 1; used = state.used } }
 
--- its step, where it may
+-- its step, if it may
 abbrev pub free_steps : Bool → State → List Step
 free_steps may state = if may then free_step state ∷ [] else []
 

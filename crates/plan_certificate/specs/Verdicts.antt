@@ -62,11 +62,11 @@ kept_fault advert kept = option_map (λ flaw. flaw.1) (first_fault (kept_flaws a
 abbrev pub plan_flaws : Advertised → List Path → Flaws
 plan_flaws advert paths = path_flaws advert paths ++ lane_flaws advert paths
 
--- the kept paths', the plan's, and then the plan's where it lacks kept ones
+-- the kept paths', the plan's, and then the plan's if it lacks kept ones
 abbrev pub paths_flaws : Advertised → List Path → List Path → Flaws
 paths_flaws advert kept paths = kept_flaws advert kept ++ (plan_flaws advert paths ++ missing_flaws kept paths)
 
--- the potential of a state, where it has an entry
+-- the potential of a state, if it has an entry
 unfoldable pub potential_of : List Entry → State → Option ℕ
 potential_of entries state = option_map (λ entry. entry.potential) (find (λ entry. entry_place entry == state_place state) entries)
 

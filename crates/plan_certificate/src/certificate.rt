@@ -14,7 +14,7 @@ pub use writing::{write_end, write_entry, write_head};
 pub struct Entry {
     /// How many host lanes are decided, 0 to 8.
     pub boundary: u8,
-    /// The used media lanes: bit i-1 is 1 where lane i is used.
+    /// The used media lanes: bit i-1 is 1 if lane i is used.
     pub used: u8,
     /// In a good certificate, no steps that follow one another from the state weigh more.
     pub potential: u64,

@@ -135,7 +135,7 @@ fn entry_flaw<const ROOM: usize>(
     steps_flaw(free, moves.all.as_slice(), entries, number, entry)
 }
 
-// The first flaw of the free lane's step, where it may stay free, and those of moves.
+// The first flaw of the free lane's step, if it may stay free, and those of moves.
 fn steps_flaw<const ROOM: usize>(
     may_stay_free: bool,
     moves: &[Move],

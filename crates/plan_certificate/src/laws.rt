@@ -16,7 +16,7 @@ pub fn one_answer()
         → IsAnswer states lines a → IsAnswer states lines b → a ≡ b }
 {}
 
-/// The written text of a certificate is read as this certificate, where there is room for its states, and as nothing else.
+/// The written text of a certificate is read as this certificate, if there is room for its states, and as nothing else.
 pub fn written_is_read()
     ensures read { (states : ℕ) (certificate : Claim) → IsReadable states certificate
         → IsTextOf states (lines_of (text_of (certificate_lines certificate))) certificate }

@@ -18,7 +18,7 @@ pub struct Path {
 }
 
 impl Path {
-    /// The Application of the path; where none has its number, one without lanes.
+    /// The Application of the path; if none has its number, one without lanes.
     #[tactic(auto, unfolding(crate::specs::Paths::app_of))]
     pub fn application(self, advert: &Advert) -> App
         ensures { result ≡ spec.app_of advert.now self }
@@ -88,7 +88,7 @@ impl Path {
                 .is_disjoint(other.media_lanes(advert))
     }
 
-    /// What the path weighs; where no Application has its number, what HostInterfaceID 00h weighs.
+    /// What the path weighs; if no Application has its number, what HostInterfaceID 00h weighs.
     pub fn weight(self, advert: &Advert, weights: &Weights) -> u32
         ensures { result ≡ spec.path_weight advert.now weights.now self }
     {

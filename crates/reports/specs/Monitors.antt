@@ -1,4 +1,4 @@
--- The lines of a monitor: a value of the module or one of each lane, and the limits where there are any.
+-- How the text of a report shows the value of a lane, and limits.
 -- (docs/formats.md, "monitors"; OIF-CMIS-05.0, "Lane-Specific Monitors" and the monitor thresholds of page 02h; SFF-8636,
 -- "Channel Monitors"; SFF-8472, "Real Time Diagnostic and Control Registers")
 use Rattle.std.specs.Prelude.{ℕ, List, ◌∷◌, ◌++◌}

@@ -1,5 +1,5 @@
--- The text of a plan: what it weighs, its paths in their order, and its control bytes. (docs/formats.md, "Plan"; this
--- project's own)
+-- The text of a plan: what it weighs, its paths in their order, and its control bytes. (docs/formats.md,
+-- "Text of a plan"; this project's own)
 use Rattle.std.specs.Prelude.{ℕ, ◌+◌, ◌-◌, List, [], ◌∷◌, ◌++◌, codes, map}
 use Rattle.std.specs.Fmt.{decimal}
 use Rattle.applications.specs.Advertised.{Advertised}

@@ -1,4 +1,4 @@
--- What a module measures, and the units that it prints in. (docs/formats.md, "monitors"; OIF-CMIS-05.0, "Module-Level
+-- The names of what a module measures. (docs/formats.md, "monitors"; OIF-CMIS-05.0, "Module-Level
 -- Monitor Values" and "Lane-Specific Monitors"; SFF-8636, "Free Side Device Monitors" and "Channel Monitors"; SFF-8472,
 -- "Real Time Diagnostic and Control Registers")
 use Rattle.std.specs.Prelude.{ℕ, List, codes}

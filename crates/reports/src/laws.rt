@@ -1,10 +1,10 @@
-//! What holds of the tables as a whole. Each function is a theorem: its contract says it, and its
+//! What holds of a report over a bus. The function is a theorem: its contract says it, and its
 //! body is empty.
 
 ghost use Rattle.reports.specs.SameReports.{FetchedReportsSame};
 
-/// Over a scripted bus with a new window of an image behind it, whatever the script refuses or cuts short: the image that
-/// `fetch_image` answers has the reports of the window's image. Their faults are the same, and where there is none, their
+/// Over a scripted bus with a new window of an image, whatever the script refuses or cuts short: the image that
+/// `fetch_image` answers has the reports of the window's image. Their faults are the same, and if there is none, their
 /// lines.
 pub fn what_is_fetched_has_the_reports_of_the_module()
     ensures { FetchedReportsSame }

@@ -11,7 +11,7 @@ pub struct Monitors<const N: usize> {
     pub tx_bias: [i32; N],
     pub tx_power: [i32; N],
     pub rx_power: [i32; N],
-    /// Whether the sum of bytes 0 to 94 of device A2 (CC_DMI), where the limits are, is right.
+    /// Whether the sum of bytes 0 to 94 of device A2 (CC_DMI) is right; the limits are among them.
     pub sum_dmi: bool,
 }
 

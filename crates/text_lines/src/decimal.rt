@@ -3,7 +3,7 @@ ghost use Rattle.std.specs.Int.{IsInRange};
 ghost use Rattle.std.specs.Fmt.{decimal};
 ghost use Rattle.text_lines.specs.Decimal.{BeginsDecimal};
 
-/// The number that a word spells in decimal digits without leading zeros, where it is at most `limit`.
+/// The number that a word spells in decimal digits without leading zeros, if it is at most `limit`.
 pub fn read_decimal(word: &[u8], limit: u64) -> Option<u64>
     ensures { MatchOption result ((n : ℕ) → n ≤ limit → word.now ≢ decimal n) (λ n. (n ≤ limit) × (word.now ≡ decimal n)) }
 {
@@ -29,7 +29,7 @@ fn read_number(word: &[u8]) -> Option<u64>
     Some(number)
 }
 
-// The number with one more digit behind it; none where the byte is no digit, or the number has no room for it.
+// The number with one more digit after it; none if the byte is no digit, or the number has no room for it.
 fn with_digit(number: u64, byte: u8) -> Option<u64>
     ensures { MatchOption result (IsInRange 48 57 byte → 2 ^ 64 ≤ number * 10 + (byte - 48))
         (λ more. (more < 2 ^ 64) × IsInRange 48 57 byte × (more ≡ number * 10 + (byte - 48))) }

@@ -9,7 +9,7 @@ use memchr::memchr;
 /// The byte that ends a line.
 pub const LF: u8 = b'\n';
 
-/// The first line of a text, with the LF that ends it if one does, and what stands behind it.
+/// The first line of a text, with the LF that ends it if one does, and what follows it.
 pub fn split_ended_line(text: &[u8]) -> Option<(&[u8], &[u8])>
     ensures lines { MatchOption result (text.now ≡ []) (λ x. ended_lines text.now ≡ x.0.now ∷ ended_lines x.1.now) }
     ensures behind { IfSome result (λ x. x.1.now ≡ after_first is_lf text.now) }
@@ -22,7 +22,7 @@ pub fn split_ended_line(text: &[u8]) -> Option<(&[u8], &[u8])>
     Some(text.split_at((line_len(text) + 1).min(text.len())))
 }
 
-/// The first line of a text, without its LF, and what stands behind it.
+/// The first line of a text, without its LF, and what follows it.
 pub fn split_line(text: &[u8]) -> Option<(&[u8], &[u8])>
     ensures lines { MatchOption result (text.now ≡ []) (λ x. lines_of text.now ≡ x.0.now ∷ lines_of x.1.now) }
     ensures behind { IfSome result (λ x. x.1.now ≡ after_first is_lf text.now) }

@@ -7,7 +7,7 @@ ghost use Rattle.text_lines.specs.WordsLeft.{words_left};
 
 use arrayvec::ArrayVec;
 
-/// The words of a line, where there are at most `N`.
+/// The words of a line, if there are at most `N`.
 pub fn split_words<const N: usize>(line: &[u8]) -> Option<ArrayVec<&[u8], N>>
     ensures { MatchOption result (N < length (words_of line.now)) (λ words. map (λ word. word.now) words.items ≡ words_of line.now) }
 {
@@ -46,7 +46,7 @@ impl<'a> Iterator for Words<'a> {
     }
 }
 
-// The first word, and what stands behind the space that ends it, if one does.
+// The first word, and what follows the space that ends it, if one does.
 fn split_word(line: &[u8]) -> (&[u8], Option<&[u8]>)
     ensures { words_of line.now ≡ result.0.now ∷ option_map_or (λ rest. words_of rest.now) result.1 [] }
 {

@@ -26,7 +26,7 @@ pub fn read_members(host: &Table) -> Result<Weights, WeightsFault>
     Ok(Weights { by_host_id })
 }
 
-/// What a member says, where these identifiers are listed already.
+/// What a member says, if these identifiers are listed already.
 fn read_member(key: &[u8], value: &Value, listed: &[bool; 256]) -> Result<(u8, u32), WeightsFault>
     ensures { let member : Member = (key.now, view value.now) in
         MatchOption (first_fault (member_faults (λ host_id. slice_index_or listed.now host_id false) member))

@@ -85,7 +85,7 @@ fn push_page(text: &mut String, key: Key, page: &[u8]) -> Result<(), AllocError>
     writeln!(text, "{key} {digits}")
 }
 
-// What stands behind the header.
+// What follows the header.
 #[tactic(auto, unfolding(crate::specs::ImageText::header))]
 fn strip_header(text: &[u8]) -> Option<&[u8]>
     ensures { MatchOption result ((rest : List (List ℕ)) → lines_of text.now ≢ header ∷ rest) (λ rest. lines_of text.now ≡ header ∷ lines_of rest.now) }

@@ -98,7 +98,7 @@ impl<const ROOM: usize> Entries<ROOM> {
         }
     }
 
-    /// What can still be gained from a state, as its entry says, where it has one.
+    /// What can still be gained from a state, as its entry says, if it has one.
     pub(crate) fn potential_of(&self, state: State) -> Option<u64>
         ensures { result ≡ spec.potential_of self.now state }
     {

@@ -49,7 +49,7 @@ impl<const STATES: usize> Certificate<STATES> {
         }
     }
 
-    /// Makes a blank certificate that of a text, in its place, where the text has no fault.
+    /// Makes a blank certificate that of a text, in its place, if the text has no fault.
     pub fn take(&mut self, text: &[u8]) -> Result<(), CertificateFault>
         requires { self.old ≡ record { weight = 0; kept = []; paths = []; entries = [] } }
         ensures ok { OnOk result (IsTextOf STATES (lines_of text.now) self.new) }

@@ -97,7 +97,7 @@ fn a_further_apply_ends_the_one_in_progress(rt: HostRuntime) -> Result<(), Fail>
     let mut module = module()?;
     apply(&mut module, &PAIRS, 0x0F);
     let rows: &[Row] = &[
-        // Nothing is applied where no lane is asked for.
+        // Nothing is applied if no lane is asked for.
         (3, 143, &[0x00], &[0]),
         (0, 126, &[0, 0x11], &[0, 0x11]),
         (0, 202, &[], &[0xCC, 0xCC, 0, 0]),

@@ -9,7 +9,7 @@ use plan_certificate::admissible;
 use sample_modules::{with, with_run};
 use std::test::Fail;
 
-// The control bytes of paths, where they are a plan.
+// The control bytes of paths, if they are a plan.
 fn asked(advert: &Advert, paths: &[[u8; 3]]) -> Result<Option<[u8; 8]>, Fail> {
     let plan = plan_of(paths)?;
     if admissible(advert, &plan) {

@@ -11,7 +11,7 @@ use sim_module::{Delays, SimModule};
 use std::alloc::{AllocError, Global};
 use std::test::Fail;
 
-// What is told and seen where paths are kept: the answer, and then the path states and the active bytes.
+// What is told and seen if paths are kept: the answer, and then the path states and the active bytes.
 #[derive(Drop)]
 struct Kept {
     answer: Option<Result<Provisioned, ProvisionFault>>,

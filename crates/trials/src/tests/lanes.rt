@@ -126,7 +126,7 @@ fn low_power_waits_for_the_paths(rt: HostRuntime) -> Result<(), Fail> {
     module.low_power_pin(true);
     let rows: &[Row] = &[
         (0, 126, &[0, 0x11], &[0, 0x11]),
-        // The pin counts where bit 6 of byte 26 allows it.
+        // The pin counts if bit 6 of byte 26 allows it.
         (5, 128, &[], &[0x44; 4]),
         (0, 26, &[0x40], &[0x40]),
         (1, 3, &[], &[0x06]),

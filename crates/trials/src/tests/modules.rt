@@ -84,7 +84,7 @@ pub fn write(module: &mut SimModule, address: u8, bytes: &[u8]) -> bool {
 // and as many bytes as are wanted are fetched from there.
 pub type Row<'a> = (u16, u8, &'a [u8], &'a [u8]);
 
-// The number of the first row that isn't so, where its store isn't taken or another answer comes.
+// The number of the first row that isn't so, if its store isn't taken or another answer comes.
 pub fn first_wrong(module: &mut SimModule, rows: &[Row]) -> Option<usize> {
     for (number, (ticks, address, given, wanted)) in rows.iter().enumerate() {
         pass(module, *ticks);

@@ -31,7 +31,7 @@ pub fn bus_of<D: Device + Drop>(
     Ok(ScriptBus::new(alloc, device, Script::read(script)?, room)?)
 }
 
-// The steps of provisioning, and its answer; none where this is no plan for the module.
+// The steps of provisioning, and its answer; none if this is no plan for the module.
 pub fn provisioned<D: Device + Drop>(
     bus: &mut ScriptBus<D>,
     advert: &Advert,

@@ -13,7 +13,7 @@ fn provisioning(lanes: LaneSet) -> Procedure {
     Procedure::provisioning(PAIRS, lanes)
 }
 
-// The answer, where each reply of the bus was one that the procedure takes.
+// The answer, if each reply of the bus was one that the procedure takes.
 fn driven<D: Device + Drop>(
     mut procedure: Procedure,
     bus: &mut ScriptBus<D>,

@@ -19,7 +19,7 @@ fn refusing(alloc: Global, first: u8, second: u8, refusal: &[u8]) -> Result<Vec<
     Ok(script)
 }
 
-// How many steps are made under a script, where the plan is active in the end.
+// How many steps are made under a script, if the plan is active in the end.
 fn steps_under(
     alloc: Global,
     image: &Image,
@@ -32,7 +32,7 @@ fn steps_under(
     Ok((is_success && bus.device().active() == PAIRS).then_some(steps))
 }
 
-// The largest number of steps where two transactions are refused so, whichever they are.
+// The largest number of steps if two transactions are refused so, whichever they are.
 fn most_steps(alloc: Global, refusal: &[u8]) -> Result<Option<usize>, Fail> {
     let image = image()?;
     let plan = plan_of(&FOUR_PAIRS)?;
@@ -49,7 +49,7 @@ fn most_steps(alloc: Global, refusal: &[u8]) -> Result<Option<usize>, Fail> {
     Ok(Some(most))
 }
 
-// One refusal costs two steps at most, where a selection did not reach the module; so two cost four. The second may be of any
+// One refusal costs two steps at most, if a selection did not reach the module; so two cost four. The second may be of any
 // transaction that comes after the first, of which there are 19 in all at most.
 #[test]
 fn two_refusals_are_made_good(rt: HostRuntime) -> Result<(), Fail> {

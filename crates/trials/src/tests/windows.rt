@@ -30,7 +30,7 @@ fn paths() -> [(Key, u8); 6] {
     ]
 }
 
-// Bytes stored on A0 from an address upwards, and the bytes 126, 127 and 128 then; `None` where any of this is refused.
+// Bytes stored on A0 from an address upwards, and the bytes 126, 127 and 128 then; `None` if any of this is refused.
 type Row<'a> = (u8, &'a [u8], Option<[u8; 3]>);
 
 fn shown_after(
@@ -257,7 +257,7 @@ fn a_list_has_the_room_that_is_asked_for(rt: HostRuntime) -> Result<(), Fail> {
     Ok(())
 }
 
-// A procedure for every bus, over a window behind one.
+// A procedure for every bus, over a bus with a window.
 #[test]
 fn stands_behind_a_bus(rt: HostRuntime) -> Result<(), Fail> {
     let script = Script::read(b"cut 1\nok 1\nnack 1\n")?;

@@ -1,4 +1,4 @@
-//! A procedure for every bus, and what it tells of a window behind one.
+//! A procedure for every bus, and what it tells of a window on that bus.
 ghost use Rattle.std.specs.Prelude.{◌≡◌, [], ◌∷◌, Bool, IfOk, IfSome};
 ghost use Rattle.bus_model.specs.declared.device.Dev.TheVariants.{A0};
 ghost use Rattle.bus_model.specs.Operations.{fetch_step, store_step};
