@@ -1,5 +1,5 @@
-/* Dovecounter for C: reads a pluggable optical module, plans the lanes of one of CMIS (OIF-CMIS-05.0), checks certificates of plans,
-   provisions a module, over a bus that the caller owns, and simulates a module for tests.
+/* Dovecounter for C: reads a pluggable optical module, divides the lanes of a CMIS module (OIF-CMIS-05.0) into data paths, checks
+   certificates of such plans, provisions a module over a bus that the caller owns, and simulates a module for tests.
 
    Each function is proved to return, and to do what is said here. None allocates, prints, waits, keeps a pointer or ends
    the process, and none has state of its own: calls may run at the same time, if none of them writes what another one
@@ -118,7 +118,7 @@ struct dovecounter_durations {
    dovecounter_advertisement.
 
    status   if
-   1, 2     the halves have no place
+   1, 2     there are more than 16 halves, or one has no place
    11 to 16 the halves do not say what the module advertises */
 uint32_t dovecounter_durations(const struct dovecounter_half *halves, size_t half_count,
                                struct dovecounter_durations *durations);
@@ -213,8 +213,8 @@ struct dovecounter_operation {
     uint8_t offset;   /* the address of the first byte */
     uint8_t count;    /* how many bytes to fetch or to store: 1 to 8; for a reading up to 128 */
     uint8_t bytes[8]; /* those to store; zeros after them, and for a fetch */
-    uint8_t wait;     /* 1 if the operation before was refused, or was the same fetch and its answer was `not yet`, so that a state of
-                         the module is awaited: then pause before this one. Else 0 */
+    uint8_t wait;     /* 1 if the operation before was refused or, for a procedure, was the same fetch, so that a state of the module
+                         is awaited: then pause before this one. Else 0 */
 };
 
 /* Writes to *operation what to do on the bus now.
@@ -348,7 +348,7 @@ struct dovecounter_module {
    Writes *module.
 
    status   if
-   1, 2     the halves have no place
+   1, 2     there are more than 16 halves, or one has no place
    51       a half is missing
    11 to 16 the halves do not say what the module advertises
    53       a delay is out of range
@@ -360,7 +360,7 @@ uint32_t dovecounter_module_begin(const struct dovecounter_half *halves, size_t 
    it began with. A flag that is read becomes 0. Writes *module and the bytes.
 
    status   if
-   1, 2     the halves have no place
+   1, 2     there are more than 16 halves, or one has no place
    11 to 16 the halves do not say what the module advertises
    61       the numbers are none of a module
    62       there is no such device, or the bytes are none, too many or of two halves
