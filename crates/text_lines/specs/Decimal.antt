@@ -1,5 +1,5 @@
 -- Decimal numbers as texts spell them: digits without leading zeros, which is how std prints a number. (docs/formats.md,
--- "Numbers"; this project's own)
+-- "Lines"; this project's own)
 use Rattle.std.specs.Prelude.{◌≡◌, ℕ, ◌<◌, ◌⊎◌, List, [], ◌∷◌, slice_index}
 
 -- the digit 0 alone, or a first digit from 1 to 9

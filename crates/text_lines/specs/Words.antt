@@ -1,4 +1,4 @@
--- The words of a line: what stands between single spaces. (docs/formats.md, "Lines and words"; this project's own)
+-- The words of a line: what stands between single spaces. (docs/formats.md, "Lines"; this project's own)
 use Rattle.std.specs.Prelude.{ℕ, Bool, ◌==◌, not, List}
 use Rattle.std.specs.List.{slice_split, join_with_byte, AllPass}
 
