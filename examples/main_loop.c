@@ -33,7 +33,7 @@ static bool under_way;                 /* a transaction is */
 static volatile bool over;             /* set by the interrupt, */
 static volatile uint8_t outcome;       /* with what came of the transaction */
 static struct dovecounter_fault fault; /* why it failed, */
-static uint32_t status;                /* or the status of a reply that was none */
+static uint32_t status;                /* or the status of the call that failed */
 
 /* Called by the interrupt when a transaction is over, also when its driver gives it up: DOVECOUNTER_REFUSED. */
 void i2c_over(uint8_t what) {
@@ -114,7 +114,7 @@ enum stage poll(void) {
         under_way = false;
         ended_at = milliseconds();
         status = dovecounter_reply(&procedure, outcome, bytes, outcome == DOVECOUNTER_FETCHED ? operation.count : 0);
-        if (status != DOVECOUNTER_DONE) return stage = FAILED; /* a driver that says stored of a fetch, say */
+        if (status != DOVECOUNTER_DONE) return stage = FAILED; /* such as DOVECOUNTER_STORED for a fetch */
     }
     go_on();
     return stage;

@@ -46,11 +46,11 @@ enum dovecounter_status {
     DOVECOUNTER_NO_END = 24,       /* CT4: there is no line `end` */
 
     /* of a procedure or a reading */
-    DOVECOUNTER_NO_PROCEDURE = 31, /* its numbers aren't those of any; zeros aren't either */
+    DOVECOUNTER_NO_PROCEDURE = 31, /* its numbers aren't those of any, nor are zeros */
     DOVECOUNTER_ENDED = 32,        /* it has ended: there is no operation to make */
     DOVECOUNTER_NOT_ENDED = 33,    /* it has not ended: there is an operation to make */
     DOVECOUNTER_NO_REPLY = 34,     /* the operation to be made can't have this reply */
-    DOVECOUNTER_GAVE_UP = 35,      /* a reading was told as many operations as may be, and not all was read */
+    DOVECOUNTER_GAVE_UP = 35,      /* a reading was told 4096 operations, and not all was read */
     DOVECOUNTER_TOO_FEW_BYTES = 36, /* for a reading, the bus has to fetch 8 bytes at once */
 
     /* of kept paths, the first that applies */
@@ -63,7 +63,7 @@ enum dovecounter_status {
     DOVECOUNTER_ACTIVE_NOT_PATHS = 54, /* SM4: the bytes 206 to 213 of page 11h are no host paths */
 
     /* of a simulated module, the first that applies */
-    DOVECOUNTER_NO_MODULE = 61, /* its numbers aren't those of any module; all zeros aren't */
+    DOVECOUNTER_NO_MODULE = 61, /* its numbers aren't those of any module, nor are zeros */
     DOVECOUNTER_NO_RANGE = 62,  /* BU2: a device other than 0xA0 and 0xA2, or no byte, or more than 128 to fetch or 8 to store,
                                    or bytes of two halves */
     DOVECOUNTER_NOT_TAKEN = 63  /* the module refuses */
@@ -289,7 +289,7 @@ uint32_t dovecounter_read(uint8_t most, struct dovecounter_reading *reading);
    status   if
    31       the numbers are none of a reading
    32       each half was read, or is a page that the module does not have
-   35       as many operations were told as may be, and not all was read */
+   35       4096 operations were told, and not all was read */
 uint32_t dovecounter_read_next(const struct dovecounter_reading *reading, struct dovecounter_operation *operation);
 
 /* Tells the reading once what came of that operation, as dovecounter_reply does; writes to *reading. A refused operation is asked for
