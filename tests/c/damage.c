@@ -66,7 +66,7 @@ static size_t line_at(size_t place, size_t *length) {
     return at;
 }
 
-/* A place of a byte of these, so many bytes behind the beginning of a line that begins with one of those; or the size. */
+/* A place of a byte of these, so many bytes after the beginning of a line that begins with one of those; or the size. */
 static size_t place_of(const char *bytes, size_t behind, const char *beginnings) {
     for (int tries = 0; tries < 200 && size; tries++) {
         size_t length, at = any_place(), line = line_at(at, &length);
@@ -76,7 +76,7 @@ static size_t place_of(const char *bytes, size_t behind, const char *beginnings)
     return size;
 }
 
-/* Makes the sum of a page right, where there is such a page: it stands at an address, over all addresses from one on. */
+/* Makes the sum of a page right, if there is such a page: it stands at an address, over all addresses from one on. */
 static void make_sum_right(const char *key, int from, int address) {
     char digits[3] = "", *line = memmem(text, size, key, strlen(key));
     unsigned sum = 0;

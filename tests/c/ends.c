@@ -10,7 +10,7 @@
 #include <sys/syscall.h>
 #include <unistd.h>
 
-/* What the variable says, or the other number where it is not set. */
+/* What the variable says, or the other number if it is not set. */
 static long said(const char *variable, long other) {
     const char *text = getenv(variable);
     return text ? strtol(text, 0, 10) : other;

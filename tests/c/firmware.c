@@ -1,4 +1,4 @@
-/* Calls the library for firmware as its header says, and compares: each status once, what is written where there is one, and
+/* Calls the library for firmware as its header says, and compares: each status once, what is written if there is one, and
    what is not. */
 #include "dovecounter.h"
 
