@@ -1,0 +1,273 @@
+"""What is known of a module's memory (docs/formats.md, "Image"), and what it advertises."""
+from __future__ import annotations
+
+import os
+import re
+from ctypes import Array, byref, c_uint8
+from dataclasses import dataclass
+from typing import Callable, Dict, Iterable, List, Optional, Tuple, Union
+
+from . import library
+from .faults import CODES, Fault, Value, look_at, look_at_bytes
+
+HALF = 128  # bytes
+MOST_HALVES = 16
+
+_CMIS = (0x18, 0x19, 0x1E)
+_SFF_8636 = (0x0C, 0x0D, 0x11)
+_SFF_8472 = (0x03,)
+
+_HEADER, _END = b"module-image 1", b"end"
+_PAGE_LINE = re.compile(rb"(?:lower A([02])|upper A([02]) ([0-9a-f]{2}) ([0-9a-f]{2})) ([0-9a-f]{256})")
+
+_advertisement = library.function("advertisement")
+_durations = library.function("durations")
+
+
+@dataclass(frozen=True, order=True)
+class Key:
+    """Where a half is. Keys are in the order of an image's lines; `str` of a key is the beginning of its line."""
+
+    device: int
+    """the address on the bus in its 8-bit form: 0xA0, or 0xA2 for the diagnostics of an SFP module"""
+    upper: bool = False
+    """False for the addresses 0 to 127, True for 128 to 255"""
+    bank: int = 0
+    """0 for a lower half"""
+    page: int = 0
+    """0 for a lower half"""
+
+    def __post_init__(self) -> None:
+        if self.device not in (0xA0, 0xA2):
+            raise ValueError(f"the device is {self.device}, and neither 0xA0 nor 0xA2")
+        for what, number in (("the bank", self.bank), ("the page", self.page)):
+            look_at(what, number, 255 if self.upper else 0)
+
+    def __str__(self) -> str:
+        return f"upper {self.device:X} {self.bank:02x} {self.page:02x}" if self.upper else f"lower {self.device:X}"
+
+
+LOWER = Key(0xA0)
+
+
+def page(number: int, bank: int = 0, device: int = 0xA0) -> Key:
+    """The key of a page."""
+    return Key(device, True, bank, number)
+
+
+@dataclass(frozen=True)
+class Application:
+    """What a data path may carry, and where it may begin. In a byte of lanes, bit i-1 stands for lane i."""
+
+    number: int
+    """1 to 15, its AppSelCode"""
+    host_id: int
+    """HostInterfaceID (SFF-8024)"""
+    media_id: int
+    """MediaInterfaceID (SFF-8024)"""
+    host_lanes: int
+    """how many a data path takes"""
+    media_lanes: int
+    """how many a data path takes"""
+    host_starts: int
+    """a byte of lanes where a data path may begin"""
+    media_starts: int
+    """a byte of lanes where a data path may begin"""
+
+
+@dataclass(frozen=True)
+class Advertisement:
+    """What a module advertises."""
+
+    applications: Tuple[Application, ...]
+    unsupported: int
+    """a byte of media lanes that no data path may use"""
+
+
+@dataclass(frozen=True)
+class Durations:
+    """How long states last at most, in milliseconds, as the module advertises; None if there is no limit, or its code is reserved."""
+
+    module_power_up: Optional[int]
+    module_power_down: Optional[int]
+    path_init: Optional[int]
+    path_deinit: Optional[int]
+    path_tx_turn_on: Optional[int]
+    path_tx_turn_off: Optional[int]
+
+
+class Image:
+    """At most 16 halves of 128 bytes, each under its key. An image never changes."""
+
+    def __init__(self, halves: Dict[Key, bytes]) -> None:
+        if len(halves) > MOST_HALVES:
+            raise ValueError(f"there are {len(halves)} halves, and an image has at most {MOST_HALVES}")
+        self._halves = {key: look_at_bytes(str(key), halves[key], HALF) for key in sorted(halves)}
+
+    @property
+    def halves(self) -> Dict[Key, bytes]:
+        """The halves, in the order of their keys; a copy."""
+        return dict(self._halves)
+
+    def __eq__(self, other: object) -> bool:
+        return isinstance(other, Image) and self._halves == other._halves
+
+    def __hash__(self) -> int:
+        return hash(tuple(self._halves.items()))
+
+    def __repr__(self) -> str:
+        return f"<Image of {', '.join(map(str, self._halves))}>"
+
+    def changed(self, key: Key, address: int, data: bytes) -> Image:
+        """The image with other bytes at an address, 0 to 255, of a half that it has: for tests."""
+        start = look_at("the address", address, 256 - len(data)) - (HALF if key.upper else 0)
+        half = bytearray(self._halves[key])
+        if not 0 <= start <= HALF - len(data):
+            raise ValueError(f"{len(data)} bytes from {address} on are not in {key}")
+        half[start:start + len(data)] = data
+        return Image({**self._halves, key: bytes(half)})
+
+    def without(self, *keys: Key) -> Image:
+        """The image without these halves: for tests."""
+        return Image({key: half for key, half in self._halves.items() if key not in keys})
+
+    @classmethod
+    def from_text(cls, text: Union[str, bytes]) -> Image:
+        """Reads the text of an image. Raises a Fault of IM1 to IM6."""
+        lines = (text.encode("utf-8", "surrogateescape") if isinstance(text, str) else text).split(b"\n")
+        if lines[-1] == b"":
+            lines.pop()
+        if lines[:1] != [_HEADER]:
+            raise Fault("IM1")
+        halves: Dict[Key, bytes] = {}
+        for number, line in enumerate(lines[1:], 2):
+            if line == _END:
+                if number < len(lines):
+                    raise Fault("IM6")
+                return cls(halves)
+            _take_page_line(halves, number, line)
+        raise Fault("IM5")
+
+    def to_text(self) -> str:
+        """The text of the image, which reads back as this image."""
+        lines = [f"{key} {half.hex()}" for key, half in self._halves.items()]
+        return "\n".join([_HEADER.decode(), *lines, _END.decode(), ""])
+
+    @classmethod
+    def from_dump(cls, dump: bytes) -> Image:
+        """The image of an eeprom file, the bytes of a module in a row, as the driver optoe and `ethtool -m PORT raw on` have them
+        (docs/formats.md, "Dumps"); tools/module-image reads other forms too. Takes the halves of the module's family that are there.
+        Raises ValueError if it is no dump of a module that is read."""
+        if not dump or len(dump) % HALF:
+            raise ValueError(f"a dump has whole halves of {HALF} bytes, and this one has {len(dump)} bytes")
+        if dump[0] not in _CMIS + _SFF_8636 + _SFF_8472:
+            raise ValueError(f"its first byte is 0x{dump[0]:02x}, the identifier of no module that is read")
+        if len(dump) == 2 * HALF and dump[127] and not _is_flat(dump) and dump[0] not in _SFF_8472:
+            dump = dump[:HALF]  # a page was selected, and nothing says that the second half is that one
+        return cls(_halves_in_row(lambda offset, count: dump[offset:offset + count]))
+
+    @classmethod
+    def from_port(cls, name: Union[str, "os.PathLike[str]"]) -> Image:
+        """Reads the module in a port by the file of the driver optoe, such as /sys/bus/i2c/devices/7-0050/eeprom. Each half is read
+        once, since reading clears flags; one that can't be read is left out. Raises OSError if there is no such file, or the lower
+        half of 0xA0 can't be read. For another bus there is Reading."""
+        with open(name, "rb", buffering=0) as file:
+            def read(offset: int, count: int) -> bytes:
+                return os.pread(file.fileno(), count, offset)
+
+            return cls(_halves_in_row(read))
+
+    def advertisement(self) -> Advertisement:
+        """What the module advertises. Raises a Fault of AD1 to AD6."""
+        found = library.Advertisement()
+        self.take(_advertisement(*self.arguments(), byref(found)))
+        applications = tuple(
+            Application(*(getattr(one, name) for name, _ in library.Application._fields_))
+            for one in found.applications[:found.count])
+        return Advertisement(applications, found.unsupported)
+
+    def applications(self) -> Tuple[Application, ...]:
+        """The Applications that the module advertises, by rising number. Raises a Fault of AD1 to AD6."""
+        return self.advertisement().applications
+
+    def durations(self) -> Durations:
+        """How long states of the module last at most, in milliseconds. Raises a Fault of AD1 to AD6."""
+        found = library.Durations()
+        self.take(_durations(*self.arguments(), byref(found)))
+        numbers = (getattr(found, name) for name, _ in library.Durations._fields_)
+        return Durations(*(None if number == 2**32 - 1 else number for number in numbers))
+
+    def arguments(self) -> Tuple[Array[library.Half], int]:
+        """The halves as the library takes them, and their number."""
+        halves = (library.Half(key.device, key.upper, key.bank, key.page, (c_uint8 * HALF)(*half))
+                  for key, half in self._halves.items())
+        return (library.Half * len(self._halves))(*halves), len(self._halves)
+
+    def take(self, status: int) -> None:
+        """Raises what a status says of these halves."""
+        code = CODES.get(status)
+        if code in ("AD1", "AD6"):
+            raise Fault(code, self._halves[LOWER][0])
+        if code == "AD2":
+            raise Fault(code, self._halves[LOWER][1])
+        if code in ("AD4", "SM1"):
+            raise Fault(code, self._first_absent(code))
+        if code == "AD5":
+            raise Fault(code, 1 if _has_right_sum(self._halves[page(0x00)]) else 0)
+        if code is not None:
+            raise Fault(code)
+        if status:
+            raise AssertionError(f"the library answered status {status}")
+
+    def _first_absent(self, code: str) -> Value:
+        needed = (LOWER, page(0x00), page(0x01)) + ((page(0x10), page(0x11)) if code == "SM1" else ())
+        return str(next(key for key in needed if key not in self._halves))
+
+
+def _take_page_line(halves: Dict[Key, bytes], number: int, line: bytes) -> None:
+    """Takes one more half; raises IM2 to IM4 if the line of this number gives none."""
+    found = _PAGE_LINE.fullmatch(line)
+    if found is None:
+        raise Fault("IM2", number)
+    lower, upper, bank, number_of_page, digits = found.groups()
+    device = 0xA0 + int(lower or upper)
+    key = Key(device) if lower else page(int(number_of_page, 16), int(bank, 16), device)
+    if halves and key <= max(halves):
+        raise Fault("IM3", number)
+    if len(halves) == MOST_HALVES:
+        raise Fault("IM4")
+    halves[key] = bytes.fromhex(digits.decode())
+
+
+def _has_right_sum(half: bytes) -> bool:
+    """Of page 00h: byte 222 is the sum of the bytes 128 to 221 (docs/fields.md, "Sums")."""
+    return sum(half[:222 - HALF]) % 256 == half[222 - HALF]
+
+
+def _is_flat(lower: bytes) -> bool:
+    """Whether the memory has page 00h alone."""
+    return bool(lower[2] & (0x80 if lower[0] in _CMIS else 0x04)) and lower[0] not in _SFF_8472
+
+
+def _places_in_row(lower: bytes) -> List[Tuple[Key, int]]:
+    """The halves that are read of such a module besides the lower one of 0xA0, and where they are in its row."""
+    if lower[0] in _SFF_8472:
+        return [(Key(0xA2), 2 * HALF)]
+    pages = (0x00,) if _is_flat(lower) else (0x00, 0x03) if lower[0] in _SFF_8636 else (0x00, 0x01, 0x02, 0x10, 0x11)
+    return [(page(number), HALF * (number + 1)) for number in pages]
+
+
+def _halves_in_row(read: Callable[[int, int], bytes]) -> Dict[Key, bytes]:
+    lower = read(0, HALF)
+    if len(lower) < HALF:
+        raise OSError(f"the lower half of 0xA0 has {HALF} bytes, and {len(lower)} were read")
+    halves = {LOWER: lower}
+    known = _CMIS + _SFF_8636 + _SFF_8472
+    for key, offset in _places_in_row(lower) if lower[0] in known else []:
+        try:
+            half = read(offset, HALF)
+        except OSError:
+            continue
+        if len(half) == HALF:
+            halves[key] = half
+    return halves

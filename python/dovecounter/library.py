@@ -1,0 +1,147 @@
+"""The library for C (include/dovecounter.h) as ctypes sees it: its structures, its functions, and where it is.
+
+Each name is the header's without `dovecounter_`; a test compares them all. ctypes cuts a number to the size of its place without a
+word, so the rest of the package looks at each number before it comes here."""
+from __future__ import annotations
+
+import ctypes
+import os
+import pathlib
+from ctypes import POINTER, Structure, c_char_p, c_size_t, c_uint8, c_uint16, c_uint32, c_uint64
+from typing import Any, Callable, Dict, List, Tuple
+
+VERSION = 2  # DOVECOUNTER_VERSION
+FILE = f"libdovecounter.so.{VERSION}"
+
+Lanes = c_uint8 * 8
+Weights = c_uint32 * 256
+
+
+def _members(size: Any, *names: str) -> List[Tuple[str, Any]]:
+    return [(name, size) for name in names]
+
+
+class Half(Structure):
+    _fields_ = [*_members(c_uint8, "device", "upper", "bank", "page"), ("bytes", c_uint8 * 128)]
+
+
+class Application(Structure):
+    _fields_ = _members(
+        c_uint8, "number", "host_id", "media_id", "host_lanes", "media_lanes", "host_starts", "media_starts")
+
+
+class Advertisement(Structure):
+    _fields_ = [*_members(c_uint8, "count", "unsupported"), ("applications", Application * 15)]
+
+
+class Durations(Structure):
+    _fields_ = _members(
+        c_uint32, "module_power_up", "module_power_down", "path_init", "path_deinit", "path_tx_turn_on", "path_tx_turn_off")
+
+
+class Path(Structure):
+    _fields_ = _members(c_uint8, "application", "host", "media")
+
+
+class Plan(Structure):
+    _fields_ = [
+        ("weight", c_uint64), *_members(c_uint8, "count", "lanes", "outside"), ("control", Lanes), ("paths", Path * 8)]
+
+
+class Judgement(Structure):
+    _fields_ = [("reason", c_uint8), ("number", c_size_t)]
+
+
+class Fault(Structure):
+    _fields_ = _members(c_uint8, "code", "first", "second")
+
+
+class Progress(Structure):
+    _fields_ = [
+        ("met", c_size_t), ("steps", c_uint16), *_members(c_uint8, "work", "lanes"), ("control", Lanes),
+        *_members(c_uint8, "selection", "page"), ("fault", Fault)]
+
+
+class Procedure(Structure):
+    _fields_ = [("magic", c_uint32), ("wait", c_uint8), ("saved", Progress)]
+
+
+class Operation(Structure):
+    _fields_ = [*_members(c_uint8, "kind", "device", "offset", "count"), ("bytes", c_uint8 * 8), ("wait", c_uint8)]
+
+
+class Answer(Structure):
+    _fields_ = [("steps", c_uint16), ("fault", Fault)]
+
+
+class Reading(Structure):
+    _fields_ = [
+        ("magic", c_uint32), ("steps", c_uint16),
+        *_members(c_uint8, "settled", "selection", "page", "accepted", "piece", "read", "wait", "count"),
+        ("halves", Half * 5), ("part", c_uint8 * 128)]
+
+
+class Delays(Structure):
+    _fields_ = _members(c_uint16, "apply", "init", "turn_on", "turn_off", "deinit", "power_up", "power_down")
+
+
+class Lane(Structure):
+    _fields_ = [("left", c_uint16), *_members(c_uint8, "path", "status", "custom", "staged", "active", "keeps", "kept")]
+
+
+class Module(Structure):
+    _fields_ = [
+        ("delays", Delays), *_members(c_uint16, "left", "apply_left"),
+        *_members(c_uint8, "bank", "page", "waiting", "pin", "control", "state", "deinit", "module_flags"),
+        ("lane_flags", c_uint8 * 19), ("lanes", Lane * 8)]
+
+
+_HALVES = (POINTER(Half), c_size_t)
+_BYTES = (c_char_p, c_size_t)  # that are read
+_BUFFER = (POINTER(c_uint8), c_size_t)  # that is written
+_CONTROL = POINTER(c_uint8)
+_WEIGHTS = POINTER(c_uint32)
+
+# What each function answers, and what it takes.
+FUNCTIONS: Dict[str, Tuple[Any, Tuple[Any, ...]]] = {
+    "advertisement": (c_uint32, (*_HALVES, POINTER(Advertisement))),
+    "durations": (c_uint32, (*_HALVES, POINTER(Durations))),
+    "plan": (c_uint32, (*_HALVES, _WEIGHTS, POINTER(Path), c_size_t, POINTER(Plan))),
+    "check": (c_uint32, (*_HALVES, _WEIGHTS, *_BYTES, POINTER(Judgement))),
+    "provision": (None, (_CONTROL, c_uint8, POINTER(Procedure))),
+    "activate": (None, (_CONTROL, c_uint8, POINTER(Procedure))),
+    "next": (c_uint32, (POINTER(Procedure), POINTER(Operation))),
+    "reply": (c_uint32, (POINTER(Procedure), c_uint8, *_BYTES)),
+    "answer": (c_uint32, (POINTER(Procedure), POINTER(Answer))),
+    "read": (c_uint32, (c_uint8, POINTER(Reading))),
+    "read_next": (c_uint32, (POINTER(Reading), POINTER(Operation))),
+    "read_reply": (c_uint32, (POINTER(Reading), c_uint8, *_BYTES)),
+    "module_begin": (c_uint32, (*_HALVES, POINTER(Delays), POINTER(Module))),
+    "module_fetch": (c_uint32, (*_HALVES, POINTER(Module), c_uint8, c_uint8, *_BUFFER)),
+    "module_store": (c_uint32, (*_HALVES, POINTER(Module), c_uint8, c_uint8, *_BYTES)),
+    "module_tick": (c_uint32, (POINTER(Module),)),
+    "module_pin": (c_uint32, (POINTER(Module), c_uint8)),
+    "module_active": (c_uint32, (POINTER(Module), _CONTROL)),
+}
+
+
+def _opened() -> ctypes.CDLL:
+    """The library that DOVECOUNTER_LIBRARY names, else the one beside this file, else the one that the system finds."""
+    beside = pathlib.Path(__file__).with_name(FILE)
+    name = os.environ.get("DOVECOUNTER_LIBRARY") or (str(beside) if beside.exists() else FILE)
+    try:
+        return ctypes.CDLL(name)
+    except OSError as error:
+        raise ImportError(
+            f"{error}: build the library by tools/build-shared-library, install it by tools/install, or name its file in"
+            " DOVECOUNTER_LIBRARY") from error
+
+
+_SHARED = _opened()
+
+
+def function(name: str) -> Callable[..., Any]:
+    """A function of the header, by its name without `dovecounter_`."""
+    found = getattr(_SHARED, f"dovecounter_{name}")
+    found.restype, found.argtypes = FUNCTIONS[name]
+    return found  # type: ignore[no-any-return]

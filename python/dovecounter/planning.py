@@ -1,0 +1,112 @@
+"""Plans of a module's lanes, and what a certificate of one is worth (docs/planning.md)."""
+from __future__ import annotations
+
+from ctypes import Array, byref, c_uint32
+from dataclasses import dataclass
+from typing import Any, Mapping, Optional, Sequence, Tuple, Union
+
+from . import library
+from .faults import CODES, SENTENCES, Fault, first_refused, look_at
+from .image import Image
+
+_plan = library.function("plan")
+_check = library.function("check")
+
+
+@dataclass(frozen=True)
+class Path:
+    """A data path: an Application on consecutive host lanes and consecutive media lanes."""
+
+    application: int
+    """its number"""
+    host: int
+    """the first host lane, 1 to 8"""
+    media: int
+    """the first media lane, 1 to 8"""
+
+
+@dataclass(frozen=True)
+class Plan:
+    """A division of a module's lanes into data paths. In a byte of lanes, bit i-1 stands for lane i."""
+
+    weight: int
+    """the sum of the weights of its paths"""
+    paths: Tuple[Path, ...]
+    """by rising host lane"""
+    control: bytes
+    """the control bytes of host lanes 1 to 8"""
+    lanes: int
+    """the byte of host lanes that the paths take"""
+    outside: int
+    """the byte of host lanes that no kept path takes; 0xFF if nothing is kept"""
+
+
+@dataclass(frozen=True)
+class Judgement:
+    """What a certificate is worth."""
+
+    reason: Optional[str]
+    """None if it is good: no plan with the paths that it keeps weighs more than its own. Else "VR1" to "VR9" """
+    number: int
+    """for VR1 and VR2 of the path from 1, for VR8 and VR9 of the kept path, for VR5 and VR6 of the entry, else 0"""
+
+    @property
+    def is_good(self) -> bool:
+        return self.reason is None
+
+    @property
+    def sentence(self) -> str:
+        """What is wrong and what to do, or nothing if it is good."""
+        return SENTENCES[self.reason] if self.reason else ""
+
+
+def _weights(weights: Mapping[int, int]) -> Array[c_uint32]:
+    found = library.Weights()
+    for host_id, weight in weights.items():
+        look_at("a HostInterfaceID", host_id, 255)
+        found[host_id] = look_at(f"the weight of 0x{host_id:02X}", weight, 2**32 - 1)
+    return found
+
+
+def _kept(paths: Sequence[Path]) -> Any:
+    for path in paths:
+        for what in ("application", "host", "media"):
+            look_at(f"{what} of {path}", getattr(path, what), 255)
+    return (library.Path * len(paths))(*(library.Path(path.application, path.host, path.media) for path in paths))
+
+
+def plan(image: Image, weights: Mapping[int, int], keep: Sequence[Path] = ()) -> Plan:
+    """The best plan for the module: its paths are allowed, no two share a lane, the kept ones are among them, and no such plan weighs
+    more; of several the first (docs/planning.md). A path weighs what `weights` has at its HostInterfaceID, 0 to 4294967295, and
+    nothing if it isn't there. Raises a Fault of AD1 to AD6, KP2 or KP3; ValueError for a number that is out of range."""
+    found = library.Plan()
+    halves, table = image.arguments(), _weights(weights)
+
+    def status(count: int) -> int:
+        return int(_plan(*halves, table, _kept(keep[:count]), count, byref(found)))
+
+    answer = status(len(keep))
+    if CODES.get(answer) == "KP3":
+        raise Fault("KP3", first_refused(len(keep), lambda count: CODES.get(status(count)) == "KP3"))
+    image.take(answer)
+    paths = tuple(Path(path.application, path.host, path.media) for path in found.paths[:found.count])
+    return Plan(found.weight, paths, bytes(found.control), found.lanes, found.outside)
+
+
+def check(image: Image, weights: Mapping[int, int], certificate: Union[str, bytes]) -> Judgement:
+    """Judges the certificate with this text, as `cmisctl plan` prints it, for the module and these weights. The text says which paths
+    are kept. Raises a Fault of AD1 to AD6 or CT1 to CT4; ValueError for a number that is out of range."""
+    text = certificate.encode("utf-8", "surrogateescape") if isinstance(certificate, str) else bytes(certificate)
+    found = library.Judgement()
+    halves, table, lines = image.arguments(), _weights(weights), text.split(b"\n")
+
+    def status(count: int) -> int:
+        beginning = b"".join(line + b"\n" for line in lines[:count]) if count < len(lines) else text
+        return int(_check(*halves, table, beginning, len(beginning), byref(found)))
+
+    answer = status(len(lines))
+    code = CODES.get(answer)
+    if code in ("CT1", "CT2"):
+        raise Fault(code, first_refused(len(lines), lambda count: status(count) == answer))
+    image.take(answer)
+    return Judgement(f"VR{found.reason}" if found.reason else None, found.number)

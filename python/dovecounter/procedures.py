@@ -1,0 +1,181 @@
+"""Reading, provisioning and activating a module over a bus of the caller's (docs/bus.md)."""
+from __future__ import annotations
+
+from ctypes import byref
+from dataclasses import dataclass
+from typing import Any, Callable, Dict, Iterator, Optional, TypeVar, Union
+
+from . import library
+from .faults import Fault, look_at, look_at_bytes
+from .image import HALF, Image, Key
+from .planning import Plan
+
+Reply = Union[bytes, bool]
+"""What came of an operation: the bytes of a fetch, all of them; True if all bytes of a store were taken; False if it was refused."""
+
+_DONE, _ENDED, _NO_REPLY, _GAVE_UP = 0, 32, 34, 35
+_REFUSED, _STORED, _FETCHED = 0, 1, 2
+_VALUES = {1: 2, 4: 0}  # how many a fault PV has, if it isn't one
+
+_Self = TypeVar("_Self", bound="Procedure")
+
+_read = library.function("read")
+_answer = library.function("answer")
+
+
+@dataclass(frozen=True)
+class Operation:
+    """What to do on the bus: a fetch of `count` bytes, or a store of `data`."""
+
+    device: int
+    """the address on the bus in its 8-bit form"""
+    offset: int
+    """the address of the first byte, 0 to 255"""
+    count: int
+    """how many bytes: 1 to 8; for a Reading up to 128"""
+    data: Optional[bytes]
+    """those to store; None for a fetch"""
+    wait: bool
+    """whether to pause before it, since the operation before was refused, or showed that a state of the module is awaited"""
+
+    @property
+    def address(self) -> int:
+        """The address on the bus in its 7-bit form, as Linux and smbus2 take it."""
+        return self.device >> 1
+
+    @property
+    def is_store(self) -> bool:
+        return self.data is not None
+
+
+Transact = Callable[[Operation], Reply]
+
+
+class Procedure:
+    """An iterator of operations. Tell each its reply once before you ask for the next; one that was not told is given again. A refused
+    operation is asked for again, up to 4096 operations in all. Nobody else may use the module meanwhile.
+
+        for operation in procedure:
+            procedure.reply(bus(operation))
+
+    Pause before an operation whose `wait` is set, so long that 4096 pauses last longer than the longest of `image.durations()`."""
+
+    _next = staticmethod(library.function("next"))
+    _reply = staticmethod(library.function("reply"))
+
+    def __init__(self, saved: Any) -> None:
+        self._saved = saved
+
+    def __iter__(self: _Self) -> _Self:
+        return self
+
+    def __next__(self) -> Operation:
+        found = library.Operation()
+        status = self._next(byref(self._saved), byref(found))
+        if status == _ENDED:
+            self._end()
+            raise StopIteration
+        if status == _GAVE_UP:
+            raise Fault("RP3")
+        _expect_done(status)
+        data = bytes(found.bytes[:found.count]) if found.kind else None
+        return Operation(found.device, found.offset, found.count, data, bool(found.wait))
+
+    def reply(self, reply: Reply) -> None:
+        """Tells once what came of the operation. Raises ValueError if it can't have this reply, such as fewer bytes than asked for;
+        then it still has to be told."""
+        if isinstance(reply, bool):
+            outcome, data = _STORED if reply else _REFUSED, b""
+        elif isinstance(reply, (bytes, bytearray)):
+            outcome, data = _FETCHED, bytes(reply)
+        else:
+            raise TypeError(f"{reply!r} is neither bytes nor True nor False")
+        status = self._reply(byref(self._saved), outcome, data, len(data))
+        if status == _ENDED:
+            raise ValueError("it has ended, and no operation is to be made")
+        if status == _NO_REPLY:
+            raise ValueError(f"the operation can't have the reply {reply!r}")
+        _expect_done(status)
+
+    def run(self, transact: Transact, pause: Callable[[], None] = lambda: None) -> None:
+        """Makes all operations by `transact`, and calls `pause` before each that is to wait."""
+        for operation in self:
+            if operation.wait:
+                pause()
+            self.reply(transact(operation))
+
+    def _end(self) -> None:
+        pass
+
+
+class _Change(Procedure):
+    """A procedure that changes a module. It stops after a success; else it raises a Fault of PV1 to PV7, and then the module may hold
+    any part of the change."""
+
+    steps: Optional[int] = None
+    """how many operations its success took; None before"""
+
+    def __init__(self, begin: Callable[..., None], control: bytes, lanes: int) -> None:
+        super().__init__(library.Procedure())
+        bytes_of_lanes = library.Lanes(*look_at_bytes("the control bytes", control, 8))
+        begin(bytes_of_lanes, look_at("the byte of lanes", lanes, 255), byref(self._saved))
+
+    def _end(self) -> None:
+        answer = library.Answer()
+        _expect_done(_answer(byref(self._saved), byref(answer)))
+        fault = answer.fault
+        if fault.code:
+            raise Fault(f"PV{fault.code}", *[fault.first, fault.second][:_VALUES.get(fault.code, 1)])
+        self.steps = answer.steps
+
+
+class Provisioning(_Change):
+    """Puts a plan into the Active Control Set, and leaves kept data paths alone. After a success its other lanes are DPDeactivated
+    until an Activation. Raises a Fault of PV1 to PV7 while it is iterated; after PV3 and PV4 it may be begun again."""
+
+    _begin = staticmethod(library.function("provision"))
+
+    def __init__(self, plan: Plan) -> None:
+        super().__init__(self._begin, plan.control, plan.outside)
+
+
+class Activation(_Change):
+    """Brings up the data paths of a plan that is in the Active Control Set, and takes down those of all other lanes. After a success
+    the plan's lanes are DPActivated. Raises a Fault of PV1 to PV7 while it is iterated."""
+
+    _begin = staticmethod(library.function("activate"))
+
+    def __init__(self, plan: Plan) -> None:
+        super().__init__(self._begin, plan.control, plan.lanes)
+
+
+class Reading(Procedure):
+    """Reads the halves of a module that reports and plans need (docs/bus.md, "Reading an image"). The bus fetches at most `most` bytes
+    at once, 8 to 255. Raises a Fault RP3 while it is iterated if 4096 operations did not do. A simulated module needs page 10h too,
+    which is not read."""
+
+    _next = staticmethod(library.function("read_next"))
+    _reply = staticmethod(library.function("read_reply"))
+
+    def __init__(self, most: int = HALF) -> None:
+        super().__init__(library.Reading())
+        _expect_done(_read(look_at("the number of bytes at once", most, 255, least=8), byref(self._saved)))
+        self._image: Optional[Image] = None
+
+    @property
+    def image(self) -> Image:
+        """What was read. Raises ValueError before the end."""
+        if self._image is None:
+            raise ValueError("the reading has not ended")
+        return self._image
+
+    def _end(self) -> None:
+        halves: Dict[Key, bytes] = {}
+        for half in self._saved.halves[:self._saved.count]:
+            halves[Key(half.device, bool(half.upper), half.bank, half.page)] = bytes(half.bytes)
+        self._image = Image(halves)
+
+
+def _expect_done(status: int) -> None:
+    if status != _DONE:
+        raise AssertionError(f"the library answered status {status}")

@@ -1,0 +1,97 @@
+"""The declarations of ctypes against the header: structures with the size and the place of each member, functions with the types of
+what they take and answer, and numbers. What the package doesn't use of the header isn't declared."""
+from __future__ import annotations
+
+import ctypes
+import os
+import re
+import shutil
+import subprocess
+from typing import Any, Dict, List
+
+import pytest
+
+from shared import ROOT
+from dovecounter import library, procedures, simulated
+from dovecounter.faults import CODES
+
+HEADER = re.sub(r"/\*.*?\*/", "", (ROOT / "include/dovecounter.h").read_text(), flags=re.DOTALL)
+COMPILER = os.environ.get("CC", "cc")
+STRUCTURES: Dict[str, List[str]] = {
+    name: re.findall(r"(\w+)(?:\[\w+\])?;", members)
+    for name, members in re.findall(r"struct dovecounter_(\w+) \{(.*?)\n\};", HEADER, re.DOTALL)}
+STATUSES = {name: int(number) for name, number in re.findall(r"DOVECOUNTER_(\w+) = (\d+)", HEADER)}
+PROTOTYPES = {
+    name: (result, [" ".join(argument.split()) for argument in arguments.split(",")])
+    for result, name, arguments in re.findall(r"^(\w+) dovecounter_(\w+)\((.*?)\);", HEADER, re.DOTALL | re.MULTILINE)}
+NUMBERS = {"void": None, "uint8_t": ctypes.c_uint8, "uint32_t": ctypes.c_uint32, "size_t": ctypes.c_size_t}
+
+
+def structure(name: str) -> Any:
+    return getattr(library, name.title())
+
+
+def test_each_structure_has_the_layout_that_c_gives_it() -> None:
+    if shutil.which(COMPILER) is None:
+        pytest.skip("there is no C compiler")
+    declared = {name.lower() for name, found in vars(library).items() if isinstance(found, type(ctypes.Structure))
+                and issubclass(found, ctypes.Structure) and found is not ctypes.Structure}
+    assert declared <= set(STRUCTURES)
+    wanted, prints = [], []
+    for name in sorted(declared):
+        found, members = structure(name), STRUCTURES[name]
+        assert [member for member, _ in found._fields_] == members
+        wanted.append(f"{name} {ctypes.sizeof(found)}")
+        prints.append(f'printf("{name} %zu\\n", sizeof(struct dovecounter_{name}));')
+        for member in members:
+            place = getattr(found, member)
+            wanted.append(f"{name}.{member} {place.offset} {place.size}")
+            at = f"offsetof(struct dovecounter_{name}, {member}), sizeof ((struct dovecounter_{name} *)0)->{member}"
+            prints.append(f'printf("{name}.{member} %zu %zu\\n", {at});')
+    assert printed_by_c("\n".join(prints)) == wanted
+
+
+def printed_by_c(statements: str) -> List[str]:
+    program = f"#include <dovecounter.h>\n#include <stdio.h>\nint main(void) {{\n{statements}\nreturn 0;\n}}\n"
+    built = ROOT / "crates/firmware_api/out/layout"
+    subprocess.run([COMPILER, "-x", "c", f"-I{ROOT}/include", "-", "-o", built], input=program, text=True, check=True)
+    try:
+        return subprocess.run([built], capture_output=True, text=True, check=True).stdout.splitlines()
+    finally:
+        built.unlink()
+
+
+def is_declared_as(found: Any, argument: str) -> bool:
+    """Whether ctypes' type of an argument is that of the header's text."""
+    of_structure = re.fullmatch(r"(?:const )?struct dovecounter_(\w+) \*\w+", argument)
+    if of_structure:
+        return bool(found == ctypes.POINTER(structure(of_structure.group(1))))
+    of_numbers = re.fullmatch(r"(const )?(\w+) (?:\*\w+|\w+\[\w+\])", argument)
+    if of_numbers:
+        if found == ctypes.c_char_p:  # of bytes that are read alone
+            return of_numbers.groups() == ("const ", "uint8_t")
+        return bool(found == ctypes.POINTER(NUMBERS[of_numbers.group(2)]))  # type: ignore[arg-type]
+    return bool(found == NUMBERS[argument.split()[0]])
+
+
+def test_each_function_is_declared_as_in_the_header() -> None:
+    assert set(library.FUNCTIONS) <= set(PROTOTYPES)
+    for name, (answered, taken) in library.FUNCTIONS.items():
+        result, arguments = PROTOTYPES[name]
+        assert answered == NUMBERS[result], name
+        assert len(taken) == len(arguments), name
+        for found, argument in zip(taken, arguments):
+            assert is_declared_as(found, argument), f"{name}: {argument}"
+        library.function(name)
+
+
+def test_numbers_are_those_of_the_header() -> None:
+    assert f"#define DOVECOUNTER_VERSION {library.VERSION}\n" in HEADER
+    named = re.findall(r"DOVECOUNTER_\w+ = (\d+), */\* (AD\d|CT\d|KP\d|SM\d):", (ROOT / "include/dovecounter.h").read_text())
+    assert {int(number): code for number, code in named}.items() <= CODES.items()
+    assert STATUSES["GAVE_UP"] == 35 and CODES[35] == "RP3"
+    assert (STATUSES["DONE"], STATUSES["ENDED"], STATUSES["NO_REPLY"], STATUSES["GAVE_UP"]) == (
+        procedures._DONE, procedures._ENDED, procedures._NO_REPLY, procedures._GAVE_UP)
+    assert (STATUSES["REFUSED"], STATUSES["STORED"], STATUSES["FETCHED"]) == (
+        procedures._REFUSED, procedures._STORED, procedures._FETCHED)
+    assert (STATUSES["NO_RANGE"], STATUSES["NOT_TAKEN"]) == (simulated._NO_RANGE, simulated._NOT_TAKEN)

@@ -1,0 +1,115 @@
+"""Procedures over simulated modules, against `cmisctl trace` line by line, and the examples."""
+from __future__ import annotations
+
+import os
+import pathlib
+import random
+import subprocess
+import sys
+from typing import List, Optional
+
+import pytest
+
+from shared import IMAGES, ROOT, WEIGHTS, compare_with_trace, example, fault_of, image_of
+from dovecounter import Activation, Delays, Operation, PathState, Provisioning, Reading, SimulatedModule, page, plan
+
+DR4 = example("qsfp_dd_400g_dr4.txt")
+
+
+def test_runs_are_those_of_the_program_whatever_is_refused() -> None:
+    chance = random.Random(5)
+    ends = {compare_with_trace(chance)[-1].split(" ")[0] for _ in range(400)}
+    assert ends == {"active", "fault"}
+
+
+def nibbles(data: Optional[bytes]) -> List[int]:
+    assert data is not None
+    return [nibble for byte in data for nibble in (byte & 15, byte >> 4)]
+
+
+def test_states_are_those_that_a_fetch_shows() -> None:
+    chance = random.Random(7)
+    module = SimulatedModule(DR4, Delays(1, 2, 3, 4, 5, 6, 7))
+    best = plan(DR4, WEIGHTS)
+    for procedure in (Provisioning(best), Activation(best)):
+        for operation in procedure:
+            procedure.reply(False if chance.random() < 0.2 else module.transact(operation))
+            seen = module.copy()
+            assert seen.store(0xA0, 126, b"\x00\x11")
+            assert nibbles(seen.fetch(0xA0, 128, 4)) == list(module.path_states)
+            assert nibbles(seen.fetch(0xA0, 202, 4)) == list(module.statuses)
+            assert seen.fetch(0xA0, 206, 8) == module.active
+            state = seen.fetch(0xA0, 3, 1)
+            assert state is not None and state[0] >> 1 & 7 == module.state
+    assert module.active == best.control
+    assert set(module.path_states) == {PathState.DPActivated}
+    assert module.fetch(0xA2, 0, 1) is None
+
+
+@pytest.mark.parametrize("most", [8, 31, 32, 128, 255])
+def test_a_reading_gives_the_halves_that_are_read(most: int) -> None:
+    chance = random.Random(most)
+    for path in IMAGES:
+        image = image_of(path)
+        if page(0x11) not in image.halves:
+            continue
+        module, reading = SimulatedModule(image, Delays()), Reading(most)
+        pytest.raises(ValueError, lambda: reading.image)
+        for operation in reading:
+            assert operation.count <= most
+            reading.reply(False if chance.random() < 0.2 else module.transact(operation))
+        assert list(map(str, reading.image.halves)) == ["lower A0", *(f"upper A0 00 {number}" for number in ("00", "01", "02", "11"))]
+        for key in (page(0x00), page(0x01), page(0x02)):
+            assert reading.image.halves[key] == image.halves[key]
+        assert reading.image.applications() == image.applications()
+
+
+def test_a_silent_bus_ends_in_a_fault() -> None:
+    best = plan(DR4, WEIGHTS)
+    assert fault_of(Reading().run, lambda operation: False) == "RP3"
+    provisioning = Provisioning(best)
+    assert fault_of(provisioning.run, lambda operation: False) == "PV4"
+    assert provisioning.steps is None
+
+
+def test_each_reply_is_looked_at_and_an_operation_without_one_is_given_again() -> None:
+    provisioning = Provisioning(plan(DR4, WEIGHTS))
+    first = next(provisioning)
+    assert first == Operation(0xA0, 3, 1, None, False) == next(provisioning)
+    assert (first.address, first.is_store) == (0x50, False)
+    for wrong in (True, b"", b"12"):
+        pytest.raises(ValueError, provisioning.reply, wrong)
+    pytest.raises(TypeError, provisioning.reply, 1)
+    pytest.raises(TypeError, provisioning.reply, None)
+    provisioning.reply(False)
+    assert next(provisioning).wait
+    provisioning.reply(bytearray(b"\x06"))
+    assert next(provisioning) == Operation(0xA0, 126, 2, b"\x00\x10", False)
+    pytest.raises(ValueError, provisioning.reply, b"12")
+    module, provisioning = SimulatedModule(DR4), Provisioning(plan(DR4, WEIGHTS))
+    provisioning.run(module.transact)
+    pytest.raises(ValueError, provisioning.reply, True)
+
+
+def test_the_pause_comes_before_operations_that_wait() -> None:
+    module, best = SimulatedModule(DR4, Delays(1, 900, 900, 1, 1, 1, 1)), plan(DR4, WEIGHTS)
+    pauses: List[int] = []
+
+    def pause() -> None:
+        module.tick(100)
+        pauses.append(1)
+
+    Provisioning(best).run(module.transact)
+    activation = Activation(best)
+    activation.run(module.transact, pause)
+    assert activation.steps is not None and 15 < len(pauses) < activation.steps < 60
+
+
+@pytest.mark.parametrize("name", ["bench.py", "linear_file.py"])
+def test_an_example_prints_what_it_should(name: str) -> None:
+    path = os.pathsep.join([str(ROOT / "python"), os.environ.get("PYTHONPATH", "")])
+    run = subprocess.run(
+        [sys.executable, "-W", "error", str(ROOT / "examples" / name)], capture_output=True, text=True, check=False,
+        env={**os.environ, "PYTHONPATH": path})
+    wanted = pathlib.Path(__file__).with_name("examples").joinpath(name).with_suffix(".txt")
+    assert (run.stdout, run.stderr, run.returncode) == (wanted.read_text(), "", 0)
