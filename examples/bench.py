@@ -3,7 +3,7 @@ others stay up. Run it as PYTHONPATH=python python3 examples/bench.py, after too
 import pathlib
 import random
 
-from dovecounter import Activation, Delays, Fault, Image, Path, PathState, Provisioning, Reading, SimulatedModule, plan
+from dovecounter import Activation, DataPath, Delays, Fault, Image, PathState, Provisioning, Reading, SimulatedModule, plan
 
 EXAMPLES = pathlib.Path(__file__).parent
 GAUI_400_4, GAUI_100_2 = 0x4F, 0x0D  # HostInterfaceIDs of SFF-8024
@@ -42,7 +42,7 @@ print("Applications", len(image.applications()), "halves", len(image.halves))
 module.tick(100)
 up = [lane for lane, state in enumerate(module.path_states, 1) if state == PathState.DPActivated]
 print("up before", *up)
-in_use = [Path(application=8, host=1, media=1), Path(application=8, host=3, media=2)]
+in_use = [DataPath(application=8, host=1, media=1), DataPath(application=8, host=3, media=2)]
 best = plan(image, {GAUI_400_4: 400, GAUI_100_2: 100}, keep=in_use)
 print("plan", best.weight, *((path.application, path.host, path.media) for path in best.paths))
 

@@ -76,8 +76,8 @@ SENTENCES = {
 
 
 class Fault(Exception):
-    """Why there is no answer. `code` and `values` are those of the program's line, as in `fault PV1 3 5`: "PV1" and (3, 5); `str` of
-    the fault is what stands after the word `fault`. `sentence` says what is wrong and what to do."""
+    """Why there is no answer. `code` and `values` are those of the program's line, as in `fault PV1 3 5`: "PV1" and (3, 5), or "AD4" and
+    ("upper A0 00 01",); `str` of the fault is what stands after the word `fault`. `sentence` says what is wrong and what to do."""
 
     def __init__(self, code: str, *values: Value) -> None:
         super().__init__(" ".join([code, *map(str, values)]))

@@ -14,7 +14,7 @@ _check = library.function("check")
 
 
 @dataclass(frozen=True)
-class Path:
+class DataPath:
     """A data path: an Application on consecutive host lanes and consecutive media lanes."""
 
     application: int
@@ -31,7 +31,7 @@ class Plan:
 
     weight: int
     """the sum of the weights of its paths"""
-    paths: Tuple[Path, ...]
+    paths: Tuple[DataPath, ...]
     """by rising host lane"""
     control: bytes
     """the control bytes of host lanes 1 to 8"""
@@ -68,14 +68,14 @@ def _weights(weights: Mapping[int, int]) -> Array[c_uint32]:
     return found
 
 
-def _kept(paths: Sequence[Path]) -> Any:
+def _kept(paths: Sequence[DataPath]) -> Any:
     for path in paths:
         for what in ("application", "host", "media"):
             look_at(f"{what} of {path}", getattr(path, what), 255)
     return (library.Path * len(paths))(*(library.Path(path.application, path.host, path.media) for path in paths))
 
 
-def plan(image: Image, weights: Mapping[int, int], keep: Sequence[Path] = ()) -> Plan:
+def plan(image: Image, weights: Mapping[int, int], keep: Sequence[DataPath] = ()) -> Plan:
     """The best plan for the module: its paths are allowed, no two share a lane, the kept ones are among them, and no such plan weighs
     more; of several the first (docs/planning.md). A path weighs what `weights` has at its HostInterfaceID, 0 to 4294967295, and
     nothing if it isn't there. Raises a Fault of AD1 to AD6, KP2 or KP3; ValueError for a number that is out of range."""
@@ -89,7 +89,7 @@ def plan(image: Image, weights: Mapping[int, int], keep: Sequence[Path] = ()) ->
     if CODES.get(answer) == "KP3":
         raise Fault("KP3", first_refused(len(keep), lambda count: CODES.get(status(count)) == "KP3"))
     image.take(answer)
-    paths = tuple(Path(path.application, path.host, path.media) for path in found.paths[:found.count])
+    paths = tuple(DataPath(path.application, path.host, path.media) for path in found.paths[:found.count])
     return Plan(found.weight, paths, bytes(found.control), found.lanes, found.outside)
 
 

@@ -8,7 +8,7 @@ import subprocess
 import unittest
 from typing import Any, Callable, Dict, List, Sequence, Tuple
 
-from dovecounter import LOWER, Activation, Fault, Image, Operation, Path, Provisioning, Reply, SimulatedModule, page, plan
+from dovecounter import LOWER, Activation, Fault, Image, Operation, DataPath, Provisioning, Reply, SimulatedModule, page, plan
 
 ROOT = pathlib.Path(__file__).parents[2]
 PROGRAM = pathlib.Path(os.environ.get("CMISCTL", ROOT / "crates/cmisctl/out/cmisctl"))
@@ -90,7 +90,7 @@ def line_of(operation: Operation, reply: Reply) -> str:
     return f"{asked} = {reply.hex(' ') if isinstance(reply, bytes) else 'done' if reply else 'refused'}"
 
 
-def traced(image: Image, weights: Dict[int, int], kept: Sequence[Path], script: Script) -> List[str]:
+def traced(image: Image, weights: Dict[int, int], kept: Sequence[DataPath], script: Script) -> List[str]:
     """What `cmisctl trace --keep --activate` prints, by the package."""
     best = plan(image, weights, kept)
     try:
@@ -135,12 +135,12 @@ def random_weights(chance: random.Random, image: Image) -> Dict[int, int]:
     return {application.host_id: chance.randrange(1000) for application in image.applications() if chance.random() < 0.8}
 
 
-def random_kept(chance: random.Random, image: Image, weights: Dict[int, int]) -> List[Path]:
+def random_kept(chance: random.Random, image: Image, weights: Dict[int, int]) -> List[DataPath]:
     """Often none; else paths that are in use, if the module has them, or some of a plan, most of which can't stay."""
     if chance.random() < 0.6:
         return []
     if image.halves[page(0x11)][206 - 128:210 - 128] == bytes.fromhex("80808484"):
-        return [Path(8, 1, 1), Path(8, 3, 2)]
+        return [DataPath(8, 1, 1), DataPath(8, 3, 2)]
     return [path for path in plan(image, weights).paths if chance.random() < 0.3]
 
 

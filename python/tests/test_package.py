@@ -15,7 +15,7 @@ import pytest
 
 from shared import IMAGES, ROOT, WEIGHTS, cmisctl, example, fault_of, image_of, random_weights, table
 from dovecounter import (
-    LOWER, Activation, Delays, Fault, Image, Judgement, Key, Path, Plan, Provisioning, Reading, SimulatedModule, check, page, plan)
+    LOWER, Activation, Delays, Fault, Image, Judgement, Key, DataPath, Plan, Provisioning, Reading, SimulatedModule, check, page, plan)
 from dovecounter.faults import SENTENCES
 from dovecounter.simulated import ConfigStatus, ModuleState, PathState
 
@@ -72,7 +72,7 @@ def test_a_fault_has_the_program_s_values() -> None:
     for number in (0x10, 0x11):
         assert fault_of(SimulatedModule, DR4.without(page(number))) == f"SM1 upper A0 00 {number:02x}"
     assert fault_of(SimulatedModule, DR4, Delays(init=1001)) == "SM3"
-    good, wrong = Path(2, 1, 1), Path(2, 2, 1)
+    good, wrong = DataPath(2, 1, 1), DataPath(2, 2, 1)
     for kept in ([good, wrong], [wrong, good], [good, good], [good] * 9):
         lines = "".join(f"keep {one.application} {one.host} {one.media}\n" for one in kept)
         assert [f"fault {fault_of(plan, DR4, WEIGHTS, kept)}"] == cmisctl("plan --keep", DR4.to_text(), table(WEIGHTS), lines)
@@ -143,8 +143,8 @@ def test_numbers_out_of_range_are_refused_and_not_cut() -> None:
 
     for call in (
         lambda: plan(DR4, {0x111: 1}), lambda: plan(DR4, {-1: 1}), lambda: plan(DR4, {0x11: 2**32}), lambda: plan(DR4, {0x11: -1}),
-        lambda: plan(DR4, WEIGHTS, [Path(258, 1, 1)]), lambda: plan(DR4, WEIGHTS, [Path(2, 257, 1)]),
-        lambda: plan(DR4, WEIGHTS, [Path(2, 1, -255)]), lambda: check(DR4, {0x11: 2**32}, ""),
+        lambda: plan(DR4, WEIGHTS, [DataPath(258, 1, 1)]), lambda: plan(DR4, WEIGHTS, [DataPath(2, 257, 1)]),
+        lambda: plan(DR4, WEIGHTS, [DataPath(2, 1, -255)]), lambda: check(DR4, {0x11: 2**32}, ""),
         lambda: SimulatedModule(DR4, Delays(init=65537)), lambda: SimulatedModule(DR4, Delays(apply=-1)),
         lambda: module.fetch(0x1A0, 0, 1), lambda: module.fetch(0xA0, 256, 1), lambda: module.fetch(0xA0, 0, 0),
         lambda: module.fetch(0xA0, 0, 129), lambda: module.fetch(0xA0, 120, 9), lambda: module.fetch(0xA1, 0, 1),

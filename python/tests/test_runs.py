@@ -4,6 +4,7 @@ from __future__ import annotations
 import os
 import pathlib
 import random
+import re
 import subprocess
 import sys
 from typing import List, Optional
@@ -12,6 +13,7 @@ import pytest
 
 from shared import IMAGES, ROOT, WEIGHTS, compare_with_trace, example, fault_of, image_of
 from dovecounter import Activation, Delays, Operation, PathState, Provisioning, Reading, SimulatedModule, page, plan
+from dovecounter.faults import SENTENCES
 
 DR4 = example("qsfp_dd_400g_dr4.txt")
 
@@ -113,3 +115,15 @@ def test_an_example_prints_what_it_should(name: str) -> None:
         env={**os.environ, "PYTHONPATH": path})
     wanted = pathlib.Path(__file__).with_name("examples").joinpath(name).with_suffix(".txt")
     assert (run.stdout, run.stderr, run.returncode) == (wanted.read_text(), "", 0)
+
+
+def test_the_page_s_code_runs(monkeypatch: pytest.MonkeyPatch, capsys: pytest.CaptureFixture[str]) -> None:
+    monkeypatch.chdir(ROOT)
+    blocks = re.findall(r"^```python\n(.*?)^```$", (ROOT / "docs/python.md").read_text(), re.MULTILINE | re.DOTALL)
+    exec(compile("\n".join(blocks), "docs/python.md", "exec"), {})
+    assert capsys.readouterr().out.splitlines() == [
+        "1: host 11h on 8 lanes", "2: host 0Dh on 2 lanes",
+        "404 DataPath(application=2, host=1, media=1) 20 20 24 24 28 28 2c 2c",
+        "17 operations", "17 operations", "20 20 24 24 28 28 2c 2c DPActivated",
+        f"{example('qsfp_dd_400g_dr4.txt').durations().path_init} ms for DPInit at most",
+        f"KP3 (2,) {SENTENCES['KP3']}"]
