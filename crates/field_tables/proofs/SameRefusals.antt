@@ -1,6 +1,6 @@
 -- Memories are refused for the same reason that agree in the halves which reasons read of, each half if no reason before
 -- applies.
-use Rattle.std.proofs.Common.{◌≡◌, ◌&&◌, Bool, true, false, List, [], ◌∷◌, map, Option, refl, ap, ◌∙◌, nat_le}
+use Rattle.std.proofs.Common.{◌≡◌, ◌&&◌, Bool, true, false, List, [], ◌∷◌, map, refl, ap, ◌∙◌, nat_le}
 use Rattle.std.proofs.lemmas.Bool.{and_parts, not-true}
 use Rattle.std.specs.Prelude.{not}
 use Rattle.std.specs.List.{list_all}

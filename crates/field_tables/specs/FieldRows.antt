@@ -1,6 +1,6 @@
 -- The memory map: the row of each field, with the standard that it belongs to. (docs/fields.md, "Fields"; OIF-CMIS-05.0,
 -- chapter 8 "Module Management Memory Map"; SFF-8636, "Memory Map"; SFF-8472, "Memory Organization")
-use Rattle.std.specs.Prelude.{ℕ, Option, Some, None}
+use Rattle.std.specs.Prelude.{ℕ, ◌+◌, Option, Some, None}
 use Rattle.bus_model.specs.declared.device.Dev.{Dev}
 use Rattle.bus_model.specs.declared.device.Dev.TheVariants.{A0, A2}
 use Rattle.paged_memory.specs.declared.family.Family.{Family}
@@ -9,6 +9,8 @@ use Rattle.paged_memory.specs.declared.key.Half.{Half}
 use Rattle.paged_memory.specs.declared.key.Half.TheVariants.{Lower, Upper}
 use Rattle.field_tables.specs.declared.field.Field.{Field}
 use Rattle.field_tables.specs.declared.field.Field.TheVariants as fields
+use Rattle.field_tables.specs.declared.field.Register.{Register}
+use Rattle.field_tables.specs.declared.field.Register.TheVariants as registers
 use Rattle.field_tables.specs.declared.layout.Layout.{Layout}
 use Rattle.field_tables.specs.declared.layout.Layout.TheVariants.{Single, Every, Bits, Down, Nibbles, Quad}
 use Rattle.field_tables.specs.declared.layout.Part.{Part}
@@ -18,32 +20,39 @@ use Rattle.field_tables.specs.declared.layout.Sign.{Sign}
 use Rattle.field_tables.specs.declared.layout.Sign.TheVariants.{Unsigned, Signed}
 use Rattle.field_tables.specs.declared.units.Unit as units
 use Rattle.field_tables.specs.declared.units.Unit.TheVariants.{Temperature, Voltage, OpticalPower, Bias, ModulePower}
+use Rattle.field_tables.specs.Registers.{span_of}
 
 -- a line of the table
 abbrev pub line : Family → Dev → Half → ℕ → ℕ → Part → Layout → ℕ → Sign → Option units.Unit → Family × Row
 line standard dev half page offset part layout count sign unit =
     (standard, record { dev = dev; half = half; page = page; offset = offset; bits = part; layout = layout; count = count; sign = sign; unit = unit })
 
+-- a line of numbers that stand in a register: from which of its bytes on, bits, layout, number of values
+abbrev pub part : Register → ℕ → Part → Layout → ℕ → Family × Row
+part register byte bits layout count =
+    let s = span_of register in
+    line cmis s.dev s.half s.page (s.first + byte) bits layout count Unsigned None
+
 -- standard, device, half and page, offset, bits, layout, number of values, sign, unit
 abbrev pub line_of : Field → Family × Row
 line_of fields.CIdentifier = line cmis A0 Lower 0x00 0 Byte Single 1 Unsigned None
 line_of fields.CRevision = line cmis A0 Lower 0x00 1 Byte Single 1 Unsigned None
 line_of fields.CFlatMemory = line cmis A0 Lower 0x00 2 (Range 7 7) Single 1 Unsigned None
-line_of fields.CModuleState = line cmis A0 Lower 0x00 3 (Range 3 1) Single 1 Unsigned None
-line_of fields.CModuleFlag = line cmis A0 Lower 0x00 9 (Range 0 0) Bits 8 Unsigned None
+line_of fields.CModuleState = part registers.CGlobalStatus 0 (Range 3 1) Single 1
+line_of fields.CModuleFlag = part registers.CModuleFlags 0 (Range 0 0) Bits 8
 line_of fields.CTemperature = line cmis A0 Lower 0x00 14 Word Single 1 Signed (Some Temperature)
 line_of fields.CVcc = line cmis A0 Lower 0x00 16 Word Single 1 Unsigned (Some Voltage)
-line_of fields.CLowPwrAllowHW = line cmis A0 Lower 0x00 26 (Range 6 6) Single 1 Unsigned None
-line_of fields.CLowPwrRequestSW = line cmis A0 Lower 0x00 26 (Range 4 4) Single 1 Unsigned None
-line_of fields.CSoftwareReset = line cmis A0 Lower 0x00 26 (Range 3 3) Single 1 Unsigned None
+line_of fields.CLowPwrAllowHW = part registers.CGlobalControls 0 (Range 6 6) Single 1
+line_of fields.CLowPwrRequestSW = part registers.CGlobalControls 0 (Range 4 4) Single 1
+line_of fields.CSoftwareReset = part registers.CGlobalControls 0 (Range 3 3) Single 1
 line_of fields.CMediaType = line cmis A0 Lower 0x00 85 Byte Single 1 Unsigned None
 line_of fields.CAppHost = line cmis A0 Lower 0x00 86 Byte (Every 4) 8 Unsigned None
 line_of fields.CAppMedia = line cmis A0 Lower 0x00 87 Byte (Every 4) 8 Unsigned None
 line_of fields.CAppHostLanes = line cmis A0 Lower 0x00 88 (Range 7 4) (Every 4) 8 Unsigned None
 line_of fields.CAppMediaLanes = line cmis A0 Lower 0x00 88 (Range 3 0) (Every 4) 8 Unsigned None
 line_of fields.CAppHostStarts = line cmis A0 Lower 0x00 89 Byte (Every 4) 8 Unsigned None
-line_of fields.CBankSelect = line cmis A0 Lower 0x00 126 Byte Single 1 Unsigned None
-line_of fields.CPageSelect = line cmis A0 Lower 0x00 127 Byte Single 1 Unsigned None
+line_of fields.CBankSelect = part registers.CPageMapping 0 Byte Single 1
+line_of fields.CPageSelect = part registers.CPageMapping 1 Byte Single 1
 line_of fields.CIdCopy = line cmis A0 Upper 0x00 128 Byte Single 1 Unsigned None
 line_of fields.COui = line cmis A0 Upper 0x00 145 Byte (Every 1) 3 Unsigned None
 line_of fields.CPowerClass = line cmis A0 Upper 0x00 200 (Range 7 5) Single 1 Unsigned None
@@ -74,38 +83,38 @@ line_of fields.CVccLimits = line cmis A0 Upper 0x02 136 Word (Every 2) 4 Unsigne
 line_of fields.CTxPowerLimits = line cmis A0 Upper 0x02 176 Word (Every 2) 4 Unsigned (Some OpticalPower)
 line_of fields.CTxBiasLimits = line cmis A0 Upper 0x02 184 Word (Every 2) 4 Unsigned (Some Bias)
 line_of fields.CRxPowerLimits = line cmis A0 Upper 0x02 192 Word (Every 2) 4 Unsigned (Some OpticalPower)
-line_of fields.CDPDeinit = line cmis A0 Upper 0x10 128 (Range 0 0) Bits 8 Unsigned None
-line_of fields.CApplyDPInit = line cmis A0 Upper 0x10 143 (Range 0 0) Bits 8 Unsigned None
-line_of fields.CStagedAppSel = line cmis A0 Upper 0x10 145 (Range 7 4) (Every 1) 8 Unsigned None
-line_of fields.CStagedPathId = line cmis A0 Upper 0x10 145 (Range 3 1) (Every 1) 8 Unsigned None
-line_of fields.CStagedExplicit = line cmis A0 Upper 0x10 145 (Range 0 0) (Every 1) 8 Unsigned None
-line_of fields.CPathStates = line cmis A0 Upper 0x11 128 (Range 3 0) Nibbles 8 Unsigned None
-line_of fields.CPathStateChanged = line cmis A0 Upper 0x11 134 (Range 0 0) Bits 8 Unsigned None
-line_of fields.CTxFailure = line cmis A0 Upper 0x11 135 (Range 0 0) Bits 8 Unsigned None
-line_of fields.CTxLos = line cmis A0 Upper 0x11 136 (Range 0 0) Bits 8 Unsigned None
-line_of fields.CTxLol = line cmis A0 Upper 0x11 137 (Range 0 0) Bits 8 Unsigned None
-line_of fields.CTxEqFail = line cmis A0 Upper 0x11 138 (Range 0 0) Bits 8 Unsigned None
-line_of fields.CTxPowerHighAlarm = line cmis A0 Upper 0x11 139 (Range 0 0) Bits 8 Unsigned None
-line_of fields.CTxPowerLowAlarm = line cmis A0 Upper 0x11 140 (Range 0 0) Bits 8 Unsigned None
-line_of fields.CTxPowerHighWarning = line cmis A0 Upper 0x11 141 (Range 0 0) Bits 8 Unsigned None
-line_of fields.CTxPowerLowWarning = line cmis A0 Upper 0x11 142 (Range 0 0) Bits 8 Unsigned None
-line_of fields.CTxBiasHighAlarm = line cmis A0 Upper 0x11 143 (Range 0 0) Bits 8 Unsigned None
-line_of fields.CTxBiasLowAlarm = line cmis A0 Upper 0x11 144 (Range 0 0) Bits 8 Unsigned None
-line_of fields.CTxBiasHighWarning = line cmis A0 Upper 0x11 145 (Range 0 0) Bits 8 Unsigned None
-line_of fields.CTxBiasLowWarning = line cmis A0 Upper 0x11 146 (Range 0 0) Bits 8 Unsigned None
-line_of fields.CRxLos = line cmis A0 Upper 0x11 147 (Range 0 0) Bits 8 Unsigned None
-line_of fields.CRxLol = line cmis A0 Upper 0x11 148 (Range 0 0) Bits 8 Unsigned None
-line_of fields.CRxPowerHighAlarm = line cmis A0 Upper 0x11 149 (Range 0 0) Bits 8 Unsigned None
-line_of fields.CRxPowerLowAlarm = line cmis A0 Upper 0x11 150 (Range 0 0) Bits 8 Unsigned None
-line_of fields.CRxPowerHighWarning = line cmis A0 Upper 0x11 151 (Range 0 0) Bits 8 Unsigned None
-line_of fields.CRxPowerLowWarning = line cmis A0 Upper 0x11 152 (Range 0 0) Bits 8 Unsigned None
+line_of fields.CDPDeinit = part registers.CDPDeinit 0 (Range 0 0) Bits 8
+line_of fields.CApplyDPInit = part registers.CApplyDPInit 0 (Range 0 0) Bits 8
+line_of fields.CStagedAppSel = part registers.CStagedControl 0 (Range 7 4) (Every 1) 8
+line_of fields.CStagedPathId = part registers.CStagedControl 0 (Range 3 1) (Every 1) 8
+line_of fields.CStagedExplicit = part registers.CStagedControl 0 (Range 0 0) (Every 1) 8
+line_of fields.CPathStates = part registers.CPathStates 0 (Range 3 0) Nibbles 8
+line_of fields.CPathStateChanged = part registers.CLaneFlags 0 (Range 0 0) Bits 8
+line_of fields.CTxFailure = part registers.CLaneFlags 1 (Range 0 0) Bits 8
+line_of fields.CTxLos = part registers.CLaneFlags 2 (Range 0 0) Bits 8
+line_of fields.CTxLol = part registers.CLaneFlags 3 (Range 0 0) Bits 8
+line_of fields.CTxEqFail = part registers.CLaneFlags 4 (Range 0 0) Bits 8
+line_of fields.CTxPowerHighAlarm = part registers.CLaneFlags 5 (Range 0 0) Bits 8
+line_of fields.CTxPowerLowAlarm = part registers.CLaneFlags 6 (Range 0 0) Bits 8
+line_of fields.CTxPowerHighWarning = part registers.CLaneFlags 7 (Range 0 0) Bits 8
+line_of fields.CTxPowerLowWarning = part registers.CLaneFlags 8 (Range 0 0) Bits 8
+line_of fields.CTxBiasHighAlarm = part registers.CLaneFlags 9 (Range 0 0) Bits 8
+line_of fields.CTxBiasLowAlarm = part registers.CLaneFlags 10 (Range 0 0) Bits 8
+line_of fields.CTxBiasHighWarning = part registers.CLaneFlags 11 (Range 0 0) Bits 8
+line_of fields.CTxBiasLowWarning = part registers.CLaneFlags 12 (Range 0 0) Bits 8
+line_of fields.CRxLos = part registers.CLaneFlags 13 (Range 0 0) Bits 8
+line_of fields.CRxLol = part registers.CLaneFlags 14 (Range 0 0) Bits 8
+line_of fields.CRxPowerHighAlarm = part registers.CLaneFlags 15 (Range 0 0) Bits 8
+line_of fields.CRxPowerLowAlarm = part registers.CLaneFlags 16 (Range 0 0) Bits 8
+line_of fields.CRxPowerHighWarning = part registers.CLaneFlags 17 (Range 0 0) Bits 8
+line_of fields.CRxPowerLowWarning = part registers.CLaneFlags 18 (Range 0 0) Bits 8
 line_of fields.CTxPower = line cmis A0 Upper 0x11 154 Word (Every 2) 8 Unsigned (Some OpticalPower)
 line_of fields.CTxBias = line cmis A0 Upper 0x11 170 Word (Every 2) 8 Unsigned (Some Bias)
 line_of fields.CRxPower = line cmis A0 Upper 0x11 186 Word (Every 2) 8 Unsigned (Some OpticalPower)
-line_of fields.CConfigStatus = line cmis A0 Upper 0x11 202 (Range 3 0) Nibbles 8 Unsigned None
-line_of fields.CActiveAppSel = line cmis A0 Upper 0x11 206 (Range 7 4) (Every 1) 8 Unsigned None
-line_of fields.CActivePathId = line cmis A0 Upper 0x11 206 (Range 3 1) (Every 1) 8 Unsigned None
-line_of fields.CActiveExplicit = line cmis A0 Upper 0x11 206 (Range 0 0) (Every 1) 8 Unsigned None
+line_of fields.CConfigStatus = part registers.CConfigStatus 0 (Range 3 0) Nibbles 8
+line_of fields.CActiveAppSel = part registers.CActiveControl 0 (Range 7 4) (Every 1) 8
+line_of fields.CActivePathId = part registers.CActiveControl 0 (Range 3 1) (Every 1) 8
+line_of fields.CActiveExplicit = part registers.CActiveControl 0 (Range 0 0) (Every 1) 8
 line_of fields.QIdentifier = line sff8636 A0 Lower 0x00 0 Byte Single 1 Unsigned None
 line_of fields.QFlatMemory = line sff8636 A0 Lower 0x00 2 (Range 2 2) Single 1 Unsigned None
 line_of fields.QTxLos = line sff8636 A0 Lower 0x00 3 (Range 4 4) Bits 4 Unsigned None

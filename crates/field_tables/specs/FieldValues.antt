@@ -1,5 +1,5 @@
 -- The values of a field in a module's memory. (docs/fields.md, "Places and layouts"; this project's own)
-use Rattle.std.specs.Prelude.{ℕ, ℤ, List, Option, map, option_map}
+use Rattle.std.specs.Prelude.{ℕ, ℤ, Bool, ◌/◌, ◌%◌, ◌^◌, ◌==◌, List, Option, map, option_map}
 use Rattle.std.specs.List.{range_with_len}
 use Rattle.std.specs.FinMap as map
 use Rattle.paged_memory.specs.declared.key.Key.{Key}
@@ -9,6 +9,7 @@ use Rattle.field_tables.specs.declared.layout.Row.{Row}
 use Rattle.field_tables.specs.FieldRows.{row_of}
 use Rattle.field_tables.specs.Halves.{byte_in, half_key}
 use Rattle.field_tables.specs.Numbers.{number_in, signed_by}
+use Rattle.field_tables.specs.Parts.{low_of, part_width}
 use Rattle.field_tables.specs.RowPlaces.{place_of}
 
 -- value i of a row, in the bytes of its half
@@ -38,3 +39,11 @@ values_of memory field = option_map (λ bytes. values_in bytes field) (map.get m
 -- value i of a field, where memory has its half
 abbrev pub value_of : Memory → Field → ℕ → Option ℤ
 value_of memory field i = option_map (λ bytes. value_in bytes field i) (map.get memory (field_key field))
+
+-- the number of a field that is some bits of one byte, in that byte
+abbrev pub number_in_byte : Field → ℕ → ℕ
+number_in_byte field byte = byte / 2 ^ low_of (row_of field).bits % 2 ^ part_width (row_of field).bits
+
+-- a field of one bit is 1 in its byte
+abbrev pub is_set : Field → ℕ → Bool
+is_set field byte = number_in_byte field byte == 1

@@ -4,11 +4,12 @@ pub mod LaneBytes
 pub mod Layouts
 pub mod Numbers
 pub mod Parts
+pub mod Spans
+pub mod Registers
 pub mod FieldRows
 pub mod RowPlaces
 pub mod FieldValues
 pub mod RowFits
-pub mod Spans
 pub mod Texts
 pub mod Sums
 pub mod Units

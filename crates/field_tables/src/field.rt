@@ -220,3 +220,24 @@ pub enum Sum {
     SSumExt,
     SSumDmi,
 }
+
+/// Bytes of a memory map that a host reads or stores as a whole, and that fields are parts of.
+#[derive(Clone, Copy, Debug, PartialEq, Eq)]
+pub enum Register {
+    // CMIS, lower memory
+    CGlobalStatus,
+    CModuleFlags,
+    CGlobalControls,
+    CPageMapping,
+
+    // CMIS, page 10h; of several bytes the first is that of lane 1
+    CDPDeinit,
+    CApplyDPInit,
+    CStagedControl,
+
+    // CMIS, page 11h
+    CPathStates,
+    CLaneFlags,
+    CConfigStatus,
+    CActiveControl,
+}

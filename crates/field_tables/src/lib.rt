@@ -9,6 +9,7 @@ mod lane_set;
 mod laws;
 mod layout;
 mod readings;
+mod registers;
 mod sff_fault;
 mod spans;
 mod sums;
@@ -18,7 +19,7 @@ mod units;
 mod values;
 
 pub use fault::FieldFault;
-pub use field::{Field, Sum, TextField};
+pub use field::{Field, Register, Sum, TextField};
 pub use lane_set::LaneSet;
 pub use laws::{each_entry_is_within_its_half, no_bit_means_two_things};
 pub use layout::{Layout, Part, Row, Sign};
@@ -26,9 +27,11 @@ pub use readings::{
     Levels, all_bits, all_numbers, all_readings, bit, bit_at, is_sum_right, level_bits, limits_of,
     number, number_at, reading, reading_at, text,
 };
+pub use registers::register;
 pub use sff_fault::SffFault;
+pub use spans::Span;
 pub use sums::sum_right;
 pub use table::row;
 pub use texts::text_field;
 pub use units::{Unit, millis};
-pub use values::{lane, value};
+pub use values::{is_set, lane, number_in_byte, value};

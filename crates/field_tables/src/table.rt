@@ -1,8 +1,11 @@
-ghost use Rattle.std.specs.Prelude.{◌≡◌};
+ghost use Rattle.std.specs.Prelude.{◌≡◌, ◌+◌, ◌≤◌};
+ghost use Rattle.field_tables.specs.FieldRows as spec;
+ghost use Rattle.field_tables.specs.Registers.{first_byte};
 ghost use Rattle.field_tables.specs.FieldRows.{row_of};
 
-use crate::field::Field;
+use crate::field::{Field, Register};
 use crate::layout::{Layout, Part, Row, Sign};
+use crate::registers::register;
 use crate::units::Unit;
 use bus_model::Dev;
 use paged_memory::Half;
@@ -20,8 +23,19 @@ macro_rules! unit {
 
 // Each arm borrows a constant: if it built its row member by member, the proof would take minutes.
 macro_rules! rows {
-    ($field:ident; $($name:ident: $dev:ident $half:ident $page:literal, $offset:literal [$($bits:tt)*], $layout:ident $(($number:literal))?, $count:literal, $sign:ident $($unit:ident)?;)*) => {
+    ($field:ident;
+        parts { $($part:ident: $register:ident $byte:literal [$($part_bits:tt)*], $part_layout:ident $(($part_number:literal))?, $part_count:literal;)* }
+        $($name:ident: $dev:ident $half:ident $page:literal, $offset:literal [$($bits:tt)*], $layout:ident $(($number:literal))?, $count:literal, $sign:ident $($unit:ident)?;)*) => {
         match $field {
+            $(Field::$part => {
+                return row_in(
+                    Register::$register,
+                    $byte,
+                    part!($($part_bits)*),
+                    Layout::$part_layout $(($part_number))?,
+                    $part_count,
+                );
+            })*
             $(Field::$name => &Row {
                 dev: Dev::$dev,
                 half: Half::$half,
@@ -41,26 +55,58 @@ macro_rules! rows {
 pub fn row(field: Field) -> Row
     ensures { result ≡ row_of field }
 {
-    // device, half and page, offset and bits, layout, number of values, sign and unit
+    // of a part of a register: which of its bytes, bits, layout, number of values;
+    // of another: device, half and page, offset and bits, layout, number of values, sign and unit
     *rows! { field;
+        parts {
+            CModuleState: CGlobalStatus 0 [3-1], Single, 1;
+            CModuleFlag: CModuleFlags 0 [0-0], Bits, 8;
+            CLowPwrAllowHW: CGlobalControls 0 [6-6], Single, 1;
+            CLowPwrRequestSW: CGlobalControls 0 [4-4], Single, 1;
+            CSoftwareReset: CGlobalControls 0 [3-3], Single, 1;
+            CBankSelect: CPageMapping 0 [byte], Single, 1;
+            CPageSelect: CPageMapping 1 [byte], Single, 1;
+            CDPDeinit: CDPDeinit 0 [0-0], Bits, 8;
+            CApplyDPInit: CApplyDPInit 0 [0-0], Bits, 8;
+            CStagedAppSel: CStagedControl 0 [7-4], Every(1), 8;
+            CStagedPathId: CStagedControl 0 [3-1], Every(1), 8;
+            CStagedExplicit: CStagedControl 0 [0-0], Every(1), 8;
+            CPathStates: CPathStates 0 [3-0], Nibbles, 8;
+            CPathStateChanged: CLaneFlags 0 [0-0], Bits, 8;
+            CTxFailure: CLaneFlags 1 [0-0], Bits, 8;
+            CTxLos: CLaneFlags 2 [0-0], Bits, 8;
+            CTxLol: CLaneFlags 3 [0-0], Bits, 8;
+            CTxEqFail: CLaneFlags 4 [0-0], Bits, 8;
+            CTxPowerHighAlarm: CLaneFlags 5 [0-0], Bits, 8;
+            CTxPowerLowAlarm: CLaneFlags 6 [0-0], Bits, 8;
+            CTxPowerHighWarning: CLaneFlags 7 [0-0], Bits, 8;
+            CTxPowerLowWarning: CLaneFlags 8 [0-0], Bits, 8;
+            CTxBiasHighAlarm: CLaneFlags 9 [0-0], Bits, 8;
+            CTxBiasLowAlarm: CLaneFlags 10 [0-0], Bits, 8;
+            CTxBiasHighWarning: CLaneFlags 11 [0-0], Bits, 8;
+            CTxBiasLowWarning: CLaneFlags 12 [0-0], Bits, 8;
+            CRxLos: CLaneFlags 13 [0-0], Bits, 8;
+            CRxLol: CLaneFlags 14 [0-0], Bits, 8;
+            CRxPowerHighAlarm: CLaneFlags 15 [0-0], Bits, 8;
+            CRxPowerLowAlarm: CLaneFlags 16 [0-0], Bits, 8;
+            CRxPowerHighWarning: CLaneFlags 17 [0-0], Bits, 8;
+            CRxPowerLowWarning: CLaneFlags 18 [0-0], Bits, 8;
+            CConfigStatus: CConfigStatus 0 [3-0], Nibbles, 8;
+            CActiveAppSel: CActiveControl 0 [7-4], Every(1), 8;
+            CActivePathId: CActiveControl 0 [3-1], Every(1), 8;
+            CActiveExplicit: CActiveControl 0 [0-0], Every(1), 8;
+        }
         CIdentifier: A0 Lower 0x00, 0 [byte], Single, 1, Unsigned;
         CRevision: A0 Lower 0x00, 1 [byte], Single, 1, Unsigned;
         CFlatMemory: A0 Lower 0x00, 2 [7-7], Single, 1, Unsigned;
-        CModuleState: A0 Lower 0x00, 3 [3-1], Single, 1, Unsigned;
-        CModuleFlag: A0 Lower 0x00, 9 [0-0], Bits, 8, Unsigned;
         CTemperature: A0 Lower 0x00, 14 [word], Single, 1, Signed Temperature;
         CVcc: A0 Lower 0x00, 16 [word], Single, 1, Unsigned Voltage;
-        CLowPwrAllowHW: A0 Lower 0x00, 26 [6-6], Single, 1, Unsigned;
-        CLowPwrRequestSW: A0 Lower 0x00, 26 [4-4], Single, 1, Unsigned;
-        CSoftwareReset: A0 Lower 0x00, 26 [3-3], Single, 1, Unsigned;
         CMediaType: A0 Lower 0x00, 85 [byte], Single, 1, Unsigned;
         CAppHost: A0 Lower 0x00, 86 [byte], Every(4), 8, Unsigned;
         CAppMedia: A0 Lower 0x00, 87 [byte], Every(4), 8, Unsigned;
         CAppHostLanes: A0 Lower 0x00, 88 [7-4], Every(4), 8, Unsigned;
         CAppMediaLanes: A0 Lower 0x00, 88 [3-0], Every(4), 8, Unsigned;
         CAppHostStarts: A0 Lower 0x00, 89 [byte], Every(4), 8, Unsigned;
-        CBankSelect: A0 Lower 0x00, 126 [byte], Single, 1, Unsigned;
-        CPageSelect: A0 Lower 0x00, 127 [byte], Single, 1, Unsigned;
         CIdCopy: A0 Upper 0x00, 128 [byte], Single, 1, Unsigned;
         COui: A0 Upper 0x00, 145 [byte], Every(1), 3, Unsigned;
         CPowerClass: A0 Upper 0x00, 200 [7-5], Single, 1, Unsigned;
@@ -91,38 +137,9 @@ pub fn row(field: Field) -> Row
         CTxPowerLimits: A0 Upper 0x02, 176 [word], Every(2), 4, Unsigned OpticalPower;
         CTxBiasLimits: A0 Upper 0x02, 184 [word], Every(2), 4, Unsigned Bias;
         CRxPowerLimits: A0 Upper 0x02, 192 [word], Every(2), 4, Unsigned OpticalPower;
-        CDPDeinit: A0 Upper 0x10, 128 [0-0], Bits, 8, Unsigned;
-        CApplyDPInit: A0 Upper 0x10, 143 [0-0], Bits, 8, Unsigned;
-        CStagedAppSel: A0 Upper 0x10, 145 [7-4], Every(1), 8, Unsigned;
-        CStagedPathId: A0 Upper 0x10, 145 [3-1], Every(1), 8, Unsigned;
-        CStagedExplicit: A0 Upper 0x10, 145 [0-0], Every(1), 8, Unsigned;
-        CPathStates: A0 Upper 0x11, 128 [3-0], Nibbles, 8, Unsigned;
-        CPathStateChanged: A0 Upper 0x11, 134 [0-0], Bits, 8, Unsigned;
-        CTxFailure: A0 Upper 0x11, 135 [0-0], Bits, 8, Unsigned;
-        CTxLos: A0 Upper 0x11, 136 [0-0], Bits, 8, Unsigned;
-        CTxLol: A0 Upper 0x11, 137 [0-0], Bits, 8, Unsigned;
-        CTxEqFail: A0 Upper 0x11, 138 [0-0], Bits, 8, Unsigned;
-        CTxPowerHighAlarm: A0 Upper 0x11, 139 [0-0], Bits, 8, Unsigned;
-        CTxPowerLowAlarm: A0 Upper 0x11, 140 [0-0], Bits, 8, Unsigned;
-        CTxPowerHighWarning: A0 Upper 0x11, 141 [0-0], Bits, 8, Unsigned;
-        CTxPowerLowWarning: A0 Upper 0x11, 142 [0-0], Bits, 8, Unsigned;
-        CTxBiasHighAlarm: A0 Upper 0x11, 143 [0-0], Bits, 8, Unsigned;
-        CTxBiasLowAlarm: A0 Upper 0x11, 144 [0-0], Bits, 8, Unsigned;
-        CTxBiasHighWarning: A0 Upper 0x11, 145 [0-0], Bits, 8, Unsigned;
-        CTxBiasLowWarning: A0 Upper 0x11, 146 [0-0], Bits, 8, Unsigned;
-        CRxLos: A0 Upper 0x11, 147 [0-0], Bits, 8, Unsigned;
-        CRxLol: A0 Upper 0x11, 148 [0-0], Bits, 8, Unsigned;
-        CRxPowerHighAlarm: A0 Upper 0x11, 149 [0-0], Bits, 8, Unsigned;
-        CRxPowerLowAlarm: A0 Upper 0x11, 150 [0-0], Bits, 8, Unsigned;
-        CRxPowerHighWarning: A0 Upper 0x11, 151 [0-0], Bits, 8, Unsigned;
-        CRxPowerLowWarning: A0 Upper 0x11, 152 [0-0], Bits, 8, Unsigned;
         CTxPower: A0 Upper 0x11, 154 [word], Every(2), 8, Unsigned OpticalPower;
         CTxBias: A0 Upper 0x11, 170 [word], Every(2), 8, Unsigned Bias;
         CRxPower: A0 Upper 0x11, 186 [word], Every(2), 8, Unsigned OpticalPower;
-        CConfigStatus: A0 Upper 0x11, 202 [3-0], Nibbles, 8, Unsigned;
-        CActiveAppSel: A0 Upper 0x11, 206 [7-4], Every(1), 8, Unsigned;
-        CActivePathId: A0 Upper 0x11, 206 [3-1], Every(1), 8, Unsigned;
-        CActiveExplicit: A0 Upper 0x11, 206 [0-0], Every(1), 8, Unsigned;
         QIdentifier: A0 Lower 0x00, 0 [byte], Single, 1, Unsigned;
         QFlatMemory: A0 Lower 0x00, 2 [2-2], Single, 1, Unsigned;
         QTxLos: A0 Lower 0x00, 3 [4-4], Bits, 4, Unsigned;
@@ -180,5 +197,24 @@ pub fn row(field: Field) -> Row
         SRxAlarms: A2 Lower 0x00, 113 [7-7], Down, 2, Unsigned;
         SWarnings: A2 Lower 0x00, 116 [7-7], Down, 8, Unsigned;
         SRxWarnings: A2 Lower 0x00, 117 [7-7], Down, 2, Unsigned;
+    }
+}
+
+/// The row of numbers that stand in a register, from one of its bytes on.
+fn row_in(within: Register, byte: u8, bits: Part, layout: Layout, count: u8) -> Row
+    requires { first_byte within + byte ≤ 255 }
+    ensures { result ≡ (spec.part within byte bits layout count).1 }
+{
+    let span = register(within);
+    Row {
+        dev: span.dev,
+        half: span.half,
+        page: span.page,
+        offset: span.first + byte,
+        bits,
+        layout,
+        count,
+        sign: Sign::Unsigned,
+        unit: None,
     }
 }

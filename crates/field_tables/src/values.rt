@@ -55,6 +55,28 @@ pub fn value_of(image: &Image, field: Field, index: u8) -> Result<i64, FieldFaul
     Ok(value_at(page.bytes(), row, usize::from(index)))
 }
 
+/// The number of a field that is some bits of one byte, in that byte.
+pub fn number_in_byte(field: Field, byte: u8) -> u8
+    requires { IsTrue (part_inside (row_of field).bits 0) }
+    ensures { result ≡ spec.number_in_byte field byte }
+{
+    match row(field).bits {
+        Part::Byte | Part::Word => byte,
+        Part::Range { high, low } => {
+            let width = high + 1 - low;
+            ((u16::from(byte) >> low) % (1 << width)) as u8
+        }
+    }
+}
+
+/// Whether a field of one bit is 1 in its byte.
+pub fn is_set(field: Field, byte: u8) -> bool
+    requires { IsTrue (part_inside (row_of field).bits 0) }
+    ensures { result ≡ spec.is_set field byte }
+{
+    number_in_byte(field, byte) == 1
+}
+
 fn value_at(bytes: &[u8; PAGE_LEN], row: Row, lane: usize) -> i64
     requires fits { IsTrue (row_fits row) }
     requires first { 1 ≤ lane }
