@@ -41,7 +41,7 @@ some_is x y e = ap held e where
   held (Some x) = x
 
 pub page_is : (task : Task) (page : ℕ) → page_of task ≡ Some page → (page ≡ control_page) ⊎ (page ≡ status_page)
-page_is FindReady page e = cc
+page_is FindReady page e = let none : None ≡ Some page = e in cc
 page_is (Deinitialize bits) page e = inl (sym (some_is control_page page e))
 page_is (AwaitDeactivated lanes) page e = inr (sym (some_is status_page page e))
 page_is (Stage control) page e = inl (sym (some_is control_page page e))

@@ -1,8 +1,10 @@
 -- What a reply says of a task: that it is met, that it isn't yet, or a fault. (docs/bus.md, "Procedures"; OIF-CMIS-05.0,
 -- module state of the lower memory; data path states, configuration statuses and the Active Control Set of page 11h)
-use Rattle.std.specs.Prelude.{◌≡◌, ℕ, ◌-◌, ◌/◌, ◌%◌, ◌==◌, ◌&&◌, ◌||◌, nat_le, not, Bool, true, false, List, Option, Some, None, find, slice_index, is_none}
+use Rattle.std.specs.Prelude.{◌≡◌, ℕ, ◌-◌, ◌==◌, ◌&&◌, ◌||◌, nat_le, not, Bool, true, false, List, Option, Some, None, find, slice_index, is_none}
 use Rattle.std.specs.List.{list_all, range_with_len}
 use Rattle.std.specs.FinSet as set
+use Rattle.field_tables.specs.declared.field.Field.TheVariants.{CModuleState}
+use Rattle.field_tables.specs.FieldValues.{number_in_byte}
 use Rattle.field_tables.specs.LaneSets.{Lanes, every_lane}
 use Rattle.module_states.specs.declared.state.ModuleState.{ModuleState as State}
 use Rattle.module_states.specs.declared.state.ModuleState.TheVariants.{Ready}
@@ -73,7 +75,7 @@ met_in code None = Fails (Reserved code)
 met_in code (Some Ready) = Met
 met_in code (Some state) = Fails (ModuleState code)
 
--- by the code of a module state, bits 3-1 of its byte
+-- by the code of a module state
 abbrev pub judged_module : ℕ → Judgement
 judged_module code = met_in code (module_state_at code)
 
@@ -91,7 +93,7 @@ judged_statuses lanes codes =
 
 -- what the bytes that were read say of the task; a store has none
 unfoldable pub judged : Task → List ℕ → Judgement
-judged FindReady bytes = judged_module (slice_index bytes 0 / 2 % 8)
+judged FindReady bytes = judged_module (number_in_byte CModuleState (slice_index bytes 0))
 judged (Deinitialize bits) bytes = NotYet
 judged (AwaitDeactivated lanes) bytes = judged_states lanes lanes Deactivated (codes_in bytes 8)
 judged (Stage control) bytes = NotYet

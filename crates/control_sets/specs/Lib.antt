@@ -4,6 +4,7 @@ pub mod PlanPaths
 pub mod LanesOfPaths
 pub mod PlanLanes
 pub mod Pages
+pub mod RegisterOperations
 pub mod Tasks
 pub mod Judgements
 pub mod Procedures

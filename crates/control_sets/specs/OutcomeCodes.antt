@@ -1,7 +1,9 @@
 -- What lanes tell: their bytes and codes, and the lowest lane of which something holds. (docs/bus.md, "Outcomes";
 -- OIF-CMIS-05.0: Module State, Data Path States, Configuration Command Status)
-use Rattle.std.specs.Prelude.{◌≡◌, ◌≢◌, ◌⊎◌, ◌-◌, ◌/◌, ◌%◌, ◌<◌, ◌≤◌, ℕ, List, Some, None, true, slice_index}
+use Rattle.std.specs.Prelude.{◌≡◌, ◌≢◌, ◌⊎◌, ◌-◌, ◌<◌, ◌≤◌, ℕ, List, Some, None, true, slice_index}
 use Rattle.std.specs.FinSet as set
+use Rattle.field_tables.specs.declared.field.Field.TheVariants.{CModuleState}
+use Rattle.field_tables.specs.FieldValues.{number_in_byte}
 use Rattle.field_tables.specs.LaneSets.{Lanes}
 use Rattle.module_states.specs.declared.state.ModuleState.{ModuleState}
 use Rattle.module_states.specs.declared.state.ModuleState.TheVariants.{Ready}
@@ -29,9 +31,9 @@ pub record IsLowest (P : ℕ → Type 0) (lane : ℕ) : Type 0 where
 abbrev pub DiffersAt : List ℕ → ℕ → List ℕ → Type 0
 DiffersAt control lane bytes = IsLowest (λ lane. byte_at bytes lane ≢ byte_at control lane) lane
 
--- the code of the module state, bits 3 to 1 of the byte that was read
+-- the code of the module state, in the byte that was read
 abbrev pub module_code : List ℕ → ℕ
-module_code bytes = slice_index bytes 0 / 2 % 8
+module_code bytes = number_in_byte CModuleState (slice_index bytes 0)
 
 abbrev pub IsReady : List ℕ → Type 0
 IsReady bytes = module_state_at (module_code bytes) ≡ Some Ready

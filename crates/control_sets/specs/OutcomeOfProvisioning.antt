@@ -7,6 +7,8 @@ use Rattle.bus_model.specs.declared.operation.Reply.{Reply}
 use Rattle.bus_model.specs.declared.operation.Reply.TheVariants.{Bytes, Done, Refused}
 use Rattle.bus_model.specs.declared.operation.Step.{Step}
 use Rattle.control_sets.specs.declared.fault.ProvisionFault.TheVariants.{Rejected, StagedDiffers, ActiveDiffers, GaveUp, Bus, ModuleState, Reserved}
+use Rattle.field_tables.specs.declared.field.Register.TheVariants.{CPageMapping}
+use Rattle.field_tables.specs.Registers.{first_byte}
 use Rattle.field_tables.specs.LaneSets.{Lanes, byte_of}
 use Rattle.datapath_states.specs.declared.state.PathState.TheVariants.{Deactivated}
 use Rattle.datapath_states.specs.declared.status.ConfigStatus.TheVariants.{Success}
@@ -44,7 +46,7 @@ IsStore (Fetch dev offset count) = ⊥
 
 -- the store, where it is no selection and was accepted
 abbrev pub accepted_store : Op → Reply → List Op
-accepted_store (Store dev offset bytes) Done = if offset == 126 then [] else Store dev offset bytes ∷ []
+accepted_store (Store dev offset bytes) Done = if offset == first_byte CPageMapping then [] else Store dev offset bytes ∷ []
 accepted_store (Store dev offset bytes) (Bytes read) = []
 accepted_store (Store dev offset bytes) Refused = []
 accepted_store (Fetch dev offset count) reply = []

@@ -1,55 +1,59 @@
 -- The operations of provisioning and activation, and when the steps before a step confirm a page. (docs/bus.md, "Outcomes";
 -- OIF-CMIS-05.0: Bank and Page Select of the lower memory, Staged Control Set 0 on page 10h, the lane statuses on page 11h)
-use Rattle.std.specs.Prelude.{◌≡◌, ◌⊎◌, ◌++◌, ◌+◌, ◌<◌, ℕ, List, [], ◌∷◌, length}
+use Rattle.std.specs.Prelude.{◌≡◌, ◌⊎◌, ◌++◌, ◌+◌, ◌<◌, ℕ, List, [], ◌∷◌, length, Option, Some, None}
 use Rattle.std.specs.List.{AllByRecursion}
 use Rattle.bus_model.specs.declared.device.Dev.TheVariants.{A0, A2}
 use Rattle.bus_model.specs.declared.operation.Op.{Op}
 use Rattle.bus_model.specs.declared.operation.Op.TheVariants.{Fetch, Store}
 use Rattle.bus_model.specs.declared.operation.Reply.TheVariants.{Bytes}
 use Rattle.bus_model.specs.declared.operation.Step.{Step}
+use Rattle.field_tables.specs.declared.field.Register.{Register}
+use Rattle.field_tables.specs.declared.field.Register.TheVariants.{CActiveControl, CApplyDPInit, CConfigStatus, CDPDeinit, CGlobalStatus, CPageMapping, CPathStates, CStagedControl}
+use Rattle.field_tables.specs.Registers.{byte_count, first_byte, page_of, span_of}
+use Rattle.control_sets.specs.RegisterOperations.{IsWholly, read_of, store_to}
 use Rattle.control_sets.specs.Pages.{EachStep, History, read_selection, selection}
-use Rattle.control_sets.specs.OutcomeSteps.{IsRefused, Newest, fetch, store}
+use Rattle.control_sets.specs.OutcomeSteps.{IsRefused, Newest}
 
--- global status, byte 3: the module state
+-- the byte of lower memory with the module state
 abbrev pub read_module_state : Op
-read_module_state = fetch 3 1
+read_module_state = read_of CGlobalStatus
 
 -- page 10h, DPDeinit: a bit for each lane, lane 1 the lowest
 abbrev pub set_deinit : ℕ → Op
-set_deinit lanes = store 128 (lanes ∷ [])
+set_deinit lanes = store_to CDPDeinit (lanes ∷ [])
 
 -- page 10h, ApplyDPInit of Staged Control Set 0
 abbrev pub apply : ℕ → Op
-apply lanes = store 143 (lanes ∷ [])
+apply lanes = store_to CApplyDPInit (lanes ∷ [])
 
 -- page 10h, DPConfigLane1 to 8 of Staged Control Set 0
 abbrev pub stage : List ℕ → Op
-stage control = store 145 control
+stage control = store_to CStagedControl control
 
 abbrev pub read_staged : Op
-read_staged = fetch 145 8
+read_staged = read_of CStagedControl
 
 -- page 11h, DPStateHostLane1 to 8, four bits each
 abbrev pub read_path_states : Op
-read_path_states = fetch 128 4
+read_path_states = read_of CPathStates
 
 -- page 11h, ConfigStatusLane1 to 8, four bits each
 abbrev pub read_statuses : Op
-read_statuses = fetch 202 4
+read_statuses = read_of CConfigStatus
 
 -- page 11h, DPConfigLane1 to 8 of the Active Control Set
 abbrev pub read_active : Op
-read_active = fetch 206 8
+read_active = read_of CActiveControl
 
 abbrev pub control_page : ℕ
-control_page = 0x10
+control_page = (span_of CStagedControl).page
 
 abbrev pub status_page : ℕ
-status_page = 0x11
+status_page = (span_of CActiveControl).page
 
--- a store on byte 126 or 127, whatever became of it
+-- a store on bank or page select, whatever became of it
 abbrev pub CoversSelection : Op → Type 0
-CoversSelection (Store A0 offset bytes) = (offset < 128) × (126 < offset + length bytes.items)
+CoversSelection (Store A0 offset bytes) = (offset < first_byte CPageMapping + byte_count CPageMapping) × (first_byte CPageMapping < offset + length bytes.items)
 CoversSelection (Store A2 offset bytes) = ⊥
 CoversSelection (Fetch dev offset count) = ⊥
 
@@ -78,3 +82,14 @@ pub record ReadsSelectionsBack (history : History) : Type 0 where
   pub at_once : EachStep (λ step before. Newest AwaitsReadBack before → step.op ≡ read_selection) history
   -- else the selection isn't read
   pub only : EachStep (λ step before. step.op ≡ read_selection → Newest AwaitsReadBack before) history
+
+-- the page, where one is needed, is confirmed
+abbrev pub IsConfirmed : Option ℕ → History → Type 0
+IsConfirmed None before = Unit {0}
+IsConfirmed (Some page) before = Confirms page before
+
+-- the step reads or stores all bytes of a register, whose page is confirmed
+pub record IsAtRegister (step : Step) (before : History) : Type 0 where
+  pub register : Register
+  pub wholly : IsWholly register step.op
+  pub shown : IsConfirmed (page_of register) before

@@ -1,9 +1,7 @@
 -- Words for the steps that a call makes on a module's bus: what one step did, and what stands before it. (docs/bus.md,
 -- "Outcomes"; this project's own)
 use Rattle.std.specs.Prelude.{◌≡◌, ◌⊎◌, ℕ, List, [], ◌∷◌}
-use Rattle.bus_model.specs.declared.device.Dev.TheVariants.{A0}
 use Rattle.bus_model.specs.declared.operation.Op.{Op}
-use Rattle.bus_model.specs.declared.operation.Op.TheVariants.{Fetch, Store}
 use Rattle.bus_model.specs.declared.operation.Reply.TheVariants.{Bytes, Done, Refused}
 use Rattle.bus_model.specs.declared.operation.Step.{Step}
 use Rattle.control_sets.specs.Pages.{EachStep, History}
@@ -22,13 +20,6 @@ Newest P (step ∷ before) = P step
 abbrev pub IsAmong : List Op → Op → Type 0
 IsAmong [] op = ⊥
 IsAmong (other ∷ others) op = (op ≡ other) ⊎ IsAmong others op
-
--- both are on device A0
-abbrev pub fetch : ℕ → ℕ → Op
-fetch offset count = Fetch A0 offset count
-
-abbrev pub store : ℕ → List ℕ → Op
-store offset bytes = Store A0 offset (record { items = bytes })
 
 -- the fetch read these bytes
 abbrev pub Gives : Op → List ℕ → Step → Type 0

@@ -14,9 +14,9 @@ ghost use Rattle.bus_model.specs.declared.operation.Step.{Step};
 ghost use Rattle.field_tables.specs.LaneSets.{byte_of, every_lane, Lanes, run_of};
 ghost use Rattle.control_sets.specs.declared.fault.ProvisionFault.TheVariants.{ActiveDiffers, Bus, GaveUp, ModuleState, Reserved, StagedDiffers};
 ghost use Rattle.bus_model.specs.SameOperation.{same_op};
-ghost use Rattle.control_sets.specs.Pages.{read_selection, selection, History};
+ghost use Rattle.control_sets.specs.Pages.{EachStep, read_selection, selection, History};
 ghost use Rattle.control_sets.specs.OutcomeSteps.{Gives, IsAccepted, IsAnswered, Stands};
-ghost use Rattle.control_sets.specs.OutcomeOperations.{apply, control_page, read_active, read_module_state, read_path_states, read_staged, read_statuses, stage, status_page};
+ghost use Rattle.control_sets.specs.OutcomeOperations.{IsAtRegister, apply, control_page, read_active, read_module_state, read_path_states, read_staged, read_statuses, stage, status_page};
 ghost use Rattle.control_sets.specs.OutcomeExamples.{activated, almost_pairs, gave, low_power, on_controls, on_status_at_once, other_bank, pairs, provisioned, provisioned_beside_reserved_codes, ready, refused, refused_reads, refused_selection, repeated_selection, took};
 ghost use Rattle.control_sets.specs.Tasks.{activation, provisioning};
 ghost use Rattle.control_sets.specs.Procedures.{HasEnded};
@@ -60,6 +60,15 @@ pub fn bits_are_those_of_the_lanes()
         IsProvisioning control lanes (made ≡ room) history answer → AllByRecursion (HasBitsOf lanes) history }
     ensures others { (control : List ℕ) (lanes : Lanes) (made room : ℕ) (history : History) (answer : Answer) →
         IsProvisioning control lanes (made ≡ room) history answer → AllByRecursion (LeavesOthers lanes) history }
+{}
+
+/// Each operation of provisioning and of activation, whatever it answers, reads all bytes of a register of the memory map or stores
+/// all of them, and the page of the register is confirmed before it.
+pub fn operations_are_at_registers()
+    ensures provisioning { (control : List ℕ) (lanes : Lanes) (made room : ℕ) (history : History) (answer : Answer) →
+        length control ≡ 8 → IsProvisioning control lanes (made ≡ room) history answer → EachStep IsAtRegister history }
+    ensures activation { (control : List ℕ) (lanes : Lanes) (made room : ℕ) (history : History) (answer : Answer) →
+        IsActivation control lanes (made ≡ room) history answer → EachStep IsAtRegister history }
 {}
 
 /// Procedures that were told their replies, without a bus, have the outcomes of provisioning and activation.

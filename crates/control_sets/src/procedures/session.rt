@@ -4,10 +4,12 @@ ghost use Rattle.bus_model.specs.Operations.{Answers, IsWellShaped};
 use crate::fault::ProvisionFault;
 use crate::procedures::judgement::Judgement;
 use crate::procedures::next::Next;
-use crate::procedures::registers::MAX_STEPS;
 use crate::procedures::task::Task;
 use bus_model::{Op, Reply};
 use paged_memory::{Paging, Selected};
+
+/// How many steps a procedure makes at most.
+pub const MAX_STEPS: u16 = 4096;
 
 /// What a procedure keeps of the steps that it was told.
 #[derive(Clone, Copy, Debug, PartialEq, Eq)]

@@ -1,13 +1,11 @@
 ghost use Rattle.std.specs.Prelude.{◌≡◌, ◌∷◌, []};
 ghost use Rattle.bus_model.specs.Operations.{IsWellShaped};
+ghost use Rattle.field_tables.specs.Registers as registers;
+ghost use Rattle.control_sets.specs.RegisterOperations as operations;
 
-use crate::procedures::registers::{
-    ACTIVE_CONTROL, APPLY, CONFIG_STATUSES, CONTROL_PAGE, DEINIT, MODULE_STATE, PATH_STATES,
-    STAGED_CONTROL, STATUS_PAGE,
-};
 use arrayvec::ArrayVec;
-use bus_model::{Dev, Op};
-use field_tables::LaneSet;
+use bus_model::{MAX_STORE, Op};
+use field_tables::{LaneSet, Register, register};
 
 /// One thing that a procedure brings about, by one operation that is made until its reply is as wanted. In a byte of bits
 /// bit i-1 is that of lane i.
@@ -42,18 +40,16 @@ impl Task {
         ensures shape { IsWellShaped (operation self.now) }
     {
         match self {
-            Task::FindReady => fetch(MODULE_STATE, 1),
-            Task::Deinitialize(bits) => store_byte(DEINIT, *bits),
-            Task::AwaitDeactivated(_) | Task::AwaitActivated(_) => fetch(PATH_STATES, 4),
-            Task::Stage(control) => Op::Store {
-                dev: Dev::A0,
-                offset: STAGED_CONTROL,
-                bytes: ArrayVec::from(*control),
+            Task::FindReady => read_of(Register::CGlobalStatus),
+            Task::Deinitialize(bits) => store_byte(Register::CDPDeinit, *bits),
+            Task::AwaitDeactivated(_) | Task::AwaitActivated(_) => {
+                read_of(Register::CPathStates)
             },
-            Task::CheckStaged(_) => fetch(STAGED_CONTROL, 8),
-            Task::Apply(bits) => store_byte(APPLY, *bits),
-            Task::AwaitApplied(_) => fetch(CONFIG_STATUSES, 4),
-            Task::CheckActive(_) => fetch(ACTIVE_CONTROL, 8),
+            Task::Stage(control) => { store_to(Register::CStagedControl, ArrayVec::from(*control)) }
+            Task::CheckStaged(_) => read_of(Register::CStagedControl),
+            Task::Apply(bits) => store_byte(Register::CApplyDPInit, *bits),
+            Task::AwaitApplied(_) => read_of(Register::CConfigStatus),
+            Task::CheckActive(_) => read_of(Register::CActiveControl),
         }
     }
 
@@ -61,38 +57,51 @@ impl Task {
     pub fn page(&self) -> Option<u8>
         ensures { result ≡ page_of self.now }
     {
+        register(self.register()).page()
+    }
+
+    fn register(&self) -> Register
+        ensures { registers.page_of result ≡ page_of self.now }
+    {
         match self {
-            Task::FindReady => None,
-            Task::Deinitialize(_) | Task::Stage(_) | Task::CheckStaged(_) | Task::Apply(_) => {
-                Some(CONTROL_PAGE)
-            }
-            Task::AwaitDeactivated(_)
-            | Task::AwaitApplied(_)
-            | Task::CheckActive(_)
-            | Task::AwaitActivated(_) => Some(STATUS_PAGE),
+            Task::FindReady => Register::CGlobalStatus,
+            Task::Deinitialize(_) => Register::CDPDeinit,
+            Task::Stage(_) | Task::CheckStaged(_) => Register::CStagedControl,
+            Task::Apply(_) => Register::CApplyDPInit,
+            Task::AwaitDeactivated(_) | Task::AwaitActivated(_) => Register::CPathStates,
+            Task::AwaitApplied(_) => Register::CConfigStatus,
+            Task::CheckActive(_) => Register::CActiveControl,
         }
     }
 }
 
-/// Asks device A0 for so many bytes.
-pub fn fetch(offset: u8, count: u8) -> Op
-    ensures { result ≡ Op.Fetch Dev.A0 offset count }
+// Asks for all bytes of a register.
+fn read_of(of: Register) -> Op
+    ensures { result ≡ operations.read_of of }
 {
+    let span = register(of);
     Op::Fetch {
-        dev: Dev::A0,
-        offset,
-        count,
+        dev: span.dev,
+        offset: span.first,
+        count: span.count(),
     }
 }
 
-fn store_byte(offset: u8, byte: u8) -> Op
-    ensures { result ≡ Op.Store Dev.A0 offset (record { items = byte ∷ [] }) }
+fn store_to(to: Register, bytes: ArrayVec<u8, MAX_STORE>) -> Op
+    ensures { result ≡ operations.store_to to bytes.items }
+{
+    let span = register(to);
+    Op::Store {
+        dev: span.dev,
+        offset: span.first,
+        bytes,
+    }
+}
+
+fn store_byte(to: Register, byte: u8) -> Op
+    ensures { result ≡ operations.store_to to (byte ∷ []) }
 {
     let mut bytes = ArrayVec::new();
     bytes.push(byte);
-    Op::Store {
-        dev: Dev::A0,
-        offset,
-        bytes,
-    }
+    store_to(to, bytes)
 }

@@ -1,0 +1,54 @@
+-- Each operation of provisioning and of activation is at a register of the memory map.
+use Rattle.std.proofs.Common.{◌≡◌, inl, inr, ℕ, ◌-◌, List, [], ◌∷◌, length, refl}
+use Rattle.bus_model.specs.declared.operation.Step.{Step}
+use Rattle.field_tables.specs.LaneSets.{Lanes, byte_of}
+use Rattle.field_tables.specs.declared.field.Register.{Register}
+use Rattle.field_tables.specs.declared.field.Register.TheVariants.{CActiveControl, CApplyDPInit, CConfigStatus, CDPDeinit, CGlobalStatus, CPageMapping, CPathStates, CStagedControl}
+use Rattle.field_tables.specs.Registers.{byte_count, page_of}
+use Rattle.control_sets.specs.RegisterOperations.{read_of, store_to}
+use Rattle.control_sets.specs.OutcomeOperations.{IsAtRegister, IsConfirmed, control_page, status_page}
+use Rattle.control_sets.specs.OutcomeOfProvisioning.{IsProvisioningStep}
+use Rattle.control_sets.specs.OutcomeOfActivation.{IsActivationStep}
+use Rattle.control_sets.specs.Pages.{EachStep, History}
+use Rattle.control_sets.proofs.OutcomeWords.{each_from}
+
+reads : (step : Step) (before : History) (register : Register) → step.op ≡ read_of register → IsConfirmed (page_of register) before → IsAtRegister step before
+reads step before register is shown = record { register = register; wholly = inl is; shown = shown }
+
+stores : (step : Step) (before : History) (register : Register) (bytes : List ℕ) → step.op ≡ store_to register bytes →
+    length bytes ≡ byte_count register → IsConfirmed (page_of register) before → IsAtRegister step before
+stores step before register bytes is long shown = record { register = register; wholly = inr (bytes, long, is); shown = shown }
+
+provisioning_step : (control : List ℕ) (lanes : Lanes) → length control ≡ 8 → (step : Step) (before : History) → IsProvisioningStep control lanes step before → IsAtRegister step before
+provisioning_step control lanes eight step before (inl (inl is)) = reads step before CGlobalStatus is tt
+provisioning_step control lanes eight step before (inl (inr (inl is))) = reads step before CPageMapping is tt
+provisioning_step control lanes eight step before (inl (inr (inr (inl is)))) = stores step before CPageMapping (0 ∷ control_page ∷ []) is refl tt
+provisioning_step control lanes eight step before (inl (inr (inr (inr (inl is))))) = stores step before CPageMapping (0 ∷ status_page ∷ []) is refl tt
+provisioning_step control lanes eight step before (inl (inr (inr (inr (inr none))))) = absurd none
+provisioning_step control lanes eight step before (inr (inl (inl is, shown))) = reads step before CPathStates is shown
+provisioning_step control lanes eight step before (inr (inl (inr (inl is), shown))) = reads step before CConfigStatus is shown
+provisioning_step control lanes eight step before (inr (inl (inr (inr (inl is)), shown))) = reads step before CActiveControl is shown
+provisioning_step control lanes eight step before (inr (inl (inr (inr (inr none)), shown))) = absurd none
+provisioning_step control lanes eight step before (inr (inr (inl is, shown))) = stores step before CDPDeinit (byte_of lanes ∷ []) is refl shown
+provisioning_step control lanes eight step before (inr (inr (inr (inl is), shown))) = stores step before CStagedControl control is eight shown
+provisioning_step control lanes eight step before (inr (inr (inr (inr (inl is)), shown))) = reads step before CStagedControl is shown
+provisioning_step control lanes eight step before (inr (inr (inr (inr (inr (inl is))), shown))) = stores step before CApplyDPInit (byte_of lanes ∷ []) is refl shown
+provisioning_step control lanes eight step before (inr (inr (inr (inr (inr (inr none))), shown))) = absurd none
+
+pub provisioning_at_registers : (control : List ℕ) (lanes : Lanes) (history : History) → length control ≡ 8 → EachStep (IsProvisioningStep control lanes) history → EachStep IsAtRegister history
+provisioning_at_registers control lanes history eight shape = each_from (IsProvisioningStep control lanes) IsAtRegister history (provisioning_step control lanes eight) shape
+
+activation_step : (lanes : Lanes) (step : Step) (before : History) → IsActivationStep lanes step before → IsAtRegister step before
+activation_step lanes step before (inl (inl is)) = reads step before CGlobalStatus is tt
+activation_step lanes step before (inl (inr (inl is))) = reads step before CPageMapping is tt
+activation_step lanes step before (inl (inr (inr (inl is)))) = stores step before CPageMapping (0 ∷ control_page ∷ []) is refl tt
+activation_step lanes step before (inl (inr (inr (inr (inl is))))) = stores step before CPageMapping (0 ∷ status_page ∷ []) is refl tt
+activation_step lanes step before (inl (inr (inr (inr (inr none))))) = absurd none
+activation_step lanes step before (inr (inl (inl is, shown))) = reads step before CActiveControl is shown
+activation_step lanes step before (inr (inl (inr (inl is), shown))) = reads step before CPathStates is shown
+activation_step lanes step before (inr (inl (inr (inr none), shown))) = absurd none
+activation_step lanes step before (inr (inr (inl is, shown))) = stores step before CDPDeinit ((255 - byte_of lanes) ∷ []) is refl shown
+activation_step lanes step before (inr (inr (inr none, shown))) = absurd none
+
+pub activation_at_registers : (lanes : Lanes) (history : History) → EachStep (IsActivationStep lanes) history → EachStep IsAtRegister history
+activation_at_registers lanes history shape = each_from (IsActivationStep lanes) IsAtRegister history (activation_step lanes) shape
