@@ -22,7 +22,7 @@ use Rattle.field_tables.specs.LaneSets.{Lanes, byte_of}
 use Rattle.control_sets.specs.OutcomeCodes.{IsOf}
 use Rattle.control_sets.specs.OutcomeOfProvisioning.{IsProvisioningStep}
 use Rattle.control_sets.specs.OutcomeOperations.{Confirms, CoversSelection, apply, set_deinit}
-use Rattle.control_sets.specs.OutcomeSteps.{IsAccepted, Stands, store}
+use Rattle.control_sets.specs.OutcomeSteps.{IsAccepted, Stands}
 use Rattle.control_sets.specs.Pages.{EachStep}
 use Rattle.bus_model.proofs.Histories.{AnyPin, MayEach, after, after_append, after_reverse, found_keeps, may_each, may_older, steps_keep}
 use Rattle.sim_module.proofs.SoundModule.{sound_always}
@@ -103,7 +103,7 @@ stores (Fetch dev offset count) = false
 stores (Store dev offset bytes) = true
 
 -- a byte of upper memory is stored on page 10h
-stored_on : (control : List ℕ) (lanes : Lanes) (offset byte : ℕ) (step : Step) (before : List Step) → 128 ≤ offset → step.op ≡ store offset (byte ∷ []) → IsProvisioningStep control lanes step before → Confirms 0x10 before
+stored_on : (control : List ℕ) (lanes : Lanes) (offset byte : ℕ) (step : Step) (before : List Step) → 128 ≤ offset → step.op ≡ Store A0 offset (record { items = byte ∷ [] }) → IsProvisioningStep control lanes step before → Confirms 0x10 before
 stored_on control lanes offset byte step before high is (inl (inl other)) = let far : offset ≡ 3 = ap offset_of (sym is ∙ other) in absurd (omega (arith, far, high))
 stored_on control lanes offset byte step before high is (inl (inr (inl other))) = let far : offset ≡ 126 = ap offset_of (sym is ∙ other) in absurd (omega (arith, far, high))
 stored_on control lanes offset byte step before high is (inl (inr (inr (inl other)))) = let far : offset ≡ 126 = ap offset_of (sym is ∙ other) in absurd (omega (arith, far, high))
@@ -118,7 +118,7 @@ stored_on control lanes offset byte step before high is (inr (inr controls)) = c
 -- what an accepted store on page 10h begins, and time and provisioning keep, holds from then on
 module _ (control : List ℕ) (lanes : Lanes) (P : SimModule → Type 0) (time : IsKeptInTime conduct AnyPin P) (survives : SurvivesChanges P (byte_of lanes)) (offset byte : ℕ) (high : 128 ≤ offset)
     (begins : (sim : SimModule) → Shows 0x10 sim → (stored sim A0 offset (byte ∷ [])).0 ≡ true → P (stored sim A0 offset (byte ∷ [])).1) where
-  pub after_accepted : (state : State) (steps : List Step) → EachStep (IsProvisioningStep control lanes) steps → May state steps → Stands (IsAccepted (store offset (byte ∷ []))) steps →
+  pub after_accepted : (state : State) (steps : List Step) → EachStep (IsProvisioningStep control lanes) steps → May state steps → Stands (IsAccepted (Store A0 offset (record { items = byte ∷ [] }))) steps →
       P (left state steps).1
   after_accepted state [] shape may stands = absurd stands
   after_accepted state (step ∷ before) shape may (inl accepted) =

@@ -21,7 +21,7 @@ use Rattle.bus_model.specs.declared.operation.Op.{Op}
 use Rattle.bus_model.specs.declared.operation.Op.TheVariants.{Fetch, Store}
 use Rattle.bus_model.specs.Keeping.{IsKeptBy, IsKeptInTime}
 use Rattle.std.proofs.lemmas.Bool.{cases_lt}
-use Rattle.field_tables.specs.declared.field.Field.TheVariants.{CStagedAppSel}
+use Rattle.field_tables.specs.declared.field.Register.TheVariants.{CStagedControl}
 use Rattle.bus_model.proofs.Histories.{AnyPin}
 use Rattle.sim_module.proofs.RestingModule.{rest_lanes, rest_tick, take_fewer}
 use Rattle.sim_module.proofs.SoundModule.{either, fetched_keeps, kept_by_other, stored_keeps}
@@ -42,11 +42,11 @@ unfolding applied
 shows_high page sim address byte shows =
     let deinit = record sim { deinit = lanes_in byte } in
     let staged = staged_at sim (address - 145 + 1) byte in
-    let rest = if is_in CStagedAppSel 8 address then staged else sim in
+    let rest = if is_in CStagedControl address then staged else sim in
     either (Shows page) (address == 128) deinit (if address == 143 then applied sim (lanes_in byte) else rest) (record { bank = shows.bank; number = shows.number })
     (either (Shows page) (address == 143) (applied sim (lanes_in byte)) rest
     (either (Shows page) _ sim (applied_all sim (lanes_in byte)) shows (record { bank = shows.bank; number = shows.number }))
-    (either (Shows page) (is_in CStagedAppSel 8 address) staged sim (record { bank = shows.bank; number = shows.number }) shows))
+    (either (Shows page) (is_in CStagedControl address) staged sim (record { bank = shows.bank; number = shows.number }) shows))
 
 -- an address that neither BankSelect nor PageSelect has
 low_tests : (address : ℕ) → address < 126 → ((address == 126) ≡ false) × ((address == 127) ≡ false)

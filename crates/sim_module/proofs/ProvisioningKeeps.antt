@@ -10,7 +10,7 @@ use Rattle.bus_model.specs.declared.operation.Op.TheVariants.{Fetch, Store}
 use Rattle.bus_model.specs.declared.operation.Step.{Step}
 use Rattle.bus_model.specs.Keeping.{IsKeptBy}
 use Rattle.field_tables.specs.LaneSets.{Lanes, byte_of, lanes_in}
-use Rattle.field_tables.specs.declared.field.Field.TheVariants.{CStagedAppSel}
+use Rattle.field_tables.specs.declared.field.Register.TheVariants.{CStagedControl}
 use Rattle.paged_memory.specs.declared.selection.Selection.{Selection}
 use Rattle.plan_certificate.proofs.Lists.{all_of_append}
 use Rattle.control_sets.specs.OutcomeOfProvisioning.{IsProvisioningStep}
@@ -109,12 +109,12 @@ module _ (P : SimModule → Type 0) (bits : ℕ) (survives : SurvivesChanges P b
   staged_byte sim address byte high holds =
       let upper : 128 ≤ address = omega (arith, high) in
       let staged = staged_at sim (address - 145 + 1) byte in
-      let rest = if is_in CStagedAppSel 8 address then staged else sim in
+      let rest = if is_in CStagedControl address then staged else sim in
       let applies = if address == 143 then applied sim (lanes_in byte) else rest in
       let control : P (stored_high sim address byte) =
       subst (λ (t : Bool). P (if t then record sim { deinit = lanes_in byte } else applies)) (sym (not_128 address high))
       (subst (λ (t : Bool). P (if t then applied sim (lanes_in byte) else rest)) (sym (not_143 address high))
-      (either P (is_in CStagedAppSel 8 address) staged sim (survives.staged sim (address - 145 + 1) byte holds) holds)) in
+      (either P (is_in CStagedControl address) staged sim (survives.staged sim (address - 145 + 1) byte holds) holds)) in
       subst (λ (low : Bool). P (if low then stored_low sim address byte else if is_mapped sim 0x10 then stored_high sim address byte else sim)) (sym (high_test address upper))
       (either P (is_mapped sim 0x10) (stored_high sim address byte) sim control holds)
 

@@ -24,7 +24,7 @@ use Rattle.sim_module.specs.Modules.{conduct}
 use Rattle.sim_module.specs.Soundness.{IsAlwaysKept, IsSound, TellsProgress}
 use Rattle.sim_module.specs.Starts.{start, start_lane}
 use Rattle.paged_memory.specs.Images.{Memory}
-use Rattle.field_tables.specs.declared.field.Field.TheVariants.{CStagedAppSel}
+use Rattle.field_tables.specs.declared.field.Register.TheVariants.{CStagedControl}
 
 -- each of the lanes that are made one by one
 pub made_keeps : {X : Type 0} (P : X → Type 0) (f : ℕ → X) (d : X) → ((n : ℕ) → P (f n)) → P d → (ns : List ℕ) (k : ℕ) → P (get_or (map f ns) k d)
@@ -89,10 +89,10 @@ sound_high : (sim : SimModule) (address byte : ℕ) → IsSound sim → IsSound 
 sound_high sim address byte sound =
     let deinit = record sim { deinit = lanes_in byte } in
     let staged = staged_at sim (address - 145 + 1) byte in
-    let rest = if is_in CStagedAppSel 8 address then staged else sim in
+    let rest = if is_in CStagedControl address then staged else sim in
     either IsSound (address == 128) deinit (if address == 143 then applied sim (lanes_in byte) else rest) (record { eight = sound.eight; progress = sound.progress })
     (either IsSound (address == 143) (applied sim (lanes_in byte)) rest (sound_applied sim (lanes_in byte) sound)
-    (either IsSound (is_in CStagedAppSel 8 address) staged sim (sound_staged sim (address - 145 + 1) byte sound) sound))
+    (either IsSound (is_in CStagedControl address) staged sim (sound_staged sim (address - 145 + 1) byte sound) sound))
 
 pub sound_byte : (sim : SimModule) (address byte : ℕ) → IsSound sim → IsSound (stored_byte sim address byte)
 unfolding stored_byte

@@ -1,5 +1,5 @@
 -- Which modules a tick leaves as they are.
-use Rattle.std.proofs.Common.{◌≡◌, ℕ, ◌+◌, ◌-◌, ◌<◌, ◌&&◌, Bool, true, false, List, Option, Some, length, get_or, map, refl, ap, sym, ◌∙◌, ◌==◌, if◌then◌else◌, arith}
+use Rattle.std.proofs.Common.{◌≡◌, ℕ, ◌+◌, ◌-◌, ◌&&◌, Bool, true, false, Option, Some, get_or, map, refl, ap, sym, ◌∙◌, if◌then◌else◌, arith}
 use Rattle.std.specs.Option.{unwrap_or}
 use Rattle.std.specs.List.{list_all}
 use Rattle.std.proofs.lemmas.Bool.{eqb-true}
@@ -15,7 +15,7 @@ use Rattle.sim_module.specs.declared.module.SimModule.{SimModule}
 use Rattle.sim_module.specs.Lanes.{all_lanes, is_path_state, lane_at, no_lane}
 use Rattle.sim_module.specs.Record.{bare, module_of}
 use Rattle.sim_module.specs.Resting.{IsStill, RestsIf, all_stay, stays}
-use Rattle.sim_module.specs.Ticks.{applied_lane, is_last, is_module_state, module_delay, moved_lane, next_left, next_module_state, next_path_state, ticked, ticked_flags, ticked_lane}
+use Rattle.sim_module.specs.Ticks.{applied_lane, is_last, is_module_state, module_delay, moved_lane, next_left, next_module_state, next_path_state, ticked, ticked_lane}
 use Rattle.control_sets.proofs.EightLanes.{each_of_eight}
 use Rattle.sim_module.proofs.EachLane.{each_lane}
 use Rattle.sim_module.proofs.LanesInTime.{made_lane}

@@ -1,7 +1,7 @@
 -- No event changes the memory of a module, nor what that advertises.
 use Rattle.std.proofs.Common.{◌≡◌, ℕ, ◌+◌, ◌-◌, ◌==◌, Bool, List, [], ◌∷◌, refl, ◌∙◌, if◌then◌else◌, nat_lt}
 use Rattle.field_tables.specs.LaneSets.{Lanes, is_empty, lanes_in}
-use Rattle.field_tables.specs.declared.field.Field.TheVariants.{CStagedAppSel}
+use Rattle.field_tables.specs.declared.field.Register.TheVariants.{CStagedControl}
 use Rattle.sim_module.specs.declared.module.SimModule.{SimModule}
 use Rattle.sim_module.specs.Record.{fixed_of}
 use Rattle.sim_module.specs.Unchanging.{EventsLeaveFixed}
@@ -23,10 +23,10 @@ same_high : (sim : SimModule) (address byte : ℕ) → IsSame sim (stored_high s
 same_high sim address byte =
     let deinit = record sim { deinit = lanes_in byte } in
     let staged = staged_at sim (address - 145 + 1) byte in
-    let rest = if is_in CStagedAppSel 8 address then staged else sim in
+    let rest = if is_in CStagedControl address then staged else sim in
     either (IsSame sim) (address == 128) deinit (if address == 143 then applied sim (lanes_in byte) else rest) refl
     (either (IsSame sim) (address == 143) (applied sim (lanes_in byte)) rest (same_applied sim (lanes_in byte))
-    (either (IsSame sim) (is_in CStagedAppSel 8 address) staged sim refl refl))
+    (either (IsSame sim) (is_in CStagedControl address) staged sim refl refl))
 
 same_byte : (sim : SimModule) (address byte : ℕ) → IsSame sim (stored_byte sim address byte)
 unfolding stored_byte

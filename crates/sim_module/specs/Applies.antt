@@ -4,6 +4,7 @@ use Rattle.std.specs.Prelude.{ℕ, ◌-◌, ◌==◌, ◌&&◌, ◌||◌, Bool, 
 use Rattle.std.specs.List.{list_all}
 use Rattle.std.specs.Option.{option_map_or}
 use Rattle.std.specs.FinSet as set
+use Rattle.field_tables.specs.FieldValues.{is_set}
 use Rattle.field_tables.specs.FirstFault.{first_fault}
 use Rattle.field_tables.specs.LaneSets.{Lanes, is_empty, run_of}
 use Rattle.field_tables.specs.declared.field.Field.TheVariants.{CStagedExplicit}
@@ -15,7 +16,7 @@ use Rattle.datapath_states.specs.declared.status.ConfigStatus.TheVariants.{Rejec
 use Rattle.control_sets.specs.HostPaths.{agree, control_at, first_lane, is_used}
 use Rattle.sim_module.specs.declared.lane.Lane.{Lane}
 use Rattle.sim_module.specs.declared.module.SimModule.{SimModule}
-use Rattle.sim_module.specs.Registers.{is_from, is_set}
+use Rattle.sim_module.specs.Registers.{is_from}
 use Rattle.sim_module.specs.Lanes.{active_bytes, all_lanes, is_deactivated, lane_at, staged_bytes}
 
 abbrev pub is_numbered : ℕ → App → Bool

@@ -3,16 +3,16 @@
 use Rattle.std.specs.Prelude.{ℕ, ◌==◌, ◌&&◌, ◌||◌, Bool, not}
 use Rattle.std.specs.List.{list_any}
 use Rattle.std.specs.FinSet as set
+use Rattle.field_tables.specs.FieldValues.{is_set}
 use Rattle.field_tables.specs.declared.field.Field.TheVariants.{CLowPwrAllowHW, CLowPwrRequestSW}
 use Rattle.module_states.specs.Codes.{code_of}
 use Rattle.module_states.specs.LowPower.{is_low_power}
 use Rattle.module_states.specs.declared.state.ModuleState.TheVariants.{Ready}
 use Rattle.control_sets.specs.HostPaths.{agree, control_at, is_used}
 use Rattle.sim_module.specs.declared.module.SimModule.{SimModule}
-use Rattle.sim_module.specs.Registers.{is_set}
 use Rattle.sim_module.specs.Lanes.{active_bytes, all_lanes, is_in_progress, lane_at}
 
--- by byte 26 of lower memory and the pin
+-- by the byte of global controls and the pin
 abbrev pub asks_low_power : ℕ → Bool → Bool
 asks_low_power control pin = is_low_power (is_set CLowPwrAllowHW control) pin (is_set CLowPwrRequestSW control)
 

@@ -1,5 +1,5 @@
 -- A module in which nothing moves. (docs/module.md, "Ticks"; this project's own)
-use Rattle.std.specs.Prelude.{◌≡◌, ◌-◌, ◌==◌, ◌&&◌, ℕ, Bool, true, false, List, get_or, length, map}
+use Rattle.std.specs.Prelude.{◌≡◌, ◌-◌, ◌==◌, ◌&&◌, Bool, true, false, List, get_or, length, map}
 use Rattle.std.specs.List.{list_all}
 use Rattle.sim_module.specs.declared.lane.Lane.{Lane}
 use Rattle.sim_module.specs.declared.module.SimModule.{SimModule}

@@ -7,13 +7,16 @@ use Rattle.bus_model.specs.declared.device.Dev.{Dev}
 use Rattle.bus_model.specs.declared.device.Dev.TheVariants.{A0, A2}
 use Rattle.paged_memory.specs.Images.{place_in_half}
 use Rattle.field_tables.specs.LaneSets.{byte_of}
-use Rattle.field_tables.specs.declared.field.Field.TheVariants.{CModuleState, CModuleFlag, CSoftwareReset, CBankSelect, CPageSelect, CDPDeinit, CApplyDPInit, CStagedAppSel, CPathStates, CPathStateChanged, CConfigStatus, CActiveAppSel}
+use Rattle.field_tables.specs.declared.field.Field.TheVariants.{CBankSelect, CPageSelect}
+use Rattle.field_tables.specs.declared.field.Register.TheVariants.{CGlobalStatus, CModuleFlags, CGlobalControls, CDPDeinit, CApplyDPInit, CStagedControl, CPathStates, CLaneFlags, CConfigStatus, CActiveControl}
+use Rattle.field_tables.specs.Registers.{first_byte}
+use Rattle.control_sets.specs.OutcomeOperations.{control_page, status_page}
 use Rattle.module_states.specs.Codes as module_codes
 use Rattle.datapath_states.specs.StateCodes.{code_of}
 use Rattle.datapath_states.specs.StatusCodes.{status_code_of}
 use Rattle.sim_module.specs.declared.module.SimModule.{SimModule}
 use Rattle.sim_module.specs.Lanes.{lane_at}
-use Rattle.sim_module.specs.Registers.{address_of, is_at, is_from, is_in, lane_flag_bytes}
+use Rattle.sim_module.specs.Registers.{is_at, is_field_at, is_from, is_in, lane_flag_bytes}
 use Rattle.paged_memory.specs.Selections.{shown_key}
 
 -- a page of bank 0 is mapped
@@ -45,36 +48,36 @@ first_shown bytes byte = unwrap_or (option_map (λ shown. shown.1) (find (λ sho
 -- of lower memory, the bytes that aren't the image's (given its byte there)
 abbrev pub lower_bytes : SimModule → ℕ → ℕ → List (Bool × ℕ)
 lower_bytes sim byte address =
-    (is_at CModuleState address, state_byte sim byte)
-    ∷ (is_at CModuleFlag address, sim.module_flags)
-    ∷ (is_at CSoftwareReset address, control_byte sim)
-    ∷ (is_at CBankSelect address, sim.selection.bank)
-    ∷ (is_at CPageSelect address, sim.selection.page)
+    (is_at CGlobalStatus address, state_byte sim byte)
+    ∷ (is_at CModuleFlags address, sim.module_flags)
+    ∷ (is_at CGlobalControls address, control_byte sim)
+    ∷ (is_field_at CBankSelect address, sim.selection.bank)
+    ∷ (is_field_at CPageSelect address, sim.selection.page)
     ∷ []
 
--- of page 10h
+-- of the page of lane control
 abbrev pub configuration_bytes : SimModule → ℕ → List (Bool × ℕ)
 configuration_bytes sim address =
     (is_at CDPDeinit address, byte_of sim.deinit)
     ∷ (is_at CApplyDPInit address, 0)
-    ∷ (is_in CStagedAppSel 8 address, (lane_at sim (address - address_of CStagedAppSel + 1)).staged)
+    ∷ (is_in CStagedControl address, (lane_at sim (address - first_byte CStagedControl + 1)).staged)
     ∷ []
 
--- of page 11h
+-- of the page of lane status
 abbrev pub status_bytes : SimModule → ℕ → List (Bool × ℕ)
 status_bytes sim address =
-    (is_in CPathStates 4 address, pair_byte (path_code sim) (address - address_of CPathStates))
-    ∷ (is_in CPathStateChanged lane_flag_bytes address, slice_index sim.lane_flags (address - address_of CPathStateChanged))
-    ∷ (is_in CConfigStatus 4 address, pair_byte (status_code sim) (address - address_of CConfigStatus))
-    ∷ (is_in CActiveAppSel 8 address, (lane_at sim (address - address_of CActiveAppSel + 1)).active)
+    (is_in CPathStates address, pair_byte (path_code sim) (address - first_byte CPathStates))
+    ∷ (is_in CLaneFlags address, slice_index sim.lane_flags (address - first_byte CLaneFlags))
+    ∷ (is_in CConfigStatus address, pair_byte (status_code sim) (address - first_byte CConfigStatus))
+    ∷ (is_in CActiveControl address, (lane_at sim (address - first_byte CActiveControl + 1)).active)
     ∷ []
 
 -- the bytes that aren't the image's, of the half that an address is in
 abbrev pub own_bytes : SimModule → ℕ → ℕ → List (Bool × ℕ)
 own_bytes sim byte address =
     if nat_lt address 128 then lower_bytes sim byte address
-    else if is_mapped sim 0x10 then configuration_bytes sim address
-    else if is_mapped sim 0x11 then status_bytes sim address
+    else if is_mapped sim control_page then configuration_bytes sim address
+    else if is_mapped sim status_page then status_bytes sim address
     else []
 
 -- the byte at an address, where the half that shows it has these bytes in the image
@@ -87,9 +90,9 @@ shown_byte sim page address =
 abbrev pub left_flag : Bool → ℕ → ℕ
 left_flag is_read flag = if is_read then 0 else flag
 
--- of the flags of page 11h, by their places from the first one
+-- of the flags of the lanes, by their places from the first one
 abbrev pub left_lane_flag : SimModule → (ℕ → Bool) → ℕ → ℕ
-left_lane_flag sim is_read index = left_flag (is_mapped sim 0x11 && is_read (address_of CPathStateChanged + index)) (slice_index sim.lane_flags index)
+left_lane_flag sim is_read index = left_flag (is_mapped sim status_page && is_read (first_byte CLaneFlags + index)) (slice_index sim.lane_flags index)
 
 abbrev pub left_lane_flags : SimModule → (ℕ → Bool) → List ℕ
 left_lane_flags sim is_read = map (left_lane_flag sim is_read) (range_with_len 0 lane_flag_bytes)
@@ -97,7 +100,7 @@ left_lane_flags sim is_read = map (left_lane_flag sim is_read) (range_with_len 0
 -- after the bytes at some addresses were read
 unfoldable pub cleared : SimModule → (ℕ → Bool) → SimModule
 cleared sim is_read = record sim {
-  module_flags = left_flag (is_read (address_of CModuleFlag)) sim.module_flags;
+  module_flags = left_flag (is_read (first_byte CModuleFlags)) sim.module_flags;
   lane_flags = left_lane_flags sim is_read;
 }
 

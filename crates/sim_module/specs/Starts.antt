@@ -7,12 +7,13 @@ use Rattle.paged_memory.specs.declared.key.Key.{Key}
 use Rattle.paged_memory.specs.Images.{Memory, byte_at}
 use Rattle.paged_memory.specs.Keys.{lower_key, upper_key}
 use Rattle.paged_memory.specs.Selections.{first_page}
-use Rattle.field_tables.specs.FieldRows.{row_of}
 use Rattle.field_tables.specs.FirstFault.{first_fault}
 use Rattle.field_tables.specs.Halves.{is_absent}
 use Rattle.field_tables.specs.LaneSets.{lanes_in}
-use Rattle.field_tables.specs.declared.field.Field.{Field}
-use Rattle.field_tables.specs.declared.field.Field.TheVariants.{CModuleFlag, CSoftwareReset, CDPDeinit, CStagedAppSel, CPathStateChanged, CActiveAppSel}
+use Rattle.field_tables.specs.declared.field.Register.{Register}
+use Rattle.field_tables.specs.declared.field.Register.TheVariants.{CModuleFlags, CGlobalControls, CDPDeinit, CStagedControl, CLaneFlags, CActiveControl}
+use Rattle.field_tables.specs.Registers.{byte_count, first_byte, span_of}
+use Rattle.control_sets.specs.OutcomeOperations.{control_page, status_page}
 use Rattle.applications.specs.Advertised.{advertised_by}
 use Rattle.applications.specs.Refusals.{advert_fault}
 use Rattle.module_states.specs.declared.state.ModuleState.{ModuleState}
@@ -25,13 +26,13 @@ use Rattle.sim_module.specs.declared.fault.SimFault.{SimFault}
 use Rattle.sim_module.specs.declared.fault.SimFault.TheVariants.{Absent, Advert, BadDelay, ActiveNotPaths}
 use Rattle.sim_module.specs.declared.lane.Lane.{Lane}
 use Rattle.sim_module.specs.declared.module.SimModule.{SimModule}
-use Rattle.sim_module.specs.Registers.{address_of, lane_flag_bytes}
+use Rattle.sim_module.specs.Registers.{lane_flag_bytes}
 use Rattle.sim_module.specs.Lanes.{all_lanes}
 use Rattle.sim_module.specs.Down.{asks_low_power}
 
--- a byte of a field in the module's memory, by its place from the first one
-abbrev pub byte_of_field : Memory → Field → ℕ → ℕ
-byte_of_field memory field index = unwrap_or (byte_at memory A0 (row_of field).page (address_of field + index)) 0
+-- a byte of a register in the module's memory, by its place from the first one
+abbrev pub byte_of_register : Memory → Register → ℕ → ℕ
+byte_of_register memory register index = unwrap_or (byte_at memory A0 (span_of register).page (first_byte register + index)) 0
 
 -- a lane in no apply, its path deactivated
 abbrev pub start_lane : Memory → ℕ → Lane
@@ -39,12 +40,12 @@ start_lane memory lane = record {
   path = Deactivated;
   left = 0;
   status = Undefined;
-  staged = byte_of_field memory CStagedAppSel (lane - 1);
-  active = byte_of_field memory CActiveAppSel (lane - 1);
+  staged = byte_of_register memory CStagedControl (lane - 1);
+  active = byte_of_register memory CActiveControl (lane - 1);
   kept = None;
 }
 
--- in low power where byte 26 of lower memory asks for it without the pin
+-- in low power where the global controls ask for it without the pin
 abbrev pub start_state : ℕ → ModuleState
 start_state control = if asks_low_power control false then LowPwr else Ready
 
@@ -55,19 +56,19 @@ start memory delays = record {
   delays = delays;
   selection = first_page;
   pin = false;
-  control = byte_of_field memory CSoftwareReset 0;
-  state = start_state (byte_of_field memory CSoftwareReset 0);
+  control = byte_of_register memory CGlobalControls 0;
+  state = start_state (byte_of_register memory CGlobalControls 0);
   left = 0;
   lanes = map (start_lane memory) all_lanes;
-  deinit = lanes_in (byte_of_field memory CDPDeinit 0);
+  deinit = lanes_in (byte_of_register memory CDPDeinit 0);
   apply_left = 0;
-  module_flags = byte_of_field memory CModuleFlag 0;
-  lane_flags = map (byte_of_field memory CPathStateChanged) (range_with_len 0 lane_flag_bytes);
+  module_flags = byte_of_register memory CModuleFlags 0;
+  lane_flags = map (byte_of_register memory CLaneFlags) (range_with_len 0 lane_flag_bytes);
 }
 
 -- the halves that a module needs
 abbrev pub needed_halves : List Key
-needed_halves = lower_key A0 ∷ upper_key A0 0 0x00 ∷ upper_key A0 0 0x01 ∷ upper_key A0 0 0x10 ∷ upper_key A0 0 0x11 ∷ []
+needed_halves = lower_key A0 ∷ upper_key A0 0 0x00 ∷ upper_key A0 0 0x01 ∷ upper_key A0 0 control_page ∷ upper_key A0 0 status_page ∷ []
 
 -- the first of them that the memory lacks
 abbrev pub absent_half : Memory → Option Key
@@ -82,7 +83,7 @@ are_delays delays =
 
 -- the active bytes of the image, lane 1 first
 abbrev pub active_at_start : Memory → List ℕ
-active_at_start memory = map (byte_of_field memory CActiveAppSel) (range_with_len 0 8)
+active_at_start memory = map (byte_of_register memory CActiveControl) (range_with_len 0 (byte_count CActiveControl))
 
 abbrev pub delay_fault : Delays → Option SimFault
 delay_fault delays = first_fault ((not (are_delays delays), BadDelay) ∷ [])

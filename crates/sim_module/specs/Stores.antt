@@ -5,11 +5,13 @@ use Rattle.std.specs.FinMap as finmap
 use Rattle.bus_model.specs.declared.device.Dev.{Dev}
 use Rattle.bus_model.specs.declared.device.Dev.TheVariants.{A0, A2}
 use Rattle.field_tables.specs.LaneSets.{lanes_in}
-use Rattle.field_tables.specs.declared.field.Field.TheVariants.{CSoftwareReset, CDPDeinit, CApplyDPInit, CStagedAppSel}
+use Rattle.field_tables.specs.declared.field.Register.TheVariants.{CGlobalControls, CDPDeinit, CApplyDPInit, CStagedControl}
+use Rattle.field_tables.specs.Registers.{first_byte}
+use Rattle.control_sets.specs.OutcomeOperations.{control_page}
 use Rattle.sim_module.specs.declared.module.SimModule.{SimModule}
 use Rattle.paged_memory.specs.declared.selection.Selecting.TheVariants.{BankAndPage}
 use Rattle.sim_module.specs.Lanes.{lane_at}
-use Rattle.sim_module.specs.Registers.{address_of, is_at, is_in}
+use Rattle.sim_module.specs.Registers.{is_at, is_in}
 use Rattle.paged_memory.specs.Selections.{selected, shown_key}
 use Rattle.sim_module.specs.Applies.{applied}
 use Rattle.sim_module.specs.ShownBytes.{is_mapped}
@@ -21,22 +23,22 @@ staged_at sim lane byte = record sim { lanes = set sim.lanes (lane - 1) (record 
 abbrev pub stored_low : SimModule → ℕ → ℕ → SimModule
 stored_low sim address byte = record sim {
   selection = selected BankAndPage sim.image sim.selection address byte;
-  control = if is_at CSoftwareReset address then byte else sim.control;
+  control = if is_at CGlobalControls address then byte else sim.control;
 }
 
--- on page 10h
+-- on the page of lane control
 abbrev pub stored_high : SimModule → ℕ → ℕ → SimModule
 stored_high sim address byte =
     if is_at CDPDeinit address then record sim { deinit = lanes_in byte }
     else if is_at CApplyDPInit address then applied sim (lanes_in byte)
-    else if is_in CStagedAppSel 8 address then staged_at sim (address - address_of CStagedAppSel + 1) byte
+    else if is_in CStagedControl address then staged_at sim (address - first_byte CStagedControl + 1) byte
     else sim
 
 -- one byte
 unfoldable pub stored_byte : SimModule → ℕ → ℕ → SimModule
 stored_byte sim address byte =
     if nat_lt address 128 then stored_low sim address byte
-    else if is_mapped sim 0x10 then stored_high sim address byte
+    else if is_mapped sim control_page then stored_high sim address byte
     else sim
 
 -- one byte after the other, by rising address

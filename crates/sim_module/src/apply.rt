@@ -5,6 +5,7 @@ use crate::moving::Moving;
 use applications::{Advert, App, LaneSet};
 use control_sets::{agree, control_at};
 use datapath_states::ConfigStatus;
+use field_tables::{Field, is_set};
 
 impl Moving {
     ghost use Rattle.std.specs.Prelude.{◌≡◌, map};
@@ -58,7 +59,7 @@ impl Moving {
         requires { IsLane lane }
         ensures { result ≡ spec.is_explicit (bare self.now) lane }
     {
-        self.lane(lane).staged & 1 == 1
+        is_set(Field::CStagedExplicit, self.lane(lane).staged)
     }
 
     fn is_path_right(&self, fixed: &Fixed, lane: u8) -> bool

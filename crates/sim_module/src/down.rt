@@ -1,6 +1,7 @@
 //! Which lanes are to be deactivated, or kept so.
 use crate::moving::Moving;
 use control_sets::{agree, control_at};
+use field_tables::{Field, is_set};
 use module_states::{ModuleState, low_power};
 
 impl Moving {
@@ -67,11 +68,11 @@ impl Moving {
 ghost use Rattle.std.specs.Prelude.{◌≡◌};
 ghost use Rattle.sim_module.specs.Down as spec;
 
-/// Whether byte 26 of lower memory, with the pin, asks for low power.
+/// Whether the byte of global controls, with the pin, asks for low power.
 pub fn asks_low_power(control: u8, pin: bool) -> bool
     ensures { result ≡ spec.asks_low_power control pin }
 {
-    let allows_pin = (control >> 6) & 1 == 1;
-    let asks = (control >> 4) & 1 == 1;
+    let allows_pin = is_set(Field::CLowPwrAllowHW, control);
+    let asks = is_set(Field::CLowPwrRequestSW, control);
     low_power(allows_pin, pin, asks)
 }

@@ -1,10 +1,10 @@
 //! What a module shows, and what a fetch makes of it.
 use crate::fixed::Fixed;
 use crate::moving::{LANE_FLAGS, Moving};
-use crate::registers::{index_in, is_at, is_from};
+use crate::registers::{control_page, index_in, is_at, is_field_at, is_from, status_page};
 use arrayvec::ArrayVec;
 use bus_model::Dev;
-use field_tables::{Field, row};
+use field_tables::{Field, Register, register};
 use paged_memory::PAGE_LEN;
 
 impl Moving {
@@ -45,47 +45,47 @@ impl Moving {
     fn lower_byte(&self, byte: u8, address: u8) -> u8
         ensures { result ≡ spec.first_shown (spec.lower_bytes (bare self.now) byte address) byte }
     {
-        if is_at(Field::CModuleState, address) {
+        if is_at(Register::CGlobalStatus, address) {
             (byte & 0xF1) + 2 * self.state.code()
-        } else if is_at(Field::CModuleFlag, address) {
+        } else if is_at(Register::CModuleFlags, address) {
             self.module_flags
-        } else if is_at(Field::CSoftwareReset, address) {
+        } else if is_at(Register::CGlobalControls, address) {
             self.control & 0xF7
-        } else if is_at(Field::CBankSelect, address) {
+        } else if is_field_at(Field::CBankSelect, address) {
             self.selection.bank
-        } else if is_at(Field::CPageSelect, address) {
+        } else if is_field_at(Field::CPageSelect, address) {
             self.selection.page
         } else {
             byte
         }
     }
 
-    // A byte of page 10h, given the image's.
+    // A byte of the page of lane control, given the image's.
     fn configuration_byte(&self, byte: u8, address: u8) -> u8
         ensures { result ≡ spec.first_shown (spec.configuration_bytes (bare self.now) address) byte }
     {
-        if is_at(Field::CDPDeinit, address) {
+        if is_at(Register::CDPDeinit, address) {
             self.deinit.byte()
-        } else if is_at(Field::CApplyDPInit, address) {
+        } else if is_at(Register::CApplyDPInit, address) {
             0
-        } else if let Some(index) = index_in(Field::CStagedAppSel, 8, address) {
+        } else if let Some(index) = index_in(Register::CStagedControl, address) {
             self.lane(index + 1).staged
         } else {
             byte
         }
     }
 
-    // A byte of page 11h, given the image's.
+    // A byte of the page of lane status, given the image's.
     fn status_byte(&self, byte: u8, address: u8) -> u8
         ensures { result ≡ spec.first_shown (spec.status_bytes (bare self.now) address) byte }
     {
-        if let Some(index) = index_in(Field::CPathStates, 4, address) {
+        if let Some(index) = index_in(Register::CPathStates, address) {
             self.path_pair(index)
-        } else if let Some(index) = index_in(Field::CPathStateChanged, LANE_FLAGS as u8, address) {
+        } else if let Some(index) = index_in(Register::CLaneFlags, address) {
             self.lane_flags[usize::from(index)]
-        } else if let Some(index) = index_in(Field::CConfigStatus, 4, address) {
+        } else if let Some(index) = index_in(Register::CConfigStatus, address) {
             self.status_pair(index)
-        } else if let Some(index) = index_in(Field::CActiveAppSel, 8, address) {
+        } else if let Some(index) = index_in(Register::CActiveControl, address) {
             self.lane(index + 1).active
         } else {
             byte
@@ -100,9 +100,9 @@ impl Moving {
             return self.lower_byte(page[usize::from(address)], address);
         }
         let byte = page[usize::from(address) - 128];
-        if self.is_mapped(0x10) {
+        if self.is_mapped(control_page()) {
             self.configuration_byte(byte, address)
-        } else if self.is_mapped(0x11) {
+        } else if self.is_mapped(status_page()) {
             self.status_byte(byte, address)
         } else {
             byte
@@ -136,15 +136,15 @@ impl Moving {
         }
     }
 
-    // A latched flag of page 11h, by its place from the first one, after some addresses were read.
+    // A latched flag of the lanes, by its place from the first one, after some addresses were read.
     fn left_lane_flag(&self, first: u8, count: u8, index: u8) -> u8
         requires half { first + count ≤ 256 }
         requires index { index < LANE_FLAGS }
         ensures { result ≡ spec.left_lane_flag (bare self.now) (registers.is_from first count) index }
     {
         let flag = self.lane_flags[usize::from(index)];
-        let address = row(Field::CPathStateChanged).offset + index;
-        if self.is_mapped(0x11) && is_from(first, count, address) {
+        let address = register(Register::CLaneFlags).first + index;
+        if self.is_mapped(status_page()) && is_from(first, count, address) {
             0
         } else {
             flag
@@ -169,7 +169,7 @@ impl Moving {
         ensures { (fixed : Fixed) → module_of fixed self.new ≡ spec.cleared (module_of fixed self.old) (registers.is_from first count) }
     {
         self.lane_flags = self.left_lane_flags(first, count);
-        if is_from(first, count, row(Field::CModuleFlag).offset) {
+        if is_from(first, count, register(Register::CModuleFlags).first) {
             self.module_flags = 0;
         }
     }

@@ -7,7 +7,7 @@ use module_states::ModuleState;
 use paged_memory::Selection;
 use std::array;
 
-/// How many bytes of page 11h, from that of the changed path states on, have flags of the lanes.
+/// How many bytes have flags of the lanes, from that of the changed path states on.
 pub const LANE_FLAGS: usize = 19;
 
 /// What of a module changes; and its delays, by which it does.

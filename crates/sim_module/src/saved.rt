@@ -60,7 +60,7 @@ pub struct SavedModule {
     pub deinit: u8,
     /// The latched flags of the module.
     pub module_flags: u8,
-    /// The latched flags of the lanes: bytes 134 to 152 of page 11h.
+    /// The latched flags of the lanes, byte by byte.
     pub lane_flags: [u8; LANE_FLAGS],
     /// Lane 1 first.
     pub lanes: [SavedLane; 8],

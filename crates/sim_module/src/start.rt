@@ -6,11 +6,12 @@ use crate::fault::SimFault;
 use crate::fixed::Fixed;
 use crate::lane::Lane;
 use crate::moving::{LANE_FLAGS, Moving};
+use crate::registers::{control_page, status_page};
 use applications::{Advert, LaneSet};
 use bus_model::Dev;
 use control_sets::{ControlFault, paths_of};
 use datapath_states::{ConfigStatus, PathState};
-use field_tables::{Field, row};
+use field_tables::{Register, register};
 use module_states::ModuleState;
 use paged_memory::{Image, Key, Selection};
 use std::array;
@@ -46,7 +47,8 @@ ghost use Rattle.std.specs.List.{range_with_len};
 ghost use Rattle.applications.specs.Advertised.{advertised_by};
 ghost use Rattle.control_sets.specs.HostPaths.{IsLane};
 ghost use Rattle.sim_module.specs.Lanes.{all_lanes};
-ghost use Rattle.sim_module.specs.Registers.{address_of, lane_flag_bytes};
+ghost use Rattle.field_tables.specs.Registers.{first_byte};
+ghost use Rattle.sim_module.specs.Registers.{lane_flag_bytes};
 ghost use Rattle.sim_module.specs.Starts as spec;
 
 // The first half that an image lacks of those that a module needs.
@@ -57,35 +59,35 @@ fn absent_half(image: &Image) -> Option<Key>
         Key::lower(Dev::A0),
         Key::upper(Dev::A0, 0, 0x00),
         Key::upper(Dev::A0, 0, 0x01),
-        Key::upper(Dev::A0, 0, 0x10),
-        Key::upper(Dev::A0, 0, 0x11),
+        Key::upper(Dev::A0, 0, control_page()),
+        Key::upper(Dev::A0, 0, status_page()),
     ];
     needed.iter().copied().find(|key| !image.has(*key))
 }
 
-// A byte of a field in an image, by its place from the first one.
-fn byte_of_field(image: &Image, field: Field, index: u8) -> u8
-    requires { address_of field + index ≤ 255 }
-    ensures { result ≡ spec.byte_of_field image.now field index }
+// A byte of a register in an image, by its place from the first one.
+fn byte_of_register(image: &Image, of: Register, index: u8) -> u8
+    requires { first_byte of + index ≤ 255 }
+    ensures { result ≡ spec.byte_of_register image.now of index }
 {
-    let row = row(field);
+    let span = register(of);
     image
-        .byte(Dev::A0, row.page, row.offset + index)
+        .byte(Dev::A0, span.page, span.first + index)
         .unwrap_or(0)
 }
 
 fn active_at_start(image: &Image) -> [u8; 8]
     ensures { result ≡ spec.active_at_start image.now }
 {
-    array::from_fn(|index| byte_of_field(image, Field::CActiveAppSel, index as u8))
+    array::from_fn(|index| byte_of_register(image, Register::CActiveControl, index as u8))
 }
 
 fn lane_flags(image: &Image) -> [u8; LANE_FLAGS]
-    ensures { result ≡ map (spec.byte_of_field image.now Field.CPathStateChanged) (range_with_len 0 lane_flag_bytes) }
+    ensures { result ≡ map (spec.byte_of_register image.now Register.CLaneFlags) (range_with_len 0 lane_flag_bytes) }
 {
     let mut flags = [0; LANE_FLAGS];
     for (index, flag) in flags.iter_mut().enumerate() {
-        *flag = byte_of_field(image, Field::CPathStateChanged, index as u8);
+        *flag = byte_of_register(image, Register::CLaneFlags, index as u8);
     }
     flags
 }
@@ -98,8 +100,8 @@ fn start_lane(image: &Image, lane: u8) -> Lane
         path: PathState::Deactivated,
         left: 0,
         status: ConfigStatus::Undefined,
-        staged: byte_of_field(image, Field::CStagedAppSel, lane - 1),
-        active: byte_of_field(image, Field::CActiveAppSel, lane - 1),
+        staged: byte_of_register(image, Register::CStagedControl, lane - 1),
+        active: byte_of_register(image, Register::CActiveControl, lane - 1),
         kept: None,
     }
 }
@@ -129,7 +131,7 @@ fn start(image: &Image, advert: Advert, delays: Delays) -> SimModule
     requires { advert ≡ advertised_by image.now }
     ensures { result ≡ spec.start image.now delays }
 {
-    let control = byte_of_field(image, Field::CSoftwareReset, 0);
+    let control = byte_of_register(image, Register::CGlobalControls, 0);
     let moving = Moving {
         delays,
         selection: Selection::first_page(),
@@ -138,9 +140,9 @@ fn start(image: &Image, advert: Advert, delays: Delays) -> SimModule
         state: start_state(control),
         left: 0,
         lanes: start_lanes(image),
-        deinit: LaneSet::from(byte_of_field(image, Field::CDPDeinit, 0)),
+        deinit: LaneSet::from(byte_of_register(image, Register::CDPDeinit, 0)),
         apply_left: 0,
-        module_flags: byte_of_field(image, Field::CModuleFlag, 0),
+        module_flags: byte_of_register(image, Register::CModuleFlags, 0),
         lane_flags: lane_flags(image),
     };
     let fixed = Fixed {

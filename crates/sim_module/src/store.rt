@@ -1,9 +1,9 @@
 //! What a store makes of a module.
 use crate::fixed::Fixed;
 use crate::moving::Moving;
-use crate::registers::{index_in, is_at};
+use crate::registers::{control_page, index_in, is_at};
 use applications::LaneSet;
-use field_tables::Field;
+use field_tables::Register;
 use paged_memory::Selecting;
 
 impl Moving {
@@ -18,20 +18,20 @@ impl Moving {
         self.selection = self
             .selection
             .selected(Selecting::BankAndPage, &fixed.image, address, byte);
-        if is_at(Field::CSoftwareReset, address) {
+        if is_at(Register::CGlobalControls, address) {
             self.control = byte;
         }
     }
 
-    // On page 10h.
+    // On the page of lane control.
     fn store_high(&mut self, fixed: &Fixed, address: u8, byte: u8)
         ensures { module_of fixed.now self.new ≡ spec.stored_high (module_of fixed.now self.old) address byte }
     {
-        if is_at(Field::CDPDeinit, address) {
+        if is_at(Register::CDPDeinit, address) {
             self.deinit = LaneSet::from(byte);
-        } else if is_at(Field::CApplyDPInit, address) {
+        } else if is_at(Register::CApplyDPInit, address) {
             self.apply(fixed, LaneSet::from(byte));
-        } else if let Some(index) = index_in(Field::CStagedAppSel, 8, address) {
+        } else if let Some(index) = index_in(Register::CStagedControl, address) {
             self.lanes[usize::from(index)].staged = byte;
         }
     }
@@ -42,7 +42,7 @@ impl Moving {
     {
         if address < 128 {
             self.store_low(fixed, address, byte);
-        } else if self.is_mapped(0x10) {
+        } else if self.is_mapped(control_page()) {
             self.store_high(fixed, address, byte);
         }
     }
