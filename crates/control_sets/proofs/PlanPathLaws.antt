@@ -47,8 +47,8 @@ agrees advert paths path lane plan of within =
           elim (lane_cases advert paths lane plan) [
             | inl none ↦
                 let told : are_same (control_in path) (control_of 0) ≡ true = (λ i. are_same (sym first i) (sym (told_free advert paths lane within none) i)) ∙ same in
-                let parts = and_parts (nat_eq path.app (0 / 16)) (nat_eq (path.host - 1) (0 / 2 % 8)) told in
-                let code = eqb-true path.app (0 / 16) parts.0 in
+                let parts = and_parts (nat_eq path.app (0 / 16 % 16)) (nat_eq (path.host - 1) (0 / 2 % 8)) told in
+                let code = eqb-true path.app (0 / 16 % 16) parts.0 in
                 absurd (omega (arith, code, of.from_one))
             | inr (other, other_of, taken) ↦
                 let told : are_same (control_in path) (control_in other) ≡ true = (λ i. are_same (sym first i) (sym (told_of advert paths other lane plan other_of taken) i)) ∙ same in

@@ -39,7 +39,7 @@ path_of advert paths path plan (k, below, here) =
 
 read_back : (control : ControlByte) → control.app_sel_code < 16 → control.data_path_id < 8 → control_of (byte_saying control) ≡ control
 read_back control code lane =
-    let one : (16 * control.app_sel_code + 2 * control.data_path_id) / 16 ≡ control.app_sel_code = omega arith in
+    let one : (16 * control.app_sel_code + 2 * control.data_path_id) / 16 % 16 ≡ control.app_sel_code = omega arith in
     let other : (16 * control.app_sel_code + 2 * control.data_path_id) / 2 % 8 ≡ control.data_path_id = omega arith in
     (λ i. record { app_sel_code = one i; data_path_id = other i })
 

@@ -1,16 +1,25 @@
 -- The control byte of a host lane, and those of a plan. (docs/planning.md, "Control bytes"; OIF-CMIS-05.0, chapter 8
 -- "Module Management Memory Map", "Data Path Configuration", DPConfigLane of Staged Control Set 0)
-use Rattle.std.specs.Prelude.{ℕ, ◌+◌, ◌-◌, ◌*◌, ◌/◌, ◌%◌, List, Option, Some, None, find, map}
+use Rattle.std.specs.Prelude.{◌≡◌, ℕ, ◌+◌, ◌-◌, ◌*◌, List, Option, Some, None, find, map}
 use Rattle.std.specs.List.{range_with_len}
 use Rattle.std.specs.FinSet as set
+use Rattle.field_tables.specs.declared.field.Field.TheVariants.{CActiveAppSel, CActiveExplicit, CActivePathId, CStagedAppSel, CStagedExplicit, CStagedPathId}
+use Rattle.field_tables.specs.FieldValues.{number_in_byte}
 use Rattle.applications.specs.Advertised.{Advertised}
 use Rattle.plan_certificate.specs.declared.path.Path.{Path}
 use Rattle.plan_certificate.specs.Paths.{host_lanes}
 use Rattle.control_sets.specs.declared.control_byte.ControlByte.{ControlByte}
 
--- AppSelCode is bits 7-4 and DataPathID bits 3-1; ExplicitControl, bit 0, is not looked at
+-- AppSelCode and DataPathID, in a control set of either kind; ExplicitControl is not looked at
 abbrev pub control_of : ℕ → ControlByte
-control_of byte = record { app_sel_code = byte / 16; data_path_id = byte / 2 % 8 }
+control_of byte = record { app_sel_code = number_in_byte CStagedAppSel byte; data_path_id = number_in_byte CStagedPathId byte }
+
+-- the bits of a control byte of the Active Control Set are those of a staged one
+abbrev pub IsOfEitherSet : ℕ → Type 0
+IsOfEitherSet byte =
+    (number_in_byte CActiveAppSel byte ≡ (control_of byte).app_sel_code)
+    × (number_in_byte CActivePathId byte ≡ (control_of byte).data_path_id)
+    × (number_in_byte CActiveExplicit byte ≡ number_in_byte CStagedExplicit byte)
 
 -- the byte that says this, ExplicitControl 0
 abbrev pub byte_saying : ControlByte → ℕ

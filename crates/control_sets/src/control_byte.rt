@@ -1,3 +1,5 @@
+use field_tables::{Field, number_in_byte};
+
 /// What the control byte of a host lane says, but for ExplicitControl.
 #[derive(Clone, Copy, Debug, PartialEq, Eq)]
 pub struct ControlByte {
@@ -45,8 +47,8 @@ impl From<u8> for ControlByte {
 
     fn from(byte: u8) -> ControlByte {
         ControlByte {
-            app_sel_code: byte / 16,
-            data_path_id: byte / 2 % 8,
+            app_sel_code: number_in_byte(Field::CStagedAppSel, byte),
+            data_path_id: number_in_byte(Field::CStagedPathId, byte),
         }
     }
 }

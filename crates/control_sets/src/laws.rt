@@ -5,7 +5,7 @@ ghost use Rattle.std.specs.List.{AllByRecursion};
 ghost use Rattle.applications.specs.Advertised.{Advertised, InOrder};
 ghost use Rattle.plan_certificate.specs.declared.path.Path.{Path};
 ghost use Rattle.plan_certificate.specs.Plans.{IsAdmissible};
-ghost use Rattle.control_sets.specs.ControlBytes.{control_bytes};
+ghost use Rattle.control_sets.specs.ControlBytes.{IsOfEitherSet, control_bytes};
 ghost use Rattle.control_sets.specs.HostPaths.{IsLane, control_at, host_paths, is_used, wrong_lane};
 ghost use Rattle.control_sets.specs.LanesOfPaths.{IsOnLane, TakesWhatAgrees};
 ghost use Rattle.control_sets.specs.PlanPaths.{AreHostPathsOf};
@@ -27,6 +27,11 @@ ghost use Rattle.control_sets.specs.OutcomeCodes.{IsOf, IsReservedPathState};
 ghost use Rattle.datapath_states.specs.Lanes.{code_in};
 ghost use Rattle.control_sets.specs.OutcomeSuccess.{ReadsActive};
 ghost use Rattle.control_sets.specs.StoredBits.{HasBitsOf, LeavesOthers};
+
+/// A control byte says the same in Staged Control Set 0 and in the Active Control Set.
+pub fn both_sets_have_the_same_bits()
+    ensures { (byte : ℕ) → IsOfEitherSet byte }
+{}
 
 /// Of control bytes that are host paths, each path takes the lanes that agree with its first one, and each lane with an
 /// AppSelCode other than 0 is in one of them.
