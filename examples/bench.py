@@ -1,9 +1,21 @@
-"""A test bench in software: plugs a module, reads it over a bus that refuses, plans, provisions, activates, and adds a data path while
-others stay up. Run it as PYTHONPATH=python python3 examples/bench.py, after tools/build-shared-library."""
+"""A test bench in software: plugs a module, reads it over a bus that refuses, plans, provisions,
+activates, and adds a data path while others stay up. Run it as PYTHONPATH=python python3
+examples/bench.py, after tools/build-shared-library."""
 import pathlib
 import random
 
-from dovecounter import Activation, DataPath, Delays, Fault, Image, PathState, Provisioning, Reading, SimulatedModule, plan
+from dovecounter import (
+    Activation,
+    DataPath,
+    Delays,
+    Fault,
+    Image,
+    PathState,
+    Provisioning,
+    Reading,
+    SimulatedModule,
+    plan,
+)
 
 EXAMPLES = pathlib.Path(__file__).parent
 GAUI_400_4, GAUI_100_2 = 0x4F, 0x0D  # HostInterfaceIDs of SFF-8024
@@ -60,7 +72,10 @@ def carry_out(procedure, often):
 
 print("provisioned", carry_out(Provisioning(best), often=20), module.active.hex(" "))
 print("activated", carry_out(Activation(best), often=40))
-print("up after", *(lane for lane, state in enumerate(module.path_states, 1) if state == PathState.DPActivated))
+print(
+    "up after",
+    *(lane for lane, state in enumerate(module.path_states, 1) if state == PathState.DPActivated)
+)
 
 try:
     carry_out(Provisioning(best), often=100)

@@ -1,6 +1,7 @@
-"""A driver that shows a module as one long file, as SONiC's xcvr_eeprom does: read(offset, size) and write(offset, size, data), with the
-lower half at 0 and page P at 128 * (P + 1). Such a driver selects pages by itself, so the bus here keeps the selection that a procedure
-asks for. Run it as PYTHONPATH=python python3 examples/linear_file.py, after tools/build-shared-library."""
+"""A driver that shows a module as one long file, as SONiC's xcvr_eeprom does: read(offset, size)
+and write(offset, size, data), with the lower half at 0 and page P at 128 * (P + 1). Such a driver
+selects pages by itself, so the bus here keeps the selection that a procedure asks for. Run it as
+PYTHONPATH=python python3 examples/linear_file.py, after tools/build-shared-library."""
 import pathlib
 
 from dovecounter import Activation, Delays, Image, Provisioning, Reading, SimulatedModule, plan
@@ -48,7 +49,11 @@ class SimulatedDriver:
     def _at(self, offset, access):
         page = max(0, offset // 128 - 1)
         self.module.store(0xA0, SELECTION, bytes([0, page]))
-        found = access(offset - 128 * page) if self.module.fetch(0xA0, SELECTION + 1, 1) == bytes([page]) else None
+        found = (
+            access(offset - 128 * page)
+            if self.module.fetch(0xA0, SELECTION + 1, 1) == bytes([page])
+            else None
+        )
         self.module.store(0xA0, SELECTION, bytes(2))
         self.module.tick()
         return found

@@ -18,7 +18,9 @@ _SFF_8636 = (0x0C, 0x0D, 0x11)
 _SFF_8472 = (0x03,)
 
 _HEADER, _END = b"module-image 1", b"end"
-_PAGE_LINE = re.compile(rb"(?:lower A([02])|upper A([02]) ([0-9a-f]{2}) ([0-9a-f]{2})) ([0-9a-f]{256})")
+_PAGE_LINE = re.compile(
+    rb"(?:lower A([02])|upper A([02]) ([0-9a-f]{2}) ([0-9a-f]{2})) ([0-9a-f]{256})"
+)
 
 _advertisement = library.function("advertisement")
 _durations = library.function("durations")
@@ -26,10 +28,12 @@ _durations = library.function("durations")
 
 @dataclass(frozen=True, order=True)
 class Key:
-    """Where a half is. Keys are in the order of an image's lines; `str` of a key is the beginning of its line."""
+    """Where a half is. Keys are in the order of an image's lines; `str` of a key is the beginning
+    of its line."""
 
     device: int
-    """the address on the bus in its 8-bit form: 0xA0, or 0xA2 for the diagnostics of an SFP module"""
+    """the address on the bus in its 8-bit form: 0xA0, or 0xA2 for the diagnostics of an SFP
+    module"""
     upper: bool = False
     """False for the addresses 0 to 127, True for 128 to 255"""
     bank: int = 0
@@ -44,7 +48,11 @@ class Key:
             look_at(what, number, 255 if self.upper else 0)
 
     def __str__(self) -> str:
-        return f"upper {self.device:X} {self.bank:02x} {self.page:02x}" if self.upper else f"lower {self.device:X}"
+        return (
+            f"upper {self.device:X} {self.bank:02x} {self.page:02x}"
+            if self.upper
+            else f"lower {self.device:X}"
+        )
 
 
 LOWER = Key(0xA0)
@@ -57,7 +65,8 @@ def page(number: int, bank: int = 0, device: int = 0xA0) -> Key:
 
 @dataclass(frozen=True)
 class Application:
-    """What a data path may carry, and where it may begin. In a byte of lanes, bit i-1 stands for lane i."""
+    """What a data path may carry, and where it may begin. In a byte of lanes, bit i-1 stands for
+    lane i."""
 
     number: int
     """1 to 15, its AppSelCode"""
@@ -86,7 +95,8 @@ class Advertisement:
 
 @dataclass(frozen=True)
 class Durations:
-    """How long states last at most, in milliseconds, as the module advertises; None if there is no limit, or its code is reserved."""
+    """How long states last at most, in milliseconds, as the module advertises; None if there is no
+    limit, or its code is reserved."""
 
     module_power_up: Optional[int]
     module_power_down: Optional[int]
@@ -101,7 +111,9 @@ class Image:
 
     def __init__(self, halves: Dict[Key, bytes]) -> None:
         if len(halves) > MOST_HALVES:
-            raise ValueError(f"there are {len(halves)} halves, and an image has at most {MOST_HALVES}")
+            raise ValueError(
+                f"there are {len(halves)} halves, and an image has at most {MOST_HALVES}"
+            )
         self._halves = {key: look_at_bytes(str(key), halves[key], HALF) for key in sorted(halves)}
 
     @property
@@ -124,7 +136,7 @@ class Image:
         half = bytearray(self._halves[key])
         if not 0 <= start <= HALF - len(data):
             raise ValueError(f"{len(data)} bytes from {address} on are not in {key}")
-        half[start:start + len(data)] = data
+        half[start : start + len(data)] = data
         return Image({**self._halves, key: bytes(half)})
 
     def without(self, *keys: Key) -> Image:
@@ -134,7 +146,9 @@ class Image:
     @classmethod
     def from_text(cls, text: Union[str, bytes]) -> Image:
         """Reads the text of an image. Raises a Fault of IM1 to IM6."""
-        lines = (text.encode("utf-8", "surrogateescape") if isinstance(text, str) else text).split(b"\n")
+        lines = (text.encode("utf-8", "surrogateescape") if isinstance(text, str) else text).split(
+            b"\n"
+        )
         if lines[-1] == b"":
             lines.pop()
         if lines[:1] != [_HEADER]:
@@ -155,23 +169,32 @@ class Image:
 
     @classmethod
     def from_dump(cls, dump: bytes) -> Image:
-        """The image of an eeprom file, the bytes of a module in a row, as the driver optoe and `ethtool -m PORT raw on` have them
-        (docs/formats.md, "Dumps"); tools/module-image reads other forms too. Takes the halves of the module's family that are there.
-        Raises ValueError if it is no dump of a module that is read."""
+        """The image of an eeprom file, the bytes of a module in a row, as the driver optoe and
+        `ethtool -m PORT raw on` have them (docs/formats.md, "Dumps"); tools/module-image reads
+        other forms too. Takes the halves of the module's family that are there. Raises ValueError
+        if it is no dump of a module that is read."""
         if not dump or len(dump) % HALF:
-            raise ValueError(f"a dump has whole halves of {HALF} bytes, and this one has {len(dump)} bytes")
+            raise ValueError(
+                f"a dump has whole halves of {HALF} bytes, and this one has {len(dump)} bytes"
+            )
         if dump[0] not in _CMIS + _SFF_8636 + _SFF_8472:
-            raise ValueError(f"its first byte is 0x{dump[0]:02x}, the identifier of no module that is read")
+            raise ValueError(
+                f"its first byte is 0x{dump[0]:02x}, the identifier of no module that is read"
+            )
         if len(dump) == 2 * HALF and dump[127] and not _is_flat(dump) and dump[0] not in _SFF_8472:
-            dump = dump[:HALF]  # a page was selected, and nothing says that the second half is that one
-        return cls(_halves_in_row(lambda offset, count: dump[offset:offset + count]))
+            dump = dump[
+                :HALF
+            ]  # a page was selected, and nothing says that the second half is that one
+        return cls(_halves_in_row(lambda offset, count: dump[offset : offset + count]))
 
     @classmethod
     def from_port(cls, name: Union[str, "os.PathLike[str]"]) -> Image:
-        """Reads the module in a port by the file of the driver optoe, such as /sys/bus/i2c/devices/7-0050/eeprom. Each half is read
-        once, since reading clears flags; one that can't be read is left out. Raises OSError if there is no such file, or the lower
-        half of 0xA0 can't be read. For another bus there is Reading."""
+        """Reads the module in a port by the file of the driver optoe, such as
+        /sys/bus/i2c/devices/7-0050/eeprom. Each half is read once, since reading clears flags; one
+        that can't be read is left out. Raises OSError if there is no such file, or the lower half
+        of 0xA0 can't be read. For another bus there is Reading."""
         with open(name, "rb", buffering=0) as file:
+
             def read(offset: int, count: int) -> bytes:
                 return os.pread(file.fileno(), count, offset)
 
@@ -183,15 +206,18 @@ class Image:
         self.take(_advertisement(*self.arguments(), byref(found)))
         applications = tuple(
             Application(*(getattr(one, name) for name, _ in library.Application._fields_))
-            for one in found.applications[:found.count])
+            for one in found.applications[: found.count]
+        )
         return Advertisement(applications, found.unsupported)
 
     def applications(self) -> Tuple[Application, ...]:
-        """The Applications that the module advertises, by rising number. Raises a Fault of AD1 to AD6."""
+        """The Applications that the module advertises, by rising number. Raises a Fault of AD1 to
+        AD6."""
         return self.advertisement().applications
 
     def durations(self) -> Durations:
-        """How long states of the module last at most, in milliseconds. Raises a Fault of AD1 to AD6."""
+        """How long states of the module last at most, in milliseconds. Raises a Fault of AD1 to
+        AD6."""
         found = library.Durations()
         self.take(_durations(*self.arguments(), byref(found)))
         numbers = (getattr(found, name) for name, _ in library.Durations._fields_)
@@ -199,8 +225,10 @@ class Image:
 
     def arguments(self) -> Tuple[Array[library.Half], int]:
         """The halves as the library takes them, and their number."""
-        halves = (library.Half(key.device, key.upper, key.bank, key.page, (c_uint8 * HALF)(*half))
-                  for key, half in self._halves.items())
+        halves = (
+            library.Half(key.device, key.upper, key.bank, key.page, (c_uint8 * HALF)(*half))
+            for key, half in self._halves.items()
+        )
         return (library.Half * len(self._halves))(*halves), len(self._halves)
 
     def take(self, status: int) -> None:
@@ -220,7 +248,9 @@ class Image:
             raise AssertionError(f"the library answered status {status}")
 
     def _first_absent(self, code: str) -> Value:
-        needed = (LOWER, page(0x00), page(0x01)) + ((page(0x10), page(0x11)) if code == "SM1" else ())
+        needed = (LOWER, page(0x00), page(0x01)) + (
+            (page(0x10), page(0x11)) if code == "SM1" else ()
+        )
         return str(next(key for key in needed if key not in self._halves))
 
 
@@ -241,7 +271,7 @@ def _take_page_line(halves: Dict[Key, bytes], number: int, line: bytes) -> None:
 
 def _has_right_sum(half: bytes) -> bool:
     """Of page 00h: byte 222 is the sum of the bytes 128 to 221 (docs/fields.md, "Sums")."""
-    return sum(half[:222 - HALF]) % 256 == half[222 - HALF]
+    return sum(half[: 222 - HALF]) % 256 == half[222 - HALF]
 
 
 def _is_flat(lower: bytes) -> bool:
@@ -250,10 +280,17 @@ def _is_flat(lower: bytes) -> bool:
 
 
 def _places_in_row(lower: bytes) -> List[Tuple[Key, int]]:
-    """The halves that are read of such a module besides the lower one of 0xA0, and where they are in its row."""
+    """The halves that are read of such a module besides the lower one of 0xA0, and where they are
+    in its row."""
     if lower[0] in _SFF_8472:
         return [(Key(0xA2), 2 * HALF)]
-    pages = (0x00,) if _is_flat(lower) else (0x00, 0x03) if lower[0] in _SFF_8636 else (0x00, 0x01, 0x02, 0x10, 0x11)
+    pages = (
+        (0x00,)
+        if _is_flat(lower)
+        else (0x00, 0x03)
+        if lower[0] in _SFF_8636
+        else (0x00, 0x01, 0x02, 0x10, 0x11)
+    )
     return [(page(number), HALF * (number + 1)) for number in pages]
 
 

@@ -1,7 +1,9 @@
-"""The library for C (include/dovecounter.h) as ctypes sees it: its structures, its functions, and where it is.
+"""The library for C (include/dovecounter.h) as ctypes sees it: its structures, its functions, and
+where it is.
 
-Each name is the header's without `dovecounter_`; a test compares them all. ctypes cuts a number to the size of its place without a
-word, so the rest of the package looks at each number before it comes here."""
+Each name is the header's without `dovecounter_`; a test compares them all. ctypes cuts a number to
+the size of its place without a word, so the rest of the package looks at each number before it
+comes here."""
 from __future__ import annotations
 
 import ctypes
@@ -27,7 +29,15 @@ class Half(Structure):
 
 class Application(Structure):
     _fields_ = _members(
-        c_uint8, "number", "host_id", "media_id", "host_lanes", "media_lanes", "host_starts", "media_starts")
+        c_uint8,
+        "number",
+        "host_id",
+        "media_id",
+        "host_lanes",
+        "media_lanes",
+        "host_starts",
+        "media_starts",
+    )
 
 
 class Advertisement(Structure):
@@ -36,7 +46,14 @@ class Advertisement(Structure):
 
 class Durations(Structure):
     _fields_ = _members(
-        c_uint32, "module_power_up", "module_power_down", "path_init", "path_deinit", "path_tx_turn_on", "path_tx_turn_off")
+        c_uint32,
+        "module_power_up",
+        "module_power_down",
+        "path_init",
+        "path_deinit",
+        "path_tx_turn_on",
+        "path_tx_turn_off",
+    )
 
 
 class Path(Structure):
@@ -45,7 +62,11 @@ class Path(Structure):
 
 class Plan(Structure):
     _fields_ = [
-        ("weight", c_uint64), *_members(c_uint8, "count", "lanes", "outside"), ("control", Lanes), ("paths", Path * 8)]
+        ("weight", c_uint64),
+        *_members(c_uint8, "count", "lanes", "outside"),
+        ("control", Lanes),
+        ("paths", Path * 8),
+    ]
 
 
 class Judgement(Structure):
@@ -58,8 +79,13 @@ class Fault(Structure):
 
 class Progress(Structure):
     _fields_ = [
-        ("met", c_size_t), ("steps", c_uint16), *_members(c_uint8, "work", "lanes"), ("control", Lanes),
-        *_members(c_uint8, "selection", "page"), ("fault", Fault)]
+        ("met", c_size_t),
+        ("steps", c_uint16),
+        *_members(c_uint8, "work", "lanes"),
+        ("control", Lanes),
+        *_members(c_uint8, "selection", "page"),
+        ("fault", Fault),
+    ]
 
 
 class Procedure(Structure):
@@ -67,7 +93,11 @@ class Procedure(Structure):
 
 
 class Operation(Structure):
-    _fields_ = [*_members(c_uint8, "kind", "device", "offset", "count"), ("bytes", c_uint8 * 8), ("wait", c_uint8)]
+    _fields_ = [
+        *_members(c_uint8, "kind", "device", "offset", "count"),
+        ("bytes", c_uint8 * 8),
+        ("wait", c_uint8),
+    ]
 
 
 class Answer(Structure):
@@ -76,24 +106,39 @@ class Answer(Structure):
 
 class Reading(Structure):
     _fields_ = [
-        ("magic", c_uint32), ("steps", c_uint16),
-        *_members(c_uint8, "settled", "selection", "page", "accepted", "piece", "read", "wait", "count"),
-        ("halves", Half * 5), ("part", c_uint8 * 128)]
+        ("magic", c_uint32),
+        ("steps", c_uint16),
+        *_members(
+            c_uint8, "settled", "selection", "page", "accepted", "piece", "read", "wait", "count"
+        ),
+        ("halves", Half * 5),
+        ("part", c_uint8 * 128),
+    ]
 
 
 class Delays(Structure):
-    _fields_ = _members(c_uint16, "apply", "init", "turn_on", "turn_off", "deinit", "power_up", "power_down")
+    _fields_ = _members(
+        c_uint16, "apply", "init", "turn_on", "turn_off", "deinit", "power_up", "power_down"
+    )
 
 
 class Lane(Structure):
-    _fields_ = [("left", c_uint16), *_members(c_uint8, "path", "status", "custom", "staged", "active", "keeps", "kept")]
+    _fields_ = [
+        ("left", c_uint16),
+        *_members(c_uint8, "path", "status", "custom", "staged", "active", "keeps", "kept"),
+    ]
 
 
 class Module(Structure):
     _fields_ = [
-        ("delays", Delays), *_members(c_uint16, "left", "apply_left"),
-        *_members(c_uint8, "bank", "page", "waiting", "pin", "control", "state", "deinit", "module_flags"),
-        ("lane_flags", c_uint8 * 19), ("lanes", Lane * 8)]
+        ("delays", Delays),
+        *_members(c_uint16, "left", "apply_left"),
+        *_members(
+            c_uint8, "bank", "page", "waiting", "pin", "control", "state", "deinit", "module_flags"
+        ),
+        ("lane_flags", c_uint8 * 19),
+        ("lanes", Lane * 8),
+    ]
 
 
 _HALVES = (POINTER(Half), c_size_t)
@@ -126,15 +171,17 @@ FUNCTIONS: Dict[str, Tuple[Any, Tuple[Any, ...]]] = {
 
 
 def _opened() -> ctypes.CDLL:
-    """The library that DOVECOUNTER_LIBRARY names, else the one beside this file, else the one that the system finds."""
+    """The library that DOVECOUNTER_LIBRARY names, else the one beside this file, else the one that
+    the system finds."""
     beside = pathlib.Path(__file__).with_name(FILE)
     name = os.environ.get("DOVECOUNTER_LIBRARY") or (str(beside) if beside.exists() else FILE)
     try:
         return ctypes.CDLL(name)
     except OSError as error:
         raise ImportError(
-            f"{error}: build the library by tools/build-shared-library, install it by tools/install, or name its file in"
-            " DOVECOUNTER_LIBRARY") from error
+            f"{error}: build the library by tools/build-shared-library, install it by"
+            " tools/install, or name its file in DOVECOUNTER_LIBRARY"
+        ) from error
 
 
 _SHARED = _opened()

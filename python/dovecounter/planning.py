@@ -27,7 +27,8 @@ class DataPath:
 
 @dataclass(frozen=True)
 class Plan:
-    """A division of a module's lanes into data paths. In a byte of lanes, bit i-1 stands for lane i."""
+    """A division of a module's lanes into data paths. In a byte of lanes, bit i-1 stands for lane
+    i."""
 
     weight: int
     """the sum of the weights of its paths"""
@@ -46,9 +47,11 @@ class Judgement:
     """What a certificate is worth."""
 
     reason: Optional[str]
-    """None if it is good: no plan with the paths that it keeps weighs more than its own. Else "VR1" to "VR9" """
+    """None if it is good: no plan with the paths that it keeps weighs more than its own. Else "VR1"
+    to "VR9" """
     number: int
-    """for VR1 and VR2 of the path from 1, for VR8 and VR9 of the kept path, for VR5 and VR6 of the entry, else 0"""
+    """for VR1 and VR2 of the path from 1, for VR8 and VR9 of the kept path, for VR5 and VR6 of the
+    entry, else 0"""
 
     @property
     def is_good(self) -> bool:
@@ -72,13 +75,16 @@ def _kept(paths: Sequence[DataPath]) -> Any:
     for path in paths:
         for what in ("application", "host", "media"):
             look_at(f"{what} of {path}", getattr(path, what), 255)
-    return (library.Path * len(paths))(*(library.Path(path.application, path.host, path.media) for path in paths))
+    return (library.Path * len(paths))(
+        *(library.Path(path.application, path.host, path.media) for path in paths)
+    )
 
 
 def plan(image: Image, weights: Mapping[int, int], keep: Sequence[DataPath] = ()) -> Plan:
-    """The best plan for the module: its paths are allowed, no two share a lane, the kept ones are among them, and no such plan weighs
-    more; of several the first (docs/planning.md). A path weighs what `weights` has at its HostInterfaceID, 0 to 4294967295, and
-    nothing if it isn't there. Raises a Fault of AD1 to AD6, KP2 or KP3; ValueError for a number that is out of range."""
+    """The best plan for the module: its paths are allowed, no two share a lane, the kept ones are
+    among them, and no such plan weighs more; of several the first (docs/planning.md). A path weighs
+    what `weights` has at its HostInterfaceID, 0 to 4294967295, and nothing if it isn't there.
+    Raises a Fault of AD1 to AD6, KP2 or KP3; ValueError for a number that is out of range."""
     found = library.Plan()
     halves, table = image.arguments(), _weights(weights)
 
@@ -87,16 +93,25 @@ def plan(image: Image, weights: Mapping[int, int], keep: Sequence[DataPath] = ()
 
     answer = status(len(keep))
     if CODES.get(answer) == "KP3":
-        raise Fault("KP3", first_refused(len(keep), lambda count: CODES.get(status(count)) == "KP3"))
+        raise Fault(
+            "KP3", first_refused(len(keep), lambda count: CODES.get(status(count)) == "KP3")
+        )
     image.take(answer)
-    paths = tuple(DataPath(path.application, path.host, path.media) for path in found.paths[:found.count])
+    paths = tuple(
+        DataPath(path.application, path.host, path.media) for path in found.paths[: found.count]
+    )
     return Plan(found.weight, paths, bytes(found.control), found.lanes, found.outside)
 
 
 def check(image: Image, weights: Mapping[int, int], certificate: Union[str, bytes]) -> Judgement:
-    """Judges the certificate with this text, as `cmisctl plan` prints it, for the module and these weights. The text says which paths
-    are kept. Raises a Fault of AD1 to AD6 or CT1 to CT4; ValueError for a number that is out of range."""
-    text = certificate.encode("utf-8", "surrogateescape") if isinstance(certificate, str) else bytes(certificate)
+    """Judges the certificate with this text, as `cmisctl plan` prints it, for the module and these
+    weights. The text says which paths are kept. Raises a Fault of AD1 to AD6 or CT1 to CT4;
+    ValueError for a number that is out of range."""
+    text = (
+        certificate.encode("utf-8", "surrogateescape")
+        if isinstance(certificate, str)
+        else bytes(certificate)
+    )
     found = library.Judgement()
     halves, table, lines = image.arguments(), _weights(weights), text.split(b"\n")
 

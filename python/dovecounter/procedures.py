@@ -3,7 +3,7 @@ from __future__ import annotations
 
 from ctypes import byref
 from dataclasses import dataclass
-from typing import Any, Callable, Dict, Iterator, Optional, TypeVar, Union
+from typing import Any, Callable, Dict, Optional, TypeVar, Union
 
 from . import library
 from .faults import Fault, look_at, look_at_bytes
@@ -11,7 +11,8 @@ from .image import HALF, Image, Key
 from .planning import Plan
 
 Reply = Union[bytes, bool]
-"""What came of an operation: the bytes of a fetch, all of them; True if all bytes of a store were taken; False if it was refused."""
+"""What came of an operation: the bytes of a fetch, all of them; True if all bytes of a store were
+taken; False if it was refused."""
 
 _DONE, _ENDED, _NO_REPLY, _GAVE_UP = 0, 32, 34, 35
 _REFUSED, _STORED, _FETCHED = 0, 1, 2
@@ -36,7 +37,8 @@ class Operation:
     data: Optional[bytes]
     """those to store; None for a fetch"""
     wait: bool
-    """whether to pause before it, since the operation before was refused, or showed that a state of the module is awaited"""
+    """whether to pause before it, since the operation before was refused, or showed that a state of
+    the module is awaited"""
 
     @property
     def address(self) -> int:
@@ -52,13 +54,15 @@ Transact = Callable[[Operation], Reply]
 
 
 class Procedure:
-    """An iterator of operations. Tell each its reply once before you ask for the next; one that was not told is given again. A refused
-    operation is asked for again, up to 4096 operations in all. Nobody else may use the module meanwhile.
+    """An iterator of operations. Tell each its reply once before you ask for the next; one that was
+    not told is given again. A refused operation is asked for again, up to 4096 operations in all.
+    Nobody else may use the module meanwhile.
 
         for operation in procedure:
             procedure.reply(bus(operation))
 
-    Pause before an operation whose `wait` is set, so long that 4096 pauses last longer than the longest of `image.durations()`."""
+    Pause before an operation whose `wait` is set, so long that 4096 pauses last longer than the
+    longest of `image.durations()`."""
 
     _next = staticmethod(library.function("next"))
     _reply = staticmethod(library.function("reply"))
@@ -78,12 +82,12 @@ class Procedure:
         if status == _GAVE_UP:
             raise Fault("RP3")
         _expect_done(status)
-        data = bytes(found.bytes[:found.count]) if found.kind else None
+        data = bytes(found.bytes[: found.count]) if found.kind else None
         return Operation(found.device, found.offset, found.count, data, bool(found.wait))
 
     def reply(self, reply: Reply) -> None:
-        """Tells once what came of the operation. Raises ValueError if it can't have this reply, such as fewer bytes than asked for;
-        then it still has to be told."""
+        """Tells once what came of the operation. Raises ValueError if it can't have this reply,
+        such as fewer bytes than asked for; then it still has to be told."""
         if isinstance(reply, bool):
             outcome, data = _STORED if reply else _REFUSED, b""
         elif isinstance(reply, (bytes, bytearray)):
@@ -109,8 +113,8 @@ class Procedure:
 
 
 class _Change(Procedure):
-    """A procedure that changes a module. It stops after a success; else it raises a Fault of PV1 to PV7, and then the module may hold
-    any part of the change."""
+    """A procedure that changes a module. It stops after a success; else it raises a Fault of PV1 to
+    PV7, and then the module may hold any part of the change."""
 
     steps: Optional[int] = None
     """how many operations its success took; None before"""
@@ -125,13 +129,16 @@ class _Change(Procedure):
         _expect_done(_answer(byref(self._saved), byref(answer)))
         fault = answer.fault
         if fault.code:
-            raise Fault(f"PV{fault.code}", *[fault.first, fault.second][:_VALUES.get(fault.code, 1)])
+            raise Fault(
+                f"PV{fault.code}", *[fault.first, fault.second][: _VALUES.get(fault.code, 1)]
+            )
         self.steps = answer.steps
 
 
 class Provisioning(_Change):
-    """Puts a plan into the Active Control Set, and leaves kept data paths alone. After a success its other lanes are DPDeactivated
-    until an Activation. Raises a Fault of PV1 to PV7 while it is iterated; after PV3 and PV4 it may be begun again."""
+    """Puts a plan into the Active Control Set, and leaves kept data paths alone. After a success
+    its other lanes are DPDeactivated until an Activation. Raises a Fault of PV1 to PV7 while it is
+    iterated; after PV3 and PV4 it may be begun again."""
 
     _begin = staticmethod(library.function("provision"))
 
@@ -140,8 +147,9 @@ class Provisioning(_Change):
 
 
 class Activation(_Change):
-    """Brings up the data paths of a plan that is in the Active Control Set, and takes down those of all other lanes. After a success
-    the plan's lanes are DPActivated. Raises a Fault of PV1 to PV7 while it is iterated."""
+    """Brings up the data paths of a plan that is in the Active Control Set, and takes down those of
+    all other lanes. After a success the plan's lanes are DPActivated. Raises a Fault of PV1 to PV7
+    while it is iterated."""
 
     _begin = staticmethod(library.function("activate"))
 
@@ -150,16 +158,18 @@ class Activation(_Change):
 
 
 class Reading(Procedure):
-    """Reads the halves of a module that reports and plans need (docs/bus.md, "Reading an image"). The bus fetches at most `most` bytes
-    at once, 8 to 255. Raises a Fault RP3 while it is iterated if 4096 operations did not do. A simulated module needs page 10h too,
-    which is not read."""
+    """Reads the halves of a module that reports and plans need (docs/bus.md, "Reading an image").
+    The bus fetches at most `most` bytes at once, 8 to 255. Raises a Fault RP3 while it is iterated
+    if 4096 operations did not do. A simulated module needs page 10h too, which is not read."""
 
     _next = staticmethod(library.function("read_next"))
     _reply = staticmethod(library.function("read_reply"))
 
     def __init__(self, most: int = HALF) -> None:
         super().__init__(library.Reading())
-        _expect_done(_read(look_at("the number of bytes at once", most, 255, least=8), byref(self._saved)))
+        _expect_done(
+            _read(look_at("the number of bytes at once", most, 255, least=8), byref(self._saved))
+        )
         self._image: Optional[Image] = None
 
     @property
@@ -171,7 +181,7 @@ class Reading(Procedure):
 
     def _end(self) -> None:
         halves: Dict[Key, bytes] = {}
-        for half in self._saved.halves[:self._saved.count]:
+        for half in self._saved.halves[: self._saved.count]:
             halves[Key(half.device, bool(half.upper), half.bank, half.page)] = bytes(half.bytes)
         self._image = Image(halves)
 

@@ -72,8 +72,9 @@ class Delays:
 
 
 class SimulatedModule:
-    """The module of an image, which needs the lower half and the pages 00h, 01h, 10h and 11h of 0xA0. It changes by itself; time
-    passes by `tick` and `transact` alone. Raises a Fault of SM1, AD1 to AD6, SM3 or SM4 if there is no such module."""
+    """The module of an image, which needs the lower half and the pages 00h, 01h, 10h and 11h of
+    0xA0. It changes by itself; time passes by `tick` and `transact` alone. Raises a Fault of SM1,
+    AD1 to AD6, SM3 or SM4 if there is no such module."""
 
     def __init__(self, image: Image, delays: Delays = Delays()) -> None:
         for name, delay in vars(delays).items():
@@ -87,7 +88,10 @@ class SimulatedModule:
 
         def is_wrong(lanes: int) -> bool:
             """Whether the active bytes of the first lanes alone are no paths."""
-            return CODES.get(status(image.changed(page(0x11), _ACTIVE + lanes, bytes(8 - lanes)))) == "SM4"
+            return (
+                CODES.get(status(image.changed(page(0x11), _ACTIVE + lanes, bytes(8 - lanes))))
+                == "SM4"
+            )
 
         answer = status(image)
         if CODES.get(answer) == "SM4":
@@ -102,19 +106,23 @@ class SimulatedModule:
         return other
 
     def fetch(self, device: int, offset: int, count: int) -> Optional[bytes]:
-        """1 to 128 bytes of one half, or None if the module refuses. A flag that is read becomes 0. Raises ValueError if there is no
-        such device (0xA0 or 0xA2), or the bytes are none, too many or of two halves."""
+        """1 to 128 bytes of one half, or None if the module refuses. A flag that is read becomes 0.
+        Raises ValueError if there is no such device (0xA0 or 0xA2), or the bytes are none, too many
+        or of two halves."""
         data = (c_uint8 * look_at("the number of bytes", count, 128, least=1))()
         _look_at_place(device, offset)
         status = _fetch(*self._halves, byref(self._saved), device, offset, data, count)
         return bytes(data) if _is_taken(status) else None
 
     def store(self, device: int, offset: int, data: bytes) -> bool:
-        """Stores 1 to 8 bytes in one half, one after the other, and says whether the module took them. A store that is cut short is a
-        store of its first bytes. Raises ValueError as `fetch` does."""
+        """Stores 1 to 8 bytes in one half, one after the other, and says whether the module took
+        them. A store that is cut short is a store of its first bytes. Raises ValueError as `fetch`
+        does."""
         look_at("the number of bytes", len(data), 8, least=1)
         _look_at_place(device, offset)
-        return _is_taken(_store(*self._halves, byref(self._saved), device, offset, bytes(data), len(data)))
+        return _is_taken(
+            _store(*self._halves, byref(self._saved), device, offset, bytes(data), len(data))
+        )
 
     def transact(self, operation: Operation) -> Reply:
         """Makes an operation, lets a tick pass, and says what came of it."""

@@ -1,4 +1,5 @@
-"""What the tests share: the program, the images of examples, a bus that does as a script says, and runs by chance."""
+"""What the tests share: the program, the images of examples, a bus that does as a script says, and
+runs by chance."""
 from __future__ import annotations
 
 import os
@@ -8,7 +9,19 @@ import subprocess
 import unittest
 from typing import Any, Callable, Dict, List, Sequence, Tuple
 
-from dovecounter import LOWER, Activation, Fault, Image, Operation, DataPath, Provisioning, Reply, SimulatedModule, page, plan
+from dovecounter import (
+    LOWER,
+    Activation,
+    DataPath,
+    Fault,
+    Image,
+    Operation,
+    Provisioning,
+    Reply,
+    SimulatedModule,
+    page,
+    plan,
+)
 
 ROOT = pathlib.Path(__file__).parents[2]
 PROGRAM = pathlib.Path(os.environ.get("CMISCTL", ROOT / "crates/cmisctl/out/cmisctl"))
@@ -22,7 +35,13 @@ def cmisctl(command: str, *parts: str) -> List[str]:
     """What the proved program prints."""
     if not PROGRAM.exists():
         raise unittest.SkipTest(f"there is no {PROGRAM}, which ./build makes")
-    run = subprocess.run([PROGRAM, *command.split()], input="---\n".join(parts), capture_output=True, text=True, check=False)
+    run = subprocess.run(
+        [PROGRAM, *command.split()],
+        input="---\n".join(parts),
+        capture_output=True,
+        text=True,
+        check=False,
+    )
     return run.stdout.splitlines()
 
 
@@ -37,7 +56,9 @@ def example(name: str) -> Image:
 
 def table(weights: Dict[int, int]) -> str:
     """The text of weights."""
-    return "".join(["[host]\n", *(f"{host_id:02X}h = {weight}\n" for host_id, weight in weights.items())])
+    return "".join(
+        ["[host]\n", *(f"{host_id:02X}h = {weight}\n" for host_id, weight in weights.items())]
+    )
 
 
 def fault_of(function: Callable[..., object], *arguments: Any) -> str:
@@ -50,7 +71,8 @@ def fault_of(function: Callable[..., object], *arguments: Any) -> str:
 
 
 class ScriptedBus:
-    """A bus that does as a script says (docs/bus.md, "Scripted bus"), and keeps the lines of `cmisctl trace`."""
+    """A bus that does as a script says (docs/bus.md, "Scripted bus"), and keeps the lines of
+    `cmisctl trace`."""
 
     def __init__(self, module: SimulatedModule, script: Script) -> None:
         self.module = module
@@ -86,11 +108,19 @@ class ScriptedBus:
 
 def line_of(operation: Operation, reply: Reply) -> str:
     device = f"{operation.device:X} {operation.offset}"
-    asked = f"fetch {device} {operation.count}" if operation.data is None else f"store {device} {operation.data.hex(' ')}"
-    return f"{asked} = {reply.hex(' ') if isinstance(reply, bytes) else 'done' if reply else 'refused'}"
+    asked = (
+        f"fetch {device} {operation.count}"
+        if operation.data is None
+        else f"store {device} {operation.data.hex(' ')}"
+    )
+    if isinstance(reply, bytes):
+        return f"{asked} = {reply.hex(' ')}"
+    return f"{asked} = {'done' if reply else 'refused'}"
 
 
-def traced(image: Image, weights: Dict[int, int], kept: Sequence[DataPath], script: Script) -> List[str]:
+def traced(
+    image: Image, weights: Dict[int, int], kept: Sequence[DataPath], script: Script
+) -> List[str]:
     """What `cmisctl trace --keep --activate` prints, by the package."""
     best = plan(image, weights, kept)
     try:
@@ -99,7 +129,10 @@ def traced(image: Image, weights: Dict[int, int], kept: Sequence[DataPath], scri
         return [f"fault {fault}"]
     ends: List[str] = []
     try:
-        for name, procedure in (("provisioned", Provisioning(best)), ("activated", Activation(best))):
+        for name, procedure in (
+            ("provisioned", Provisioning(best)),
+            ("activated", Activation(best)),
+        ):
             procedure.run(bus.transact)
             ends.append(f"{name} {procedure.steps}")
         ends.append(f"active {bus.module.active.hex(' ')}")
@@ -119,11 +152,25 @@ def random_script(chance: random.Random) -> Script:
 
 
 def random_image(chance: random.Random) -> Image:
-    """An example's, with another byte 26 of lower memory (low power by the pin or by software), staged or active bytes."""
-    image = example(chance.choice(["qsfp_dd_400g_dr4.txt", "osfp_800g_dr8.txt", "osfp_800g_many_apps.txt", "add_800g_dr8.txt"]))
+    """An example's, with another byte 26 of lower memory (low power by the pin or by software),
+    staged or active bytes."""
+    image = example(
+        chance.choice(
+            [
+                "qsfp_dd_400g_dr4.txt",
+                "osfp_800g_dr8.txt",
+                "osfp_800g_many_apps.txt",
+                "add_800g_dr8.txt",
+            ]
+        )
+    )
     if chance.random() < 0.3:
         image = image.changed(LOWER, 26, bytes([chance.choice([0x00, 0x40, 0x50, 0x10])]))
-    for key, address, often in ((page(0x10), 128, 0.1), (page(0x10), 145, 0.1), (page(0x11), 206, 0.02)):
+    for key, address, often in (
+        (page(0x10), 128, 0.1),
+        (page(0x10), 145, 0.1),
+        (page(0x11), 206, 0.02),
+    ):
         for lane in range(1 if address == 128 else 8):
             if key in image.halves and chance.random() < often:
                 byte = chance.choice([0x00, 0x10, 0x20, 0x24, chance.randrange(256)])
@@ -132,14 +179,19 @@ def random_image(chance: random.Random) -> Image:
 
 
 def random_weights(chance: random.Random, image: Image) -> Dict[int, int]:
-    return {application.host_id: chance.randrange(1000) for application in image.applications() if chance.random() < 0.8}
+    return {
+        application.host_id: chance.randrange(1000)
+        for application in image.applications()
+        if chance.random() < 0.8
+    }
 
 
 def random_kept(chance: random.Random, image: Image, weights: Dict[int, int]) -> List[DataPath]:
-    """Often none; else paths that are in use, if the module has them, or some of a plan, most of which can't stay."""
+    """Often none; else paths that are in use, if the module has them, or some of a plan, most of
+    which can't stay."""
     if chance.random() < 0.6:
         return []
-    if image.halves[page(0x11)][206 - 128:210 - 128] == bytes.fromhex("80808484"):
+    if image.halves[page(0x11)][206 - 128 : 210 - 128] == bytes.fromhex("80808484"):
         return [DataPath(8, 1, 1), DataPath(8, 3, 2)]
     return [path for path in plan(image, weights).paths if chance.random() < 0.3]
 
@@ -150,8 +202,11 @@ def compare_with_trace(chance: random.Random) -> List[str]:
     weights = random_weights(chance, image)
     kept = random_kept(chance, image, weights)
     parts = [
-        image.to_text(), table(weights), "".join(f"keep {path.application} {path.host} {path.media}\n" for path in kept),
-        "".join(f"{word} {number}\n" for word, number in script)]
+        image.to_text(),
+        table(weights),
+        "".join(f"keep {path.application} {path.host} {path.media}\n" for path in kept),
+        "".join(f"{word} {number}\n" for word, number in script),
+    ]
     lines = traced(image, weights, kept, script)
     assert lines == cmisctl("trace --keep --activate", *parts), "---\n".join(parts)
     return lines

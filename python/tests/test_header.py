@@ -1,9 +1,11 @@
-"""The declarations of ctypes against the header: structures with the size and the place of each member, functions with the types of
-what they take and answer, and numbers. What the package doesn't use of the header isn't declared."""
+"""The declarations of ctypes against the header: structures with the size and the place of each
+member, functions with the types of what they take and answer, and numbers. What the package doesn't
+use of the header isn't declared."""
 from __future__ import annotations
 
 import ctypes
 import os
+import pathlib
 import re
 import shutil
 import subprocess
@@ -19,23 +21,37 @@ HEADER = re.sub(r"/\*.*?\*/", "", (ROOT / "include/dovecounter.h").read_text(), 
 COMPILER = os.environ.get("CC", "cc")
 STRUCTURES: Dict[str, List[str]] = {
     name: re.findall(r"(\w+)(?:\[\w+\])?;", members)
-    for name, members in re.findall(r"struct dovecounter_(\w+) \{(.*?)\n\};", HEADER, re.DOTALL)}
+    for name, members in re.findall(r"struct dovecounter_(\w+) \{(.*?)\n\};", HEADER, re.DOTALL)
+}
 STATUSES = {name: int(number) for name, number in re.findall(r"DOVECOUNTER_(\w+) = (\d+)", HEADER)}
 PROTOTYPES = {
     name: (result, [" ".join(argument.split()) for argument in arguments.split(",")])
-    for result, name, arguments in re.findall(r"^(\w+) dovecounter_(\w+)\((.*?)\);", HEADER, re.DOTALL | re.MULTILINE)}
-NUMBERS = {"void": None, "uint8_t": ctypes.c_uint8, "uint32_t": ctypes.c_uint32, "size_t": ctypes.c_size_t}
+    for result, name, arguments in re.findall(
+        r"^(\w+) dovecounter_(\w+)\((.*?)\);", HEADER, re.DOTALL | re.MULTILINE
+    )
+}
+NUMBERS = {
+    "void": None,
+    "uint8_t": ctypes.c_uint8,
+    "uint32_t": ctypes.c_uint32,
+    "size_t": ctypes.c_size_t,
+}
 
 
 def structure(name: str) -> Any:
     return getattr(library, name.title())
 
 
-def test_each_structure_has_the_layout_that_c_gives_it() -> None:
+def test_each_structure_has_the_layout_that_c_gives_it(tmp_path: pathlib.Path) -> None:
     if shutil.which(COMPILER) is None:
         pytest.skip("there is no C compiler")
-    declared = {name.lower() for name, found in vars(library).items() if isinstance(found, type(ctypes.Structure))
-                and issubclass(found, ctypes.Structure) and found is not ctypes.Structure}
+    declared = {
+        name.lower()
+        for name, found in vars(library).items()
+        if isinstance(found, type(ctypes.Structure))
+        and issubclass(found, ctypes.Structure)
+        and found is not ctypes.Structure
+    }
     assert declared <= set(STRUCTURES)
     wanted, prints = [], []
     for name in sorted(declared):
@@ -48,17 +64,19 @@ def test_each_structure_has_the_layout_that_c_gives_it() -> None:
             wanted.append(f"{name}.{member} {place.offset} {place.size}")
             at = f"offsetof(struct dovecounter_{name}, {member}), sizeof ((struct dovecounter_{name} *)0)->{member}"
             prints.append(f'printf("{name}.{member} %zu %zu\\n", {at});')
-    assert printed_by_c("\n".join(prints)) == wanted
+    assert printed_by_c(tmp_path / "layout", "\n".join(prints)) == wanted
 
 
-def printed_by_c(statements: str) -> List[str]:
+def printed_by_c(built: pathlib.Path, statements: str) -> List[str]:
     program = f"#include <dovecounter.h>\n#include <stdio.h>\nint main(void) {{\n{statements}\nreturn 0;\n}}\n"
-    built = ROOT / "crates/firmware_api/out/layout"
-    subprocess.run([COMPILER, "-x", "c", f"-I{ROOT}/include", "-", "-o", built], input=program, text=True, check=True)
-    try:
-        return subprocess.run([built], capture_output=True, text=True, check=True).stdout.splitlines()
-    finally:
-        built.unlink()
+    subprocess.run(
+        [COMPILER, "-x", "c", f"-I{ROOT}/include", "-", "-o", built],
+        input=program,
+        text=True,
+        check=True,
+    )
+    run = subprocess.run([built], capture_output=True, text=True, check=True)
+    return run.stdout.splitlines()
 
 
 def is_declared_as(found: Any, argument: str) -> bool:
@@ -87,11 +105,24 @@ def test_each_function_is_declared_as_in_the_header() -> None:
 
 def test_numbers_are_those_of_the_header() -> None:
     assert f"#define DOVECOUNTER_VERSION {library.VERSION}\n" in HEADER
-    named = re.findall(r"DOVECOUNTER_\w+ = (\d+), */\* (AD\d|CT\d|KP\d|SM\d):", (ROOT / "include/dovecounter.h").read_text())
+    named = re.findall(
+        r"DOVECOUNTER_\w+ = (\d+), */\* (AD\d|CT\d|KP\d|SM\d):",
+        (ROOT / "include/dovecounter.h").read_text(),
+    )
     assert {int(number): code for number, code in named}.items() <= CODES.items()
     assert STATUSES["GAVE_UP"] == 35 and CODES[35] == "RP3"
     assert (STATUSES["DONE"], STATUSES["ENDED"], STATUSES["NO_REPLY"], STATUSES["GAVE_UP"]) == (
-        procedures._DONE, procedures._ENDED, procedures._NO_REPLY, procedures._GAVE_UP)
+        procedures._DONE,
+        procedures._ENDED,
+        procedures._NO_REPLY,
+        procedures._GAVE_UP,
+    )
     assert (STATUSES["REFUSED"], STATUSES["STORED"], STATUSES["FETCHED"]) == (
-        procedures._REFUSED, procedures._STORED, procedures._FETCHED)
-    assert (STATUSES["NO_RANGE"], STATUSES["NOT_TAKEN"]) == (simulated._NO_RANGE, simulated._NOT_TAKEN)
+        procedures._REFUSED,
+        procedures._STORED,
+        procedures._FETCHED,
+    )
+    assert (STATUSES["NO_RANGE"], STATUSES["NOT_TAKEN"]) == (
+        simulated._NO_RANGE,
+        simulated._NOT_TAKEN,
+    )

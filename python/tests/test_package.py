@@ -13,9 +13,34 @@ from typing import Any, List
 
 import pytest
 
-from shared import IMAGES, ROOT, WEIGHTS, cmisctl, example, fault_of, image_of, random_weights, table
+from shared import (
+    IMAGES,
+    ROOT,
+    WEIGHTS,
+    cmisctl,
+    example,
+    fault_of,
+    image_of,
+    random_weights,
+    table,
+)
 from dovecounter import (
-    LOWER, Activation, Delays, Fault, Image, Judgement, Key, DataPath, Plan, Provisioning, Reading, SimulatedModule, check, page, plan)
+    LOWER,
+    Activation,
+    Delays,
+    Fault,
+    Image,
+    Judgement,
+    Key,
+    DataPath,
+    Plan,
+    Provisioning,
+    Reading,
+    SimulatedModule,
+    check,
+    page,
+    plan,
+)
 from dovecounter.faults import SENTENCES
 from dovecounter.simulated import ConfigStatus, ModuleState, PathState
 
@@ -33,17 +58,22 @@ def apps(image: Image) -> List[str]:
         usable = "usable" if 1 <= one.host_lanes <= 8 and 1 <= one.media_lanes <= 8 else "unusable"
         lines.append(
             f"app {one.number} host {one.host_id:02X}h media {one.media_id:02X}h host-lanes {one.host_lanes}"
-            f" media-lanes {one.media_lanes} host-starts {one.host_starts:02X}h media-starts {one.media_starts:02X}h {usable}")
+            f" media-lanes {one.media_lanes} host-starts {one.host_starts:02X}h media-starts {one.media_starts:02X}h {usable}"
+        )
     return [*lines, f"unsupported-media {found.unsupported:02X}h"]
 
 
 @pytest.mark.parametrize("path", IMAGES, ids=operator.attrgetter("name"))
-def test_what_an_image_advertises_and_its_plans_are_what_the_program_prints(path: pathlib.Path) -> None:
+def test_what_an_image_advertises_and_its_plans_are_what_the_program_prints(
+    path: pathlib.Path,
+) -> None:
     image = image_of(path)
     assert image.to_text() == path.read_text().partition("---\n")[0]
     assert apps(image) == cmisctl("apps", image.to_text())
     if apps(image)[0].startswith("fault"):
-        assert [f"fault {fault_of(plan, image, WEIGHTS)}"] == cmisctl("plan", image.to_text(), table(WEIGHTS))
+        assert [f"fault {fault_of(plan, image, WEIGHTS)}"] == cmisctl(
+            "plan", image.to_text(), table(WEIGHTS)
+        )
         return
     chance = random.Random(3)
     for _ in range(10):
@@ -55,7 +85,8 @@ def test_what_an_image_advertises_and_its_plans_are_what_the_program_prints(path
         best = plan(image, weights, list(reversed(kept)))
         assert lines[1] == f"weight {best.weight}"
         assert [line for line in lines if line.startswith("path")] == [
-            f"path {one.application} {one.host} {one.media}" for one in best.paths]
+            f"path {one.application} {one.host} {one.media}" for one in best.paths
+        ]
         certificate = "\n".join(lines)
         assert check(image, weights, certificate) == Judgement(None, 0)
         told = cmisctl("check", image.to_text(), table(weights), certificate + "\n")
@@ -64,18 +95,29 @@ def test_what_an_image_advertises_and_its_plans_are_what_the_program_prints(path
 
 def test_a_fault_has_the_program_s_values() -> None:
     images = [
-        DR4.without(LOWER), DR4.without(page(0x00)), DR4.without(page(0x01)), DR4.changed(LOWER, 0, b"\x1e"),
-        DR4.changed(LOWER, 0, b"\x0d"), DR4.changed(LOWER, 1, b"\x30"), DR4.changed(LOWER, 2, b"\x80"),
-        DR4.changed(page(0x00), 130, b"\xff"), DR4.changed(page(0x01), 255, b"\x00")]
+        DR4.without(LOWER),
+        DR4.without(page(0x00)),
+        DR4.without(page(0x01)),
+        DR4.changed(LOWER, 0, b"\x1e"),
+        DR4.changed(LOWER, 0, b"\x0d"),
+        DR4.changed(LOWER, 1, b"\x30"),
+        DR4.changed(LOWER, 2, b"\x80"),
+        DR4.changed(page(0x00), 130, b"\xff"),
+        DR4.changed(page(0x01), 255, b"\x00"),
+    ]
     for image in images:
         assert apps(image) == cmisctl("apps", image.to_text())
     for number in (0x10, 0x11):
-        assert fault_of(SimulatedModule, DR4.without(page(number))) == f"SM1 upper A0 00 {number:02x}"
+        assert (
+            fault_of(SimulatedModule, DR4.without(page(number))) == f"SM1 upper A0 00 {number:02x}"
+        )
     assert fault_of(SimulatedModule, DR4, Delays(init=1001)) == "SM3"
     good, wrong = DataPath(2, 1, 1), DataPath(2, 2, 1)
     for kept in ([good, wrong], [wrong, good], [good, good], [good] * 9):
         lines = "".join(f"keep {one.application} {one.host} {one.media}\n" for one in kept)
-        assert [f"fault {fault_of(plan, DR4, WEIGHTS, kept)}"] == cmisctl("plan --keep", DR4.to_text(), table(WEIGHTS), lines)
+        assert [f"fault {fault_of(plan, DR4, WEIGHTS, kept)}"] == cmisctl(
+            "plan --keep", DR4.to_text(), table(WEIGHTS), lines
+        )
 
 
 def test_a_changed_certificate_is_judged_as_by_the_program() -> None:
@@ -85,7 +127,9 @@ def test_a_changed_certificate_is_judged_as_by_the_program() -> None:
     for _ in range(300):
         changed, at = list(lines), chance.randrange(len(lines))
         another_digit = re.sub(r"\d(?!.*\d)", str(chance.randrange(10)), lines[at])
-        changed[at:at + 1] = chance.choice([[], [another_digit], [another_digit], [lines[at], lines[at - 1]], [lines[at] + " "]])
+        changed[at : at + 1] = chance.choice(
+            [[], [another_digit], [another_digit], [lines[at], lines[at - 1]], [lines[at] + " "]]
+        )
         if chance.random() < 0.1:
             changed = changed[:at]
         text = "".join(line + "\n" for line in changed)
@@ -102,9 +146,23 @@ def test_a_changed_certificate_is_judged_as_by_the_program() -> None:
 def test_texts_that_are_no_image() -> None:
     lines = DR4.to_text().splitlines()
     texts = [
-        "", "x\n", "module-image 1\nx\n", "\n".join(lines[:-1]), "\n".join([*lines, ""]) + "\n", "\n".join([*lines[:3], lines[1]]),
-        "\n".join(["module-image 1", *(f"upper A0 00 {number:02x} {'0' * 256}" for number in range(17)), "end"]),
-        DR4.to_text().upper(), DR4.to_text().replace("\n", "\r\n"), "module-image 1\n\udcff\n"]
+        "",
+        "x\n",
+        "module-image 1\nx\n",
+        "\n".join(lines[:-1]),
+        "\n".join([*lines, ""]) + "\n",
+        "\n".join([*lines[:3], lines[1]]),
+        "\n".join(
+            [
+                "module-image 1",
+                *(f"upper A0 00 {number:02x} {'0' * 256}" for number in range(17)),
+                "end",
+            ]
+        ),
+        DR4.to_text().upper(),
+        DR4.to_text().replace("\n", "\r\n"),
+        "module-image 1\n\udcff\n",
+    ]
     for text in texts:
         if "\udcff" not in text:
             assert [f"fault {fault_of(Image.from_text, text)}"] == cmisctl("inventory", text)
@@ -117,7 +175,9 @@ def test_texts_that_are_no_image() -> None:
 def test_a_dump_and_a_port_give_the_image(path: pathlib.Path, tmp_path: pathlib.Path) -> None:
     tool = [sys.executable, str(ROOT / "tools/module-image")]
     text = image_of(path).to_text()
-    dump = subprocess.run([*tool, "--binary"], input=text.encode(), capture_output=True, check=True).stdout
+    dump = subprocess.run(
+        [*tool, "--binary"], input=text.encode(), capture_output=True, check=True
+    ).stdout
     file = tmp_path / "eeprom"
     file.write_bytes(dump)
     by_tool = subprocess.run([*tool, str(file)], capture_output=True, text=True, check=True).stdout
@@ -125,7 +185,9 @@ def test_a_dump_and_a_port_give_the_image(path: pathlib.Path, tmp_path: pathlib.
     assert Image.from_port(file).to_text() == by_tool
     for count in range(128, len(dump), 128):
         file.write_bytes(dump[:count])
-        by_tool = subprocess.run([*tool, str(file)], capture_output=True, text=True, check=True).stdout
+        by_tool = subprocess.run(
+            [*tool, str(file)], capture_output=True, text=True, check=True
+        ).stdout
         assert Image.from_dump(dump[:count]).to_text() == by_tool
 
 
@@ -142,35 +204,75 @@ def test_numbers_out_of_range_are_refused_and_not_cut() -> None:
         return Plan(**{**vars(best), **members})
 
     for call in (
-        lambda: plan(DR4, {0x111: 1}), lambda: plan(DR4, {-1: 1}), lambda: plan(DR4, {0x11: 2**32}), lambda: plan(DR4, {0x11: -1}),
-        lambda: plan(DR4, WEIGHTS, [DataPath(258, 1, 1)]), lambda: plan(DR4, WEIGHTS, [DataPath(2, 257, 1)]),
-        lambda: plan(DR4, WEIGHTS, [DataPath(2, 1, -255)]), lambda: check(DR4, {0x11: 2**32}, ""),
-        lambda: SimulatedModule(DR4, Delays(init=65537)), lambda: SimulatedModule(DR4, Delays(apply=-1)),
-        lambda: module.fetch(0x1A0, 0, 1), lambda: module.fetch(0xA0, 256, 1), lambda: module.fetch(0xA0, 0, 0),
-        lambda: module.fetch(0xA0, 0, 129), lambda: module.fetch(0xA0, 120, 9), lambda: module.fetch(0xA1, 0, 1),
-        lambda: module.store(0xA0, 0, bytes(9)), lambda: module.store(0xA0, 0, b""), lambda: module.store(0x1A0, 0, b"1"),
-        lambda: module.store(0xA0, 256 + 26, b"1"), lambda: module.tick(-1), lambda: Reading(7), lambda: Reading(256 + 8),
-        lambda: Provisioning(changed(outside=256)), lambda: Provisioning(changed(control=bytes(9))),
-        lambda: Activation(changed(lanes=-1)), lambda: Image({LOWER: bytes(127)}), lambda: Key(0xA1), lambda: Key(0xA0, page=1),
-        lambda: page(256), lambda: page(-1), lambda: Image({page(number): bytes(128) for number in range(17)}),
+        lambda: plan(DR4, {0x111: 1}),
+        lambda: plan(DR4, {-1: 1}),
+        lambda: plan(DR4, {0x11: 2**32}),
+        lambda: plan(DR4, {0x11: -1}),
+        lambda: plan(DR4, WEIGHTS, [DataPath(258, 1, 1)]),
+        lambda: plan(DR4, WEIGHTS, [DataPath(2, 257, 1)]),
+        lambda: plan(DR4, WEIGHTS, [DataPath(2, 1, -255)]),
+        lambda: check(DR4, {0x11: 2**32}, ""),
+        lambda: SimulatedModule(DR4, Delays(init=65537)),
+        lambda: SimulatedModule(DR4, Delays(apply=-1)),
+        lambda: module.fetch(0x1A0, 0, 1),
+        lambda: module.fetch(0xA0, 256, 1),
+        lambda: module.fetch(0xA0, 0, 0),
+        lambda: module.fetch(0xA0, 0, 129),
+        lambda: module.fetch(0xA0, 120, 9),
+        lambda: module.fetch(0xA1, 0, 1),
+        lambda: module.store(0xA0, 0, bytes(9)),
+        lambda: module.store(0xA0, 0, b""),
+        lambda: module.store(0x1A0, 0, b"1"),
+        lambda: module.store(0xA0, 256 + 26, b"1"),
+        lambda: module.tick(-1),
+        lambda: Reading(7),
+        lambda: Reading(256 + 8),
+        lambda: Provisioning(changed(outside=256)),
+        lambda: Provisioning(changed(control=bytes(9))),
+        lambda: Activation(changed(lanes=-1)),
+        lambda: Image({LOWER: bytes(127)}),
+        lambda: Key(0xA1),
+        lambda: Key(0xA0, page=1),
+        lambda: page(256),
+        lambda: page(-1),
+        lambda: Image({page(number): bytes(128) for number in range(17)}),
     ):
         pytest.raises(ValueError, call)
     for call in (
-        lambda: plan(DR4, {0x11: 1.5}), lambda: plan(DR4, {"11h": 1}),  # type: ignore[dict-item]
-        lambda: Provisioning(changed(control="12345678")), lambda: module.fetch(0xA0, 0, None),  # type: ignore[arg-type]
+        lambda: plan(DR4, {0x11: 1.5}),  # type: ignore[dict-item]
+        lambda: plan(DR4, {"11h": 1}),  # type: ignore[dict-item]
+        lambda: Provisioning(changed(control="12345678")),
+        lambda: module.fetch(0xA0, 0, None),  # type: ignore[arg-type]
     ):
         pytest.raises(TypeError, call)
 
 
 def test_sentences_are_those_of_the_page() -> None:
-    rows = dict(re.findall(r"^\| `(\w+)` \| (.*) \|$", (ROOT / "docs/faults.md").read_text().partition("## Sentences")[2], re.MULTILINE))
+    rows = dict(
+        re.findall(
+            r"^\| `(\w+)` \| (.*) \|$",
+            (ROOT / "docs/faults.md").read_text().partition("## Sentences")[2],
+            re.MULTILINE,
+        )
+    )
     assert {code: rows[code] for code in SENTENCES} == SENTENCES
     fault = Fault("PV1", 3, 5)
     for same in (pickle.loads(pickle.dumps(fault)), copy.copy(fault)):
-        assert (str(same), same.code, same.values, same.sentence) == ("PV1 3 5", "PV1", (3, 5), SENTENCES["PV1"])
+        assert (str(same), same.code, same.values, same.sentence) == (
+            "PV1 3 5",
+            "PV1",
+            (3, 5),
+            SENTENCES["PV1"],
+        )
 
 
 def test_states_are_those_of_the_page() -> None:
     rows = re.findall(r"^\| (\d+) \| (\w+) \|", (ROOT / "docs/states.md").read_text(), re.MULTILINE)
-    named = [(state.value, state.name) for states in (ModuleState, PathState, ConfigStatus) for state in states]
-    assert sorted(named) == sorted((int(code), name) for code, name in rows if not name.startswith("custom"))
+    named = [
+        (state.value, state.name)
+        for states in (ModuleState, PathState, ConfigStatus)
+        for state in states
+    ]
+    assert sorted(named) == sorted(
+        (int(code), name) for code, name in rows if not name.startswith("custom")
+    )

@@ -12,7 +12,17 @@ from typing import List, Optional
 import pytest
 
 from shared import IMAGES, ROOT, WEIGHTS, compare_with_trace, example, fault_of, image_of
-from dovecounter import Activation, Delays, Operation, PathState, Provisioning, Reading, SimulatedModule, page, plan
+from dovecounter import (
+    Activation,
+    Delays,
+    Operation,
+    PathState,
+    Provisioning,
+    Reading,
+    SimulatedModule,
+    page,
+    plan,
+)
 from dovecounter.faults import SENTENCES
 
 DR4 = example("qsfp_dd_400g_dr4.txt")
@@ -60,7 +70,10 @@ def test_a_reading_gives_the_halves_that_are_read(most: int) -> None:
         for operation in reading:
             assert operation.count <= most
             reading.reply(False if chance.random() < 0.2 else module.transact(operation))
-        assert list(map(str, reading.image.halves)) == ["lower A0", *(f"upper A0 00 {number}" for number in ("00", "01", "02", "11"))]
+        assert list(map(str, reading.image.halves)) == [
+            "lower A0",
+            *(f"upper A0 00 {number}" for number in ("00", "01", "02", "11")),
+        ]
         for key in (page(0x00), page(0x01), page(0x02)):
             assert reading.image.halves[key] == image.halves[key]
         assert reading.image.applications() == image.applications()
@@ -111,19 +124,31 @@ def test_the_pause_comes_before_operations_that_wait() -> None:
 def test_an_example_prints_what_it_should(name: str) -> None:
     path = os.pathsep.join([str(ROOT / "python"), os.environ.get("PYTHONPATH", "")])
     run = subprocess.run(
-        [sys.executable, "-W", "error", str(ROOT / "examples" / name)], capture_output=True, text=True, check=False,
-        env={**os.environ, "PYTHONPATH": path})
+        [sys.executable, "-W", "error", str(ROOT / "examples" / name)],
+        capture_output=True,
+        text=True,
+        check=False,
+        env={**os.environ, "PYTHONPATH": path},
+    )
     wanted = pathlib.Path(__file__).with_name("examples").joinpath(name).with_suffix(".txt")
     assert (run.stdout, run.stderr, run.returncode) == (wanted.read_text(), "", 0)
 
 
-def test_the_page_s_code_runs(monkeypatch: pytest.MonkeyPatch, capsys: pytest.CaptureFixture[str]) -> None:
+def test_the_page_s_code_runs(
+    monkeypatch: pytest.MonkeyPatch, capsys: pytest.CaptureFixture[str]
+) -> None:
     monkeypatch.chdir(ROOT)
-    blocks = re.findall(r"^```python\n(.*?)^```$", (ROOT / "docs/python.md").read_text(), re.MULTILINE | re.DOTALL)
+    blocks = re.findall(
+        r"^```python\n(.*?)^```$", (ROOT / "docs/python.md").read_text(), re.MULTILINE | re.DOTALL
+    )
     exec(compile("\n".join(blocks), "docs/python.md", "exec"), {})
     assert capsys.readouterr().out.splitlines() == [
-        "1: host 11h on 8 lanes", "2: host 0Dh on 2 lanes",
+        "1: host 11h on 8 lanes",
+        "2: host 0Dh on 2 lanes",
         "404 DataPath(application=2, host=1, media=1) 20 20 24 24 28 28 2c 2c",
-        "17 operations", "17 operations", "20 20 24 24 28 28 2c 2c DPActivated",
+        "17 operations",
+        "17 operations",
+        "20 20 24 24 28 28 2c 2c DPActivated",
         f"{example('qsfp_dd_400g_dr4.txt').durations().path_init} ms for DPInit at most",
-        f"KP3 (2,) {SENTENCES['KP3']}"]
+        f"KP3 (2,) {SENTENCES['KP3']}",
+    ]
