@@ -5,7 +5,7 @@ import os
 import re
 from ctypes import Array, byref, c_uint8
 from dataclasses import dataclass
-from typing import Callable, Dict, Iterable, List, Optional, Tuple, Union
+from typing import Callable, Dict, List, Mapping, Optional, Tuple, Union
 
 from . import library
 from .faults import CODES, Fault, Value, look_at, look_at_bytes
@@ -109,7 +109,7 @@ class Durations:
 class Image:
     """At most 16 halves of 128 bytes, each under its key. An image never changes."""
 
-    def __init__(self, halves: Dict[Key, bytes]) -> None:
+    def __init__(self, halves: Mapping[Key, bytes]) -> None:
         if len(halves) > MOST_HALVES:
             raise ValueError(
                 f"there are {len(halves)} halves, and an image has at most {MOST_HALVES}"
