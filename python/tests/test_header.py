@@ -129,6 +129,8 @@ def test_numbers_are_those_of_the_header() -> None:
 
 
 def test_the_version_is_that_of_all_parts() -> None:
-    version = re.search(r'concat!\("([\d.]+)"', (ROOT / "crates/notices/src/version.rt").read_text())
+    version = re.search(
+        r'concat!\("([\d.]+)"', (ROOT / "crates/notices/src/version.rt").read_text()
+    )
     assert version is not None
     assert f'\nversion = "{version.group(1)}"\n' in (ROOT / "python/pyproject.toml").read_text()
