@@ -11,10 +11,14 @@ enum { BEFORE_AGAIN = 500 }; /* milliseconds */
 
 static bool is_held(const struct port *port) { return memcmp(bytes_at(port, ACTIVE), port->plan.control, 8) == 0; }
 
+static void print_line(const char *name, const uint8_t control[8], const char *after) {
+    fputs(name, stdout);
+    print_bytes(stdout, control, 8);
+    fputs(after, stdout);
+}
+
 static void print_held(const struct port *port) {
-    fputs("active", stdout);
-    print_bytes(stdout, bytes_at(port, ACTIVE), 8);
-    putchar(',');
+    print_line("active", bytes_at(port, ACTIVE), ",");
     print_codes(stdout, bytes_at(port, PATH_STATES), path_states);
     putchar('\n');
 }
@@ -56,11 +60,26 @@ static enum status state(struct port *port) {
     if (!read_module(port, false)) return REFUSED;
     if (is_other_family(port)) return refuse(port, DOVECOUNTER_NOT_CMIS);
     const uint8_t *states = bytes_at(port, PATH_STATES), *statuses = bytes_at(port, CONFIG_STATUSES);
-    printf("state %s\n", name_of(module_states, *bytes_at(port, MODULE_STATE) >> 1 & 7));
-    for (unsigned lane = 0; states != NULL && lane < 8; lane++)
-        printf("lane %u %s %s %02x\n", lane + 1, name_of(path_states, code_of(states, lane)),
-               name_of(config_statuses, code_of(statuses, lane)), bytes_at(port, ACTIVE)[lane]);
+    printf("state %s\n", module_states[*bytes_at(port, MODULE_STATE) >> 1 & 7]);
+    if (states == NULL) return DONE;
+    for (unsigned lane = 0; lane < 8; lane++)
+        printf("lane %u %s %s\n", lane + 1, path_states[code_of(states, lane)],
+               config_statuses[code_of(statuses, lane)]);
+    print_line("active", bytes_at(port, ACTIVE), "\n");
     return DONE;
+}
+
+static void print_plan(const struct port *port) {
+    struct dovecounter_advertisement module;
+    dovecounter_advertisement(port->reading.halves, port->reading.count, &module);
+    printf("weight %llu\n", (unsigned long long)port->plan.weight);
+    for (size_t i = 0; i < port->plan.count; i++) {
+        const struct dovecounter_path *path = &port->plan.paths[i];
+        const struct dovecounter_application *carried = &module.applications[path->application - 1];
+        printf("path app %u host %u-%u media %u-%u\n", path->application, path->host,
+               path->host + carried->host_lanes - 1, path->media, path->media + carried->media_lanes - 1);
+    }
+    print_line("control", port->plan.control, "\n");
 }
 
 /* Reads the module, and finds and prints the plan. */
@@ -71,12 +90,7 @@ static bool find_plan(struct port *port) {
         dovecounter_plan(port->reading.halves, port->reading.count, weights, port->kept, port->kept_count, &port->plan);
     if (status == DOVECOUNTER_DONE && bytes_at(port, ACTIVE) == NULL) status = DOVECOUNTER_ENDED;
     if (status != DOVECOUNTER_DONE) return refuse(port, status), false;
-    printf("weight %llu\n", (unsigned long long)port->plan.weight);
-    for (const struct dovecounter_path *path = port->plan.paths; path < port->plan.paths + port->plan.count; path++)
-        printf("path %u %u %u\n", path->application, path->host, path->media);
-    fputs("control", stdout);
-    print_bytes(stdout, port->plan.control, 8);
-    putchar('\n');
+    print_plan(port);
     return true;
 }
 
@@ -156,7 +170,7 @@ static const char usage[] =
     "  BUS           /dev/i2c-N, the eeprom file of the driver optoe, or sim:IMAGE[,SCRIPT]\n"
     "  WEIGHTS       a file with the line [host], and lines as 0Dh = 101\n"
     "  image         prints the module's memory, as cmisctl reads it\n"
-    "  state         prints the states of the module and its lanes, and active control bytes\n"
+    "  state         prints the states of the module and its lanes, and the active control bytes\n"
     "  plan          prints the best plan, and what stands against provisioning it\n"
     "  provision     puts the best plan into the module\n"
     "  --keep A,H,M  leaves a data path alone: its Application, first host lane, first media lane\n"
@@ -226,7 +240,6 @@ int main(int count, char **words) {
     enum status status = open_port(&port) ? command->run(&port) : REFUSED;
     if (port.log != NULL && (ferror(port.log) | fclose(port.log)) != 0) warn("%s", port.log_name);
     if (port.file >= 0) close(port.file);
-    if (port.simulated.script != NULL) fclose(port.simulated.script);
     if (fflush(stdout) == 0 && !ferror(stdout)) return (int)status;
     warn("standard output");
     return NOT_WRITTEN;

@@ -9,14 +9,17 @@
 
 enum status { DONE = 0, REFUSED = 1, COMMAND_LINE = 2, NOT_PROVISIONED = 3, NOT_WRITTEN = 6 };
 
+struct directive {
+    enum { OK, NACK, CUT, TICK, LPMODE } kind;
+    unsigned number;
+};
+
 struct simulated {
     struct dovecounter_half halves[16];
     size_t count;
     struct dovecounter_module module;
-    FILE *script;
-    unsigned left,
-        taken; /* of the directive in hand: transactions, and bytes that the module takes of a refused store */
-    bool refuses;
+    struct directive script[1024];
+    size_t length, at; /* of the script: directives, and the one in hand */
 };
 
 struct port {
@@ -68,9 +71,8 @@ unsigned carry_out(struct port *port, begin_procedure *begin, uint8_t lanes, con
 bool read_weights(const char *name, uint32_t weights[256]);
 
 /* words.c */
-extern const char *const module_states[16], *const path_states[16], *const config_statuses[16];
+extern const char *const module_states[8], *const path_states[16], *const config_statuses[16];
 unsigned code_of(const uint8_t codes[4], unsigned lane);
-const char *name_of(const char *const names[16], unsigned code);
 void print_bytes(FILE *out, const uint8_t *bytes, size_t count);
 void print_codes(FILE *out, const uint8_t codes[4], const char *const names[16]);
 void print_lanes(FILE *out, unsigned lanes);

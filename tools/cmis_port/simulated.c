@@ -30,16 +30,21 @@ static bool read_image(const char *name, struct simulated *simulated) {
     return true;
 }
 
-static bool is_script(FILE *script) {
-    static const char *const directives[] = {"ok", "nack", "cut", "tick", "lpmode"};
+static bool read_script(const char *name, struct simulated *simulated) {
+    static const char *const words[] = {"ok", "nack", "cut", "tick", "lpmode"};
+    struct directive directive;
     char word[8];
-    unsigned number, known = 1;
-    int found = 2;
-    while (known == 1 && (found = fscanf(script, "%7s %u", word, &number)) == 2) {
-        known = 0;
-        for (size_t i = 0; i < 5; i++) known += strcmp(word, directives[i]) == 0;
+    int found;
+    FILE *file = fopen(name, "r");
+    if (file == NULL) return warn("%s", name), false;
+    while ((found = fscanf(file, "%7s %5u", word, &directive.number)) == 2 && simulated->length < 1024) {
+        for (directive.kind = OK; directive.kind <= LPMODE && strcmp(word, words[directive.kind]) != 0;)
+            directive.kind++;
+        if (directive.kind > LPMODE) break;
+        simulated->script[simulated->length++] = directive;
     }
-    rewind(script);
+    fclose(file);
+    if (found != EOF) warnx("%s: this is no script", name);
     return found == EOF;
 }
 
@@ -49,12 +54,9 @@ bool open_simulated(struct simulated *simulated, const char *names) {
     const char *comma = strchr(names, ',');
     char image[4096];
     snprintf(image, sizeof image, "%.*s", comma != NULL ? (int)(comma - names) : (int)strlen(names), names);
-    if (!read_image(image, simulated)) return false;
-    if (comma != NULL) simulated->script = fopen(comma + 1, "r");
-    if (comma != NULL && simulated->script == NULL) return warn("%s", comma + 1), false;
-    if (comma != NULL && !is_script(simulated->script)) return warnx("%s: this is no script", comma + 1), false;
+    if (!read_image(image, simulated) || (comma != NULL && !read_script(comma + 1, simulated))) return false;
     uint32_t status = dovecounter_module_begin(simulated->halves, simulated->count, &delays, &simulated->module);
-    if (status != DOVECOUNTER_DONE) warnx("%s: no module has such a memory (status %u)", image, status);
+    if (status != DOVECOUNTER_DONE) warnx("%s: %s", image, sentence(status));
     return status == DOVECOUNTER_DONE;
 }
 
@@ -62,38 +64,39 @@ static void tick(struct simulated *simulated, unsigned times) {
     while (times-- > 0) dovecounter_module_tick(&simulated->module);
 }
 
-/* Goes on to the directive of the next transaction; after the last one all are passed on. */
-static void follow_script(struct simulated *simulated) {
-    char word[8] = "ok";
-    unsigned number = 0;
-    while (simulated->left == 0 && simulated->script != NULL) {
-        bool ends = fscanf(simulated->script, "%7s %u", word, &number) != 2;
-        if (!ends && strcmp(word, "tick") == 0)
-            tick(simulated, number);
-        else if (!ends && strcmp(word, "lpmode") == 0)
-            dovecounter_module_pin(&simulated->module, number == 1);
-        else {
-            simulated->refuses = !ends && strcmp(word, "ok") != 0;
-            simulated->taken = strcmp(word, "cut") == 0 ? number : 0;
-            simulated->left = ends ? UINT32_MAX : strcmp(word, "cut") == 0 ? 1 : number;
+/* What happens to the next transaction; after the last directive all are passed on. */
+static struct directive follow_script(struct simulated *it) {
+    for (; it->at < it->length; it->at++) {
+        struct directive *directive = &it->script[it->at];
+        switch (directive->kind) {
+        case TICK: tick(it, directive->number); break;
+        case LPMODE: dovecounter_module_pin(&it->module, directive->number == 1); break;
+        case CUT: return it->at++, *directive;
+        default:
+            if (directive->number-- > 0) return *directive;
         }
     }
+    return (struct directive){OK, 0};
+}
+
+/* How many bytes of a store the module takes. */
+static size_t taken(struct directive directive, size_t count) {
+    if (directive.kind == OK) return count;
+    return directive.kind == NACK ? 0 : directive.number < count ? directive.number : count;
 }
 
 bool transact_simulated(struct port *port, const struct dovecounter_operation *operation, uint8_t *bytes) {
     struct simulated *it = &port->simulated;
-    bool stores = operation->kind == DOVECOUNTER_STORE;
+    struct directive directive = follow_script(it);
+    size_t count = taken(directive, operation->count);
     uint32_t status = DOVECOUNTER_DONE;
-    follow_script(it);
-    size_t count = !it->refuses || it->taken > operation->count ? operation->count : it->taken;
-    if (stores && count > 0)
+    if (operation->kind == DOVECOUNTER_STORE && count > 0)
         status = dovecounter_module_store(it->halves, it->count, &it->module, operation->device, operation->offset,
                                           operation->bytes, count);
-    if (!stores && !it->refuses)
+    if (operation->kind == DOVECOUNTER_FETCH && directive.kind == OK)
         status = dovecounter_module_fetch(it->halves, it->count, &it->module, operation->device, operation->offset,
-                                          bytes, operation->count);
-    if (it->script != NULL) it->left--;
+                                          bytes, count);
     tick(it, 1);
     errno = EREMOTEIO;
-    return !it->refuses && status == DOVECOUNTER_DONE;
+    return directive.kind == OK && status == DOVECOUNTER_DONE;
 }
