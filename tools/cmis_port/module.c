@@ -50,13 +50,13 @@ static int64_t longest_wait(const struct port *port) {
            bounded(most.path_tx_turn_off);
 }
 
+/* `bytes` are those of a fetch from `offset` on, which is 0 if nothing was fetched. */
 static void show_progress(const char *what, unsigned made, uint8_t offset, const uint8_t *bytes) {
+    const char *const *names = offset == PATH_STATES ? path_states : offset == CONFIG_STATUSES ? config_statuses : NULL;
     if (!isatty(STDERR_FILENO)) return;
     fprintf(stderr, "\r\033[K%s:", what);
-    if (offset == PATH_STATES) print_codes(stderr, bytes, path_states);
-    if (offset == CONFIG_STATUSES) print_codes(stderr, bytes, config_statuses);
-    fprintf(stderr, "%s %u of at most 4096 operations\r", offset == PATH_STATES || offset == CONFIG_STATUSES ? "," : "",
-            made);
+    if (names != NULL) print_codes(stderr, bytes, names);
+    fprintf(stderr, "%s %u of at most 4096 operations\r", names != NULL ? "," : "", made);
 }
 
 /* Carries a procedure out, and waits before it asks again for what is not there yet. Says the fault that it ended in, or 0; NO_ANSWER if it
@@ -73,7 +73,7 @@ unsigned carry_out(struct port *port, begin_procedure *begin, uint8_t lanes, con
         if (!operation.wait)
             began = now();
         else if (outcome != DOVECOUNTER_REFUSED)
-            pause_ms(port, PAUSE + longest / 2000);
+            pause_ms(port, PAUSE + (now() - began) / 100); /* so hours take less than a thousand operations */
         if (now() - began > longest) stop(port, "the module takes longer than it advertises");
         if (port->ending != GOES_ON) break;
         outcome = transact(port, &operation, bytes);
