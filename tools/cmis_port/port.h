@@ -67,6 +67,12 @@ bool read_module(struct port *port, bool of_any_family);
 const uint8_t *bytes_at(const struct port *port, uint8_t offset);
 unsigned carry_out(struct port *port, begin_procedure *begin, uint8_t lanes, const char *what);
 
+/* commands.c */
+enum status image(struct port *port);
+enum status state(struct port *port);
+enum status plan(struct port *port);
+enum status provision(struct port *port);
+
 /* weights.c */
 bool read_weights(const char *name, uint32_t weights[256]);
 
