@@ -34,19 +34,23 @@ static bool read_digits(const char *digits, uint8_t bytes[128]) {
     return true;
 }
 
-bool load_image(struct emulator *module, const char *name) {
-    char line[400], digits[257];
+void load_line(struct emulator *module, const char *line) {
+    char digits[257];
     unsigned bank, page;
-    FILE *file = fopen(name, "r");
-    if (file == NULL) return false;
-    while (fgets(line, sizeof line, file)) {
-        if (sscanf(line, "lower A0 %256s", digits) == 1)
-            read_digits(digits, module->lower);
-        else if (sscanf(line, "upper A0 %x %x %256s", &bank, &page, digits) == 3 && bank == 0 && page < 256)
-            module->present[page] = read_digits(digits, module->pages[page]);
-    }
-    fclose(file);
-    return true;
+    if (sscanf(line, "lower A0 %256s", digits) == 1)
+        read_digits(digits, module->lower);
+    else if (sscanf(line, "upper A0 %x %x %256s", &bank, &page, digits) == 3 && bank == 0 && page < 256)
+        module->present[page] = read_digits(digits, module->pages[page]);
+}
+
+size_t describe(const struct emulator *module, char *text, size_t room) {
+    size_t at = (size_t)snprintf(text, room, "active");
+    for (int lane = 0; lane < 8; lane++)
+        at += (size_t)snprintf(text + at, room - at, " %02x", module->pages[0x11][ACTIVE + lane]);
+    at += (size_t)snprintf(text + at, room - at, "\npaths");
+    for (int lane = 0; lane < 8; lane++) at += (size_t)snprintf(text + at, room - at, " %u", module->path[lane]);
+    return at + (size_t)snprintf(text + at, room - at, "\ndeinit %02x applied %02x left-activated %02x astray %u\n",
+                                 module->deinit, module->applies, module->left_activated, module->astray);
 }
 
 /* The descriptor of an Application; NULL if it isn't advertised. */

@@ -3,6 +3,7 @@
 #ifndef EMULATOR_H
 #define EMULATOR_H
 #include <stdbool.h>
+#include <stddef.h>
 #include <stdint.h>
 
 enum path_state { DEACTIVATED = 1, INIT, DEINIT, ACTIVATED, TX_TURN_ON, TX_TURN_OFF, INITIALIZED };
@@ -40,9 +41,11 @@ struct emulator {
 
 uint64_t next_random(uint64_t *state);
 void begin_emulator(struct emulator *module, uint64_t seed);
-bool load_image(struct emulator *module, const char *file);
+void load_line(struct emulator *module, const char *line); /* of an image's text */
 void power_up(struct emulator *module); /* once the memory is loaded: lanes with active control bytes are up */
 uint8_t fetch_byte(struct emulator *module, uint8_t address);
 void store_byte(struct emulator *module, uint8_t address, uint8_t byte);
 void pass_millisecond(struct emulator *module);
+/* What a case compares: the active bytes, the states of the data paths, and what was done to the module. */
+size_t describe(const struct emulator *module, char *text, size_t room);
 #endif

@@ -77,6 +77,14 @@ static void advertise_durations(void) {
     page[255 - 128] = (uint8_t)sum;
 }
 
+static void load_image(const char *name) {
+    char line[400];
+    FILE *file = fopen(name, "r");
+    if (file == NULL) abort();
+    while (fgets(line, sizeof line, file)) load_line(&shim.module, line);
+    fclose(file);
+}
+
 static void begin(void) {
     const char *words = getenv("PORT");
     char *copy = strdup(words != NULL ? words : ""), *rest = NULL;
@@ -85,24 +93,18 @@ static void begin(void) {
     for (char *word = strtok_r(copy, " ", &rest); word != NULL; word = strtok_r(NULL, " ", &rest)) read_word(word);
     free(copy);
     shim.module.random += shim.random;
-    if (!load_image(&shim.module, shim.image)) abort();
+    load_image(shim.image);
     if (shim.durations != 0) advertise_durations();
     power_up(&shim.module);
     shim.fresh = shim.module;
     shim.lived = microseconds() / 1000;
 }
 
-/* What a case compares: the bytes and states that the module has, and what was done to it. */
 __attribute__((destructor)) static void tell(void) {
-    const struct emulator *module = &shim.module;
+    char text[256];
     FILE *out = shim.out[0] != 0 ? fopen(shim.out, "w") : NULL;
     if (out == NULL) return;
-    fputs("active", out);
-    for (int lane = 0; lane < 8; lane++) fprintf(out, " %02x", module->pages[0x11][206 - 128 + lane]);
-    fputs("\npaths", out);
-    for (int lane = 0; lane < 8; lane++) fprintf(out, " %u", module->path[lane]);
-    fprintf(out, "\ndeinit %02x applied %02x left-activated %02x astray %u\n", module->deinit, module->applies,
-            module->left_activated, module->astray);
+    fwrite(text, 1, describe(&shim.module, text, sizeof text), out);
     fclose(out);
 }
 
