@@ -13,7 +13,7 @@ use Rattle.sim_module.specs.Ticks.{pinned, ticked}
 use Rattle.sim_module.specs.Applies.{applied, applied_all}
 use Rattle.sim_module.specs.ShownBytes.{cleared, fetched, is_mapped}
 use Rattle.sim_module.specs.Stores.{staged_at, stored_byte, stored_bytes, stored_high, stored_low}
-use Rattle.sim_module.specs.Registers.{is_from, is_in}
+use Rattle.sim_module.specs.Registers.{is_at, is_from, is_in}
 use Rattle.sim_module.specs.ActiveSets.{IsAtRest}
 use Rattle.sim_module.specs.Modules.{conduct}
 use Rattle.control_sets.specs.OutcomeOperations.{CoversSelection}
@@ -21,7 +21,8 @@ use Rattle.bus_model.specs.declared.operation.Op.{Op}
 use Rattle.bus_model.specs.declared.operation.Op.TheVariants.{Fetch, Store}
 use Rattle.bus_model.specs.Keeping.{IsKeptBy, IsKeptInTime}
 use Rattle.std.proofs.lemmas.Bool.{cases_lt}
-use Rattle.field_tables.specs.declared.field.Register.TheVariants.{CStagedControl}
+use Rattle.field_tables.specs.declared.field.Register.TheVariants.{CApplyDPInit, CDPDeinit, CStagedControl}
+use Rattle.field_tables.specs.Registers.{byte_count, first_byte}
 use Rattle.bus_model.proofs.Histories.{AnyPin}
 use Rattle.sim_module.proofs.RestingModule.{rest_lanes, rest_tick, take_fewer}
 use Rattle.sim_module.proofs.SoundModule.{either, fetched_keeps, kept_by_other, stored_keeps}
@@ -41,10 +42,10 @@ shows_high : (page : ℕ) (sim : SimModule) (address byte : ℕ) → Shows page 
 unfolding applied
 shows_high page sim address byte shows =
     let deinit = record sim { deinit = lanes_in byte } in
-    let staged = staged_at sim (address - 145 + 1) byte in
+    let staged = staged_at sim (address - first_byte CStagedControl + 1) byte in
     let rest = if is_in CStagedControl address then staged else sim in
-    either (Shows page) (address == 128) deinit (if address == 143 then applied sim (lanes_in byte) else rest) (record { bank = shows.bank; number = shows.number })
-    (either (Shows page) (address == 143) (applied sim (lanes_in byte)) rest
+    either (Shows page) (is_at CDPDeinit address) deinit (if is_at CApplyDPInit address then applied sim (lanes_in byte) else rest) (record { bank = shows.bank; number = shows.number })
+    (either (Shows page) (is_at CApplyDPInit address) (applied sim (lanes_in byte)) rest
     (either (Shows page) _ sim (applied_all sim (lanes_in byte)) shows (record { bank = shows.bank; number = shows.number }))
     (either (Shows page) (is_in CStagedControl address) staged sim (record { bank = shows.bank; number = shows.number }) shows))
 

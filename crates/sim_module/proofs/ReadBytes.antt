@@ -11,6 +11,8 @@ use Rattle.field_tables.specs.LaneSets.{Lanes}
 use Rattle.control_sets.specs.HostPaths.{IsLane}
 use Rattle.control_sets.specs.OutcomeCodes.{IsOf}
 use Rattle.datapath_states.specs.StatusCodes.{status_code_of}
+use Rattle.field_tables.specs.declared.field.Register.TheVariants.{CActiveControl, CConfigStatus}
+use Rattle.field_tables.specs.Registers.{byte_count, first_byte}
 use Rattle.sim_module.specs.declared.lane.Lane.{Lane}
 use Rattle.sim_module.specs.declared.module.SimModule.{SimModule}
 use Rattle.sim_module.specs.Lanes.{active_bytes, is_in_progress, lane_at, no_lane}
@@ -72,16 +74,16 @@ on_statuses sim page address high shows =
     ∙ ap (λ (on : Bool). first_shown (if on then status_bytes sim address else []) byte) (is_on sim shows)
 
 -- the statuses that are read
-shown_statuses : (sim : SimModule) (page : List ℕ) → Shows 0x11 sim → map (shown_byte sim page) (range_with_len 202 4) ≡
+shown_statuses : (sim : SimModule) (page : List ℕ) → Shows 0x11 sim → map (shown_byte sim page) (range_with_len (first_byte CConfigStatus) (byte_count CConfigStatus)) ≡
     (status_code sim 1 + 16 * status_code sim 2) ∷ (status_code sim 3 + 16 * status_code sim 4) ∷ (status_code sim 5 + 16 * status_code sim 6) ∷ (status_code sim 7 + 16 * status_code sim 8) ∷ []
 shown_statuses sim page shows = λ i.
-    on_statuses sim page 202 (omega arith) shows i ∷ on_statuses sim page 203 (omega arith) shows i ∷ on_statuses sim page 204 (omega arith) shows i ∷ on_statuses sim page 205 (omega arith) shows i ∷ []
+    on_statuses sim page (first_byte CConfigStatus) (omega arith) shows i ∷ on_statuses sim page (first_byte CConfigStatus + 1) (omega arith) shows i ∷ on_statuses sim page (first_byte CConfigStatus + 2) (omega arith) shows i ∷ on_statuses sim page (first_byte CConfigStatus + 3) (omega arith) shows i ∷ []
 
 -- the control bytes that are read
-shown_active : (sim : SimModule) (page : List ℕ) → Shows 0x11 sim → map (shown_byte sim page) (range_with_len 206 8) ≡ map (λ lane. (lane_at sim lane).active) (range_with_len 1 8)
+shown_active : (sim : SimModule) (page : List ℕ) → Shows 0x11 sim → map (shown_byte sim page) (range_with_len (first_byte CActiveControl) (byte_count CActiveControl)) ≡ map (λ lane. (lane_at sim lane).active) (range_with_len 1 8)
 shown_active sim page shows = λ i.
-    on_statuses sim page 206 (omega arith) shows i ∷ on_statuses sim page 207 (omega arith) shows i ∷ on_statuses sim page 208 (omega arith) shows i ∷ on_statuses sim page 209 (omega arith) shows i
-    ∷ on_statuses sim page 210 (omega arith) shows i ∷ on_statuses sim page 211 (omega arith) shows i ∷ on_statuses sim page 212 (omega arith) shows i ∷ on_statuses sim page 213 (omega arith) shows i ∷ []
+    on_statuses sim page (first_byte CActiveControl) (omega arith) shows i ∷ on_statuses sim page (first_byte CActiveControl + 1) (omega arith) shows i ∷ on_statuses sim page (first_byte CActiveControl + 2) (omega arith) shows i ∷ on_statuses sim page (first_byte CActiveControl + 3) (omega arith) shows i
+    ∷ on_statuses sim page (first_byte CActiveControl + 4) (omega arith) shows i ∷ on_statuses sim page (first_byte CActiveControl + 5) (omega arith) shows i ∷ on_statuses sim page (first_byte CActiveControl + 6) (omega arith) shows i ∷ on_statuses sim page (first_byte CActiveControl + 7) (omega arith) shows i ∷ []
 
 active_by_lane : (sim : SimModule) → length sim.lanes ≡ 8 → active_bytes sim ≡ map (λ lane. (lane_at sim lane).active) (range_with_len 1 8)
 active_by_lane sim eight =
@@ -93,9 +95,9 @@ active_by_lane sim eight =
     get_or-map active sim.lanes k no_lane 0 (omega (arith, below, len, eight)) ∙ ap (λ (n : ℕ). (get_or sim.lanes n no_lane).active) (sym index))
 
 -- the active control set is what is read of it
-pub read_active : (sim : SimModule) (control : List ℕ) → Shows 0x11 sim → length sim.lanes ≡ 8 → (fetched sim A0 206 8).0 ≡ Some control → active_bytes sim ≡ control
+pub read_active : (sim : SimModule) (control : List ℕ) → Shows 0x11 sim → length sim.lanes ≡ 8 → (fetched sim A0 (first_byte CActiveControl) (byte_count CActiveControl)).0 ≡ Some control → active_bytes sim ≡ control
 read_active sim control shows eight answered =
-    let read = reads sim 206 8 control answered in
+    let read = reads sim (first_byte CActiveControl) (byte_count CActiveControl) control answered in
     active_by_lane sim eight ∙ sym (shown_active sim read.page shows) ∙ read.bytes_are
 
 odd_one : (code other : ℕ) → (code % 16 + 16 * (other % 16)) % 16 ≡ 1 → (code == 12) ≡ false
@@ -108,9 +110,9 @@ pair_byte_fits : (code other : ℕ) → code % 16 + 16 * (other % 16) < 256
 pair_byte_fits code other = omega arith
 
 -- a lane of which the status ConfigSuccess is read isn't in progress
-read_status : (sim : SimModule) (bytes : List ℕ) → Shows 0x11 sim → (fetched sim A0 202 4).0 ≡ Some bytes → (lane : ℕ) → IsLane lane → code_in bytes lane ≡ 1 → is_in_progress (lane_at sim lane) ≡ false
+read_status : (sim : SimModule) (bytes : List ℕ) → Shows 0x11 sim → (fetched sim A0 (first_byte CConfigStatus) (byte_count CConfigStatus)).0 ≡ Some bytes → (lane : ℕ) → IsLane lane → code_in bytes lane ≡ 1 → is_in_progress (lane_at sim lane) ≡ false
 read_status sim bytes shows answered lane within success =
-    let answer = reads sim 202 4 bytes answered in
+    let answer = reads sim (first_byte CConfigStatus) (byte_count CConfigStatus) bytes answered in
     let code : ℕ → ℕ = status_code sim in
     let whole : ℕ → ℕ = λ lane. status_code_of (lane_at sim lane).status in
     let shown : List ℕ = (code 1 + 16 * code 2) ∷ (code 3 + 16 * code 4) ∷ (code 5 + 16 * code 6) ∷ (code 7 + 16 * code 8) ∷ [] in
@@ -130,14 +132,14 @@ none_kept : (kept : Option ℕ) (progress : Bool) → progress ≡ false → (Is
 none_kept None progress off tells = refl
 none_kept (Some byte) progress off tells = let on : progress ≡ true = tells refl in cc
 
-none_held : (sim : SimModule) (lanes : Lanes) (bytes : List ℕ) → IsSound sim → Shows 0x11 sim → HoldsOnly lanes sim → (fetched sim A0 202 4).0 ≡ Some bytes → SaySuccess lanes bytes →
+none_held : (sim : SimModule) (lanes : Lanes) (bytes : List ℕ) → IsSound sim → Shows 0x11 sim → HoldsOnly lanes sim → (fetched sim A0 (first_byte CConfigStatus) (byte_count CConfigStatus)).0 ≡ Some bytes → SaySuccess lanes bytes →
     (lane : ℕ) → IsLane lane → (inside : Bool) → set.contains lanes lane ≡ inside → (lane_at sim lane).kept ≡ None
 none_held sim lanes bytes sound shows held answered success lane within true is =
     none_kept (lane_at sim lane).kept (is_in_progress (lane_at sim lane)) (read_status sim bytes shows answered lane within (success lane (within, is))) (sound.progress lane)
 none_held sim lanes bytes sound shows held answered success lane within false is = held lane within is
 
 -- so the module is idle, with what is active
-pub idle_after_success : (sim : SimModule) (lanes : Lanes) (bytes : List ℕ) → IsSound sim → Shows 0x11 sim → HoldsOnly lanes sim → (fetched sim A0 202 4).0 ≡ Some bytes → SaySuccess lanes bytes → IsIdle (active_bytes sim) sim
+pub idle_after_success : (sim : SimModule) (lanes : Lanes) (bytes : List ℕ) → IsSound sim → Shows 0x11 sim → HoldsOnly lanes sim → (fetched sim A0 (first_byte CConfigStatus) (byte_count CConfigStatus)).0 ≡ Some bytes → SaySuccess lanes bytes → IsIdle (active_bytes sim) sim
 idle_after_success sim lanes bytes sound shows held answered success = record {
   off = not_mapped sim shows;
   rest = record {

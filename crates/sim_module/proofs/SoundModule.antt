@@ -7,13 +7,15 @@ use Rattle.bus_model.specs.declared.device.Dev.{Dev}
 use Rattle.bus_model.specs.declared.device.Dev.TheVariants.{A0, A2}
 use Rattle.field_tables.specs.LaneSets.{Lanes, is_empty, lanes_in}
 use Rattle.datapath_states.specs.declared.status.ConfigStatus.TheVariants.{Rejected}
+use Rattle.field_tables.specs.declared.field.Register.TheVariants.{CApplyDPInit, CDPDeinit, CStagedControl}
+use Rattle.field_tables.specs.Registers.{byte_count, first_byte}
 use Rattle.sim_module.specs.declared.lane.Lane.{Lane}
 use Rattle.sim_module.specs.declared.delays.Delays.{Delays}
 use Rattle.sim_module.specs.declared.module.SimModule.{SimModule}
 use Rattle.sim_module.specs.Lanes.{lane_at, no_lane, all_lanes}
 use Rattle.sim_module.specs.Ticks.{applied_by, applied_lane, is_last, moved_lane, next_path_state, ticked, ticked_lane}
 use Rattle.sim_module.specs.Applies.{applied, applied_all, applied_to, begun_lane, dropped_lane, is_applicable}
-use Rattle.sim_module.specs.Registers.{is_from, is_in}
+use Rattle.sim_module.specs.Registers.{is_at, is_from, is_in}
 use Rattle.sim_module.specs.ShownBytes.{cleared, fetched, fetched_from, is_mapped}
 use Rattle.sim_module.specs.Stores.{staged_at, stored, stored_byte, stored_bytes, stored_high, stored_low}
 use Rattle.bus_model.specs.declared.operation.Op.{Op}
@@ -88,11 +90,11 @@ sound_low sim address byte sound = record { eight = sound.eight; progress = soun
 sound_high : (sim : SimModule) (address byte : ℕ) → IsSound sim → IsSound (stored_high sim address byte)
 sound_high sim address byte sound =
     let deinit = record sim { deinit = lanes_in byte } in
-    let staged = staged_at sim (address - 145 + 1) byte in
+    let staged = staged_at sim (address - first_byte CStagedControl + 1) byte in
     let rest = if is_in CStagedControl address then staged else sim in
-    either IsSound (address == 128) deinit (if address == 143 then applied sim (lanes_in byte) else rest) (record { eight = sound.eight; progress = sound.progress })
-    (either IsSound (address == 143) (applied sim (lanes_in byte)) rest (sound_applied sim (lanes_in byte) sound)
-    (either IsSound (is_in CStagedControl address) staged sim (sound_staged sim (address - 145 + 1) byte sound) sound))
+    either IsSound (is_at CDPDeinit address) deinit (if is_at CApplyDPInit address then applied sim (lanes_in byte) else rest) (record { eight = sound.eight; progress = sound.progress })
+    (either IsSound (is_at CApplyDPInit address) (applied sim (lanes_in byte)) rest (sound_applied sim (lanes_in byte) sound)
+    (either IsSound (is_in CStagedControl address) staged sim (sound_staged sim (address - first_byte CStagedControl + 1) byte sound) sound))
 
 pub sound_byte : (sim : SimModule) (address byte : ℕ) → IsSound sim → IsSound (stored_byte sim address byte)
 unfolding stored_byte

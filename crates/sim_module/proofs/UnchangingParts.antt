@@ -1,12 +1,13 @@
 -- No event changes the memory of a module, nor what that advertises.
 use Rattle.std.proofs.Common.{◌≡◌, ℕ, ◌+◌, ◌-◌, ◌==◌, Bool, List, [], ◌∷◌, refl, ◌∙◌, if◌then◌else◌, nat_lt}
 use Rattle.field_tables.specs.LaneSets.{Lanes, is_empty, lanes_in}
-use Rattle.field_tables.specs.declared.field.Register.TheVariants.{CStagedControl}
+use Rattle.field_tables.specs.declared.field.Register.TheVariants.{CApplyDPInit, CDPDeinit, CStagedControl}
+use Rattle.field_tables.specs.Registers.{byte_count, first_byte}
 use Rattle.sim_module.specs.declared.module.SimModule.{SimModule}
 use Rattle.sim_module.specs.Record.{fixed_of}
 use Rattle.sim_module.specs.Unchanging.{EventsLeaveFixed}
 use Rattle.sim_module.specs.Applies.{applied, applied_all}
-use Rattle.sim_module.specs.Registers.{is_from, is_in}
+use Rattle.sim_module.specs.Registers.{is_at, is_from, is_in}
 use Rattle.sim_module.specs.ShownBytes.{cleared, is_mapped}
 use Rattle.sim_module.specs.Stores.{staged_at, stored_byte, stored_bytes, stored_high, stored_low}
 use Rattle.sim_module.specs.Ticks.{ticked}
@@ -22,10 +23,10 @@ same_applied sim mask = either (IsSame sim) (is_empty mask) sim (applied_all sim
 same_high : (sim : SimModule) (address byte : ℕ) → IsSame sim (stored_high sim address byte)
 same_high sim address byte =
     let deinit = record sim { deinit = lanes_in byte } in
-    let staged = staged_at sim (address - 145 + 1) byte in
+    let staged = staged_at sim (address - first_byte CStagedControl + 1) byte in
     let rest = if is_in CStagedControl address then staged else sim in
-    either (IsSame sim) (address == 128) deinit (if address == 143 then applied sim (lanes_in byte) else rest) refl
-    (either (IsSame sim) (address == 143) (applied sim (lanes_in byte)) rest (same_applied sim (lanes_in byte))
+    either (IsSame sim) (is_at CDPDeinit address) deinit (if is_at CApplyDPInit address then applied sim (lanes_in byte) else rest) refl
+    (either (IsSame sim) (is_at CApplyDPInit address) (applied sim (lanes_in byte)) rest (same_applied sim (lanes_in byte))
     (either (IsSame sim) (is_in CStagedControl address) staged sim refl refl))
 
 same_byte : (sim : SimModule) (address byte : ℕ) → IsSame sim (stored_byte sim address byte)
