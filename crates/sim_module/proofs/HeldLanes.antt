@@ -18,7 +18,7 @@ use Rattle.control_sets.specs.OutcomeOfProvisioning.{IsProvisioningStep}
 use Rattle.control_sets.specs.Pages.{EachStep, History}
 use Rattle.control_sets.proofs.LaneBits.{in_byte_of}
 use Rattle.field_tables.specs.declared.field.Register.TheVariants.{CApplyDPInit}
-use Rattle.field_tables.specs.Registers.{byte_count, first_byte}
+use Rattle.field_tables.specs.Registers.{first_byte}
 use Rattle.sim_module.specs.declared.lane.Lane.{Lane}
 use Rattle.sim_module.specs.declared.module.SimModule.{SimModule}
 use Rattle.sim_module.specs.ActiveSets.{HasNoApply}

@@ -22,7 +22,7 @@ use Rattle.bus_model.specs.declared.operation.Op.TheVariants.{Fetch, Store}
 use Rattle.bus_model.specs.Keeping.{IsKeptBy, IsKeptInTime}
 use Rattle.std.proofs.lemmas.Bool.{cases_lt}
 use Rattle.field_tables.specs.declared.field.Register.TheVariants.{CApplyDPInit, CDPDeinit, CStagedControl}
-use Rattle.field_tables.specs.Registers.{byte_count, first_byte}
+use Rattle.field_tables.specs.Registers.{first_byte}
 use Rattle.bus_model.proofs.Histories.{AnyPin}
 use Rattle.sim_module.proofs.RestingModule.{rest_lanes, rest_tick, take_fewer}
 use Rattle.sim_module.proofs.SoundModule.{either, fetched_keeps, kept_by_other, stored_keeps}

@@ -22,7 +22,7 @@ use Rattle.sim_module.specs.declared.module.SimModule.{SimModule}
 use Rattle.sim_module.specs.Lanes.{no_lane}
 use Rattle.sim_module.specs.Applies.{applied}
 use Rattle.sim_module.specs.Modules.{conduct}
-use Rattle.sim_module.specs.Registers.{is_at, is_from, is_in}
+use Rattle.sim_module.specs.Registers.{is_from, is_in}
 use Rattle.sim_module.specs.ShownBytes.{cleared, is_mapped}
 use Rattle.sim_module.specs.Stores.{staged_at, stored_byte, stored_bytes, stored_high, stored_low}
 use Rattle.sim_module.proofs.IdleModule.{high_test}

@@ -8,7 +8,7 @@ use Rattle.bus_model.specs.declared.device.Dev.TheVariants.{A0, A2}
 use Rattle.field_tables.specs.LaneSets.{Lanes, is_empty, lanes_in}
 use Rattle.datapath_states.specs.declared.status.ConfigStatus.TheVariants.{Rejected}
 use Rattle.field_tables.specs.declared.field.Register.TheVariants.{CApplyDPInit, CDPDeinit, CStagedControl}
-use Rattle.field_tables.specs.Registers.{byte_count, first_byte}
+use Rattle.field_tables.specs.Registers.{first_byte}
 use Rattle.sim_module.specs.declared.lane.Lane.{Lane}
 use Rattle.sim_module.specs.declared.delays.Delays.{Delays}
 use Rattle.sim_module.specs.declared.module.SimModule.{SimModule}

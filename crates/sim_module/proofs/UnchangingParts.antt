@@ -2,7 +2,7 @@
 use Rattle.std.proofs.Common.{◌≡◌, ℕ, ◌+◌, ◌-◌, ◌==◌, Bool, List, [], ◌∷◌, refl, ◌∙◌, if◌then◌else◌, nat_lt}
 use Rattle.field_tables.specs.LaneSets.{Lanes, is_empty, lanes_in}
 use Rattle.field_tables.specs.declared.field.Register.TheVariants.{CApplyDPInit, CDPDeinit, CStagedControl}
-use Rattle.field_tables.specs.Registers.{byte_count, first_byte}
+use Rattle.field_tables.specs.Registers.{first_byte}
 use Rattle.sim_module.specs.declared.module.SimModule.{SimModule}
 use Rattle.sim_module.specs.Record.{fixed_of}
 use Rattle.sim_module.specs.Unchanging.{EventsLeaveFixed}
