@@ -10,3 +10,5 @@ pub mod FetchedReports
 pub mod RowsFit
 pub mod SameRows
 pub mod SameFlagRows
+pub mod JsonNumbers
+pub mod JsonTokens

@@ -25,6 +25,8 @@ pub mod FetchedImages
 pub mod SameReports
 pub mod Entries
 pub mod EntryText
+pub mod JsonTrees
+pub mod EntryJson
 pub mod Rows
 pub mod RowTables
 pub mod FlagRows

@@ -20,3 +20,12 @@ unit_name Microwatt = codes "uW"
 unit_name Milliampere = codes "mA"
 unit_name Watt = codes "W"
 unit_name Metre = codes "m"
+
+-- as it stands behind the name in a key of JSON
+unfoldable pub unit_key : PrintedUnit → List ℕ
+unit_key Celsius = codes "c"
+unit_key Millivolt = codes "mv"
+unit_key Microwatt = codes "uw"
+unit_key Milliampere = codes "ma"
+unit_key Watt = codes "w"
+unit_key Metre = codes "m"

@@ -1,11 +1,13 @@
 // The reports of modules of whatever family.
 ghost use Rattle.reports.specs.Entries.{Says};
+ghost use Rattle.reports.specs.EntryJson.{ReportsJson};
 ghost use Rattle.reports.specs.Inventory.{inventory_entries, inventory_fault, inventory_lines};
 ghost use Rattle.reports.specs.Lines.{Reports};
 ghost use Rattle.reports.specs.Measured.{monitors_entries, monitors_fault, monitors_lines};
 ghost use Rattle.reports.specs.Warned.{flags_entries, flags_fault, flags_lines};
 
 use crate::entry::Entry;
+use crate::entry_json::json;
 use crate::entry_text::text;
 use crate::family::family_of;
 use crate::fault::ReportFault;
@@ -19,6 +21,14 @@ pub fn inventory(alloc: Global, image: &Image) -> Result<Vec<u8>, ReportFault>
     ensures { Reports (inventory_fault image.now) (inventory_lines image.now) result }
 {
     Ok(text(alloc, &inventory_entries(alloc, image)?)?)
+}
+
+/// The same as JSON.
+#[tactic(auto, unfolding(crate::specs::Entries::said_in))]
+pub fn inventory_json(alloc: Global, image: &Image) -> Result<Vec<u8>, ReportFault>
+    ensures { ReportsJson (inventory_fault image.now) (inventory_entries image.now) result }
+{
+    Ok(json(alloc, &inventory_entries(alloc, image)?)?)
 }
 
 #[tactic(auto, unfolding(crate::specs::Inventory::inventory_fault, crate::specs::Inventory::inventory_entries))]
@@ -40,6 +50,14 @@ pub fn monitors(alloc: Global, image: &Image) -> Result<Vec<u8>, ReportFault>
     Ok(text(alloc, &monitors_entries(alloc, image)?)?)
 }
 
+/// The same as JSON.
+#[tactic(auto, unfolding(crate::specs::Entries::said_in))]
+pub fn monitors_json(alloc: Global, image: &Image) -> Result<Vec<u8>, ReportFault>
+    ensures { ReportsJson (monitors_fault image.now) (monitors_entries image.now) result }
+{
+    Ok(json(alloc, &monitors_entries(alloc, image)?)?)
+}
+
 #[tactic(auto, unfolding(crate::specs::Measured::monitors_fault, crate::specs::Measured::monitors_entries))]
 fn monitors_entries(alloc: Global, image: &Image) -> Result<Vec<Entry>, ReportFault>
     ensures { Says (monitors_fault image.now) (monitors_entries image.now) result }
@@ -57,6 +75,14 @@ pub fn flags(alloc: Global, image: &Image) -> Result<Vec<u8>, ReportFault>
     ensures { Reports (flags_fault image.now) (flags_lines image.now) result }
 {
     Ok(text(alloc, &flags_entries(alloc, image)?)?)
+}
+
+/// The same as JSON.
+#[tactic(auto, unfolding(crate::specs::Entries::said_in))]
+pub fn flags_json(alloc: Global, image: &Image) -> Result<Vec<u8>, ReportFault>
+    ensures { ReportsJson (flags_fault image.now) (flags_entries image.now) result }
+{
+    Ok(json(alloc, &flags_entries(alloc, image)?)?)
 }
 
 #[tactic(auto, unfolding(crate::specs::Warned::flags_fault, crate::specs::Warned::flags_entries))]

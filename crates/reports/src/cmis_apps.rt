@@ -1,10 +1,12 @@
 ghost use Rattle.std.specs.Prelude.{◌≡◌, IfOk};
 ghost use Rattle.applications.specs.Advertised.{advertised_by};
 ghost use Rattle.reports.specs.Apps.{apps_entries, apps_fault, apps_lines};
-ghost use Rattle.reports.specs.Entries.{said_in};
+ghost use Rattle.reports.specs.Entries.{Says, said_in};
+ghost use Rattle.reports.specs.EntryJson.{ReportsJson};
 ghost use Rattle.reports.specs.Lines.{Reports};
 
 use crate::entry::{Entry, Said, say};
+use crate::entry_json::json;
 use crate::entry_text::text;
 use crate::fault::ReportFault;
 use applications::Advert;
@@ -17,11 +19,24 @@ use std::alloc::{AllocError, Global};
 pub fn apps(alloc: Global, image: &Image) -> Result<Vec<u8>, ReportFault>
     ensures { Reports (apps_fault image.now) (apps_lines (advertised_by image.now)) result }
 {
-    let advert = match Advert::of(image) {
-        Ok(advert) => advert,
-        Err(fault) => return Err(ReportFault::Advert(fault)),
-    };
-    Ok(text(alloc, &said_of(alloc, &advert)?)?)
+    Ok(text(alloc, &apps_entries(alloc, image)?)?)
+}
+
+/// The same as JSON.
+#[tactic(auto, unfolding(crate::specs::Entries::said_in))]
+pub fn apps_json(alloc: Global, image: &Image) -> Result<Vec<u8>, ReportFault>
+    ensures { ReportsJson (apps_fault image.now) (apps_entries (advertised_by image.now)) result }
+{
+    Ok(json(alloc, &apps_entries(alloc, image)?)?)
+}
+
+fn apps_entries(alloc: Global, image: &Image) -> Result<Vec<Entry>, ReportFault>
+    ensures { Says (apps_fault image.now) (apps_entries (advertised_by image.now)) result }
+{
+    match Advert::of(image) {
+        Ok(advert) => Ok(said_of(alloc, &advert)?),
+        Err(fault) => Err(ReportFault::Advert(fault)),
+    }
 }
 
 #[tactic(auto, unfolding(crate::specs::Entries::said_in, crate::specs::Apps::apps_entries))]

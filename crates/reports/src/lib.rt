@@ -1,4 +1,4 @@
-//! What the program reports of a module, as text.
+//! What the program reports of a module, as text and as JSON.
 #![tactic(auto)]
 
 mod by_family;
@@ -7,12 +7,14 @@ mod cmis_flags;
 mod cmis_inventory;
 mod cmis_monitors;
 mod entry;
+mod entry_json;
 mod entry_text;
 mod family;
 mod fault;
 mod fetching;
 mod flag;
 mod flag_rows;
+mod json_writer;
 pub mod laws;
 mod monitor;
 mod plan;
@@ -31,8 +33,8 @@ mod shown_state;
 mod tables;
 mod trace;
 
-pub use by_family::{flags, inventory, monitors};
-pub use cmis_apps::apps;
+pub use by_family::{flags, flags_json, inventory, inventory_json, monitors, monitors_json};
+pub use cmis_apps::{apps, apps_json};
 pub use fault::ReportFault;
 pub use fetching::fetch_image;
 pub use plan::plan_text;

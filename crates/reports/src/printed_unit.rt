@@ -1,5 +1,5 @@
 ghost use Rattle.std.specs.Prelude.{◌≡◌};
-ghost use Rattle.reports.specs.PrintedUnits.{printed_in, unit_name};
+ghost use Rattle.reports.specs.PrintedUnits.{printed_in, unit_key, unit_name};
 
 use field_tables::Unit;
 
@@ -39,6 +39,21 @@ impl PrintedUnit {
             PrintedUnit::Microwatt => "uW",
             PrintedUnit::Milliampere => "mA",
             PrintedUnit::Watt => "W",
+            PrintedUnit::Metre => "m",
+        }
+    }
+
+    /// As it stands behind the name in a key of JSON.
+    #[tactic(auto, unfolding(crate::specs::PrintedUnits::unit_key))]
+    pub fn key(self) -> &'static str
+        ensures { result.now ≡ unit_key self }
+    {
+        match self {
+            PrintedUnit::Celsius => "c",
+            PrintedUnit::Millivolt => "mv",
+            PrintedUnit::Microwatt => "uw",
+            PrintedUnit::Milliampere => "ma",
+            PrintedUnit::Watt => "w",
             PrintedUnit::Metre => "m",
         }
     }
