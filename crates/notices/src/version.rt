@@ -1,4 +1,5 @@
 //! The version.
+ghost use Rattle.std.specs.Prelude.{◌≡◌};
 
 macro_rules! version {
     ($($more:literal)?) => {
@@ -13,3 +14,10 @@ pub const VERSION: &str = version!();
 pub const VERSION_WITH_TEXTS: &str = version!(
     " (texts: module-image 1, certificate 1, certificate 2)"
 );
+
+/// The version, for C.
+pub fn version_text() -> &'static str
+    ensures { result.now ≡ VERSION.now }
+{
+    VERSION
+}
