@@ -31,6 +31,12 @@ enum dovecounter_status {
     DOVECOUNTER_TOO_MANY_HALVES = 1, /* more than 16 */
     DOVECOUNTER_NO_PLACE = 2,        /* a half has a device other than 0xA0 and 0xA2, or upper above 1, or upper 0 with a
                                         bank or a page other than 0 */
+
+    /* of a text */
+    DOVECOUNTER_NO_TEXT = 3,   /* there is none for this number */
+    DOVECOUNTER_TOO_SMALL = 4, /* the buffer is shorter than the text */
+
+    /* of what a module advertises, the first that applies, but for an absent lower half, which is looked for before all of them */
     DOVECOUNTER_NOT_CMIS = 11,       /* AD1: the identifier, byte 0, isn't 0x18, 0x19 or 0x1E */
     DOVECOUNTER_REVISION = 12,       /* AD2: the major number of the CMIS revision, byte 1, is neither 4 nor 5 */
     DOVECOUNTER_NOT_EIGHT_LANES = 16, /* AD6: the module doesn't have eight lanes */
@@ -66,8 +72,37 @@ enum dovecounter_status {
     DOVECOUNTER_NO_MODULE = 61, /* its numbers aren't those of any module, nor are zeros */
     DOVECOUNTER_NO_RANGE = 62,  /* BU2: a device other than 0xA0 and 0xA2, or no byte, or more than 128 to fetch or 8 to store,
                                    or bytes of two halves */
-    DOVECOUNTER_NOT_TAKEN = 63  /* the module refuses */
+    DOVECOUNTER_NOT_TAKEN = 63, /* the module refuses */
+
+    /* of a module that is decoded, the first that applies */
+    DOVECOUNTER_LACKS_HALF = 76,      /* RP6: device 0xA0 has no lower half; or, after the next two, a CMIS module lacks a page */
+    DOVECOUNTER_UNKNOWN_MODULE = 71,  /* RP1: no family that is read has the identifier, byte 0 */
+    DOVECOUNTER_UNREAD_REVISION = 74, /* RP4: the major number of the CMIS revision, byte 1, is neither 4 nor 5 */
+    DOVECOUNTER_NO_DIAGNOSTICS = 84,  /* SF4: a module of SFF-8472 has no diagnostics */
+    DOVECOUNTER_ADDRESS_CHANGE = 86,  /* SF6: it wants an address change before they are read */
+    DOVECOUNTER_SFF_LACKS_HALF = 83   /* SF3: a module of SFF-8636 or SFF-8472 lacks a half */
 };
+
+/* No text of the four functions below is longer. */
+#define DOVECOUNTER_TEXT_SIZE 256
+
+/* Writes to the buffer what a status means and what to do: ASCII, without an end of line and without a NUL. Writes to *text_length how
+   many bytes these are. The bytes of the buffer after them stay as they are. A status that stands for a fault of cmisctl has that
+   fault's sentence, which docs/faults.md lists.
+
+   status   if
+   3        it is no status
+   4        buffer_size is below the text's length */
+uint32_t dovecounter_status_text(uint32_t status, uint8_t *buffer, size_t buffer_size, size_t *text_length);
+
+/* The same of the code of a dovecounter_fault, 1 to 7. */
+uint32_t dovecounter_fault_text(uint32_t code, uint8_t *buffer, size_t buffer_size, size_t *text_length);
+
+/* The same of the reason of a dovecounter_judgement, 1 to 9. */
+uint32_t dovecounter_verdict_text(uint32_t reason, uint8_t *buffer, size_t buffer_size, size_t *text_length);
+
+/* Writes the version, such as 0.1.0, likewise. Status 3 does not come. */
+uint32_t dovecounter_version(uint8_t *buffer, size_t buffer_size, size_t *text_length);
 
 /* 128 bytes of a module's memory, and their place. */
 struct dovecounter_half {
@@ -100,6 +135,81 @@ struct dovecounter_advertisement {
    of bank 0 are needed; other halves are ignored. If two halves have the same place, the first counts. */
 uint32_t dovecounter_advertisement(const struct dovecounter_half *halves, size_t half_count,
                                    struct dovecounter_advertisement *advertisement);
+
+enum dovecounter_family { DOVECOUNTER_CMIS = 1, DOVECOUNTER_SFF_8636 = 2, DOVECOUNTER_SFF_8472 = 3 };
+
+/* What a module is: what the command `inventory` prints. Amounts are in thousandths of the unit that it prints. Texts come without
+   the padding at their end and with `?` for a byte that is no printable ASCII; then comes NUL. What only CMIS has is 0 in other
+   modules. */
+struct dovecounter_identity {
+    int64_t max_power;      /* thousandths of a watt (CMIS) */
+    int64_t length;         /* thousandths of a metre (CMIS) */
+    uint8_t family;         /* of enum dovecounter_family */
+    uint8_t identifier;     /* SFF-8024 */
+    uint8_t revision;       /* the major number in the upper four bits, the minor one in the lower (CMIS) */
+    uint8_t flat;           /* 1 if the module has no page but 00h (CMIS) */
+    uint8_t media_type;     /* MediaType (CMIS) */
+    uint8_t power_class;    /* 1 to 8 (CMIS) */
+    uint8_t connector;      /* SFF-8024 */
+    uint8_t technology;     /* MediaInterfaceTechnology (CMIS) */
+    uint8_t sum_base;       /* 1 if the sum of page 00h (CMIS), or CC_BASE, is right */
+    uint8_t sum_ext;        /* 1 if CC_EXT is right; 0 in CMIS */
+    uint8_t oui[3];         /* the vendor's organizationally unique identifier */
+    char vendor[17];
+    char part[17];
+    char part_revision[17];
+    char serial[17];
+    char date[17];
+};
+
+/* Writes to *identity what the module with these halves is. Needed are the lower half of device 0xA0, and its page 00h unless the
+   module is of SFF-8472; other halves are ignored.
+
+   status          if
+   1, 2            the halves have no place
+   71, 74, 76, 83  the module is of no family that is read, or a half is missing */
+uint32_t dovecounter_identity(const struct dovecounter_half *halves, size_t half_count,
+                              struct dovecounter_identity *identity);
+
+/* Which limits are passed: 0 or 1 of a value of the module itself, a byte of lanes of a value of the lanes. */
+struct dovecounter_levels {
+    uint8_t high_alarm;
+    uint8_t low_alarm;
+    uint8_t high_warning;
+    uint8_t low_warning;
+};
+
+/* The states of a module, and the flags that it raises, a byte of lanes each: what the command `flags` prints. What a family does
+   not have is 0, and so is all that a CMIS module with flat memory does not tell. */
+struct dovecounter_flags {
+    uint8_t family;             /* of enum dovecounter_family */
+    uint8_t lanes;              /* how many lanes are told of: 8, 4 or 1; 0 if a CMIS module has flat memory */
+    uint8_t state;              /* the code of the module's state (CMIS) */
+    uint8_t path_states[8];     /* the codes of the data paths' states, lane 1 first (CMIS) */
+    uint8_t statuses[8];        /* the codes of the configurations' statuses, lane 1 first (CMIS) */
+    uint8_t path_state_changed; /* (CMIS) */
+    uint8_t tx_fault;           /* of CMIS its flag `tx-failure` */
+    uint8_t tx_los;
+    uint8_t tx_lol;
+    uint8_t tx_eq_fail;         /* (CMIS) */
+    uint8_t rx_los;
+    uint8_t rx_lol;
+    struct dovecounter_levels temperature; /* of the module */
+    struct dovecounter_levels vcc;         /* of the module */
+    struct dovecounter_levels tx_power;
+    struct dovecounter_levels tx_bias;
+    struct dovecounter_levels rx_power;
+};
+
+/* Writes to *flags the states and the flags of the module with these halves. Needed are the lower half of device 0xA0, of a CMIS
+   module with paged memory page 11h of bank 0, and of a module of SFF-8472 the lower half of device 0xA2. In memory that was read,
+   most flags have become 0 by that.
+
+   status          if
+   1, 2            the halves have no place
+   71, 74, 76, 83  the module is of no family that is read, or a half is missing
+   84, 86          a module of SFF-8472 has no diagnostics, or wants an address change */
+uint32_t dovecounter_flags(const struct dovecounter_half *halves, size_t half_count, struct dovecounter_flags *flags);
 
 /* How long states last at most, in milliseconds, as the module advertises: the upper end of the range that its code stands for, and
    DOVECOUNTER_UNBOUNDED if the range has none or the code is reserved. */
@@ -164,10 +274,21 @@ struct dovecounter_judgement {
 uint32_t dovecounter_check(const struct dovecounter_half *halves, size_t half_count, const uint32_t weights[256],
                            const uint8_t *text, size_t text_length, struct dovecounter_judgement *judgement);
 
-/* Why a procedure ended without success: the digit of PV1 to PV7, and that fault's values. For PV5, in which no procedure here
-   ends, first is the digit of BU1 or BU2. */
+/* Why a procedure ended without success. The comments say what `first` and `second` of a dovecounter_fault are then; else they
+   are 0. */
+enum dovecounter_fault_code {
+    DOVECOUNTER_NO_FAULT = 0,
+    DOVECOUNTER_REJECTED = 1,          /* PV1: the module rejected the configuration of the lane `first` by the status `second` */
+    DOVECOUNTER_NOT_STAGED = 2,        /* PV2: the staged control byte of the lane `first` isn't what was stored */
+    DOVECOUNTER_NOT_ACTIVE = 3,        /* PV3: the active control byte of the lane `first` isn't that of the plan */
+    DOVECOUNTER_GAVE_UP_WAITING = 4,   /* PV4: 4096 operations were made without another answer */
+    DOVECOUNTER_BUS_ENDED = 5,         /* PV5: no procedure here ends so; `first` is the digit of BU1 or BU2 */
+    DOVECOUNTER_NOT_READY = 6,         /* PV6: the module is in the state `first`, and not in ModuleReady */
+    DOVECOUNTER_RESERVED_CODE = 7      /* PV7: the standard reserves the code `first` that the module shows */
+};
+
 struct dovecounter_fault {
-    uint8_t code; /* 0 if there is none */
+    uint8_t code; /* of enum dovecounter_fault_code */
     uint8_t first;
     uint8_t second;
 };

@@ -9,3 +9,9 @@ pub mod SavedProcedures
 pub mod SimulatedModules
 pub mod SavedReadings
 pub mod Durations
+pub mod Texts
+pub mod ReadModules
+pub mod ShownTexts
+pub mod Amounts
+pub mod Identities
+pub mod RaisedFlags

@@ -3,12 +3,14 @@
 use Rattle.std.specs.Prelude.{ℕ, Option, Some, None, Result, Ok, Err}
 use Rattle.applications.specs.declared.fault.AdvertFault.{AdvertFault}
 use Rattle.applications.specs.declared.fault.AdvertFault.TheVariants.{NotCmis, Revision, NotEightLanes, FlatMemory, Absent, BadSum}
+use Rattle.field_tables.specs.declared.sff_fault.SffFault.{SffFault}
+use Rattle.field_tables.specs.declared.sff_fault.SffFault.TheVariants as sff_fault
 use Rattle.plan_certificate.specs.declared.fault.CertificateFault.{CertificateFault}
 use Rattle.plan_certificate.specs.declared.fault.CertificateFault.TheVariants.{BadLine, OutOfOrder, TooMany, NoEnd}
 use Rattle.sim_module.specs.declared.fault.SimFault.{SimFault}
 use Rattle.sim_module.specs.declared.fault.SimFault.TheVariants as sim_fault
 use Rattle.firmware_api.specs.declared.status.Refusal.{Refusal}
-use Rattle.firmware_api.specs.declared.status.Refusal.TheVariants.{TooManyHalves, NoPlace, Advert, Certificate, TooManyKept, KeptNotAdmissible, NoProcedure, Ended, NotEnded, NoReply, GaveUp, TooFewBytes, NoStart, NoModule, NoRange, NotTaken}
+use Rattle.firmware_api.specs.declared.status.Refusal.TheVariants.{TooManyHalves, NoPlace, NoText, TooSmall, Advert, Certificate, TooManyKept, KeptNotAdmissible, NoProcedure, Ended, NotEnded, NoReply, GaveUp, TooFewBytes, NoStart, NoModule, NoRange, NotTaken, UnknownModule, UnreadRevision, LacksHalf, Sff}
 
 -- of a call that did what it is for
 abbrev pub done : ℕ
@@ -36,9 +38,19 @@ start_status (sim_fault.Advert fault) = advert_status fault
 start_status sim_fault.BadDelay = 53
 start_status (sim_fault.ActiveNotPaths lane) = 54
 
+abbrev pub sff_status : SffFault → ℕ
+sff_status (sff_fault.WrongIdentifier identifier) = 81
+sff_status sff_fault.FlatMemory = 82
+sff_status (sff_fault.Absent key) = 83
+sff_status sff_fault.NoDiagnostics = 84
+sff_status sff_fault.ExternalCalibration = 85
+sff_status sff_fault.AddressChange = 86
+
 abbrev pub status_of : Refusal → ℕ
 status_of TooManyHalves = 1
 status_of NoPlace = 2
+status_of NoText = 3
+status_of TooSmall = 4
 status_of (Advert fault) = advert_status fault
 status_of (Certificate fault) = certificate_status fault
 status_of NoProcedure = 31
@@ -53,6 +65,10 @@ status_of (NoStart fault) = start_status fault
 status_of NoModule = 61
 status_of NoRange = 62
 status_of NotTaken = 63
+status_of UnknownModule = 71
+status_of UnreadRevision = 74
+status_of LacksHalf = 76
+status_of (Sff fault) = sff_status fault
 
 -- a call is refused, or does what it is for
 abbrev pub status_by : Option Refusal → ℕ

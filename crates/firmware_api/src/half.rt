@@ -2,6 +2,7 @@ ghost use Rattle.std.specs.Prelude.{◌≡◌, ◌≤◌, length, MatchOption, O
 ghost use Rattle.std.specs.List.{list_all};
 ghost use Rattle.applications.specs.Advertised.{advertised_by};
 ghost use Rattle.firmware_api.specs.Halves.{has_place, key_of, memory_of, module_refusal};
+ghost use Rattle.firmware_api.specs.SimulatedModules.{half_refusal, unless_refused};
 ghost use Rattle.paged_memory.specs.Images.{most_pages};
 
 use crate::status::Refusal;
@@ -83,4 +84,17 @@ pub fn image_of(halves: &[Half]) -> Image
         image.put(half.key(), Page::from(half.bytes)).unwrap();
     }
     image
+}
+
+/// The same, or why there is none.
+pub fn image_in(halves: &[Half]) -> Result<Image, Refusal>
+    ensures { result ≡ unless_refused (half_refusal halves.now) (memory_of halves.now) }
+{
+    if halves.len() > MAX_PAGES {
+        return Err(Refusal::TooManyHalves);
+    }
+    if !all_have_places(halves) {
+        return Err(Refusal::NoPlace);
+    }
+    Ok(image_of(halves))
 }

@@ -3,12 +3,18 @@
 #![tactic(auto)]
 
 mod advertisement;
+mod amount;
 mod checking;
 mod durations;
+mod flags;
 mod half;
+mod identity;
 mod operation;
 mod planning;
 mod procedure;
+mod read_module;
 mod reading;
+mod shown_texts;
 mod simulated;
 mod status;
+mod texts;

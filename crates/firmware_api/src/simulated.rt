@@ -9,12 +9,11 @@ ghost use Rattle.firmware_api.specs.Halves.{memory_of};
 ghost use Rattle.firmware_api.specs.SimulatedModules as spec;
 ghost use Rattle.firmware_api.specs.Statuses.{done, status_by, status_in};
 
-use crate::half::{Half, all_have_places, image_of};
+use crate::half::{Half, image_in};
 use crate::status::{DONE, Refusal};
 use applications::Advert;
 use arrayvec::ArrayVec;
 use bus_model::{Dev, Device, MAX_FETCH, MAX_STORE};
-use paged_memory::{Image, MAX_PAGES};
 use sim_module::{Delays, Moving, SavedModule, SimModule};
 
 /// Puts into `simulated` what changes of the module at its start that has these halves and delays.
@@ -133,18 +132,6 @@ pub extern "C" fn dovecounter_module_active(simulated: &SavedModule, active: &mu
         }
         None => Refusal::NoModule.status(),
     }
-}
-
-fn image_in(halves: &[Half]) -> Result<Image, Refusal>
-    ensures { result ≡ spec.unless_refused (spec.half_refusal halves.now) (memory_of halves.now) }
-{
-    if halves.len() > MAX_PAGES {
-        return Err(Refusal::TooManyHalves);
-    }
-    if !all_have_places(halves) {
-        return Err(Refusal::NoPlace);
-    }
-    Ok(image_of(halves))
 }
 
 fn begun(halves: &[Half], delays: Delays) -> Result<SimModule, Refusal>

@@ -1,7 +1,8 @@
 ghost use Rattle.std.specs.Prelude.{◌≡◌, ◌≢◌};
-ghost use Rattle.firmware_api.specs.Statuses.{advert_status, certificate_status, done, start_status, status_of};
+ghost use Rattle.firmware_api.specs.Statuses.{advert_status, certificate_status, done, sff_status, start_status, status_of};
 
 use applications::AdvertFault;
+use field_tables::SffFault;
 use plan_certificate::CertificateFault;
 use sim_module::SimFault;
 
@@ -15,6 +16,10 @@ pub enum Refusal {
     TooManyHalves,
     /// The numbers of a half don't say where it stands.
     NoPlace,
+    /// There is no text for this number.
+    NoText,
+    /// The buffer is too small for the text.
+    TooSmall,
     /// The module doesn't say what it advertises.
     Advert(AdvertFault),
     /// The text is no certificate.
@@ -43,6 +48,14 @@ pub enum Refusal {
     NoRange,
     /// The simulated module refuses.
     NotTaken,
+    /// No family of modules has the identifier.
+    UnknownModule,
+    /// The CMIS revision is not read.
+    UnreadRevision,
+    /// A half that is needed is absent.
+    LacksHalf,
+    /// The memory of the SFF module is not read.
+    Sff(SffFault),
 }
 
 impl Refusal {
@@ -54,6 +67,8 @@ impl Refusal {
         match self {
             Refusal::TooManyHalves => 1,
             Refusal::NoPlace => 2,
+            Refusal::NoText => 3,
+            Refusal::TooSmall => 4,
             Refusal::Advert(fault) => advert_status(fault),
             Refusal::Certificate(fault) => certificate_status(fault),
             Refusal::NoProcedure => 31,
@@ -68,6 +83,10 @@ impl Refusal {
             Refusal::NoModule => 61,
             Refusal::NoRange => 62,
             Refusal::NotTaken => 63,
+            Refusal::UnknownModule => 71,
+            Refusal::UnreadRevision => 74,
+            Refusal::LacksHalf => 76,
+            Refusal::Sff(fault) => sff_status(fault),
         }
     }
 }
@@ -107,5 +126,19 @@ fn start_status(fault: SimFault) -> u32
         SimFault::Advert(fault) => advert_status(fault),
         SimFault::BadDelay => 53,
         SimFault::ActiveNotPaths(_) => 54,
+    }
+}
+
+fn sff_status(fault: SffFault) -> u32
+    ensures status { result ≡ sff_status fault }
+    ensures refused { result ≢ done }
+{
+    match fault {
+        SffFault::WrongIdentifier(_) => 81,
+        SffFault::FlatMemory => 82,
+        SffFault::Absent(_) => 83,
+        SffFault::NoDiagnostics => 84,
+        SffFault::ExternalCalibration => 85,
+        SffFault::AddressChange => 86,
     }
 }

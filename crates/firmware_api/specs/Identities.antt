@@ -1,0 +1,109 @@
+-- What a module is, as C sees it, and why it is not said. (docs/firmware.md, "Decoders"; OIF-CMIS-05.0, "Administrative Information
+-- (Page 00h)"; SFF-8636, "Upper Page 00h"; SFF-8472, "Serial ID: Data Fields")
+use Rattle.std.specs.Prelude.{◌+◌, pos, Option, None}
+use Rattle.std.specs.Option.{option_map}
+use Rattle.paged_memory.specs.declared.family.Family.{Family}
+use Rattle.paged_memory.specs.declared.family.Family.TheVariants.{Cmis, Sff8636, Sff8472}
+use Rattle.paged_memory.specs.Images.{Memory}
+use Rattle.field_tables.specs.declared.field.Field.TheVariants as fields
+use Rattle.field_tables.specs.declared.field.Sum.TheVariants as sums
+use Rattle.field_tables.specs.declared.field.TextField.TheVariants as texts
+use Rattle.field_tables.specs.Readings.{all_numbers, is_sum_right, number, text}
+use Rattle.sff8636_map.specs.Identity as sff8636
+use Rattle.sff8636_map.specs.Refusals as sff8636_refusals
+use Rattle.sff8636_map.specs.declared.identity.Identity as qsfp
+use Rattle.sff8472_map.specs.Identity as sff8472
+use Rattle.sff8472_map.specs.Refusals as sff8472_refusals
+use Rattle.sff8472_map.specs.declared.identity.Identity as sfp
+use Rattle.firmware_api.specs.declared.identity.ModuleIdentity.{ModuleIdentity}
+use Rattle.firmware_api.specs.declared.status.Refusal.{Refusal}
+use Rattle.firmware_api.specs.declared.status.Refusal.TheVariants.{Sff}
+use Rattle.firmware_api.specs.Amounts.{amount_at, length_in}
+use Rattle.firmware_api.specs.Plans.{refusal_before}
+use Rattle.firmware_api.specs.ReadModules.{family_in, family_number, is_flat, number_of, page_refusal, unread_refusal}
+use Rattle.firmware_api.specs.ShownTexts.{shown_text}
+
+abbrev pub cmis_identity : Memory → ModuleIdentity
+cmis_identity memory = record {
+  max_power = amount_at memory fields.CMaxPower None 1;
+  length = length_in memory fields.CLengthBase fields.CLengthMultiplier;
+  family = family_number Cmis;
+  identifier = number memory fields.CIdentifier;
+  revision = number memory fields.CRevision;
+  flat = number_of (is_flat memory);
+  media_type = number memory fields.CMediaType;
+  power_class = number memory fields.CPowerClass + 1;
+  connector = number memory fields.CConnector;
+  technology = number memory fields.CTechnology;
+  sum_base = number_of (is_sum_right memory sums.CSum00);
+  sum_ext = 0;
+  oui = all_numbers memory fields.COui;
+  vendor = shown_text (text memory texts.CVendor);
+  part = shown_text (text memory texts.CPart);
+  part_revision = shown_text (text memory texts.CPartRevision);
+  serial = shown_text (text memory texts.CSerial);
+  date = shown_text (text memory texts.CDate);
+}
+
+-- what only CMIS says is 0
+abbrev pub qsfp_identity : qsfp.Identity → ModuleIdentity
+qsfp_identity identity = record {
+  max_power = pos 0;
+  length = pos 0;
+  family = family_number Sff8636;
+  identifier = identity.identifier;
+  revision = 0;
+  flat = 0;
+  media_type = 0;
+  power_class = 0;
+  connector = identity.connector;
+  technology = 0;
+  sum_base = number_of identity.sum_base;
+  sum_ext = number_of identity.sum_ext;
+  oui = identity.oui;
+  vendor = shown_text identity.vendor.items;
+  part = shown_text identity.part.items;
+  part_revision = shown_text identity.part_revision.items;
+  serial = shown_text identity.serial.items;
+  date = shown_text identity.date.items;
+}
+
+abbrev pub sfp_identity : sfp.Identity → ModuleIdentity
+sfp_identity identity = record {
+  max_power = pos 0;
+  length = pos 0;
+  family = family_number Sff8472;
+  identifier = identity.identifier;
+  revision = 0;
+  flat = 0;
+  media_type = 0;
+  power_class = 0;
+  connector = identity.connector;
+  technology = 0;
+  sum_base = number_of identity.sum_base;
+  sum_ext = number_of identity.sum_ext;
+  oui = identity.oui;
+  vendor = shown_text identity.vendor.items;
+  part = shown_text identity.part.items;
+  part_revision = shown_text identity.part_revision.items;
+  serial = shown_text identity.serial.items;
+  date = shown_text identity.date.items;
+}
+
+abbrev pub refusal_of : Family → Memory → Option Refusal
+refusal_of Cmis memory = page_refusal 0x00 memory
+refusal_of Sff8636 memory = option_map Sff (sff8636_refusals.identity_fault memory)
+refusal_of Sff8472 memory = option_map Sff (sff8472_refusals.module_fault memory)
+
+abbrev pub identity_of : Family → Memory → ModuleIdentity
+identity_of Cmis memory = cmis_identity memory
+identity_of Sff8636 memory = qsfp_identity (sff8636.identity_of memory)
+identity_of Sff8472 memory = sfp_identity (sff8472.identity_of memory)
+
+-- why it is not said what a module is
+unfoldable pub identity_refusal : Memory → Option Refusal
+identity_refusal memory = refusal_before (unread_refusal memory) (refusal_of (family_in memory) memory)
+
+-- by its family
+unfoldable pub identity_in : Memory → ModuleIdentity
+identity_in memory = identity_of (family_in memory) memory

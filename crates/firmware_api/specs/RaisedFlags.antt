@@ -1,0 +1,174 @@
+-- The states of a module and the flags that it raises, as C sees them, and why they are not said. (docs/firmware.md, "Decoders";
+-- OIF-CMIS-05.0, "Module-Level Flags" of lower memory, of page 11h the data path states, the lane-specific flags and "Configuration
+-- Command Status"; SFF-8636, "Interrupt Flags"; SFF-8472, "Alarm and Warning Flag Bits")
+use Rattle.std.specs.Prelude.{ℕ, ◌+◌, Bool, if◌then◌else◌, List, [], ◌∷◌, Option, None}
+use Rattle.std.specs.Option.{option_map}
+use Rattle.paged_memory.specs.declared.family.Family.{Family}
+use Rattle.paged_memory.specs.declared.family.Family.TheVariants.{Cmis, Sff8636, Sff8472}
+use Rattle.paged_memory.specs.Images.{Memory}
+use Rattle.field_tables.specs.declared.field.Field.{Field}
+use Rattle.field_tables.specs.declared.field.Field.TheVariants as fields
+use Rattle.field_tables.specs.Readings.{all_numbers, bit_at, number}
+use Rattle.sff8636_map.specs.Refusals as sff8636_refusals
+use Rattle.sff8472_map.specs.Refusals as sff8472_refusals
+use Rattle.firmware_api.specs.declared.flags.ModuleFlags.{ModuleFlags}
+use Rattle.firmware_api.specs.declared.flags.LevelFlags.{LevelFlags}
+use Rattle.firmware_api.specs.declared.status.Refusal.{Refusal}
+use Rattle.firmware_api.specs.declared.status.Refusal.TheVariants.{Sff}
+use Rattle.firmware_api.specs.Plans.{refusal_before}
+use Rattle.firmware_api.specs.ReadModules.{family_in, family_number, is_flat, page_refusal, unread_refusal}
+
+-- a bit of a byte of lanes
+abbrev pub lane_bit : Memory → Field → ℕ → ℕ → ℕ
+lane_bit memory field i weight = if bit_at memory field i then weight else 0
+
+abbrev pub four_lanes : Memory → Field → ℕ
+four_lanes memory field =
+    lane_bit memory field 1 1 + lane_bit memory field 2 2 + lane_bit memory field 3 4 + lane_bit memory field 4 8
+
+abbrev pub eight_lanes : Memory → Field → ℕ
+eight_lanes memory field =
+    four_lanes memory field
+    + lane_bit memory field 5 16 + lane_bit memory field 6 32 + lane_bit memory field 7 64 + lane_bit memory field 8 128
+
+-- of the module itself: four flags of a field from the first on
+abbrev pub past_limits : Memory → Field → ℕ → LevelFlags
+past_limits memory field first = record {
+  high_alarm = lane_bit memory field first 1;
+  low_alarm = lane_bit memory field (first + 1) 1;
+  high_warning = lane_bit memory field (first + 2) 1;
+  low_warning = lane_bit memory field (first + 3) 1;
+}
+
+-- of the module, or of its one lane: two flags of a field of alarms and of one of warnings, from the first on
+abbrev pub past_pairs : Memory → Field → Field → ℕ → LevelFlags
+past_pairs memory alarms warnings first = record {
+  high_alarm = lane_bit memory alarms first 1;
+  low_alarm = lane_bit memory alarms (first + 1) 1;
+  high_warning = lane_bit memory warnings first 1;
+  low_warning = lane_bit memory warnings (first + 1) 1;
+}
+
+-- of each lane: a field for each limit
+abbrev pub of_fields : (Field → ℕ) → Field → Field → Field → Field → LevelFlags
+of_fields lanes high_alarm low_alarm high_warning low_warning = record {
+  high_alarm = lanes high_alarm;
+  low_alarm = lanes low_alarm;
+  high_warning = lanes high_warning;
+  low_warning = lanes low_warning;
+}
+
+abbrev pub no_levels : LevelFlags
+no_levels = record { high_alarm = 0; low_alarm = 0; high_warning = 0; low_warning = 0 }
+
+abbrev pub no_codes : List ℕ
+no_codes = 0 ∷ 0 ∷ 0 ∷ 0 ∷ 0 ∷ 0 ∷ 0 ∷ 0 ∷ []
+
+-- a module with flat memory tells nothing of its lanes
+abbrev pub flat_flags : Memory → ModuleFlags
+flat_flags memory = record {
+  family = family_number Cmis;
+  lanes = 0;
+  state = number memory fields.CModuleState;
+  path_states = no_codes;
+  statuses = no_codes;
+  path_state_changed = 0;
+  tx_fault = 0;
+  tx_los = 0;
+  tx_lol = 0;
+  tx_eq_fail = 0;
+  rx_los = 0;
+  rx_lol = 0;
+  temperature = past_limits memory fields.CModuleFlag 1;
+  vcc = past_limits memory fields.CModuleFlag 5;
+  tx_power = no_levels;
+  tx_bias = no_levels;
+  rx_power = no_levels;
+}
+
+abbrev pub paged_flags : Memory → ModuleFlags
+paged_flags memory = record {
+  family = family_number Cmis;
+  lanes = 8;
+  state = number memory fields.CModuleState;
+  path_states = all_numbers memory fields.CPathStates;
+  statuses = all_numbers memory fields.CConfigStatus;
+  path_state_changed = eight_lanes memory fields.CPathStateChanged;
+  tx_fault = eight_lanes memory fields.CTxFailure;
+  tx_los = eight_lanes memory fields.CTxLos;
+  tx_lol = eight_lanes memory fields.CTxLol;
+  tx_eq_fail = eight_lanes memory fields.CTxEqFail;
+  rx_los = eight_lanes memory fields.CRxLos;
+  rx_lol = eight_lanes memory fields.CRxLol;
+  temperature = past_limits memory fields.CModuleFlag 1;
+  vcc = past_limits memory fields.CModuleFlag 5;
+  tx_power = of_fields (eight_lanes memory) fields.CTxPowerHighAlarm fields.CTxPowerLowAlarm fields.CTxPowerHighWarning fields.CTxPowerLowWarning;
+  tx_bias = of_fields (eight_lanes memory) fields.CTxBiasHighAlarm fields.CTxBiasLowAlarm fields.CTxBiasHighWarning fields.CTxBiasLowWarning;
+  rx_power = of_fields (eight_lanes memory) fields.CRxPowerHighAlarm fields.CRxPowerLowAlarm fields.CRxPowerHighWarning fields.CRxPowerLowWarning;
+}
+
+abbrev pub qsfp_flags : Memory → ModuleFlags
+qsfp_flags memory = record {
+  family = family_number Sff8636;
+  lanes = 4;
+  state = 0;
+  path_states = no_codes;
+  statuses = no_codes;
+  path_state_changed = 0;
+  tx_fault = four_lanes memory fields.QTxFault;
+  tx_los = four_lanes memory fields.QTxLos;
+  tx_lol = four_lanes memory fields.QTxLol;
+  tx_eq_fail = 0;
+  rx_los = four_lanes memory fields.QRxLos;
+  rx_lol = four_lanes memory fields.QRxLol;
+  temperature = past_limits memory fields.QTempFlag 1;
+  vcc = past_limits memory fields.QVccFlag 1;
+  tx_power = of_fields (four_lanes memory) fields.QTxPowerHighAlarm fields.QTxPowerLowAlarm fields.QTxPowerHighWarning fields.QTxPowerLowWarning;
+  tx_bias = of_fields (four_lanes memory) fields.QTxBiasHighAlarm fields.QTxBiasLowAlarm fields.QTxBiasHighWarning fields.QTxBiasLowWarning;
+  rx_power = of_fields (four_lanes memory) fields.QRxPowerHighAlarm fields.QRxPowerLowAlarm fields.QRxPowerHighWarning fields.QRxPowerLowWarning;
+}
+
+abbrev pub sfp_flags : Memory → ModuleFlags
+sfp_flags memory = record {
+  family = family_number Sff8472;
+  lanes = 1;
+  state = 0;
+  path_states = no_codes;
+  statuses = no_codes;
+  path_state_changed = 0;
+  tx_fault = lane_bit memory fields.STxFault 1 1;
+  tx_los = 0;
+  tx_lol = 0;
+  tx_eq_fail = 0;
+  rx_los = lane_bit memory fields.SRxLos 1 1;
+  rx_lol = 0;
+  temperature = past_pairs memory fields.SAlarms fields.SWarnings 1;
+  vcc = past_pairs memory fields.SAlarms fields.SWarnings 3;
+  tx_power = past_pairs memory fields.SAlarms fields.SWarnings 7;
+  tx_bias = past_pairs memory fields.SAlarms fields.SWarnings 5;
+  rx_power = past_pairs memory fields.SRxAlarms fields.SRxWarnings 1;
+}
+
+unfoldable pub cmis_refusal : Memory → Option Refusal
+cmis_refusal memory = if is_flat memory then None else page_refusal 0x11 memory
+
+unfoldable pub cmis_flags : Memory → ModuleFlags
+cmis_flags memory = if is_flat memory then flat_flags memory else paged_flags memory
+
+abbrev pub refusal_of : Family → Memory → Option Refusal
+refusal_of Cmis memory = cmis_refusal memory
+refusal_of Sff8636 memory = option_map Sff (sff8636_refusals.module_fault memory)
+refusal_of Sff8472 memory = option_map Sff (sff8472_refusals.flags_fault memory)
+
+abbrev pub flags_of : Family → Memory → ModuleFlags
+flags_of Cmis memory = cmis_flags memory
+flags_of Sff8636 memory = qsfp_flags memory
+flags_of Sff8472 memory = sfp_flags memory
+
+-- why it is not said which flags are raised
+unfoldable pub flags_refusal : Memory → Option Refusal
+flags_refusal memory = refusal_before (unread_refusal memory) (refusal_of (family_in memory) memory)
+
+-- by the family
+unfoldable pub flags_in : Memory → ModuleFlags
+flags_in memory = flags_of (family_in memory) memory

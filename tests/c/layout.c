@@ -1,0 +1,180 @@
+/* The layout of each structure of the header, which the library has too: a compiler that lays one out otherwise fails here. The
+   library is compiled for x86-64, and for the processors that docs/firmware.md names with it. */
+#include "dovecounter.h"
+
+#include <stddef.h>
+
+#define SIZE(name, size) _Static_assert(sizeof(struct dovecounter_##name) == (size), #name)
+#define AT(name, member, offset)                                                                                       \
+    _Static_assert(offsetof(struct dovecounter_##name, member) == (offset), #name " " #member)
+
+SIZE(half, 132);
+AT(half, device, 0);
+AT(half, upper, 1);
+AT(half, bank, 2);
+AT(half, page, 3);
+AT(half, bytes, 4);
+
+SIZE(application, 7);
+AT(application, number, 0);
+AT(application, host_id, 1);
+AT(application, media_id, 2);
+AT(application, host_lanes, 3);
+AT(application, media_lanes, 4);
+AT(application, host_starts, 5);
+AT(application, media_starts, 6);
+
+SIZE(advertisement, 107);
+AT(advertisement, count, 0);
+AT(advertisement, unsupported, 1);
+AT(advertisement, applications, 2);
+
+SIZE(identity, 120);
+AT(identity, max_power, 0);
+AT(identity, length, 8);
+AT(identity, family, 16);
+AT(identity, identifier, 17);
+AT(identity, revision, 18);
+AT(identity, flat, 19);
+AT(identity, media_type, 20);
+AT(identity, power_class, 21);
+AT(identity, connector, 22);
+AT(identity, technology, 23);
+AT(identity, sum_base, 24);
+AT(identity, sum_ext, 25);
+AT(identity, oui, 26);
+AT(identity, vendor, 29);
+AT(identity, part, 46);
+AT(identity, part_revision, 63);
+AT(identity, serial, 80);
+AT(identity, date, 97);
+
+SIZE(levels, 4);
+AT(levels, high_alarm, 0);
+AT(levels, low_alarm, 1);
+AT(levels, high_warning, 2);
+AT(levels, low_warning, 3);
+
+SIZE(flags, 46);
+AT(flags, family, 0);
+AT(flags, lanes, 1);
+AT(flags, state, 2);
+AT(flags, path_states, 3);
+AT(flags, statuses, 11);
+AT(flags, path_state_changed, 19);
+AT(flags, tx_fault, 20);
+AT(flags, tx_los, 21);
+AT(flags, tx_lol, 22);
+AT(flags, tx_eq_fail, 23);
+AT(flags, rx_los, 24);
+AT(flags, rx_lol, 25);
+AT(flags, temperature, 26);
+AT(flags, vcc, 30);
+AT(flags, tx_power, 34);
+AT(flags, tx_bias, 38);
+AT(flags, rx_power, 42);
+
+SIZE(durations, 24);
+AT(durations, module_power_up, 0);
+AT(durations, module_power_down, 4);
+AT(durations, path_init, 8);
+AT(durations, path_deinit, 12);
+AT(durations, path_tx_turn_on, 16);
+AT(durations, path_tx_turn_off, 20);
+
+SIZE(path, 3);
+AT(path, application, 0);
+AT(path, host, 1);
+AT(path, media, 2);
+
+SIZE(plan, 48);
+AT(plan, weight, 0);
+AT(plan, count, 8);
+AT(plan, lanes, 9);
+AT(plan, outside, 10);
+AT(plan, control, 11);
+AT(plan, paths, 19);
+
+SIZE(judgement, 16);
+AT(judgement, reason, 0);
+AT(judgement, number, 8);
+
+SIZE(fault, 3);
+AT(fault, code, 0);
+AT(fault, first, 1);
+AT(fault, second, 2);
+
+SIZE(progress, 32);
+AT(progress, met, 0);
+AT(progress, steps, 8);
+AT(progress, work, 10);
+AT(progress, lanes, 11);
+AT(progress, control, 12);
+AT(progress, selection, 20);
+AT(progress, page, 21);
+AT(progress, fault, 22);
+
+SIZE(procedure, 40);
+AT(procedure, magic, 0);
+AT(procedure, wait, 4);
+AT(procedure, saved, 8);
+
+SIZE(operation, 13);
+AT(operation, kind, 0);
+AT(operation, device, 1);
+AT(operation, offset, 2);
+AT(operation, count, 3);
+AT(operation, bytes, 4);
+AT(operation, wait, 12);
+
+SIZE(answer, 6);
+AT(answer, steps, 0);
+AT(answer, fault, 2);
+
+SIZE(reading, 804);
+AT(reading, magic, 0);
+AT(reading, steps, 4);
+AT(reading, settled, 6);
+AT(reading, selection, 7);
+AT(reading, page, 8);
+AT(reading, accepted, 9);
+AT(reading, piece, 10);
+AT(reading, read, 11);
+AT(reading, wait, 12);
+AT(reading, count, 13);
+AT(reading, halves, 14);
+AT(reading, part, 674);
+
+SIZE(delays, 14);
+AT(delays, apply, 0);
+AT(delays, init, 2);
+AT(delays, turn_on, 4);
+AT(delays, turn_off, 6);
+AT(delays, deinit, 8);
+AT(delays, power_up, 10);
+AT(delays, power_down, 12);
+
+SIZE(lane, 10);
+AT(lane, left, 0);
+AT(lane, path, 2);
+AT(lane, status, 3);
+AT(lane, custom, 4);
+AT(lane, staged, 5);
+AT(lane, active, 6);
+AT(lane, keeps, 7);
+AT(lane, kept, 8);
+
+SIZE(module, 126);
+AT(module, delays, 0);
+AT(module, left, 14);
+AT(module, apply_left, 16);
+AT(module, bank, 18);
+AT(module, page, 19);
+AT(module, waiting, 20);
+AT(module, pin, 21);
+AT(module, control, 22);
+AT(module, state, 23);
+AT(module, deinit, 24);
+AT(module, module_flags, 25);
+AT(module, lane_flags, 26);
+AT(module, lanes, 46);
