@@ -25,7 +25,7 @@ pub record IsAtRest (control : List ℕ) (sim : SimModule) : Type 0 where
   pub none : HasNoApply sim
   pub active : active_bytes sim ≡ control
 
--- whatever a script refuses or cuts: where the steps on its bus, over a module that begins so, are a success of provisioning
+-- whatever a script refuses or cuts: if the steps on its bus, over a module that begins so, are a success of provisioning
 -- control bytes on these lanes, the bytes are active afterwards, and stay so
 abbrev pub ActiveIsPlannedOn : Lanes → (SimModule → Type 0) → Type 0
 ActiveIsPlannedOn lanes Begins =
@@ -37,7 +37,7 @@ ActiveIsPlannedOn lanes Begins =
 abbrev pub ActiveIsPlanned : Type 0
 ActiveIsPlanned = ActiveIsPlannedOn every_lane IsSound
 
--- whatever a script refuses or cuts: where no apply is in progress, the steps of activation leave active what was, whatever
+-- whatever a script refuses or cuts: if no apply is in progress, the steps of activation leave active what was, whatever
 -- they activate and answer
 abbrev pub ActivationLeavesActive : Type 0
 ActivationLeavesActive =

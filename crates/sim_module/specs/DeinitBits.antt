@@ -1,4 +1,4 @@
--- Which DPDeinit bits of a module provisioning leaves set. (docs/module.md, "Kept paths"; this project's own)
+-- Which DPDeinit bits provisioning leaves set in a module. (docs/module.md, "Kept paths"; this project's own)
 use Rattle.std.specs.Prelude.{◌≡◌, ℕ, false, true, List, Ok, reverse}
 use Rattle.std.specs.FinSet as set
 use Rattle.bus_model.specs.declared.script.Directive.{Directive}
@@ -25,7 +25,7 @@ DeinitHolds lanes sim = (lane : ℕ) → IsLane lane → set.contains sim.deinit
 abbrev pub AcceptsBits : Lanes → History → Type 0
 AcceptsBits lanes history = Stands (IsAccepted (set_deinit (byte_of lanes))) history
 
--- whatever a script refuses or cuts: so the bits are after steps of provisioning of which one stored them, whatever they answer
+-- whatever a script refuses or cuts: so the bits are after steps of provisioning, one of which stored them, whatever they answer
 abbrev pub BitsFollowTheStore : Type 0
 BitsFollowTheStore =
     (old new : Seen (List Directive × SimModule)) (history : History) (control : List ℕ) (lanes : Lanes) (answer : Answer)

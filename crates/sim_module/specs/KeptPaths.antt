@@ -34,8 +34,8 @@ pub record IsUp (lane byte : ℕ) (sim : SimModule) : Type 0 where
   pub up : is_down sim lane ≡ false
   pub active : (lane_at sim lane).active ≡ byte
 
--- whatever a script without settings of the pin refuses or cuts: where no apply is in progress and the kept paths are active,
--- the steps of provisioning on all other lanes leave each lane of theirs up that was, whatever they stage and answer
+-- whatever a script without settings of the pin refuses or cuts: if no apply is in progress and the kept paths are active,
+-- each of their lanes that was up is up after the steps of provisioning on all other lanes, whatever they stage and answer
 abbrev pub KeptPathsStayUp : Type 0
 KeptPathsStayUp =
     (old new : Seen (List Directive × SimModule)) (history : History) (advert : Advertised) (kept : List Path) (control active : List ℕ) (answer : Answer)
@@ -59,8 +59,8 @@ RanAttempts advert kept old (attempt ∷ attempts) new =
     × IsProvisioning attempt.control (lanes_outside advert kept) (IsFull next) attempt.history attempt.answer
     × RanAttempts advert kept next attempts new
 
--- the same through any number of attempts, of which each may stage other bytes and end as it likes: what holds before the first
--- is asked of nothing that one of them leaves
+-- the same through any number of attempts, each of which may stage other bytes and end as it likes: the premises have to hold
+-- before the first one, and need not hold between them
 abbrev pub KeptPathsStayUpAgain : Type 0
 KeptPathsStayUpAgain =
     (old new : Seen (List Directive × SimModule)) (attempts : List Attempt) (advert : Advertised) (kept : List Path) (active : List ℕ)

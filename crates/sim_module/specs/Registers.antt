@@ -1,4 +1,4 @@
--- Where the registers stand that a module serves itself, by the rows of the memory map. (docs/fields.md, "Registers";
+-- The places of the registers that a module serves itself, by the rows of the memory map. (docs/fields.md, "Registers";
 -- OIF-CMIS-05.0, chapter 8 "Module Management Memory Map"; which registers are served is this project's own)
 use Rattle.std.specs.Prelude.{ℕ, ◌+◌, ◌==◌, ◌&&◌, Bool, nat_le, nat_lt}
 use Rattle.field_tables.specs.FieldRows.{row_of}

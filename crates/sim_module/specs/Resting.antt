@@ -21,7 +21,7 @@ stays before after = is_path_state after.path before.path && after.left == befor
 abbrev pub all_stay : SimModule → List Lane → Bool
 all_stay sim after = list_all (λ lane. stays (lane_at sim lane) (get_or after (lane - 1) no_lane)) all_lanes
 
--- what is seen of a module, and of its lanes after a tick, that the tick leaves as it is
+-- conditions on a module, and on its lanes after a tick, under which the tick leaves it as it is
 pub record IsStill (moving : Moving) : Type 0 where
   pub eight : length moving.lanes ≡ 8
   pub apply_left : moving.apply_left ≡ 0

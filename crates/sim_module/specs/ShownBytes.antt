@@ -41,7 +41,7 @@ state_byte sim byte = bit_and byte 0xF1 + 2 * module_codes.code_of sim.state
 abbrev pub control_byte : SimModule → ℕ
 control_byte sim = bit_and sim.control 0xF7
 
--- of bytes with whether they are shown, the first that is, or else this one
+-- the first of these bytes that is shown (each comes with whether it is), or else this one
 abbrev pub first_shown : List (Bool × ℕ) → ℕ → ℕ
 first_shown bytes byte = unwrap_or (option_map (λ shown. shown.1) (find (λ shown. shown.0) bytes)) byte
 
@@ -80,13 +80,13 @@ own_bytes sim byte address =
     else if is_mapped sim status_page then status_bytes sim address
     else []
 
--- the byte at an address, where the half that shows it has these bytes in the image
+-- the byte at an address, if the half that shows it has these bytes in the image
 unfoldable pub shown_byte : SimModule → List ℕ → ℕ → ℕ
 shown_byte sim page address =
     let byte = slice_index page (place_in_half address) in
     first_shown (own_bytes sim byte address) byte
 
--- latched: a flag is 0 once it was read
+-- a latched flag is 0 once it was read
 abbrev pub left_flag : Bool → ℕ → ℕ
 left_flag is_read flag = if is_read then 0 else flag
 

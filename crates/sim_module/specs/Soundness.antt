@@ -25,7 +25,7 @@ pub record IsSound (sim : SimModule) : Type 0 where
   pub eight : length sim.lanes ≡ 8
   pub progress : (lane : ℕ) → TellsProgress (lane_at sim lane)
 
--- ticks, the pin however it is set, and each fetch and store, whole or cut, lead from a module of which P holds to another
+-- if P holds of a module, it still does after each tick, setting of the pin, and fetch and store, whole or cut
 pub record IsAlwaysKept (P : SimModule → Type 0) : Type 0 where
   pub time : IsKeptInTime conduct (λ on. Unit {0}) P
   pub operations : (op : Op) → IsKeptBy conduct P op
@@ -35,7 +35,7 @@ abbrev pub RunsLeaveSound : Type 0
 RunsLeaveSound =
     (old new : Seen (List Directive × SimModule)) (made : List Step) → IsSound old.state.1 → Ran (script_rules conduct) old new made → IsSound new.state.1
 
--- a lane is down where a lane of its active path is held down
+-- a lane is down if a lane of its active path is held down
 abbrev pub HoldsItsPath : Type 0
 HoldsItsPath =
     (sim : SimModule) (lane other : ℕ) → IsLane other → agree (active_bytes sim) lane other ≡ true → holds_down sim other ≡ true → is_down sim lane ≡ true

@@ -45,7 +45,7 @@ start_lane memory lane = record {
   kept = None;
 }
 
--- in low power where the global controls ask for it without the pin
+-- in low power if the global controls ask for it without the pin
 abbrev pub start_state : ℕ → ModuleState
 start_state control = if asks_low_power control false then LowPwr else Ready
 

@@ -49,7 +49,7 @@ abbrev pub next_path_state : SimModule → ℕ → PathState
 next_path_state sim lane =
     path_table.next_of (lane_at sim lane).path (record { down = is_down sim lane; done = is_last (lane_at sim lane).left })
 
--- a counter goes on, or begins where a state was entered
+-- a counter goes on, or begins if a state was entered
 abbrev pub next_left : Bool → ℕ → ℕ → ℕ
 next_left stays left delay = if stays then left - 1 else delay
 

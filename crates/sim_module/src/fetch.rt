@@ -162,7 +162,7 @@ impl Moving {
         flags
     }
 
-    // What is latched becomes 0 where it was read.
+    // The latched flags that were read become 0.
     #[tactic(auto, unfolding(crate::specs::ShownBytes::cleared))]
     pub(crate) fn clear(&mut self, first: u8, count: u8)
         requires { first + count ≤ 256 }

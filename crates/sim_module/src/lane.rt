@@ -6,7 +6,7 @@ use datapath_states::{ConfigStatus, PathState};
 pub struct Lane {
     /// The state of the lane's data path.
     pub path: PathState,
-    /// The ticks until the work of a transient state is done, and 0 where none runs.
+    /// The ticks until the work of a transient state is done, and 0 if none runs.
     pub left: u16,
     /// What became of the last apply.
     pub status: ConfigStatus,
@@ -106,7 +106,7 @@ impl Lane {
 ghost use Rattle.std.specs.Prelude.{◌≡◌};
 ghost use Rattle.sim_module.specs.Ticks as ticks;
 
-/// A counter after a tick: it goes on, or begins where a state was entered.
+/// A counter after a tick: it goes on, or begins if a state was entered.
 pub fn next_left(stays: bool, left: u16, delay: u16) -> u16
     ensures { result ≡ ticks.next_left stays left delay }
 {

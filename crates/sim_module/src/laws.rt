@@ -1,6 +1,6 @@
 //! What holds of a module, over the definitions of its events alone.
 //!
-//! In the laws over runs on a scripted bus, that the bus's list is full is said of its whole list, also of the steps that it had
+//! In the laws over runs on a scripted bus, the list that may be full is the bus's whole list, also with the steps that it had
 //! before a call.
 ghost use Rattle.std.specs.Prelude.{ℕ};
 ghost use Rattle.paged_memory.specs.Images.{Memory};
@@ -31,8 +31,8 @@ pub fn a_module_stays_sound()
     ensures { IsAlwaysKept IsSound }
 {}
 
-/// So a sound module is sound after any steps on a scripted bus, whatever the script refuses or cuts short. The premise is
-/// met by every new module.
+/// So a sound module is sound after any steps on a scripted bus, whatever the script refuses or cuts short. Every new
+/// module meets the premise.
 pub fn a_run_leaves_a_module_sound()
     ensures { RunsLeaveSound }
 {}
@@ -42,19 +42,19 @@ pub fn a_lane_holds_its_path_down()
     ensures { HoldsItsPath }
 {}
 
-/// A tick leaves a lane as it is that is activated and not down, and of which no apply is in progress.
+/// A tick leaves a lane as it is if the lane is activated and not down and no apply of it is in progress.
 pub fn a_lane_that_is_not_down_stays_up()
     ensures { LanesStayUp }
 {}
 
-/// A tick takes a lane from DPDeactivated to DPInit, and its counter begins, if the lane isn't down. An apply of it that is
-/// done with that tick changes nothing in this.
+/// If a lane isn't down, a tick takes it from DPDeactivated to DPInit, and its counter begins. This holds too if an apply
+/// of the lane is done with that tick.
 pub fn a_lane_that_is_not_down_comes_up()
     ensures { LanesComeUp }
 {}
 
 /// Over a scripted bus, whatever the script refuses or cuts short: after a success of provisioning the control bytes are
-/// active, and no apply is in progress that would change them. Where no lane is applied, as all are kept, an apply that was
+/// active, and no apply is in progress that would change them. If no lane is applied, as all are kept, an apply that was
 /// in progress before could still change them.
 pub fn what_is_provisioned_is_active()
     ensures all_lanes { ActiveIsPlanned }
@@ -62,27 +62,27 @@ pub fn what_is_provisioned_is_active()
     ensures no_apply { (lanes : Lanes) → ActiveIsPlannedOn lanes (λ sim. IsSound sim × HasNoApply sim) }
 {}
 
-/// Over a scripted bus, whatever the script refuses or cuts short: activation leaves active what was, whatever it answers,
-/// where no apply is in progress.
+/// Over a scripted bus, whatever the script refuses or cuts short: if no apply is in progress, activation leaves active
+/// what was, whatever it answers.
 pub fn activation_leaves_what_is_active()
     ensures { ActivationLeavesActive }
 {}
 
-/// Over a scripted bus whose script sets the pin no more, whatever it refuses or cuts short: where no apply is in progress
-/// and the kept paths are active, provisioning of the other lanes leaves each lane of a kept path that was DPActivated and
-/// not down as it was, with its active byte, whatever it stages and answers.
+/// Over a scripted bus whose script sets the pin no more, whatever it refuses or cuts short: if no apply is in progress
+/// and the kept paths are active, then after provisioning of the other lanes each lane of a kept path that was DPActivated
+/// and not down still is, with its active byte, whatever provisioning stages and answers.
 pub fn kept_paths_stay_up()
     ensures { KeptPathsStayUp }
 {}
 
-/// So they do through any number of provisionings, one after another, of which each may fail: what holds before the first one
-/// is enough, also when an apply of one is in progress as the next begins. The bus's list has the steps of all of them.
+/// So they do through any number of provisionings, one after another, each of which may fail: what holds before the first one
+/// is enough, even if an apply of one is in progress when the next begins. The bus's list has the steps of all of them.
 pub fn kept_paths_stay_up_again()
     ensures { KeptPathsStayUpAgain }
 {}
 
 /// Over a scripted bus, whatever the script refuses or cuts short: once the store of DPDeinit was accepted, as it was before
-/// each success, a lane's bit is set if and only if the lane is provisioned. The bit of a kept lane is clear then, also if it
+/// each success, a lane's bit is set if and only if the lane is provisioned. The bit of a kept lane is clear then, even if it
 /// was set before.
 pub fn provisioning_clears_the_bits_of_kept_lanes()
     ensures stored { BitsFollowTheStore }

@@ -12,7 +12,7 @@ use std::marker::Model;
 pub struct SimModule {
     pub(crate) fixed: Fixed,
     pub(crate) moving: Moving,
-    /// A note that nothing moves: it is made by a tick, and nothing has happened since.
+    /// A note that nothing moves: a tick made it, and nothing has happened since.
     pub(crate) rests: bool,
 }
 
@@ -65,7 +65,7 @@ impl SimModule {
         self.moving.save()
     }
 
-    /// The module of an image, with what that advertises, of which what changes has these numbers, if there is one.
+    /// The module of an image, with what that advertises, if one has these numbers for what changes of it.
     pub fn restore(image: Image, advert: Advert, saved: &SavedModule) -> Option<SimModule>
         ensures { result ≡ option_map (module_of (record { image = image; advert = advert })) (restored saved.now) }
     {

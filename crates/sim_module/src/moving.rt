@@ -1,4 +1,4 @@
-//! What of a module changes.
+//! What changes of a module.
 use crate::delays::Delays;
 use crate::lane::Lane;
 use applications::LaneSet;
@@ -10,7 +10,7 @@ use std::array;
 /// How many bytes have flags of the lanes, from that of the changed path states on.
 pub const LANE_FLAGS: usize = 19;
 
-/// What of a module changes; and its delays, by which it does.
+/// What changes of a module, and the delays with which it does.
 #[derive(Clone, Copy, Debug)]
 pub struct Moving {
     pub(crate) delays: Delays,
@@ -20,12 +20,12 @@ pub struct Moving {
     /// Byte 26 of lower memory, as it was stored.
     pub(crate) control: u8,
     pub(crate) state: ModuleState,
-    /// The ticks until the work of a transient module state is done, and 0 where none runs.
+    /// The ticks until the work of a transient module state is done, and 0 if none runs.
     pub(crate) left: u16,
     pub(crate) lanes: [Lane; 8],
     /// The lanes whose DPDeinit bit is set.
     pub(crate) deinit: LaneSet,
-    /// The ticks until an apply in progress is done, and 0 where none is.
+    /// The ticks until an apply in progress is done, and 0 if none is.
     pub(crate) apply_left: u16,
     /// The latched flags of the module.
     pub(crate) module_flags: u8,

@@ -51,7 +51,7 @@ ghost use Rattle.field_tables.specs.Registers.{first_byte};
 ghost use Rattle.sim_module.specs.Registers.{lane_flag_bytes};
 ghost use Rattle.sim_module.specs.Starts as spec;
 
-// The first half that an image lacks of those that a module needs.
+// Of the halves that a module needs, the first that an image lacks.
 fn absent_half(image: &Image) -> Option<Key>
     ensures { result ≡ spec.absent_half image.now }
 {

@@ -107,7 +107,7 @@ impl Moving {
         (1..9).all(|lane| self.lane(lane).stays(lane_in(after, lane)))
     }
 
-    // Whether a tick is seen to leave all as it is, given the module's next state, all lanes after the tick, and the flags of changed
+    // If true, a tick leaves all as it is. Given are the module's next state, all lanes after the tick, and the flags of changed
     // path states.
     fn is_still(&self, state: ModuleState, after: &[Lane; 8], flags: u8) -> bool
         requires state { state ≡ spec.next_module_state (bare self.now) }
@@ -130,7 +130,7 @@ impl Moving {
         self.all_stay(after)
     }
 
-    // Everything moves from its values before. Answers whether it was seen that all stays as it was.
+    // Everything moves from its values before. If it answers true, a further tick leaves all as it is.
     #[tactic(auto, unfolding(crate::specs::Ticks::ticked))]
     fn pass_tick(&mut self) -> bool
         ensures new { bare self.new ≡ spec.ticked (bare self.old) }
@@ -148,7 +148,7 @@ impl Moving {
         rests
     }
 
-    /// Lets one tick pass, whatever never changes of the module. Answers whether it is seen that all further ticks leave all as it is.
+    /// Lets one tick pass, whatever the part of the module that never changes. If it answers true, further ticks leave all as it is.
     pub fn tick(&mut self) -> bool
         ensures new { (fixed : Fixed) → module_of fixed self.new ≡ spec.ticked (module_of fixed self.old) }
         ensures rests { (fixed : Fixed) → RestsIf result (module_of fixed self.new) }
