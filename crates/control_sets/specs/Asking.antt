@@ -20,7 +20,7 @@ step_with op reply = record { op = op; reply = reply }
 abbrev pub next_for : Session → Task → Next
 next_for session task = if nat_lt session.steps most_steps then Do (operation_by session.selection task) else Done (Err GaveUp)
 
--- for the task in hand, where there is one
+-- for the task in hand, if there is one
 abbrev pub next_with : Session → Option Task → Next
 next_with session None = Done (Ok session.steps)
 next_with session (Some task) = next_for session task

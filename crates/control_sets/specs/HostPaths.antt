@@ -42,7 +42,7 @@ is_reached bytes lane = nat_le (first_lane (control_at bytes lane)) lane && all_
 unfoldable pub is_right : List ℕ → ℕ → Bool
 is_right bytes lane = not (is_used (control_at bytes lane)) || is_reached bytes lane
 
--- the lowest lane that can't: where there is none, the bytes are host paths
+-- the lowest lane that can't: if there is none, the bytes are host paths
 unfoldable pub wrong_lane : List ℕ → Option ℕ
 wrong_lane bytes = find (λ lane. not (is_right bytes lane)) (range_with_len 1 8)
 

@@ -79,7 +79,7 @@ met_in code (Some state) = Fails (ModuleState code)
 abbrev pub judged_module : ℕ → Judgement
 judged_module code = met_in code (module_state_at code)
 
--- by data path states, where reserved codes are looked for in the lanes of one set, and the lanes of another wait for a
+-- by data path states: reserved codes are looked for in the lanes of one set, and the lanes of another wait for a
 -- state
 abbrev pub judged_states : Lanes → Lanes → PathState → List ℕ → Judgement
 judged_states looked waiting state codes =
@@ -112,7 +112,7 @@ abbrev pub judged_done : Op → Judgement
 judged_done (Store dev offset bytes) = Met
 judged_done (Fetch dev offset count) = NotYet
 
--- a store is met where it was taken; what was refused is made again
+-- a store is met if it was taken; what was refused is made again
 abbrev pub judgement : Task → Reply → Judgement
 judgement task (Bytes bytes) = judged task bytes.items
 judgement task Done = judged_done (operation task)

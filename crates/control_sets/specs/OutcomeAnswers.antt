@@ -1,5 +1,5 @@
--- Which answer some steps have, of a call whose single steps end it in answers: the first that comes, or none within as many
--- steps as it may make, or none before the bus's list is full. (docs/bus.md, "Outcomes"; this project's own)
+-- The answer of a call by its steps: the first in which a step ends it. If none does: that all steps that may be made were
+-- made, or with fewer steps, that the bus's list is full. (docs/bus.md, "Outcomes"; this project's own)
 use Rattle.std.specs.Prelude.{◌≡◌, ◌⊎◌, ◌<◌, ◌≤◌, ℕ, ◌∷◌, length, Result, Err, IfOk}
 use Rattle.std.specs.List.{AllByRecursion}
 use Rattle.bus_model.specs.declared.bus.BusFault.TheVariants.{TraceFull}

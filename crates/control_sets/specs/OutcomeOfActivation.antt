@@ -53,7 +53,7 @@ EndsActivation control lanes (Err (Bus fault)) step = ⊥
 -- no step is needless
 pub record IsActivationBrief (control : List ℕ) (lanes : Lanes) (history : History) : Type 0 where
   pub selections : ReadsSelectionsBack history
-  -- a page is selected only where it isn't confirmed, and something is to be done on it
+  -- a page is selected only if it isn't confirmed, and something is to be done on it
   pub controls : EachStep (λ step before. step.op ≡ selection control_page →
       (¬ (Confirms control_page before)) × Stands (Gives read_active control) before × (¬ (Stands (IsAccepted (release lanes)) before))) history
   pub status : EachStep (λ step before. step.op ≡ selection status_page →
@@ -61,7 +61,7 @@ pub record IsActivationBrief (control : List ℕ) (lanes : Lanes) (history : His
   pub module_state : ReadsOnce read_module_state history
   pub active : ReadsOnce read_active history
 
--- these steps, the newest first, and this answer are activation of these lanes, where the control bytes are active; full says
+-- these steps, the newest first, and this answer are activation of these lanes, which needs the control bytes active; full says
 -- that the bus's list is full after them
 pub record IsActivation (control : List ℕ) (lanes : Lanes) (full : Type 0) (history : History) (answer : Answer) : Type 0 where
   pub shape : EachStep (IsActivationStep lanes) history

@@ -44,7 +44,7 @@ abbrev pub IsStore : Op → Type 0
 IsStore (Store dev offset bytes) = Unit {0}
 IsStore (Fetch dev offset count) = ⊥
 
--- the store, where it is no selection and was accepted
+-- the store, if it is no selection and was accepted
 abbrev pub accepted_store : Op → Reply → List Op
 accepted_store (Store dev offset bytes) Done = if offset == first_byte CPageMapping then [] else Store dev offset bytes ∷ []
 accepted_store (Store dev offset bytes) (Bytes read) = []
@@ -109,12 +109,12 @@ WantsStatuses lanes before =
 -- no step is needless
 pub record IsProvisioningBrief (lanes : Lanes) (history : History) : Type 0 where
   pub selections : ReadsSelectionsBack history
-  -- a page is selected only where it isn't confirmed, and something is to be done on it
+  -- a page is selected only if it isn't confirmed, and something is to be done on it
   pub controls : EachStep (λ step before. step.op ≡ selection control_page → (¬ (Confirms control_page before)) × WantsControls lanes before) history
   pub status : EachStep (λ step before. step.op ≡ selection status_page → (¬ (Confirms status_page before)) × WantsStatuses lanes before) history
   pub module_state : ReadsOnce read_module_state history
   pub staged : ReadsOnce read_staged history
-  -- nothing is awaited that was found
+  -- what was found is awaited no more
   pub path_states : StandsAfterNo read_path_states (FindsDeactivated lanes) history
   pub statuses : StandsAfterNo read_statuses (FindsApplied lanes) history
 

@@ -83,7 +83,7 @@ pub record ReadsSelectionsBack (history : History) : Type 0 where
   -- else the selection isn't read
   pub only : EachStep (λ step before. step.op ≡ read_selection → Newest AwaitsReadBack before) history
 
--- the page, where one is needed, is confirmed
+-- the page, if one is needed, is confirmed
 abbrev pub IsConfirmed : Option ℕ → History → Type 0
 IsConfirmed None before = Unit {0}
 IsConfirmed (Some page) before = Confirms page before

@@ -1,4 +1,4 @@
--- Procedures: tasks in order, each of which is worked at until it is met. What may come next, and how a procedure ends.
+-- Procedures: tasks in order, each worked at until it is met. What may come next, and how a procedure ends.
 -- Steps stand with the newest first. (docs/bus.md, "Procedures"; this project's own)
 use Rattle.std.specs.Prelude.{◌≡◌, ◌≢◌, ℕ, ◌<◌, ◌≤◌, ◌⊎◌, ◌==◌, ◌&&◌, ◌||◌, not, Bool, true, false, List, [], ◌∷◌, length, Option, Some, None, if◌then◌else◌, find, Result, Ok, Err, reverse}
 use Rattle.std.specs.List.{AllByRecursion, list_all}
@@ -19,7 +19,7 @@ use Rattle.control_sets.specs.OutcomeAnswers.{most_steps}
 use Rattle.control_sets.specs.Tasks.{operation, page_of}
 use Rattle.control_sets.specs.Judgements.{judgement}
 
--- the page, where one is needed, is confirmed
+-- the page, if one is needed, is confirmed
 abbrev pub is_on : Option ℕ → History → Bool
 is_on None before = true
 is_on (Some page) before = is_page_confirmed page before
@@ -45,7 +45,7 @@ was_met task (step ∷ before) = meets task step before || was_met task before
 abbrev pub in_hand : List Task → History → Option Task
 in_hand tasks history = find (λ task. not (was_met task history)) tasks
 
--- its own operation where the page that it needs is confirmed, and else a selection of that page
+-- its own operation if the page that it needs is confirmed, else a selection of that page
 abbrev pub operation_on : History → Task → Option ℕ → Op
 operation_on history task None = operation task
 operation_on history task (Some page) = if is_page_confirmed page history then operation task else selection page

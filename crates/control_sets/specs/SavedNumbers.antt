@@ -22,7 +22,7 @@ work_numbered number control lanes =
     else (if number == 2 then Some (Activation control (lanes_in lanes))
     else None)
 
--- 0 where nothing is known, 1 where a read back is awaited, 2 where the page was read back
+-- 0 if nothing is known, 1 if a read back is awaited, 2 if the page was read back
 abbrev pub selected_numbered : ℕ → ℕ → Option Selected
 selected_numbered number page =
     if number == 0 then Some Unknown
@@ -30,7 +30,7 @@ selected_numbered number page =
     else (if number == 2 then Some (Page page)
     else None))
 
--- the page that was read back; 0 where none was
+-- the page that was read back; 0 if none was
 abbrev pub page_read_back : Selected → ℕ
 page_read_back Unknown = 0
 page_read_back Open = 0
@@ -55,7 +55,7 @@ fault_numbered saved =
     else (if saved.code == 7 then Some (Reserved saved.first)
     else None))))))
 
--- whether there is a fault, and which; none where the numbers are no fault's
+-- whether there is a fault, and which; none if the numbers are no fault's
 abbrev pub fault_in : SavedFault → Option (Option ProvisionFault)
 fault_in saved = if saved.code == 0 then Some None else option_map Some (fault_numbered saved)
 
@@ -75,7 +75,7 @@ numbers_of (Bus fault) = numbers 5 (bus_fault_number fault) 0
 numbers_of (ModuleState code) = numbers 6 code 0
 numbers_of (Reserved code) = numbers 7 code 0
 
--- all 0 where there is no fault
+-- all 0 if there is no fault
 abbrev pub saved_fault : Option ProvisionFault → SavedFault
 saved_fault None = numbers 0 0 0
 saved_fault (Some fault) = numbers_of fault
@@ -85,7 +85,7 @@ procedure_of saved (Some work) (Some selected) (Some fault) =
     Some (record { work = work; met = saved.met; session = record { steps = saved.steps; selection = selected }; fault = fault })
 procedure_of saved work selected fault = None
 
--- the procedure that has these numbers; none where what it does, knows of the selection or has for a fault is no such
+-- the procedure that has these numbers; none if those of its work, its selection or its fault stand for nothing
 unfoldable pub restored : SavedProcedure → Option Procedure
 restored saved =
     procedure_of saved (work_numbered saved.work saved.control saved.lanes) (selected_numbered saved.selection saved.page) (fault_in saved.fault)

@@ -19,7 +19,7 @@ byte_for address (Fetch dev offset count) = None
 abbrev pub Sets : ℕ → Op → Type 0
 Sets bits op = (byte_for (first_byte CDPDeinit) op ≡ Some bits) ⊎ (byte_for (first_byte CApplyDPInit) op ≡ Some bits)
 
--- whatever became of the step: the bit of each of these lanes is set where it has bits, and the bit of each other lane is clear
+-- whatever became of the step: if it has bits, the bit of each of these lanes is set, and the bit of each other lane is clear
 abbrev pub HasBitsOf : Lanes → Step → Type 0
 HasBitsOf lanes step = (bits lane : ℕ) → Sets bits step.op → IsLane lane → set.contains (lanes_in bits) lane ≡ set.contains lanes lane
 

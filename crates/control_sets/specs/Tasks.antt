@@ -34,7 +34,7 @@ page_of (AwaitApplied lanes) = registers.page_of CConfigStatus
 page_of (CheckActive control) = registers.page_of CActiveControl
 page_of (AwaitActivated lanes) = registers.page_of CPathStates
 
--- these control bytes become active; of the lanes alone the data paths are taken down and the bytes applied
+-- these control bytes become active; data paths are taken down, and bytes applied, on these lanes alone
 abbrev pub provisioning : List ℕ → Lanes → List Task
 provisioning control lanes =
     FindReady
@@ -44,7 +44,7 @@ provisioning control lanes =
     ∷ CheckActive control
     ∷ []
 
--- where these control bytes are active, the data paths of the lanes come up and those of the others are taken down
+-- if these control bytes are active, the data paths of the lanes come up and those of the others are taken down
 abbrev pub activation : List ℕ → Lanes → List Task
 activation control lanes =
     FindReady ∷ CheckActive control ∷ Deinitialize (255 - byte_of lanes) ∷ AwaitActivated lanes ∷ []

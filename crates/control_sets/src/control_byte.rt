@@ -3,7 +3,7 @@ use field_tables::{Field, number_in_byte};
 /// What the control byte of a host lane says, but for ExplicitControl.
 #[derive(Clone, Copy, Debug, PartialEq, Eq)]
 pub struct ControlByte {
-    /// The Application's number, and 0 where the lane is in no path.
+    /// The Application's number, or 0 if the lane is in no path.
     pub app_sel_code: u8,
     /// The first host lane of the path, less one.
     pub data_path_id: u8,

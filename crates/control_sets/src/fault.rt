@@ -10,19 +10,19 @@ pub enum ControlFault {
     NotPaths(u8),
 }
 
-/// Why a procedure ended without success. Lanes are counted from 1; of several that apply, the lowest is named.
+/// Why a procedure ended without success. Lanes are counted from 1; if several apply, the fault names the lowest.
 #[derive(Clone, Copy, Debug, PartialEq, Eq, Error)]
 #[error("the procedure did not succeed")]
 pub enum ProvisionFault {
     /// The configuration of the lane was rejected, with this status code.
     Rejected(u8, u8),
-    /// The control byte of the lane reads back as another one than was staged.
+    /// The control byte of the lane reads back different from the staged one.
     StagedDiffers(u8),
     /// The active control byte of the lane is another one.
     ActiveDiffers(u8),
-    /// As many steps were made as may be, without another answer.
+    /// All steps that may be made were made, without another answer.
     GaveUp,
-    /// The bus made no transaction more.
+    /// The bus made no more transactions.
     Bus(BusFault),
     /// The module is in the state with this code, and not in ModuleReady.
     ModuleState(u8),

@@ -33,7 +33,7 @@ pub fn both_sets_have_the_same_bits()
     ensures { (byte : ℕ) → IsOfEitherSet byte }
 {}
 
-/// Of control bytes that are host paths, each path takes the lanes that agree with its first one, and each lane with an
+/// If control bytes are host paths, each path takes the lanes that agree with its first one, and each lane with an
 /// AppSelCode other than 0 is in one of them.
 pub fn lanes_that_agree_are_a_path()
     ensures lanes { (bytes : List ℕ) → wrong_lane bytes ≡ None → All (TakesWhatAgrees bytes) (host_paths bytes) }
@@ -41,8 +41,8 @@ pub fn lanes_that_agree_are_a_path()
         IsTrue (is_used (control_at bytes lane)) → Any (IsOnLane bytes lane) (host_paths bytes) }
 {}
 
-/// The control bytes of a plan are host paths, and tell the host paths of that plan. Of what a module advertises it is
-/// enough that its Applications are numbered in order and at most 15, as `Advert::apps` ensures.
+/// The control bytes of a plan are host paths, and tell the host paths of that plan. Of what a module advertises this
+/// needs only that its Applications are numbered in order and at most 15, as `Advert::apps` ensures.
 pub fn plans_are_read_back()
     ensures right { (advert : Advertised) (paths : List Path) →
         InOrder advert.apps → length advert.apps ≤ 15 → IsAdmissible advert paths →
@@ -52,14 +52,14 @@ pub fn plans_are_read_back()
         AreHostPathsOf advert paths (host_paths (control_bytes advert paths)) }
 {}
 
-/// Where provisioning succeeds, its last step has read the control bytes as active, on a confirmed page 11h.
+/// If provisioning succeeds, its last step has read the control bytes as active, on a confirmed page 11h.
 pub fn a_success_was_read()
     ensures { (control : List ℕ) (lanes : Lanes) (made room : ℕ) (history : History) (steps : ℕ) →
         IsProvisioning control lanes (made ≡ room) history (Ok steps) → ReadsActive control history }
 {}
 
 /// Each store of provisioning to DPDeinit and to ApplyDPInit, accepted or refused, has the bits of its lanes, and no others.
-/// So it sets no bit of another lane; a DPDeinit bit of another lane that was set it clears.
+/// So it sets no bit of another lane, and it clears a DPDeinit bit of another lane that was set.
 pub fn bits_are_those_of_the_lanes()
     ensures each { (control : List ℕ) (lanes : Lanes) (made room : ℕ) (history : History) (answer : Answer) →
         IsProvisioning control lanes (made ≡ room) history answer → AllByRecursion (HasBitsOf lanes) history }
@@ -86,7 +86,7 @@ pub fn procedures_have_their_outcomes()
         IsActivation control lanes (made ≡ room) history answer }
 {}
 
-/// Steps and answers that look right, and are no provisioning whatever the control bytes, the lanes and the bus.
+/// Steps and answers that look right, but are no provisioning, whatever the control bytes, the lanes and the bus.
 pub fn what_provisioning_refuses()
     ensures success_of_nothing { (control : List ℕ) (lanes : Lanes) (made room : ℕ) →
         ¬ (IsProvisioning control lanes (made ≡ room) [] (Ok 0)) }
@@ -136,7 +136,7 @@ pub fn what_provisioning_refuses()
         ¬ (IsProvisioning pairs lanes (made ≡ room) (gave read_staged almost_pairs ∷ before) (Err (StagedDiffers 5))) }
 {}
 
-/// Steps and answers that look right, and are no activation whatever the control bytes, the lanes and the bus.
+/// Steps and answers that look right, but are no activation, whatever the control bytes, the lanes and the bus.
 pub fn what_activation_refuses()
     ensures success_by_another_read { (control : List ℕ) (lanes : Lanes) (made room : ℕ) (step : Step)
         (before : History) (steps : ℕ) → same_op step.op read_path_states ≡ false →
@@ -163,8 +163,8 @@ pub fn what_activation_refuses()
         ¬ (IsActivation control lanes (made ≡ room) (took (selection control_page) ∷ ready ∷ []) answer) }
 {}
 
-/// Steps and answers that are provisioning and activation: those that end as the bus's list is full, where it has room for so
-/// many steps as there are, the others on every bus.
+/// Steps and answers that are provisioning and activation: those that end because the bus's list is full, if it has room for as
+/// many steps as there are; the others on every bus.
 pub fn what_procedures_may_do()
     ensures no_room { (room : ℕ) → IsProvisioning pairs every_lane (room ≡ room) [] (Err (Bus TraceFull)) }
     ensures low_power { (made room : ℕ) →
