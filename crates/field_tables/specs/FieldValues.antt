@@ -32,11 +32,11 @@ values_in bytes field = of_each field (value_in bytes field)
 abbrev pub field_key : Field → Key
 field_key field = half_key (row_of field).dev (row_of field).half (row_of field).page
 
--- the values of a field, where memory has its half
+-- the values of a field, if memory has its half
 abbrev pub values_of : Memory → Field → Option (List ℤ)
 values_of memory field = option_map (λ bytes. values_in bytes field) (map.get memory (field_key field))
 
--- value i of a field, where memory has its half
+-- value i of a field, if memory has its half
 abbrev pub value_of : Memory → Field → ℕ → Option ℤ
 value_of memory field i = option_map (λ bytes. value_in bytes field i) (map.get memory (field_key field))
 

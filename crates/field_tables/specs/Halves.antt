@@ -26,6 +26,6 @@ byte_in bytes address = slice_index bytes (place_in_half address)
 abbrev pub is_absent : Memory → Key → Bool
 is_absent memory key = not (map.contains_key memory key)
 
--- the fault where a half isn't there
+-- the fault if a half isn't there
 abbrev pub absent : Key → FieldFault
 absent key = record { absent = key }

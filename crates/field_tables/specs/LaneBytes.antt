@@ -1,4 +1,4 @@
--- A byte of lanes and its lanes are each other's. (docs/fields.md, "Sets of lanes"; this project's own)
+-- A byte is the byte of its lanes, and which lanes those are. (docs/fields.md, "Sets of lanes"; this project's own)
 use Rattle.std.proofs.Common.{◌≡◌, ℕ, zero, suc, ◌+◌, ◌-◌, ◌*◌, ◌^◌, ◌<◌, ◌==◌, ◌&&◌, ◌||◌, Bool, true, if◌then◌else◌, sym, ap, ◌∙◌, nat_eq, nat_lt, nat_le, arith, zero-mul, one-mul}
 use Rattle.std.proofs.lemmas.Bool.Decides.{nat_tests}
 use Rattle.std.proofs.lemmas.Nat.Bits.{bit_at-lt}

@@ -16,7 +16,7 @@ run_of first count = set.from_list (range_with_len first count)
 abbrev pub every_lane : Lanes
 every_lane = run_of 1 8
 
--- the lanes of a byte: lane i is in it where bit i - 1 is 1
+-- the lanes of a byte: lane i is in it if bit i - 1 is 1
 unfoldable pub lanes_in : ℕ → Lanes
 lanes_in byte = set.retain every_lane (λ lane. bit_at byte (lane - 1) == 1)
 

@@ -15,7 +15,7 @@ bits_up byte low (suc count) = (byte, low) ∷ bits_up byte (suc low) count
 abbrev pub word : ℕ → Place
 word byte = bits_up (suc byte) 0 8 ++ bits_up byte 0 8
 
--- two values to a byte: the bit where the first begins in odd places, the second in even ones
+-- two values to a byte, the bit where value i begins: `odd` if i is odd, else `even`
 abbrev pub in_turn : ℕ → ℕ → ℕ → ℕ
 in_turn i odd even = if i % 2 == 1 then odd else even
 

@@ -6,7 +6,7 @@ use Rattle.field_tables.specs.declared.layout.Sign.{Sign}
 use Rattle.field_tables.specs.declared.layout.Sign.TheVariants.{Unsigned, Signed}
 use Rattle.field_tables.specs.Layouts.{Place}
 
--- 1 or 0, where byte_at tells the bytes
+-- 1 or 0; byte_at tells the bytes
 abbrev pub bit_in : (ℕ → ℕ) → ℕ × ℕ → ℕ
 bit_in byte_at bit = bit_at (byte_at bit.0) bit.1
 

@@ -1,4 +1,4 @@
--- Why a module's memory is refused: reasons, each with its fault, that are judged in order. (docs/formats.md, "Faults"; this
+-- Why a module's memory is refused: reasons, each with its fault, judged in order. (docs/formats.md, "Faults"; this
 -- project's own)
 use Rattle.std.specs.Prelude.{ℕ, ◌==◌, Bool, not, List, map, Option}
 use Rattle.paged_memory.specs.declared.family.Family.{Family}

@@ -22,7 +22,7 @@ abbrev pub part_fits : Part → Bool
 part_fits (Range high low) = nat_le low high
 part_fits _ = true
 
--- there are bits enough below the named one
+-- there are enough bits below the named one
 abbrev pub steps_fit : Layout → Part → ℕ → Bool
 steps_fit Down part count = nat_le count (suc (high_of part))
 steps_fit _ part count = true

@@ -38,6 +38,6 @@ sum_fits row = span_fits row.0 && address_fits row.0.half row.1
 abbrev pub sum_matches : List ℕ → Span × ℕ → Bool
 sum_matches bytes row = sum (bytes_in bytes row.0) % 256 == byte_in bytes row.1
 
--- whether a sum is right, where memory has its half
+-- whether a sum is right, if memory has its half
 abbrev pub sum_right_of : Memory → Sum → Option Bool
 sum_right_of memory s = option_map (λ bytes. sum_matches bytes (sum_row s)) (map.get memory (sum_key s))

@@ -42,6 +42,6 @@ text_key text = half_key (text_span text).dev (text_span text).half (text_span t
 abbrev pub text_fits : Span → Bool
 text_fits s = span_fits s && nat_le (suc s.last - s.first) 16
 
--- the bytes of a text, where memory has its half
+-- the bytes of a text, if memory has its half
 abbrev pub bytes_of_text : Memory → TextField → Option (List ℕ)
 bytes_of_text memory text = option_map (λ bytes. bytes_in bytes (text_span text)) (map.get memory (text_key text))

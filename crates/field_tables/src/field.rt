@@ -5,7 +5,7 @@ pub enum Field {
     CIdentifier,
     /// Upper nibble major, lower nibble minor.
     CRevision,
-    /// 1 where the module has no pages but 00h.
+    /// 1 if the module has no pages but 00h.
     CFlatMemory,
     CModuleState,
     /// Bits 0 to 7: temperature, then supply voltage, each high alarm, low alarm, high warning, low warning.
@@ -21,7 +21,7 @@ pub enum Field {
     CAppMedia,
     CAppHostLanes,
     CAppMediaLanes,
-    /// Bit i-1 is 1 where the Application may begin at host lane i.
+    /// Bit i-1 is 1 if the Application may begin at host lane i.
     CAppHostStarts,
     CBankSelect,
     CPageSelect,
@@ -35,12 +35,12 @@ pub enum Field {
     CLengthMultiplier,
     CLengthBase,
     CConnector,
-    /// Bit i-1 is 1 where media lane i is not supported.
+    /// Bit i-1 is 1 if media lane i is not supported.
     CUnsupportedMedia,
     CTechnology,
 
     // CMIS, page 01h
-    /// A code of the durations that a state lasts at most, as the five after it.
+    /// The code of the longest time that a state lasts, as in the other five `CMaxDuration` fields.
     CMaxDurationDPDeinit,
     CMaxDurationDPInit,
     /// 0, 1 and 2: bias values count once, twice and four times.
@@ -52,7 +52,7 @@ pub enum Field {
     CMaxDurationModulePwrUp,
     CMaxDurationDPTxTurnOff,
     CMaxDurationDPTxTurnOn,
-    /// Of Applications 1 to 15: bit i-1 is 1 where the Application may begin at media lane i.
+    /// Of Applications 1 to 15: bit i-1 is 1 if the Application may begin at media lane i.
     CMediaStarts,
     /// The HostInterfaceID of Applications 9 to 15; FFh ends the list.
     CAppHostMore,
@@ -110,7 +110,7 @@ pub enum Field {
 
     // SFF-8636, lower memory
     QIdentifier,
-    /// 1 where the module has no pages but 00h.
+    /// 1 if the module has no pages but 00h.
     QFlatMemory,
     QTxLos,
     QRxLos,
@@ -155,13 +155,13 @@ pub enum Field {
     SIdentifier,
     SConnector,
     SOui,
-    /// 1 where device A2 has diagnostics.
+    /// 1 if device A2 has diagnostics.
     SDiagPresent,
-    /// 1 where measured values are calibrated by the module.
+    /// 1 if the module calibrates the measured values.
     SInternal,
-    /// 1 where measured values are to be calibrated by the host.
+    /// 1 if the host has to calibrate the measured values.
     SExternal,
-    /// 1 where device A2 answers only once the module has been told to change its address.
+    /// 1 if device A2 answers only once the module has been told to change its address.
     SAddressChange,
 
     // SFF-8472, device A2

@@ -4,7 +4,7 @@ use std::marker::Model;
 /// A set of lanes, numbered 1 to 8.
 #[derive(Clone, Copy, Debug, PartialEq, Eq)]
 pub struct LaneSet {
-    /// Bit i-1 is 1 where lane i is in the set.
+    /// Bit i-1 is 1 if lane i is in the set.
     bits: u8,
 }
 
@@ -52,7 +52,7 @@ impl LaneSet {
         LaneSet::from(ones as u8)
     }
 
-    /// The byte that has the set: bit i-1 is 1 where lane i is in it.
+    /// The byte that has the set: bit i-1 is 1 if lane i is in it.
     pub fn byte(self) -> u8
         ensures byte { result ≡ byte_of self }
         ensures lanes { lanes_in result ≡ self }
@@ -117,7 +117,7 @@ impl From<u8> for LaneSet {
 
     ghost from_gives = { λ byte lanes. lanes ≡ lanes_in byte };
 
-    /// The lanes of a byte: lane i is in the set where bit i-1 is 1.
+    /// The lanes of a byte: lane i is in the set if bit i-1 is 1.
     fn from(byte: u8) -> LaneSet {
         LaneSet { bits: byte }
     }

@@ -20,7 +20,7 @@ pub struct Levels<T> {
     pub low_warning: T,
 }
 
-/// A value of a field, counted from 1, and 0 where its page is absent.
+/// A value of a field, counted from 1, or 0 if its page is absent.
 #[tactic(auto, unfolding(crate::specs::Readings::reading_at))]
 pub fn reading_at(image: &Image, field: Field, index: u8) -> i32
     requires first { 1 ≤ index }
@@ -31,7 +31,7 @@ pub fn reading_at(image: &Image, field: Field, index: u8) -> i32
     value_of(image, field, index).unwrap_or(0) as i32
 }
 
-/// The value of a field of one value, and 0 where its page is absent.
+/// The value of a field of one value, or 0 if its page is absent.
 pub fn reading(image: &Image, field: Field) -> i32
     requires { 1 ≡ (row_of field).count }
     ensures value { result ≡ spec.reading image.now field }
@@ -40,7 +40,7 @@ pub fn reading(image: &Image, field: Field) -> i32
     reading_at(image, field, 1)
 }
 
-/// The values of a field, the first first, and zeros where its page is absent. `N` is how many it has.
+/// The values of a field, the first first, or zeros if its page is absent. `N` is how many it has.
 pub fn all_readings<const N: usize>(image: &Image, field: Field) -> [i32; N]
     requires { N ≡ (row_of field).count }
     ensures values { result ≡ spec.all_readings image.now field }
@@ -53,7 +53,7 @@ pub fn all_readings<const N: usize>(image: &Image, field: Field) -> [i32; N]
     values
 }
 
-/// The four limits that a field has, in steps of its unit, and zeros where its page is absent.
+/// The four limits that a field has, in steps of its unit, or zeros if its page is absent.
 pub fn limits_of(image: &Image, field: Field) -> Levels<i32>
     requires { 4 ≡ (row_of field).count }
     ensures value { result ≡ spec.limits_of image.now field }
@@ -67,7 +67,7 @@ pub fn limits_of(image: &Image, field: Field) -> Levels<i32>
     }
 }
 
-/// A number in a field of numbers of at most one byte, counted from 1, and 0 where its page is absent.
+/// A number in a field of numbers of at most one byte, counted from 1, or 0 if its page is absent.
 #[tactic(auto, unfolding(crate::specs::Readings::reading_at))]
 pub fn number_at(image: &Image, field: Field, index: u8) -> u8
     requires bytes { IsTrue (is_of_bytes (row_of field)) }
@@ -82,7 +82,7 @@ pub fn number_at(image: &Image, field: Field, index: u8) -> u8
     }
 }
 
-/// The number in a field of one number of at most one byte, and 0 where its page is absent.
+/// The number in a field of one number of at most one byte, or 0 if its page is absent.
 pub fn number(image: &Image, field: Field) -> u8
     requires bytes { IsTrue (is_of_bytes (row_of field)) }
     requires one { 1 ≡ (row_of field).count }
@@ -92,7 +92,7 @@ pub fn number(image: &Image, field: Field) -> u8
     number_at(image, field, 1)
 }
 
-/// The numbers in a field, the first first, and zeros where its page is absent. `N` is how many it has.
+/// The numbers in a field, the first first, or zeros if its page is absent. `N` is how many it has.
 pub fn all_numbers<const N: usize>(image: &Image, field: Field) -> [u8; N]
     requires bytes { IsTrue (is_of_bytes (row_of field)) }
     requires count { N ≡ (row_of field).count }
@@ -105,7 +105,7 @@ pub fn all_numbers<const N: usize>(image: &Image, field: Field) -> [u8; N]
     numbers
 }
 
-/// Whether a value of a field is 1, counted from 1; it isn't where its page is absent.
+/// Whether a value of a field is 1, counted from 1; it isn't if its page is absent.
 pub fn bit_at(image: &Image, field: Field, index: u8) -> bool
     requires bytes { IsTrue (is_of_bytes (row_of field)) }
     requires first { 1 ≤ index }
@@ -115,7 +115,7 @@ pub fn bit_at(image: &Image, field: Field, index: u8) -> bool
     number_at(image, field, index) == 1
 }
 
-/// Whether the value of a field of one value is 1; it isn't where its page is absent.
+/// Whether the value of a field of one value is 1; it isn't if its page is absent.
 pub fn bit(image: &Image, field: Field) -> bool
     requires bytes { IsTrue (is_of_bytes (row_of field)) }
     requires one { 1 ≡ (row_of field).count }
@@ -124,7 +124,7 @@ pub fn bit(image: &Image, field: Field) -> bool
     bit_at(image, field, 1)
 }
 
-/// Whether each value of a field is 1, the first first; none is where its page is absent. `N` is how many it has.
+/// Whether each value of a field is 1, the first first; none is if its page is absent. `N` is how many it has.
 pub fn all_bits<const N: usize>(image: &Image, field: Field) -> [bool; N]
     requires bytes { IsTrue (is_of_bytes (row_of field)) }
     requires count { N ≡ (row_of field).count }
@@ -137,7 +137,7 @@ pub fn all_bits<const N: usize>(image: &Image, field: Field) -> [bool; N]
     values
 }
 
-/// The four flags that a field has; none is raised where its page is absent.
+/// The four flags that a field has; none is raised if its page is absent.
 pub fn level_bits(image: &Image, field: Field) -> Levels<bool>
     requires bytes { IsTrue (is_of_bytes (row_of field)) }
     requires count { 4 ≡ (row_of field).count }
@@ -151,7 +151,7 @@ pub fn level_bits(image: &Image, field: Field) -> Levels<bool>
     }
 }
 
-/// The bytes of a text as they stand, its padding too, and none where its page is absent.
+/// The bytes of a text as they stand, its padding too, or none if its page is absent.
 pub fn text(image: &Image, field: TextField) -> ArrayVec<u8, 16>
     ensures { result.items ≡ spec.text image.now field }
 {
@@ -161,7 +161,7 @@ pub fn text(image: &Image, field: TextField) -> ArrayVec<u8, 16>
     }
 }
 
-/// Whether a sum is right, which it isn't where its page is absent.
+/// Whether a sum is right, which it isn't if its page is absent.
 pub fn is_sum_right(image: &Image, sum: Sum) -> bool
     ensures { result ≡ spec.is_sum_right image.now sum }
 {

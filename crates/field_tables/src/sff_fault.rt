@@ -8,7 +8,7 @@ use thiserror::Error;
 pub enum SffFault {
     /// The image lacks a half.
     Absent(Key),
-    /// The identifier (SFF-8024) is none of a module of this standard.
+    /// The identifier (SFF-8024) is not that of a module of this standard.
     WrongIdentifier(u8),
     /// The module has no pages but 00h, and so no thresholds (SFF-8636).
     FlatMemory,
@@ -16,7 +16,7 @@ pub enum SffFault {
     NoDiagnostics,
     /// Device A2 answers only once the module is told to change its address (SFF-8472).
     AddressChange,
-    /// Measured values have to be calibrated by the host (SFF-8472).
+    /// The host has to calibrate the measured values (SFF-8472).
     ExternalCalibration,
 }
 
