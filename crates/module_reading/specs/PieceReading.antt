@@ -69,7 +69,7 @@ told reading (Some reply) = whole.after reading reply
 abbrev pub rest_of : List ℕ → List ℕ
 rest_of bytes = if length bytes == 128 then [] else bytes
 
--- a piece that is refused leaves the part as it is; of other bytes nothing is kept
+-- a piece that is refused leaves the part as it is; nothing is kept of other bytes
 abbrev pub part_after : PieceReading → Reply → List ℕ
 part_after pieces (Bytes bytes) = if is_in_pieces pieces.reading then rest_of (pieces.part.items ++ bytes.items) else []
 part_after pieces Done = pieces.part.items

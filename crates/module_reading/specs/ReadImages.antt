@@ -51,7 +51,7 @@ IsLeftOut paging FirstPage history = ⊥
 IsLeftOut paging (Page page) history =
     (0 < page) × SomeStep (λ step before. IsTrue (reads_back paging 0 step) × WasSelected paging page before) history
 
--- the image has what was read of the half, or lacks it, and it was left out
+-- the image has what was read of the half; or it lacks the half, which was left out
 abbrev pub IsSettled : History → Memory → Region → Type 0
 IsSettled history image region =
     MatchOption (map.get image (key_of region)) (IsLeftOut (paging_of image) region history) (λ bytes. IsRead (paging_of image) region bytes history)
@@ -69,11 +69,11 @@ pub record IsImageOf (history : History) (image : Memory) : Type 0 where
 abbrev pub IsUnfinished : History → Type 0
 IsUnfinished history = (image : Memory) → ¬ (IsImageOf history image)
 
--- no more steps than may be made, each of which finds the image unfinished
+-- no more steps than may be made, and the image unfinished before each of them
 pub record IsReading (history : History) : Type 0 where
   pub at_most : length history ≤ most_steps
   pub brief : EachStep (λ step before. IsUnfinished before) history
 
--- after all steps that may be made the image is unfinished
+-- all steps that may be made were made, and the image is unfinished
 abbrev pub IsGivenUp : History → Type 0
 IsGivenUp history = (length history ≡ most_steps) × IsUnfinished history

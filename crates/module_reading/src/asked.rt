@@ -1,4 +1,4 @@
-// Which halves of a module are read, by what its image has of the lower half of A0.
+// Which halves of a module are read, by what its image has in the lower half of A0.
 ghost use Rattle.std.specs.Prelude.{◌≡◌, false, slice_get};
 ghost use Rattle.module_reading.specs.Regions as spec;
 

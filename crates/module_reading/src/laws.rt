@@ -1,4 +1,4 @@
-//! What holds of readings over whatever bus. Each function is a theorem: its contract says it, and its body is empty.
+//! What holds of readings over any bus. Each function is a theorem: its contract says it, and its body is empty.
 
 ghost use Rattle.module_reading.specs.JoinedPieces.{PiecesHaveOutcomes};
 ghost use Rattle.module_reading.specs.ReadingRuns.{ReadingsHaveOutcomes};

@@ -18,7 +18,7 @@ pub enum Next {
     Do(Op),
     /// Nothing more: each half was read, or left out.
     Complete,
-    /// Nothing more: as many steps were made as may be.
+    /// Nothing more: all steps that may be made were made.
     GiveUp,
 }
 
@@ -91,7 +91,7 @@ impl Reading {
         }
     }
 
-    /// Where the half stands that the reply to the operation that was to be made gives, if it gives one.
+    /// The place of the half that the reply to the operation that was to be made gives, if it gives one.
     pub fn kept(&self, reply: &Reply) -> Option<Key>
         requires { spec.IsReplyTo (spec.next self.now) reply.now }
         ensures { spec.Keeps self.now result reply.now }
