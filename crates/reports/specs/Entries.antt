@@ -80,6 +80,6 @@ abbrev pub AreSaid : List Entry → Result (Vec rust.Entry Global) ReportFault �
 AreSaid entries (Ok said) = said_in said ≡ entries
 AreSaid entries (Err fault) = fault ≡ Memory
 
--- this fault if there is one, and else these entries
+-- this fault if there is one, else these entries
 abbrev pub Says : Option ReportFault → List Entry → Result (Vec rust.Entry Global) ReportFault → Type 0
 Says refused entries result = MatchOption refused (AreSaid entries result) (λ fault. result ≡ Err fault)

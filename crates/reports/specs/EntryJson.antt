@@ -40,7 +40,7 @@ key_byte byte = if byte == 45 then 95 else shown_byte byte
 unfoldable pub snake : List ℕ → List ℕ
 snake name = map key_byte name
 
--- a name, and behind it what it counts in, as `max_power_w`
+-- a name, and after it the unit it counts in, as `max_power_w`
 unfoldable pub key_in : List ℕ → List ℕ → List ℕ
 key_in name behind = snake name ++ 95 ∷ behind
 
@@ -186,11 +186,11 @@ form_members = count_members (codes "dovecounter") 1
 abbrev pub report_json : List Entry → Json
 report_json entries = object_of (form_members ++ entries_members entries)
 
--- a value in lines, of which each ends by LF
+-- a value in lines, each of which ends in LF
 abbrev pub json_text : Json → List ℕ
 json_text j = pretty (json_tokens j) ++ 10 ∷ []
 
--- the text of this value, which the grammar reads back as it without the last LF
+-- the text of this value; without its last LF, the grammar reads it back as the value
 pub record IsJsonText (j : Json) (written : List ℕ) : Type 0 where
   pub spelled : written ≡ json_text j
   pub reads_back : document (pretty (json_tokens j)) ≡ Some j
@@ -200,7 +200,7 @@ abbrev pub IsJson : Json → Result (List ℕ) ReportFault → Type 0
 IsJson j (Ok written) = IsJsonText j written
 IsJson j (Err fault) = fault ≡ Memory
 
--- this fault if there is one, and else the JSON of these entries
+-- this fault if there is one, else the JSON of these entries
 abbrev pub ReportsJson : Option ReportFault → List Entry → Result (Vec ℕ Global) ReportFault → Type 0
 ReportsJson refused entries result =
     MatchOption refused (IsJson (report_json entries) (result_map_both (λ written. written.items) (λ fault. fault) result))

@@ -1,4 +1,4 @@
--- Of which family a module is, and why no report speaks of a module. (docs/formats.md, "Modules that are read"; SFF-8024,
+-- Which family a module is of, and why no report speaks of a module. (docs/formats.md, "Modules that are read"; SFF-8024,
 -- "Identifier Values"; OIF-CMIS-05.0, "Management Characteristics")
 use Rattle.std.specs.Prelude.{ℕ, Bool, not, ◌&&◌, ◌==◌, if◌then◌else◌, List, [], ◌∷◌, map, Option, is_some, option_map, unwrap_or}
 use Rattle.bus_model.specs.declared.device.Dev.TheVariants.{A0}

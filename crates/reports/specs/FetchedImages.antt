@@ -14,7 +14,7 @@ abbrev pub IsAnswered : Type 0 → History → Result Memory ReportFault → Typ
 IsAnswered full history (Ok image) = IsImageOf history image
 IsAnswered full history (Err GaveUp) = IsGivenUp history
 IsAnswered full history (Err (Bus fault)) = (fault ≡ TraceFull) × full × (length history < most_steps) × IsUnfinished history
--- the faults of reports don't come
+-- no other fault is answered
 IsAnswered full history (Err fault) = ⊥
 
 -- these steps and this answer are the reading of an image; full says that the bus's list is full after them

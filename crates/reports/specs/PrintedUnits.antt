@@ -21,7 +21,7 @@ unit_name Milliampere = codes "mA"
 unit_name Watt = codes "W"
 unit_name Metre = codes "m"
 
--- as it stands behind the name in a key of JSON
+-- as it stands after the name in a key of JSON
 unfoldable pub unit_key : PrintedUnit → List ℕ
 unit_key Celsius = codes "c"
 unit_key Millivolt = codes "mv"

@@ -1,4 +1,4 @@
--- The rows that the code's tables have: those of its constants, whose texts and lists are such in the code. (This project's
+-- The rows of the code's tables, from its constants, which have their texts and lists as the code has them. (This project's
 -- own.)
 use Rattle.std.specs.Prelude.{ℕ, List, map}
 use Rattle.std.specs.Borrow.{Bor}
@@ -9,7 +9,7 @@ use Rattle.reports.specs.declared.row.Source as rust_source
 use Rattle.reports.specs.declared.row.Source.TheVariants as source
 use Rattle.reports.specs.Rows.{Row, Source, Instead, Word, Either, Code, Revision, Next, Text, Oui, Right, Amount, Length, Lanes, Limits, State, LaneStates, Nothing, Says}
 
--- by what its texts are
+-- given what the code's texts are
 abbrev pub source_of : {T : Type 0} → (T → List ℕ) → rust_source.Source T → Source
 source_of text (source.Word w) = Word (text w)
 source_of text (source.Either field one other) = Either field (text one) (text other)
@@ -30,7 +30,7 @@ abbrev pub case_of : {T : Type 0} → (T → List ℕ) → rust_instead.Instead 
 case_of text (instead.Nothing field n) = Nothing field n
 case_of text (instead.Word field n w) = Says field n (text w)
 
--- and what its lists are
+-- given also what the code's lists are
 abbrev pub line_of : {T I : Type 0} → (T → List ℕ) → (I → List (rust_instead.Instead T)) → rust_row.Row T I → Row
 line_of text cases row = record {
   name = text row.name;
@@ -39,7 +39,7 @@ line_of text cases row = record {
   instead = map (case_of text) (cases row.instead);
 }
 
--- ---- those that the code passes on
+-- ---- rows that the code passes on
 
 abbrev pub Str : Type 0
 Str = Bor (List ℕ)

@@ -25,11 +25,11 @@ use Rattle.reports.specs.declared.printed_unit.PrintedUnit.TheVariants.{Metre}
 -- what is shown of memory, and how
 pub data Source : Type 0 where
   Word : List ℕ → Source
-  -- the first word where the bit is 1, and else the second
+  -- the first word if the bit is 1, else the second
   Either : Field → List ℕ → List ℕ → Source
   Code : Field → Source
   Revision : Field → Source
-  -- the number and one
+  -- the number plus one
   Next : Field → Source
   Text : TextField → Source
   Oui : Field → Source
@@ -37,18 +37,18 @@ pub data Source : Type 0 where
   Right : Sum → Source
   -- in the unit of the field
   Amount : Field → Source
-  -- tenths of a metre, times ten to the power of the second
+  -- tenths of a metre, times ten to the power of the second field
   Length : Field → Field → Source
-  -- of each lane, times two to the power of the second where there is one
+  -- of each lane, times two to the power of the second field if there is one
   Lanes : Field → Option Field → Source
   -- of each level
   Limits : Field → Option Field → Source
   -- the state of the module
   State : Field → Source
-  -- of each of eight lanes the state of its data path, and by the second the status of its configuration
+  -- for each of eight lanes: the state of its data path, and by the second field the status of its configuration
   LaneStates : Field → Field → Source
 
--- where a field has this number: nothing, or a word
+-- what is said if a field has this number: nothing, or a word
 pub data Instead : Type 0 where
   Nothing : Field → ℕ → Instead
   Says : Field → ℕ → List ℕ → Instead
@@ -56,16 +56,16 @@ pub data Instead : Type 0 where
 pub record Row : Type 0 where
   pub name : List ℕ
   pub source : Source
-  -- not of a module with flat memory
+  -- whether only for a module with paged memory
   pub paged : Bool
   -- the first that applies is said in place of the source
   pub instead : List Instead
 
--- a line of every module
+-- a line for every module
 abbrev pub always : List ℕ → Source → Row
 always name source = record { name = name; source = source; paged = false; instead = [] }
 
--- a line of a module with paged memory, in whose place these say a word, or nothing
+-- a line for a module with paged memory; if one of these applies, it says a word or nothing instead
 abbrev pub if_paged : List ℕ → Source → List Instead → Row
 if_paged name source instead = record { name = name; source = source; paged = true; instead = instead }
 

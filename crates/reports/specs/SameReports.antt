@@ -16,7 +16,7 @@ use Rattle.reports.specs.Inventory.{inventory_fault, inventory_lines}
 use Rattle.reports.specs.Measured.{monitors_fault, monitors_lines}
 use Rattle.reports.specs.Warned.{flags_fault, flags_lines}
 
--- of both memories the report has the same fault, and where there is none it says the same
+-- the report has the same fault for both memories, and if it has none, it says the same
 pub record IsSame {A : Type 0} (fault_of : Memory → Option ReportFault) (said_of : Memory → A) (memory other : Memory) : Type 0 where
   pub fault : fault_of memory ≡ fault_of other
   pub said : fault_of memory ≡ None → said_of memory ≡ said_of other
@@ -28,7 +28,7 @@ pub record ReportsSame (memory other : Memory) : Type 0 where
   pub monitors : IsSame monitors_fault monitors_lines memory other
   pub flags : IsSame flags_fault flags_lines memory other
 
--- whatever a script refuses: where the steps on its bus over a new window of an image are the reading of an image, the
+-- whatever a script refuses: if the steps on its bus over a new window of an image are the reading of an image, the
 -- reports of what was read are those of the window's image
 abbrev pub FetchedReportsSame : Type 0
 FetchedReportsSame =

@@ -11,7 +11,7 @@ byte_code byte = slice_index upper_digits (byte / 16) ∷ slice_index upper_digi
 abbrev pub three_digits : ℕ → List ℕ
 three_digits n = decimal (n / 100 % 10) ++ decimal (n / 10 % 10) ++ decimal (n % 10)
 
--- `-` where the number is negative
+-- `-` if the number is negative
 abbrev pub minus_of : ℤ → List ℕ
 minus_of (pos n) = []
 minus_of (negsuc n) = 45 ∷ []

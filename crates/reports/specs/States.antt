@@ -23,6 +23,6 @@ path_state_text code = option_map_or path_names.name_of (path_codes.state_at cod
 unfoldable pub status_text : ℕ → List ℕ
 status_text code = option_map_or status_name (status_at code) (reserved_text code)
 
--- a lane, and by their codes the state of its data path and the status of its configuration
+-- a lane with the state of its data path and the status of its configuration, by their codes
 unfoldable pub lane_codes_text : ℕ → ℕ → ℕ → List ℕ
 lane_codes_text lane state status = decimal lane ++ 32 ∷ path_state_text state ++ 32 ∷ status_text status

@@ -1,4 +1,4 @@
-// The reports of modules of whatever family.
+// The reports of modules of any family.
 ghost use Rattle.reports.specs.Entries.{Says};
 ghost use Rattle.reports.specs.EntryJson.{ReportsJson};
 ghost use Rattle.reports.specs.Inventory.{inventory_entries, inventory_fault, inventory_lines};
@@ -69,7 +69,7 @@ fn monitors_entries(alloc: Global, image: &Image) -> Result<Vec<Entry>, ReportFa
     }
 }
 
-/// The flags that are raised, and of a CMIS module the states before them, line by line.
+/// The flags that are raised, for a CMIS module after its states, line by line.
 #[tactic(auto, unfolding(crate::specs::Entries::said_in, crate::specs::Warned::flags_lines))]
 pub fn flags(alloc: Global, image: &Image) -> Result<Vec<u8>, ReportFault>
     ensures { Reports (flags_fault image.now) (flags_lines image.now) result }

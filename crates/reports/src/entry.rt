@@ -40,7 +40,7 @@ pub enum Said {
     LaneSet(LaneSet),
 }
 
-/// Of a lane, by their codes, the state of its data path and the status of its configuration.
+/// The state of a lane's data path and the status of its configuration, by their codes.
 #[derive(Clone, Copy, Default)]
 pub struct LaneState {
     pub path: u8,

@@ -17,7 +17,7 @@ use std::alloc::{AllocError, Global};
 use std::fmt::Display;
 use text_lines::Hexadecimal;
 
-/// The JSON of a report, in lines that end by LF.
+/// The JSON of a report, in lines that end in LF.
 pub fn json(alloc: Global, entries: &[Entry]) -> Result<Vec<u8>, AllocError>
     ensures { IfOk result (λ text. IsJsonText (report_json (map entry_of entries.now)) text.items) }
 {
@@ -26,7 +26,7 @@ pub fn json(alloc: Global, entries: &[Entry]) -> Result<Vec<u8>, AllocError>
     Ok(text)
 }
 
-// The same without the last LF. It reads back as what was said.
+// The same without the last LF. Reading it gives back what was said.
 fn json_lines(alloc: Global, entries: &[Entry]) -> Result<Vec<u8>, AllocError>
     ensures text { IfOk result (λ text.
         text.items ≡ pretty (json_tokens (report_json (map entry_of entries.now)))) }

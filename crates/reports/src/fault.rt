@@ -13,7 +13,7 @@ use thiserror::Error;
 #[derive(Clone, Copy, Debug, PartialEq, Eq, Drop, Error)]
 #[error("there is no report")]
 pub enum ReportFault {
-    /// An allocation was refused.
+    /// An allocation failed.
     Memory,
     /// The report needs a page that the image lacks.
     Absent(Key),
@@ -25,9 +25,9 @@ pub enum ReportFault {
     Sff(SffFault),
     /// The module's Applications are not read.
     Advert(AdvertFault),
-    /// The bus made no transaction more, and the module's memory was not read whole.
+    /// The bus made no more transactions, and not all of the module's memory was read.
     Bus(BusFault),
-    /// Nor was it within as many transactions as may be made.
+    /// All transactions that may be made were made, and not all of the module's memory was read.
     GaveUp,
 }
 

@@ -1,4 +1,4 @@
-// Flags that modules raise, of whatever family.
+// Flags that modules of any family raise.
 ghost use Rattle.std.specs.Prelude.{◌≡◌, Some};
 ghost use Rattle.reports.specs.FlagNames.{condition_name, flag_name, level_name};
 ghost use Rattle.reports.specs.Flags.{flag_text};
@@ -15,7 +15,7 @@ pub enum Level {
     LowWarning,
 }
 
-/// What a flag can tell of a lane beside what is measured there.
+/// What a flag can tell of a lane besides what is measured there.
 #[derive(Clone, Copy)]
 pub enum Condition {
     PathStateChanged,

@@ -17,7 +17,7 @@ use std::alloc::{AllocError, Global};
 pub enum FlagPlace {
     /// The flag of this lane, or of the module, by the value of this number.
     Value(Option<u8>, u8),
-    /// That of each lane by a value of its own.
+    /// The flag of each lane, by a value of its own.
     Lanes,
 }
 
@@ -27,7 +27,7 @@ pub struct FlagRow {
     pub name: FlagName,
     pub field: Field,
     pub place: FlagPlace,
-    /// Not of a module with flat memory.
+    /// Whether only for a module with paged memory.
     pub paged: bool,
 }
 

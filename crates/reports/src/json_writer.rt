@@ -81,7 +81,7 @@ impl JsonWriter {
         self.text.token(Token::Key(self.piece.as_str()))
     }
 
-    /// The key of a name with something behind it.
+    /// The key of a name with something after it.
     #[tactic(auto, unfolding(crate::specs::EntryJson::key_in))]
     pub fn key_in(&mut self, name: &str, behind: &str) -> Result<(), AllocError>
         ensures { OnOk result (self.new ≡ self.old ++ key (key_in name.now behind.now) ∷ []) }

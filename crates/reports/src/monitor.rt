@@ -21,7 +21,7 @@ impl fmt::Display for LaneMeasure {
     }
 }
 
-/// Thousandths at each level, the alarms first and the high one of two first.
+/// Thousandths at each level: alarms before warnings, and of both high before low.
 #[derive(Clone, Copy)]
 pub struct LevelsText(pub Levels<Thousandths>);
 

@@ -43,7 +43,7 @@ impl PrintedUnit {
         }
     }
 
-    /// As it stands behind the name in a key of JSON.
+    /// As it stands after the name in a key of JSON.
     #[tactic(auto, unfolding(crate::specs::PrintedUnits::unit_key))]
     pub fn key(self) -> &'static str
         ensures { result.now ≡ unit_key self }

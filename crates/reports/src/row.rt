@@ -5,12 +5,12 @@ use field_tables::{Field, Sum, TextField};
 #[derive(Clone, Copy)]
 pub enum Source<T> {
     Word(T),
-    /// The first word where the bit is 1, and else the second.
+    /// The first word if the bit is 1, else the second.
     Either(Field, T, T),
     /// A code of the standard.
     Code(Field),
     Revision(Field),
-    /// The number and one.
+    /// The number plus one.
     Next(Field),
     Text(TextField),
     Oui(Field),
@@ -18,19 +18,19 @@ pub enum Source<T> {
     Right(Sum),
     /// In the unit of the field.
     Amount(Field),
-    /// Tenths of a metre, times ten to the power of the second.
+    /// Tenths of a metre, times ten to the power of the second field.
     Length(Field, Field),
-    /// Of each lane, times two to the power of the second where there is one.
+    /// Of each lane, times two to the power of the second field if there is one.
     Lanes(Field, Option<Field>),
-    /// Of each level, as those of lanes.
+    /// Of each level, counted as those of lanes are.
     Limits(Field, Option<Field>),
     /// The state of the module.
     State(Field),
-    /// Of each of eight lanes the state of its data path, and by the second the status of its configuration.
+    /// For each of eight lanes: the state of its data path, and by the second field the status of its configuration.
     LaneStates(Field, Field),
 }
 
-/// Where a field has a number: nothing is said, or this word.
+/// What is said if a field has a number: nothing, or this word.
 #[derive(Clone, Copy)]
 pub enum Instead<T> {
     Nothing(Field, u8),
@@ -42,7 +42,7 @@ pub enum Instead<T> {
 pub struct Row<T, I> {
     pub name: T,
     pub source: Source<T>,
-    /// Not of a module with flat memory.
+    /// Whether only for a module with paged memory.
     pub paged: bool,
     /// The first that applies is said in place of the source.
     pub instead: I,

@@ -21,7 +21,7 @@ impl fmt::Display for ModuleStateCode {
     }
 }
 
-/// A lane, and by their codes the state of its data path and the status of its configuration.
+/// A lane with the state of its data path and the status of its configuration, by their codes.
 #[derive(Clone, Copy)]
 pub struct LaneCodes {
     pub lane: u8,

@@ -1,5 +1,5 @@
 // The lines of reports. A row: its name, what it shows, of which modules, and what is said instead if a field has a number.
-// The definitions have each table in their own words; that the two are equal is each table's contract.
+// The definitions have each table in their own words; each table's contract says that the two are equal.
 ghost use Rattle.std.specs.Prelude.{◌≡◌, IsTrue};
 ghost use Rattle.std.specs.List.{list_all};
 ghost use Rattle.reports.specs.CmisFlags as spec_cmis_flags;
