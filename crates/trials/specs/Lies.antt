@@ -1,4 +1,4 @@
--- A device that answers as it likes: each answer is decided by a number, and each unit of time draws another one. (This
+-- A device that answers as it likes: a number decides each answer, and each unit of time draws another one. (This
 -- project's own.)
 use Rattle.std.specs.Prelude.{ℕ, ◌+◌, ◌*◌, ◌/◌, ◌%◌, ◌==◌, Bool, not, if◌then◌else◌, nat_lt, List, Option, Some, None, map}
 use Rattle.std.specs.List.{range_with_len}
@@ -17,7 +17,7 @@ refuses device = nat_lt (device.number / 65536 % 16) device.refusals
 abbrev pub lies : LyingDevice → Bool
 lies device = nat_lt (device.number / 1048576 % 16) device.lies
 
--- what a host would like who provisions four pairs of lanes, by the address that it asks for and the place from there: ModuleReady,
+-- what a host that provisions four pairs of lanes would like, by the address that it asks for and the place from there: ModuleReady,
 -- one of the pages 10h and 11h, lanes that are DPDeactivated and have ConfigSuccess, and the control bytes
 abbrev pub pleasing : ℕ → ℕ → ℕ → ℕ
 pleasing number address place =

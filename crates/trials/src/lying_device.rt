@@ -1,15 +1,15 @@
 use arrayvec::ArrayVec;
 use bus_model::{Dev, Device, MAX_FETCH};
 
-/// A device that refuses and answers as it likes. Each answer is decided by a number, and each unit of time draws another one:
-/// it is refused, or tells any bytes, or what a host would like who provisions four pairs of lanes.
+/// A device that refuses and answers as it likes. A number decides each answer, and each unit of time draws another number:
+/// the answer is a refusal, any bytes, or what a host that provisions four pairs of lanes would like.
 #[derive(Clone, Copy, Debug, PartialEq, Eq)]
 pub struct LyingDevice {
     /// The number that decides now.
     pub number: u32,
-    /// Of 16 numbers so many are refusals.
+    /// So many of 16 numbers are refusals.
     pub refusals: u8,
-    /// Of 16 numbers so many are lies.
+    /// So many of 16 numbers are lies.
     pub lies: u8,
 }
 
@@ -81,7 +81,7 @@ fn pleasing(number: u32, address: u8, place: u8) -> u8
     }
 }
 
-/// A refusal changes nothing, and nor does an answer: time does.
+/// Neither a refusal nor an answer changes anything: time does.
 impl Device for LyingDevice {
     ghost use Rattle.trials.specs.Lies.{lying_conduct};
 
