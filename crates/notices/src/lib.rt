@@ -1,4 +1,4 @@
-//! What a person is told beside the answers: a sentence for each fault, a text for each status of the library for C, and the version.
+//! What a person is told besides the answers: a sentence for each fault, a text for each status of the library for C, and the version.
 #![tactic(auto)]
 
 mod numbers;
