@@ -18,7 +18,7 @@ application_of app = record {
   media_starts = byte_of app.media_starts;
 }
 
--- what stands behind the last Application
+-- what stands after the last Application
 abbrev pub no_application : Application
 no_application = record {
   number = 0;

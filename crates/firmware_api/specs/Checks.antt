@@ -43,7 +43,7 @@ abbrev pub judgement_by : Advertised → HostWeights → Result Claim Certificat
 judgement_by advert weights (Ok certificate) = Ok (judgement_of (verdict advert weights certificate))
 judgement_by advert weights (Err fault) = Err (Certificate fault)
 
--- of what the text is read as, which is one alone
+-- of what the text is read as; a text is read as one result alone
 abbrev pub IsTextJudged : Advertised → HostWeights → List ℕ → Result Judgement Refusal → Type 0
 IsTextJudged advert weights text judged =
     (read : Result Claim CertificateFault) × IsAnswer most_states (lines_of text) read × (judged ≡ judgement_by advert weights read)

@@ -1,4 +1,4 @@
--- What a module is, as C sees it, and why it is not said. (docs/firmware.md, "Decoders"; OIF-CMIS-05.0, "Administrative Information
+-- What a module is, as C sees it, and why C is not told. (docs/firmware.md, "Decoders"; OIF-CMIS-05.0, "Administrative Information
 -- (Page 00h)"; SFF-8636, "Upper Page 00h"; SFF-8472, "Serial ID: Data Fields")
 use Rattle.std.specs.Prelude.{◌+◌, pos, Option, None}
 use Rattle.std.specs.Option.{option_map}
@@ -100,7 +100,7 @@ identity_of Cmis memory = cmis_identity memory
 identity_of Sff8636 memory = qsfp_identity (sff8636.identity_of memory)
 identity_of Sff8472 memory = sfp_identity (sff8472.identity_of memory)
 
--- why it is not said what a module is
+-- why C is not told what a module is
 unfoldable pub identity_refusal : Memory → Option Refusal
 identity_refusal memory = refusal_before (unread_refusal memory) (refusal_of (family_in memory) memory)
 

@@ -22,7 +22,7 @@ abbrev pub address_of : Dev → ℕ
 address_of A0 = 160
 address_of A2 = 162
 
--- with zeros behind
+-- with zeros after them
 abbrev pub padded : List ℕ → List ℕ
 padded bytes = bytes ++ replicate (most_stored - length bytes) 0
 

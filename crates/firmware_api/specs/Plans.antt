@@ -31,7 +31,7 @@ refusal_before None later = later
 abbrev pub plan_refusal : List Half → List Path → Option Refusal
 plan_refusal halves kept = refusal_before (module_refusal halves) (kept_refusal (advertised_by (memory_of halves)) kept)
 
--- what stands behind the last path
+-- what stands after the last path
 abbrev pub no_path : Path
 no_path = record { app = 0; host = 0; media = 0 }
 

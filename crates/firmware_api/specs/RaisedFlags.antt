@@ -1,4 +1,4 @@
--- The states of a module and the flags that it raises, as C sees them, and why they are not said. (docs/firmware.md, "Decoders";
+-- The states of a module and the flags that it raises, as C sees them, and why C is not told. (docs/firmware.md, "Decoders";
 -- OIF-CMIS-05.0, "Module-Level Flags" of lower memory, of page 11h the data path states, the lane-specific flags and "Configuration
 -- Command Status"; SFF-8636, "Interrupt Flags"; SFF-8472, "Alarm and Warning Flag Bits")
 use Rattle.std.specs.Prelude.{ℕ, ◌+◌, Bool, if◌then◌else◌, List, [], ◌∷◌, Option, None}
@@ -165,7 +165,7 @@ flags_of Cmis memory = cmis_flags memory
 flags_of Sff8636 memory = qsfp_flags memory
 flags_of Sff8472 memory = sfp_flags memory
 
--- why it is not said which flags are raised
+-- why C is not told which flags are raised
 unfoldable pub flags_refusal : Memory → Option Refusal
 flags_refusal memory = refusal_before (unread_refusal memory) (refusal_of (family_in memory) memory)
 

@@ -1,4 +1,4 @@
--- Of which family a module is whose halves are handed over, and why it is not decoded. (docs/firmware.md, "Decoders"; SFF-8024,
+-- Which family a module whose halves are handed over is of, and why it is not decoded. (docs/firmware.md, "Decoders"; SFF-8024,
 -- "Identifier Values"; OIF-CMIS-05.0, "Management Characteristics")
 use Rattle.std.specs.Prelude.{ℕ, Bool, not, ◌&&◌, ◌==◌, if◌then◌else◌, List, [], ◌∷◌, Option, Some, None, is_some, unwrap_or}
 use Rattle.bus_model.specs.declared.device.Dev.TheVariants.{A0}

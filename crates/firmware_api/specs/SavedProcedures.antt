@@ -34,7 +34,7 @@ abbrev pub IsSavedAt : List Task → History → KeptProcedure → Type 0
 IsSavedAt tasks history kept =
     (procedure : Procedure) × (procedure_in kept ≡ Some procedure) × IsAt tasks history procedure × (kept.wait ≡ wait_for history (progress.next procedure))
 
--- what the procedure with these numbers asks for, where one has them
+-- what the procedure with these numbers asks for, if one has them
 abbrev pub asked : KeptProcedure → Option Next
 asked kept = option_map progress.next (procedure_in kept)
 
@@ -44,7 +44,7 @@ IsNextTold status after wait None = status ≡ status_of NoProcedure
 IsNextTold status after wait (Some (next.Do op)) = (status ≡ done) × (after ≡ operation_of op wait)
 IsNextTold status after wait (Some (next.Done answer)) = status ≡ status_of Ended
 
--- which status tells of a reply: it is taken exactly where the operation can have it
+-- which status tells of a reply: it is taken if and only if the operation can have it
 abbrev pub IsReplyTold : ℕ → Option Reply → Option Next → Type 0
 IsReplyTold status reply None = status ≡ status_of NoProcedure
 IsReplyTold status reply (Some (next.Done answer)) = status ≡ status_of Ended

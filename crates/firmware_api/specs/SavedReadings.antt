@@ -41,7 +41,7 @@ halves_in saved = take saved.count saved.halves
 abbrev pub reading_magic : ℕ
 reading_magic = 0x44435231
 
--- no half is counted that was not settled, and five are settled at most; pieces have bytes, and a whole half is no part
+-- no more halves are counted than were settled, and at most five were; a piece has bytes, and a whole half is no part
 abbrev pub is_sound : SavedReading → Bool
 is_sound saved =
     saved.magic == reading_magic && (nat_le saved.settled 5 && (nat_le saved.count saved.settled
@@ -88,7 +88,7 @@ abbrev pub IsReadAt : ℕ → History → SavedReading → Type 0
 IsReadAt piece history saved =
     (read : PieceReading) × (reading_in saved ≡ Some read) × WasToldPieces piece history read × (saved.wait ≡ wait_after history)
 
--- what the reading with these numbers asks for, where one has them
+-- what the reading with these numbers asks for, if one has them
 abbrev pub asked : SavedReading → Option Next
 asked saved = option_map pieces.next (reading_in saved)
 

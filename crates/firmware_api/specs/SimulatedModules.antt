@@ -59,7 +59,7 @@ held_by None None (Some sim) = Ok sim
 abbrev pub held : List Half → SavedModule → Result SimModule Refusal
 held halves numbers = held_by (half_refusal halves) (advert_fault (memory_of halves)) (module_in (fixed_by halves) numbers)
 
--- why numbers alone are none of a module
+-- why numbers alone are not those of a module
 abbrev pub refusal_in : {A : Type 0} → Option A → Option Refusal
 refusal_in None = Some NoModule
 refusal_in (Some found) = None

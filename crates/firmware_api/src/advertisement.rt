@@ -13,7 +13,7 @@ use applications::{Advert, App, MAX_APPS};
 #[repr(C)]
 #[derive(Clone, Copy, Default)]
 pub struct Application {
-    /// 1 to 15; AppSelCode names it by this number. 0 behind the last one.
+    /// 1 to 15; AppSelCode names it by this number. 0 after the last one.
     pub number: u8,
     /// HostInterfaceID (SFF-8024).
     pub host_id: u8,
@@ -35,11 +35,11 @@ pub struct Advertisement {
     pub count: u8,
     /// The media lanes that no data path may use.
     pub unsupported: u8,
-    /// By rising number; zeros behind the last one.
+    /// By rising number; zeros after the last one.
     pub applications: [Application; MAX_APPS],
 }
 
-/// Puts into `advertisement` what the module advertises whose memory has these halves.
+/// Puts into `advertisement` what the module whose memory has these halves advertises.
 #[unsafe(no_mangle)]
 pub extern "C" fn dovecounter_advertisement(
     halves: &[Half],

@@ -11,9 +11,9 @@ use plan_certificate::{Certificate, Reason, STATES, Verdict, check};
 #[repr(C)]
 #[derive(Clone, Copy)]
 pub struct Judgement {
-    /// 0 where it is good, else the number in the code of the first reason against it, as 1 for VR1.
+    /// 0 if it is good, else the number in the code of the first reason against it, as 1 for VR1.
     pub reason: u8,
-    /// Of that reason the number from 1 of the path, the kept path or the entry, or else 0.
+    /// The number, from 1, of the path, the kept path or the entry that the reason names, else 0.
     pub number: usize,
 }
 
@@ -46,7 +46,7 @@ fn judged(halves: &[Half], weights: &[u32; 256], text: &[u8]) -> Result<Judgemen
     text_judged(&advert, weights, text)
 }
 
-// No part of `judged`, whose stack would then hold a certificate while it reads the advertisement.
+// Not inlined, or the stack of `judged` would hold a certificate while it reads the advertisement.
 #[inline(never)]
 fn text_judged(advert: &Advert, weights: &[u32; 256], text: &[u8]) -> Result<Judgement, Refusal>
     ensures judged { IsTextJudged advert.now weights.now text.now result }

@@ -8,7 +8,7 @@ use crate::status::{DONE, Refusal};
 use field_tables::{Field, number};
 use paged_memory::Image;
 
-/// How long states of a module and of its data paths last at most, in milliseconds; `u32::MAX` where it does not say.
+/// How long states of a module and of its data paths last at most, in milliseconds; `u32::MAX` if it does not say.
 #[repr(C)]
 #[derive(Clone, Copy)]
 pub struct Durations {
@@ -20,7 +20,7 @@ pub struct Durations {
     pub path_tx_turn_off: u32,
 }
 
-/// Puts into `durations` how long states last at most of the module whose memory has these halves.
+/// Puts into `durations` how long states of the module whose memory has these halves last at most.
 #[unsafe(no_mangle)]
 pub extern "C" fn dovecounter_durations(halves: &[Half], durations: &mut Durations) -> u32
     ensures status { result ≡ status_by (module_refusal halves.now) }

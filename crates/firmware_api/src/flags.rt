@@ -15,7 +15,7 @@ use crate::status::{DONE, Refusal};
 use field_tables::{Field, all_numbers, bit_at, number};
 use paged_memory::{Family, Image};
 
-/// Which limits are passed: 0 or 1 of a value of the module, a byte of lanes of a value of its lanes.
+/// Which limits are passed: 0 or 1 for a value of the module, a byte of lanes for a value of its lanes.
 #[repr(C)]
 #[derive(Clone, Copy)]
 pub struct LevelFlags {
@@ -30,13 +30,13 @@ pub struct LevelFlags {
 #[derive(Clone, Copy)]
 pub struct ModuleFlags {
     pub family: u8,
-    /// How many lanes are told of.
+    /// How many lanes this speaks of.
     pub lanes: u8,
     pub state: u8,
     pub path_states: [u8; 8],
     pub statuses: [u8; 8],
     pub path_state_changed: u8,
-    /// Of CMIS its TxFailure.
+    /// For CMIS its TxFailure.
     pub tx_fault: u8,
     pub tx_los: u8,
     pub tx_lol: u8,

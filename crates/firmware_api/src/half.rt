@@ -50,7 +50,7 @@ impl Half {
     }
 }
 
-/// What the module advertises whose memory has these halves.
+/// What the module whose memory has these halves advertises.
 pub fn read_advert(halves: &[Half]) -> Result<Advert, Refusal>
     ensures { MatchOption (module_refusal halves.now) (result ≡ Ok (advertised_by (memory_of halves.now)))
         (λ refusal. result ≡ Err refusal) }
@@ -73,7 +73,7 @@ pub fn all_have_places(halves: &[Half]) -> bool
     halves.iter().all(|half| half.has_place())
 }
 
-/// The memory that has these halves. Of halves at one place the first counts, so the last is put first.
+/// The memory that has these halves. Of several halves at one place the first counts, so the last is put first.
 pub fn image_of(halves: &[Half]) -> Image
     requires { length halves.now ≤ most_pages }
     ensures { result ≡ memory_of halves.now }

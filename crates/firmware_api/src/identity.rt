@@ -17,7 +17,7 @@ use crate::status::{DONE, Refusal};
 use field_tables::{Field, Sum, TextField, all_numbers, is_sum_right, number, text};
 use paged_memory::{Family, Image};
 
-/// What a module is. Amounts are in thousandths of a watt and of a metre. What only CMIS has is 0 in others.
+/// What a module is. Amounts are in thousandths of a watt and of a metre. What only CMIS has is 0 for other modules.
 #[repr(C)]
 #[derive(Clone, Copy)]
 pub struct ModuleIdentity {
@@ -44,7 +44,7 @@ pub struct ModuleIdentity {
     pub date: [u8; 17],
 }
 
-/// Puts into `identity` what the module is whose memory has these halves.
+/// Puts into `identity` what the module whose memory has these halves is.
 #[unsafe(no_mangle)]
 pub extern "C" fn dovecounter_identity(halves: &[Half], identity: &mut ModuleIdentity) -> u32
     ensures status { result ≡ status_by (refusal_before (half_refusal halves.now) (identity_refusal (memory_of halves.now))) }

@@ -16,7 +16,7 @@ pub struct Operation {
     pub offset: u8,
     /// How many bytes are fetched or stored.
     pub count: u8,
-    /// Those of a store, and zeros behind them.
+    /// The bytes of a store, and zeros after them.
     pub bytes: [u8; MAX_STORE],
     /// 1 if it is to be made after a pause, else 0.
     pub wait: u8,
@@ -65,7 +65,7 @@ fn padded(bytes: &ArrayVec<u8, MAX_STORE>) -> [u8; MAX_STORE]
     all
 }
 
-/// The reply by its number: 0 where the bus refused, 1 where a store was taken, 2 where these bytes were fetched.
+/// The reply by its number: 0 if the bus refused, 1 if a store was taken, 2 if these bytes were fetched.
 pub fn reply_of(number: u8, bytes: &[u8]) -> Option<Reply>
     ensures { result ≡ reply_of number bytes.now }
 {

@@ -27,12 +27,12 @@ pub struct LanePlan {
     pub outside: u8,
     /// The control bytes of host lanes 1 to 8.
     pub control: [u8; 8],
-    /// By rising host lane; zeros behind the last one.
+    /// By rising host lane; zeros after the last one.
     pub paths: [Path; MAX_PATHS],
 }
 
-/// Puts into `plan` the first of the plans that weigh most for the module whose memory has these halves, of those that
-/// hold the kept paths. There is a weight for each HostInterfaceID.
+/// Puts into `plan`, among the plans that hold the kept paths, the first of those that weigh most for the module whose
+/// memory has these halves. There is a weight for each HostInterfaceID.
 #[unsafe(no_mangle)]
 pub extern "C" fn dovecounter_plan(
     halves: &[Half],
@@ -62,7 +62,7 @@ fn planned(halves: &[Half], weights: &[u32; 256], kept: &[Path]) -> Result<LaneP
     Ok(best_plan(&advert, weights, &kept))
 }
 
-// The kept paths as a plan, where the module can carry it.
+// The kept paths as a plan, if the module can carry it.
 fn kept_plan(advert: &Advert, kept: &[Path]) -> Result<Plan, Refusal>
     ensures { MatchOption (kept_refusal advert.now kept.now) ((result ≡ Ok kept.now) × IsAdmissible advert.now kept.now)
         (λ refusal. result ≡ Err refusal) }
@@ -77,7 +77,7 @@ fn kept_plan(advert: &Advert, kept: &[Path]) -> Result<Plan, Refusal>
     }
 }
 
-// No part of `planned`, whose stack would then hold the planner's tables while it reads the advertisement.
+// Not inlined, or the stack of `planned` would hold the planner's tables while it reads the advertisement.
 #[inline(never)]
 fn best_plan(advert: &Advert, weights: &[u32; 256], kept: &Plan) -> LanePlan
     requires { IsAdmissible advert.now kept.now }

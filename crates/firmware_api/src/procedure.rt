@@ -23,7 +23,7 @@ use bus_model::{Dev, Op, Reply, Step};
 use control_sets::{Next, Procedure, ProvisionFault, SavedFault, SavedProcedure};
 use field_tables::LaneSet;
 
-/// What stands in each procedure, so that other memory is none: `DCP1`.
+/// What stands in each procedure, so that other memory is not taken for one: `DCP1`.
 const PROCEDURE: u32 = 0x4443_5031;
 
 /// A procedure under way, as C keeps it.
@@ -40,13 +40,13 @@ pub struct KeptProcedure {
 #[repr(C)]
 #[derive(Clone, Copy)]
 pub struct Answer {
-    /// How many steps a success took; 0 where there is a fault.
+    /// How many steps a success took; 0 if there is a fault.
     pub steps: u16,
     /// Why there is no success.
     pub fault: SavedFault,
 }
 
-/// Puts the procedure into `procedure` that makes these control bytes active, by taking down and applying these lanes.
+/// Puts into `procedure` the procedure that makes these control bytes active, by taking down and applying these lanes.
 #[unsafe(no_mangle)]
 pub extern "C" fn dovecounter_provision(control: &[u8; 8], lanes: u8, procedure: &mut KeptProcedure)
     ensures { IsSavedAt (provisioning control.now (lanes_in lanes)) [] procedure.new }
@@ -57,7 +57,7 @@ pub extern "C" fn dovecounter_provision(control: &[u8; 8], lanes: u8, procedure:
     );
 }
 
-/// Puts the procedure into `procedure` that brings up the data paths of these lanes, where these control bytes are active,
+/// Puts into `procedure` the procedure that brings up the data paths of these lanes, if these control bytes are active,
 /// and takes down those of all others.
 #[unsafe(no_mangle)]
 pub extern "C" fn dovecounter_activate(control: &[u8; 8], lanes: u8, procedure: &mut KeptProcedure)
@@ -69,7 +69,7 @@ pub extern "C" fn dovecounter_activate(control: &[u8; 8], lanes: u8, procedure: 
     );
 }
 
-/// Puts the operation into `operation` that is to be made now.
+/// Puts into `operation` the operation that is to be made now.
 #[tactic(auto, using(crate::proofs::SavedLaws::saved_follows, crate::proofs::SavedLaws::saved_waits))]
 #[unsafe(no_mangle)]
 pub extern "C" fn dovecounter_next(procedure: &KeptProcedure, operation: &mut Operation) -> u32
@@ -175,7 +175,7 @@ fn told(saved: &KeptProcedure, reply: u8, bytes: &[u8]) -> Result<KeptProcedure,
     }
 }
 
-// The procedure that has these numbers, where one has.
+// The procedure that has these numbers, if one has.
 #[tactic(auto, unfolding(crate::specs::SavedProcedures::procedure_in))]
 fn restore(kept: &KeptProcedure) -> Option<Procedure>
     ensures { result ≡ procedure_in kept.now }

@@ -36,7 +36,7 @@ pub fn family_number(family: Family) -> u8
     }
 }
 
-/// Why a page of bank 0 is missed.
+/// The refusal if a page of bank 0 is absent.
 pub fn page_refusal(image: &Image, page: u8) -> Option<Refusal>
     ensures { result ≡ page_refusal page image.now }
 {

@@ -25,8 +25,8 @@ pub use numbers::SavedReading;
 use numbers::{of_nothing, restore, with_half, without_half};
 use paged_memory::{Half as HalfOf, Key, PAGE_LEN};
 
-/// Puts into `reading` that nothing was read yet, over a bus that fetches at most so many bytes at once. A piece of a half has a
-/// multiple of 8 bytes.
+/// Puts into `reading` one that has read nothing yet, over a bus that fetches at most so many bytes at once. A piece of a half
+/// has a multiple of 8 bytes.
 #[unsafe(no_mangle)]
 pub extern "C" fn dovecounter_read(most: u8, reading: &mut SavedReading) -> u32
     ensures status { result ≡ status_by (size_refusal most) }
@@ -48,7 +48,7 @@ fn piece_for(most: u8) -> u8
     8 * (most.min(128) / 8)
 }
 
-/// Puts the operation into `operation` that is to be made now.
+/// Puts into `operation` the operation that is to be made now.
 #[unsafe(no_mangle)]
 pub extern "C" fn dovecounter_read_next(reading: &SavedReading, operation: &mut Operation) -> u32
     ensures told { IsReadingNextTold result operation.new reading.now.wait (asked reading.now) }

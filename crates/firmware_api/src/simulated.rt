@@ -16,7 +16,7 @@ use arrayvec::ArrayVec;
 use bus_model::{Dev, Device, MAX_FETCH, MAX_STORE};
 use sim_module::{Delays, Moving, SavedModule, SimModule};
 
-/// Puts into `simulated` what changes of the module at its start that has these halves and delays.
+/// Puts into `simulated` what changes of the module that has these halves and delays, as it is at the start.
 #[unsafe(no_mangle)]
 pub extern "C" fn dovecounter_module_begin(
     halves: &[Half],
@@ -83,7 +83,7 @@ pub extern "C" fn dovecounter_module_store(
     }
 }
 
-/// Lets one tick pass, of whichever halves the module is.
+/// Lets one tick pass, whichever halves the module has.
 #[unsafe(no_mangle)]
 pub extern "C" fn dovecounter_module_tick(simulated: &mut SavedModule) -> u32
     ensures status { result ≡ status_by (spec.refusal_in (restored simulated.old)) }
@@ -100,7 +100,7 @@ pub extern "C" fn dovecounter_module_tick(simulated: &mut SavedModule) -> u32
     }
 }
 
-/// The host holds the low power pin, or leaves it where `on` is 0.
+/// The host holds the low power pin, or leaves it if `on` is 0.
 #[unsafe(no_mangle)]
 pub extern "C" fn dovecounter_module_pin(simulated: &mut SavedModule, on: u8) -> u32
     ensures status { result ≡ status_by (spec.refusal_in (restored simulated.old)) }

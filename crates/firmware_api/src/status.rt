@@ -6,7 +6,7 @@ use field_tables::SffFault;
 use plan_certificate::CertificateFault;
 use sim_module::SimFault;
 
-/// What a call answers where it did what it is for.
+/// What a call answers if it did what it is for.
 pub const DONE: u32 = 0;
 
 /// Why a call does nothing.
@@ -28,7 +28,7 @@ pub enum Refusal {
     TooManyKept,
     /// A kept path isn't allowed, or shares a lane with an earlier one.
     KeptNotAdmissible,
-    /// The numbers are none of a procedure.
+    /// The numbers are not those of a procedure.
     NoProcedure,
     /// The procedure has ended.
     Ended,
@@ -36,15 +36,15 @@ pub enum Refusal {
     NotEnded,
     /// The operation that is to be made has no such reply.
     NoReply,
-    /// As many operations were told as may be, and not all was read.
+    /// All operations that may be made were told, and not all was read.
     GaveUp,
     /// The bus fetches too few bytes at once.
     TooFewBytes,
-    /// The halves with the delays are no simulated module.
+    /// The halves and the delays make no simulated module.
     NoStart(SimFault),
-    /// The numbers are none of a simulated module.
+    /// The numbers are not those of a simulated module.
     NoModule,
-    /// There is no such device, or the bytes are none, too many or not in one half.
+    /// There is no such device, or there are no bytes, too many of them, or they are not in one half.
     NoRange,
     /// The simulated module refuses.
     NotTaken,
