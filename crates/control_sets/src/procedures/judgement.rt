@@ -16,9 +16,9 @@ use module_states::ModuleState;
 pub enum Judgement {
     /// It is met.
     Met,
-    /// It may still be.
+    /// It is not met yet, and may still be.
     NotYet,
-    /// It can't be.
+    /// It can't be met.
     Fails(ProvisionFault),
 }
 

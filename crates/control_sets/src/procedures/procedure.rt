@@ -19,7 +19,7 @@ pub use saved::SavedProcedure;
 pub enum Work {
     /// The control bytes become active, by taking down and applying these lanes.
     Provisioning { control: [u8; 8], lanes: LaneSet },
-    /// The data paths of these lanes come up, where the control bytes are active.
+    /// The data paths of these lanes come up, if the control bytes are active.
     Activation { control: [u8; 8], lanes: LaneSet },
 }
 
@@ -107,7 +107,7 @@ impl Procedure {
         Procedure::of(Work::Provisioning { control, lanes })
     }
 
-    /// Brings up the data paths of the lanes, where these control bytes are active; those of other lanes are taken down.
+    /// If these control bytes are active, brings up the data paths of the lanes, and takes down those of other lanes.
     pub fn activation(control: [u8; 8], lanes: LaneSet) -> Procedure
         ensures { IsAt (activation control lanes) [] result }
     {
@@ -161,7 +161,7 @@ impl Procedure {
         }
     }
 
-    /// Takes the reply, where it is one that the operation to be made can have; answers whether it was.
+    /// Takes the reply if it is one that the operation to be made can have; answers whether it was.
     pub fn try_take(&mut self, reply: &Reply) -> bool
         ensures taken { IsTrue result ↔ IsReplyTo (next self.old) reply.now }
         ensures told { IsTrue result → (tasks : List Task) (history : History) (op : Op) →
@@ -177,7 +177,7 @@ impl Procedure {
     }
 }
 
-/// Whether the operation can have the reply: its kind, and so many bytes.
+/// Whether the operation can have a reply of this kind, with so many bytes.
 pub fn can_have(op: &Op, reply: &Reply) -> bool
     ensures { IsTrue result ↔ Answers op.now reply.now }
 {

@@ -52,7 +52,7 @@ pub fn provision<B: Bus>(
 }
 
 /// Makes the control bytes of a plan active, and takes down and applies only lanes outside of the data paths of the plan
-/// that are kept; what is told of the kept lanes' states and statuses isn't looked at. DPDeinit is stored for all lanes at
+/// that are kept; it doesn't look at the kept lanes' states and statuses. DPDeinit is stored for all lanes at
 /// once, with the bits of the lanes outside, so the bit of each kept lane is cleared: a kept path that is up stays up, and one
 /// that was held down begins to come up. The kept lanes' control bytes are staged, read back and compared like all others,
 /// so a kept path that isn't active ends the call in `ActiveDiffers`.

@@ -9,9 +9,9 @@ use bus_model::BusFault;
 #[repr(C)]
 #[derive(Clone, Copy, Debug, PartialEq, Eq)]
 pub struct SavedFault {
-    /// The number in the fault's code, as 1 for PV1; 0 where there is no fault.
+    /// The number in the fault's code, as 1 for PV1; 0 if there is no fault.
     pub code: u8,
-    /// Its first value, or 0; of PV5 the number in the code of the bus's fault.
+    /// Its first value, or 0; for PV5 the number in the code of the bus's fault.
     pub first: u8,
     /// Its second value, or 0.
     pub second: u8,
@@ -28,7 +28,7 @@ impl SavedFault {
         }
     }
 
-    /// Whether there is a fault, and which; `None` where the numbers are no fault's.
+    /// Whether there is a fault, and which; `None` if the numbers are no fault's.
     pub fn fault(&self) -> Option<Option<ProvisionFault>>
         ensures { result ≡ fault_in self.now }
     {

@@ -25,7 +25,7 @@ impl Session {
     ghost use Rattle.control_sets.specs.Asking.{IfDo, next_with, step_with};
     ghost use Rattle.control_sets.specs.OutcomeAnswers.{most_steps};
 
-    /// What is wanted for the task, where there is one.
+    /// What is wanted for the task, if there is one.
     pub fn next(&self, task: Option<Task>) -> Next
         ensures value { result ≡ next_with self.now task }
         ensures shape { IfDo result IsWellShaped }

@@ -21,7 +21,7 @@ pub struct SavedProcedure {
     pub lanes: u8,
     /// The control bytes of host lanes 1 to 8.
     pub control: [u8; 8],
-    /// Of the page selection 0 where nothing is known, 1 where it was stored to, 2 where a page was read back.
+    /// Of the page selection: 0 if nothing is known, 1 if it was stored to, 2 if a page was read back.
     pub selection: u8,
     /// The page that was read back, or 0.
     pub page: u8,
@@ -73,7 +73,7 @@ impl Procedure {
         }
     }
 
-    /// The procedure that has these numbers, where one has.
+    /// The procedure that has these numbers, if one has.
     #[tactic(auto, unfolding(crate::specs::SavedNumbers::restored))]
     pub fn restore(saved: &SavedProcedure) -> Option<Procedure>
         ensures { result ≡ restored saved.now }
