@@ -1,4 +1,4 @@
-// A reading as plain numbers: those of a reading, and the reading that has them.
+// A reading as plain numbers: from a reading its numbers, and from them the reading.
 ghost use Rattle.std.specs.Prelude.{◌≡◌, ◌≤◌, ◌<◌, IfSome, IsTrue, Some, length, take};
 ghost use Rattle.std.specs.FinMap as map;
 ghost use Rattle.std.specs.List.{list_all};
@@ -13,10 +13,10 @@ use arrayvec::ArrayVec;
 use module_reading::{PieceReading, Reading};
 use paged_memory::{PAGE_LEN, Selected};
 
-/// What stands in each reading, so that other memory is none: `DCR1`.
+/// What stands in each reading, so that other memory is not taken for one: `DCR1`.
 const READING: u32 = 0x4443_5231;
 
-/// As many halves are read of a module at most.
+/// The most halves that are read of a module.
 pub const MAX_READ: usize = 5;
 
 /// The reading of a module's memory under way, as C keeps it.
@@ -24,15 +24,15 @@ pub const MAX_READ: usize = 5;
 #[derive(Clone, Copy)]
 pub struct SavedReading {
     pub magic: u32,
-    /// How many operations were told, but for pieces before the last one of their half.
+    /// How many operations were told, without the pieces before the last one of their half.
     pub steps: u16,
     /// How many halves were read or left out.
     pub settled: u8,
-    /// Of the page selection 0 where nothing is known, 1 where it was stored to, 2 where a page was read back.
+    /// Of the page selection: 0 if nothing is known, 1 if it was stored to, 2 if a page was read back.
     pub selection: u8,
     /// The page that was read back, or 0.
     pub page: u8,
-    /// 1 where the last store on the selection was taken, else 0.
+    /// 1 if the last store on the selection was taken, else 0.
     pub accepted: u8,
     /// How many bytes a piece has.
     pub piece: u8,
@@ -77,7 +77,7 @@ pub fn without_half(before: &SavedReading, read: &PieceReading, wait: bool) -> S
     numbers(read, wait, before.count, before.halves)
 }
 
-/// The numbers of a reading whose image has this half more.
+/// The numbers of a reading whose image has this half in addition.
 pub fn with_half(before: &SavedReading, read: &PieceReading, wait: bool, half: Half) -> SavedReading
     requires count { before.now.count < read.now.reading.settled }
     requires settled { read.now.reading.settled ≤ 5 }
@@ -120,7 +120,7 @@ fn numbers(read: &PieceReading, wait: bool, count: u8, halves: [Half; MAX_READ])
     }
 }
 
-// With zeros behind.
+// With zeros after them.
 fn padded(part: &ArrayVec<u8, PAGE_LEN>) -> [u8; PAGE_LEN]
     requires { length part.now.items < 128 }
     ensures { take (length part.now.items) result ≡ part.now.items }
@@ -162,7 +162,7 @@ fn is_sound(saved: &SavedReading) -> bool
         && saved.wait <= 1
 }
 
-/// The reading that has these numbers, where one has.
+/// The reading that has these numbers, if one has.
 #[tactic(auto, using(crate::proofs::HalfMemories::memory_has_few), unfolding(crate::specs::SavedReadings::reading_in))]
 pub fn restore(saved: &SavedReading) -> Option<PieceReading>
     ensures value { result ≡ reading_in saved.now }
