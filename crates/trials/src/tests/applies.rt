@@ -43,7 +43,7 @@ fn each_refusal_has_its_code(rt: HostRuntime) -> Result<(), Fail> {
     Ok(())
 }
 
-// Registers have host lanes alone, and yet an Application of no media lanes is none that can be used.
+// Registers have host lanes alone, and yet an Application without media lanes can't be used.
 #[test]
 fn an_application_needs_media_lanes(rt: HostRuntime) -> Result<(), Fail> {
     for (counts, code) in [(0x20, 0x33), (0x29, 0x33), (0x21, 0xCC), (0x28, 0xCC)] {
@@ -58,7 +58,7 @@ fn an_application_needs_media_lanes(rt: HostRuntime) -> Result<(), Fail> {
 
 #[test]
 fn the_first_code_that_applies_is_given(rt: HostRuntime) -> Result<(), Fail> {
-    // Lane 1 meets two conditions at a time; of a lane in use the Active Control Set has pairs.
+    // Lane 1 meets two conditions at a time; for a lane in use the Active Control Set has pairs.
     let rows: &[(bool, u8, u8)] = &[
         // 6 before 3, 5, 4 and 7
         (true, 0x30, 6),
@@ -101,14 +101,14 @@ fn a_further_apply_ends_the_one_in_progress(rt: HostRuntime) -> Result<(), Fail>
         (3, 143, &[0x00], &[0]),
         (0, 126, &[0, 0x11], &[0, 0x11]),
         (0, 202, &[], &[0xCC, 0xCC, 0, 0]),
-        // Lanes 1 and 2 are left out of the further one, which takes its whole time.
+        // The second apply leaves out lanes 1 and 2, and takes its whole time.
         (0, 126, &[0, 0x10], &[0, 0x10]),
         (0, 143, &[0x3C], &[0]),
         (0, 126, &[0, 0x11], &[0, 0x11]),
         (0, 202, &[], &[0x22, 0xCC, 0xCC, 0]),
         (3, 206, &[], &[0; 8]),
         (1, 202, &[], &[0x22, 0x11, 0x11, 0, 0, 0, 0x24, 0x24]),
-        // A refused one ends it too.
+        // A refused apply ends it too.
         (0, 126, &[0, 0x10], &[0, 0x10]),
         (0, 143, &[0x03], &[0]),
         (0, 143, &[0x40], &[0]),

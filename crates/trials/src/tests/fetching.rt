@@ -1,4 +1,4 @@
-// Images that are read over a bus, of windows of modules.
+// Images that are read over a bus from windows of modules.
 use super::plans::bus_of;
 use bus_model::BusFault;
 use paged_memory::{Dev, Image, Key, Window};

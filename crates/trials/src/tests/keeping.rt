@@ -19,7 +19,7 @@ struct Kept {
     active: [u8; 8],
 }
 
-// Provisions, under a script, the plan that weighs most of those that keep the paths: the four pairs of lanes.
+// Provisions, under a script, the heaviest plan that keeps the paths: the four pairs of lanes.
 fn provisioned_keeping(
     alloc: Global,
     module: SimModule,
@@ -103,7 +103,7 @@ impl Numbers {
     }
 }
 
-// A module with some of the four pairs up, and with anything staged.
+// A module with some of the four pairs up, and with any bytes staged.
 fn module_with(numbers: &mut Numbers, active: [u8; 8]) -> Result<SimModule, Fail> {
     let mut staged = [0; 8];
     for byte in staged.iter_mut() {

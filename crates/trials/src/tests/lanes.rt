@@ -69,7 +69,7 @@ fn a_path_comes_up_and_goes_down(rt: HostRuntime) -> Result<(), Fail> {
         ]
     );
     select(&mut module, 0x11);
-    // The flag of lane 1 and the other lanes: entering DPInitialized and DPActivated raised them.
+    // The flags of all lanes: entering DPInitialized and DPActivated raised them.
     assert_eq!(rt; read::<1>(&mut module, 134), [0xFF]);
     select(&mut module, 0x10);
     write(&mut module, 128, &[0x02]);

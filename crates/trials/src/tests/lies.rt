@@ -51,7 +51,7 @@ fn kind(answer: &Option<Result<Provisioned, ProvisionFault>>) -> usize
     }
 }
 
-// Each answer comes, but for a full list; and a success was read.
+// Each answer but a full list comes, and a success was read.
 #[test]
 fn a_success_was_read_whatever_the_device_tells(rt: HostRuntime) -> Result<(), Fail> {
     let advert = Advert::of(&image()?)?;

@@ -45,7 +45,7 @@ pub fn provisioned<D: Device + Drop>(
     (bus.steps().len(), answer)
 }
 
-// Likewise of activation.
+// The same for activation.
 pub fn activated<D: Device + Drop>(
     bus: &mut ScriptBus<D>,
     advert: &Advert,

@@ -32,7 +32,7 @@ fn steps_under(
     Ok((is_success && bus.device().active() == PAIRS).then_some(steps))
 }
 
-// The largest number of steps if two transactions are refused so, whichever they are.
+// The most steps if two transactions are refused so, whichever they are.
 fn most_steps(alloc: Global, refusal: &[u8]) -> Result<Option<usize>, Fail> {
     let image = image()?;
     let plan = plan_of(&FOUR_PAIRS)?;

@@ -23,7 +23,7 @@ fn a_fetch_clears_the_latched_bytes_that_it_read(rt: HostRuntime) -> Result<(), 
     let flagged = with_run(image()?, upper(0, 0x11), 134, &[0xFF; 19])?;
     let mut module = SimModule::new(&flagged, FOURS)?;
     let rows: &[Row] = &[
-        // Under another page nothing latched is read.
+        // With another page selected nothing latched is read.
         (0, 134, &[], b"LE    "),
         (0, 126, &[0, 0x11], &[0, 0x11]),
     ];

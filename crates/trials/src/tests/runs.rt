@@ -4,7 +4,7 @@ use std::io;
 use std::io::{ErrorKind, Read, Write};
 use std::test::Fail;
 
-/// Gives two bytes a read at most, and fails at read number `failing`; numbers begin at 1.
+/// Gives at most two bytes a read, and fails at read number `failing`; numbers begin at 1.
 #[derive(Drop)]
 struct FakeReader<'a> {
     rest: &'a [u8],

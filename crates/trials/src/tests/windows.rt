@@ -218,7 +218,7 @@ fn store(offset: u8, bytes: &[u8]) -> Op {
     }
 }
 
-// A broken shape is told of whether or not the list of steps has room.
+// A broken shape is reported whether or not the list of steps has room.
 #[test]
 fn refuses_a_broken_shape_before_a_full_list(rt: HostRuntime) -> Result<(), Fail> {
     let window = Window::<16>::of(&image(&paths())?)?;
