@@ -10,7 +10,7 @@
 static const char usage[] =
     "usage: cmis-port BUS image | state | plan WEIGHTS | provision WEIGHTS\n"
     "  BUS           /dev/i2c-N, the eeprom file of the driver optoe, or sim:IMAGE[,SCRIPT]\n"
-    "  WEIGHTS       a file with the line [host], and lines as 0Dh = 101\n"
+    "  WEIGHTS       a file with the line [host], and lines such as 0Dh = 101\n"
     "  image         prints the module's memory, as cmisctl reads it\n"
     "  state         prints the states of the module and its lanes, and the active control bytes\n"
     "  plan          prints the best plan, and what stands against provisioning it\n"

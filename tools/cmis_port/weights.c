@@ -1,4 +1,4 @@
-/* Weights: a line [host], and lines as 0Dh = 101, HostInterfaceID and weight. */
+/* Weights: a line [host], and lines such as 0Dh = 101, HostInterfaceID and weight. */
 #include "port.h"
 
 #include <err.h>

@@ -80,7 +80,7 @@ const ACTIVATE: Flag = Flag {
 /// Asks for a plan that keeps data paths.
 const KEEP: Flag = Flag {
     name: "keep",
-    help: "Keep data paths: a further part of the input names them, behind the weights",
+    help: "Keep data paths: a further part of the input names them, after the weights",
 };
 
 /// Asks whether a plan is the first of the best.

@@ -3,7 +3,7 @@
 use super::commands::CommandName;
 
 /// The end of the program's own help.
-pub const OF_PROGRAM: &str = "An image text tells a module's memory, in lines of hexadecimal digits.
+pub const OF_PROGRAM: &str = "An image text has a module's memory, in lines of hexadecimal digits.
 'tools/module-image PORT' prints that of the module in a network port,
 'tools/module-image FILE' that of a dump (eeprom, hexdump, i2cdump ..);
 'cmisctl COMMAND --help' says what else a command reads. docs/formats.md
@@ -19,11 +19,11 @@ macro_rules! end {
     };
     ([weights $($more:ident)*] [$($text:literal)*] $($rest:tt)*) => {
         end!([$($more)*]
-            [$($text)* "then, after a line '---', weights: '[host]', then lines as '0Dh = 101', by HostInterfaceID"] $($rest)*)
+            [$($text)* "then, after a line '---', weights: '[host]', then lines such as '0Dh = 101', by HostInterfaceID"] $($rest)*)
     };
     ([kept $($more:ident)*] [$($text:literal)*] $($rest:tt)*) => {
         end!([$($more)*]
-            [$($text)* "with --keep then, after a line '---', data paths to keep: lines as 'keep 2 3 2',"
+            [$($text)* "with --keep then, after a line '---', data paths to keep: lines such as 'keep 2 3 2',"
                 "  Application 2 from host lane 3 and media lane 2 on"]
             $($rest)*)
     };
@@ -31,7 +31,7 @@ macro_rules! end {
         end!([$($more)*] [$($text)* "then, after a line '---', a certificate, as 'cmisctl plan' prints it"] $($rest)*)
     };
     ([script $($more:ident)*] [$($text:literal)*] $($rest:tt)*) => {
-        end!([$($more)*] [$($text)* "then, after a line '---', a script of the bus: lines as 'ok 4' and 'nack 1', or no line"] $($rest)*)
+        end!([$($more)*] [$($text)* "then, after a line '---', a script of the bus: lines such as 'ok 4' and 'nack 1', or no line"] $($rest)*)
     };
     ([] [$($text:literal)*] [$($example:literal)*] $($status:literal)?) => {
         concat!(
