@@ -6,10 +6,9 @@ use Rattle.std.specs.declared.alloc.Global.{Global}
 use Rattle.paged_memory.specs.Images.{Memory}
 use Rattle.reports.specs.declared.fault.ReportFault.{ReportFault}
 use Rattle.reports.specs.declared.fault.ReportFault.TheVariants as report
-use Rattle.reports.specs.Lines.{IsReport}
 use Rattle.command_line.specs.Faults.{fault_of_report}
 use Rattle.command_line.specs.OverBus.{IsInputRefusal, IsToReport}
-use Rattle.command_line.specs.ReportCommands.{IsReportAnswer}
+use Rattle.command_line.specs.ReportCommands.{IsPrinted, IsReportAnswer, Prints, printed}
 use Rattle.command_line.specs.Runs.{IsOwnAnswer}
 use Rattle.command_line.specs.declared.fault.Fault.{Fault}
 use Rattle.command_line.specs.declared.fault.Fault.TheVariants as fault
@@ -20,42 +19,42 @@ reported text = Ok text
 abbrev refused : ReportFault → Result (List ℕ) ReportFault
 refused fault = Err fault
 
-module _ (bus : Bool) (refusal : Memory → Option ReportFault) (lines : Memory → List (List ℕ)) (text : List ℕ) (memory : Memory) (read : IsToReport bus text memory) where
-  is_told : (told : List ℕ) (o : Option ReportFault) → refusal memory ≡ o → MatchOption o (IsReport (lines memory) (Ok told)) (λ f. reported told ≡ Err f)
-      → IsReportAnswer bus refusal lines (text ∷ []) (Ok (told, None))
+module _ (bus : Bool) (refusal : Memory → Option ReportFault) (text_of : Memory → List ℕ) (text : List ℕ) (memory : Memory) (read : IsToReport bus text memory) where
+  is_told : (told : List ℕ) (o : Option ReportFault) → refusal memory ≡ o → MatchOption o (IsPrinted (text_of memory) (Ok told)) (λ f. reported told ≡ Err f)
+      → IsReportAnswer bus refusal text_of (text ∷ []) (Ok (told, None))
   is_told told None is h = (memory, read, is, h)
   is_told told (Some f) is h = absurd cc
 
-  fault_is : (f : ReportFault) (o : Option ReportFault) → refusal memory ≡ o → MatchOption o (IsReport (lines memory) (Err f)) (λ g. refused f ≡ Err g)
+  fault_is : (f : ReportFault) (o : Option ReportFault) → refusal memory ≡ o → MatchOption o (IsPrinted (text_of memory) (Err f)) (λ g. refused f ≡ Err g)
       → (f ≡ report.Memory) ⊎ (refusal memory ≡ Some f)
   fault_is f None is h = inl h
   fault_is f (Some g) is h = inr (is ∙ cc)
 
-  refused_as : (f : ReportFault) → (f ≡ report.Memory) ⊎ (refusal memory ≡ Some f) → IsOwnAnswer (IsReportAnswer bus refusal lines) (text ∷ []) (Err (fault_of_report f))
+  refused_as : (f : ReportFault) → (f ≡ report.Memory) ⊎ (refusal memory ≡ Some f) → IsOwnAnswer (IsReportAnswer bus refusal text_of) (text ∷ []) (Err (fault_of_report f))
   refused_as report.Memory h = tt
   refused_as f (inl same) = absurd cc
   refused_as f (inr is) = inr (memory, read, is)
 
-  pub told_answer : (told : List ℕ) → MatchOption (refusal memory) (IsReport (lines memory) (Ok told)) (λ f. reported told ≡ Err f)
-      → IsOwnAnswer (IsReportAnswer bus refusal lines) (text ∷ []) (Ok (told, None))
+  pub told_answer : (told : List ℕ) → MatchOption (refusal memory) (IsPrinted (text_of memory) (Ok told)) (λ f. reported told ≡ Err f)
+      → IsOwnAnswer (IsReportAnswer bus refusal text_of) (text ∷ []) (Ok (told, None))
   told_answer told h = is_told told (refusal memory) refl h
 
-  pub refused_answer : (f : ReportFault) → MatchOption (refusal memory) (IsReport (lines memory) (Err f)) (λ g. refused f ≡ Err g)
-      → IsOwnAnswer (IsReportAnswer bus refusal lines) (text ∷ []) (Err (fault_of_report f))
+  pub refused_answer : (f : ReportFault) → MatchOption (refusal memory) (IsPrinted (text_of memory) (Err f)) (λ g. refused f ≡ Err g)
+      → IsOwnAnswer (IsReportAnswer bus refusal text_of) (text ∷ []) (Err (fault_of_report f))
   refused_answer f h = refused_as f (fault_is f (refusal memory) refl h)
 
 -- a refusal of what there is to report of is the command's own
-pub input_refused : (bus : Bool) (refusal : Memory → Option ReportFault) (lines : Memory → List (List ℕ)) (text : List ℕ) (f : Fault) → IsInputRefusal bus text f
-    → IsOwnAnswer (IsReportAnswer bus refusal lines) (text ∷ []) (Err f)
-input_refused bus refusal lines text fault.Memory is = tt
-input_refused bus refusal lines text (fault.Image f) is = is
-input_refused bus refusal lines text (fault.Report f) is = inl is
-input_refused bus refusal lines text f is = absurd is
+pub input_refused : (bus : Bool) (refusal : Memory → Option ReportFault) (text_of : Memory → List ℕ) (text : List ℕ) (f : Fault) → IsInputRefusal bus text f
+    → IsOwnAnswer (IsReportAnswer bus refusal text_of) (text ∷ []) (Err f)
+input_refused bus refusal text_of text fault.Memory is = tt
+input_refused bus refusal text_of text (fault.Image f) is = is
+input_refused bus refusal text_of text (fault.Report f) is = inl is
+input_refused bus refusal text_of text f is = absurd is
 
 -- the texts of reports as lists
 abbrev pub as_lists : Result (Vec ℕ Global) ReportFault → Result (List ℕ) ReportFault
 as_lists r = result_map_both (λ text. text.items) (λ fault. fault) r
 
-pub same_as_lists : (o : Option ReportFault) (lines : List (List ℕ)) (r : Result (Vec ℕ Global) ReportFault) → MatchOption o (IsReport lines (as_lists r)) (λ f. r ≡ Err f) → MatchOption o (IsReport lines (as_lists r)) (λ f. as_lists r ≡ Err f)
-same_as_lists None lines r h = h
-same_as_lists (Some f) lines r h = ap as_lists h
+pub same_as_lists : (o : Option ReportFault) (printed : List ℕ) (r : Result (Vec ℕ Global) ReportFault) → Prints o printed r → MatchOption o (IsPrinted printed (as_lists r)) (λ f. as_lists r ≡ Err f)
+same_as_lists None printed r h = h
+same_as_lists (Some f) printed r h = ap as_lists h

@@ -1,7 +1,7 @@
 -- A report over a bus is the one without, where what is read over it has the reports of the image.
-use Rattle.std.proofs.Common.{◌≡◌, ◌≢◌, ◌∙◌, ◌⊎◌, ℕ, ◌≤◌, ◌<◌, true, false, List, [], ◌∷◌, Option, Some, None, Result, Ok, Err, refl, sym, ap, inl, inr, length, arith}
+use Rattle.std.proofs.Common.{◌≡◌, ◌≢◌, ◌∙◌, ◌⊎◌, ℕ, ◌≤◌, ◌<◌, Bool, true, false, List, [], ◌∷◌, Option, Some, None, Result, Ok, Err, refl, sym, ap, inl, inr, length, arith}
 use Rattle.std.proofs.lemmas.List.{length-reverse}
-use Rattle.text_lines.specs.Lines.{lines_of, text_of}
+use Rattle.text_lines.specs.Lines.{lines_of}
 use Rattle.bus_model.specs.declared.bus.BusFault.{BusFault}
 use Rattle.paged_memory.specs.Images.{Memory}
 use Rattle.paged_memory.specs.ImageFaults.{IsAnswer}
@@ -9,12 +9,13 @@ use Rattle.paged_memory.specs.ImageText.{IsImage}
 use Rattle.paged_memory.specs.declared.fault.ImageFault.{ImageFault}
 use Rattle.paged_memory.specs.Paging.{History}
 use Rattle.paged_memory.proofs.OneAnswer.{same_answer}
+use Rattle.reports.specs.Entries.{Entry}
 use Rattle.reports.specs.SameReports.{FetchedReportsSame, IsSame, ReportsSame}
 use Rattle.reports.specs.declared.fault.ReportFault.{ReportFault}
 use Rattle.reports.specs.declared.fault.ReportFault.TheVariants as report
 use Rattle.command_line.specs.Limits.{input_limit}
 use Rattle.command_line.specs.OverBus.{IsFetchedFrom, window_at_start}
-use Rattle.command_line.specs.ReportCommands.{IsReportAnswer}
+use Rattle.command_line.specs.ReportCommands.{IsReportAnswer, printed}
 use Rattle.command_line.specs.Parts.{parts_of}
 use Rattle.command_line.specs.Runs.{Answer, IsAnswerTo}
 use Rattle.command_line.specs.SameOverBus.{IsToldAlike}
@@ -34,11 +35,11 @@ reading_fault memory report.GaveUp is = refl
 reading_fault memory (report.Bus g) is = absurd (never_full memory g is)
 reading_fault memory f (after, (history, ran, is)) = absurd is.answered
 
-module _ (refusal : Memory → Option ReportFault) (lines : Memory → List (List ℕ)) where
+module _ (refusal : Memory → Option ReportFault) (text_of : Memory → List ℕ) where
   -- ---- without the flag a text has one answer, by what reading it answers
 
   abbrev told_of : Memory → Option ReportFault → Answer
-  told_of memory None = Ok (text_of (lines memory), None)
+  told_of memory None = Ok (text_of memory, None)
   told_of memory (Some f) = Err (fault.Report f)
 
   abbrev told_by : Result Memory ImageFault → Answer
@@ -50,7 +51,7 @@ module _ (refusal : Memory → Option ReportFault) (lines : Memory → List (Lis
     is_read : IsAnswer (lines_of text) read
     is_told : answer ≡ told_by read
 
-  is_told : (text : List ℕ) (a : Answer) → IsReportAnswer false refusal lines (text ∷ []) a → IsTold text a
+  is_told : (text : List ℕ) (a : Answer) → IsReportAnswer false refusal text_of (text ∷ []) a → IsTold text a
   is_told text (Ok (t, None)) (memory, is, none, said) =
       record { read = Ok memory; is_read = is; is_told = (λ i. Ok (said i, None)) ∙ ap (told_of memory) (sym none) }
   is_told text (Ok (t, Some f)) never = absurd never
@@ -59,7 +60,7 @@ module _ (refusal : Memory → Option ReportFault) (lines : Memory → List (Lis
   is_told text (Err (fault.Image f)) first = record { read = Err f; is_read = first; is_told = refl }
   is_told text (Err f) never = absurd never
 
-  one_answer : (parts : List (List ℕ)) (a b : Answer) → IsReportAnswer false refusal lines parts a → IsReportAnswer false refusal lines parts b → a ≡ b
+  one_answer : (parts : List (List ℕ)) (a b : Answer) → IsReportAnswer false refusal text_of parts a → IsReportAnswer false refusal text_of parts b → a ≡ b
   one_answer (text ∷ []) a b p q =
       let first = is_told text a p in
       let other = is_told text b q in
@@ -70,7 +71,7 @@ module _ (refusal : Memory → Option ReportFault) (lines : Memory → List (Lis
 
   -- by what is the first to be judged of an input
   abbrev IsCut : List ℕ → Answer → Type 0
-  IsCut input a = ((length input ≤ input_limit) × (length (parts_of input) ≡ 1)) × IsReportAnswer false refusal lines (parts_of input) a
+  IsCut input a = ((length input ≤ input_limit) × (length (parts_of input) ≡ 1)) × IsReportAnswer false refusal text_of (parts_of input) a
 
   abbrev IsMiscounted : List ℕ → Answer → Type 0
   IsMiscounted input a = ((length input ≤ input_limit) × (length (parts_of input) ≢ 1)) × (a ≡ Err (fault.Parts (length (parts_of input))))
@@ -78,7 +79,7 @@ module _ (refusal : Memory → Option ReportFault) (lines : Memory → List (Lis
   abbrev IsJudged : List ℕ → Answer → Type 0
   IsJudged input a = ((input_limit < length input) × (a ≡ Err fault.TooLong)) ⊎ (IsMiscounted input a ⊎ IsCut input a)
 
-  judged : (input : List ℕ) (a : Answer) → IsAnswerTo 1 (IsReportAnswer false refusal lines) input a → a ≢ Err fault.Memory → a ≢ Err fault.Io → IsJudged input a
+  judged : (input : List ℕ) (a : Answer) → IsAnswerTo 1 (IsReportAnswer false refusal text_of) input a → a ≢ Err fault.Memory → a ≢ Err fault.Io → IsJudged input a
   judged input (Ok told) is memory read = inr (inr ((is.0, is.1), is.2))
   judged input (Err fault.Memory) is memory read = absurd (memory refl)
   judged input (Err fault.Io) is memory read = absurd (read refl)
@@ -100,14 +101,14 @@ module _ (refusal : Memory → Option ReportFault) (lines : Memory → List (Lis
 
   -- ---- with it, it has the same
 
-  module _ (law : FetchedReportsSame) (pick : (fetched memory : Memory) → ReportsSame fetched memory → IsSame refusal lines fetched memory) where
-    same : (memory fetched : Memory) → IsImage memory → IsFetchedFrom memory (Ok fetched) → IsSame refusal lines fetched memory
+  module _ (law : FetchedReportsSame) (pick : (fetched memory : Memory) → ReportsSame fetched memory → IsSame refusal text_of fetched memory) where
+    same : (memory fetched : Memory) → IsImage memory → IsFetchedFrom memory (Ok fetched) → IsSame refusal text_of fetched memory
     same memory fetched image (after, (history, ran, is)) = pick fetched memory (law (window_at_start memory) after history memory fetched image refl ran is)
 
-    plain : (parts : List (List ℕ)) (a : Answer) → IsReportAnswer true refusal lines parts a → a ≢ Err (fault.Report report.GaveUp) → IsReportAnswer false refusal lines parts a
+    plain : (parts : List (List ℕ)) (a : Answer) → IsReportAnswer true refusal text_of parts a → a ≢ Err (fault.Report report.GaveUp) → IsReportAnswer false refusal text_of parts a
     plain (text ∷ []) (Ok (t, None)) (fetched, read, none, said) ended =
         let alike = same read.memory fetched read.is_text.image read.fetched in
-        (read.memory, read.is_text, sym alike.fault ∙ none, said ∙ ap text_of (alike.said none))
+        (read.memory, read.is_text, sym alike.fault ∙ none, said ∙ alike.said none)
     plain (text ∷ []) (Ok (t, Some f)) never ended = absurd never
     plain (text ∷ []) (Err (fault.Report f)) (inl unread) ended =
         absurd (ended (ap (λ (g : ReportFault). Err (fault.Report g)) (reading_fault unread.memory f unread.fetched)))
@@ -117,8 +118,8 @@ module _ (refusal : Memory → Option ReportFault) (lines : Memory → List (Lis
     plain (text ∷ []) (Err (fault.Image f)) first ended = first
     plain parts a is ended = absurd is
 
-    plain_to : (input : List ℕ) (a : Answer) → IsAnswerTo 1 (IsReportAnswer true refusal lines) input a → a ≢ Err (fault.Report report.GaveUp)
-        → IsAnswerTo 1 (IsReportAnswer false refusal lines) input a
+    plain_to : (input : List ℕ) (a : Answer) → IsAnswerTo 1 (IsReportAnswer true refusal text_of) input a → a ≢ Err (fault.Report report.GaveUp)
+        → IsAnswerTo 1 (IsReportAnswer false refusal text_of) input a
     plain_to input (Ok told) is ended = (is.0, is.1, plain (parts_of input) (Ok told) is.2 ended)
     plain_to input (Err fault.Memory) is ended = tt
     plain_to input (Err fault.Io) is ended = tt
@@ -126,9 +127,18 @@ module _ (refusal : Memory → Option ReportFault) (lines : Memory → List (Lis
     plain_to input (Err (fault.Parts n)) is ended = is
     plain_to input (Err f) is ended = (is.0, is.1, plain (parts_of input) (Err f) is.2 ended)
 
-    pub told_alike : IsToldAlike (λ over. IsReportAnswer over refusal lines)
+    told_alike : IsToldAlike (λ over. IsReportAnswer over refusal text_of)
     told_alike input a is ended memory read =
         let plain = plain_to input a is ended in record {
           plain = plain;
           alone = λ other is_too memory_too read_too. agree input other a (judged input other is_too memory_too read_too) (judged input a plain memory read);
         }
+
+-- what is printed of the same entries is the same, in each form
+pub printed_told_alike : (json : Bool) (refusal : Memory → Option ReportFault) (entries : Memory → List Entry) (law : FetchedReportsSame)
+    → ((fetched memory : Memory) → ReportsSame fetched memory → IsSame refusal entries fetched memory)
+    → IsToldAlike (λ over. IsReportAnswer over refusal (λ (m : Memory). printed json (entries m)))
+printed_told_alike json refusal entries law pick =
+    told_alike refusal (λ (m : Memory). printed json (entries m)) law (λ fetched memory all.
+    let same = pick fetched memory all in
+    record { fault = same.fault; said = λ none. ap (printed json) (same.said none) })

@@ -21,6 +21,9 @@ pub record Entry : Type 0 where
 abbrev pub bus : Text
 bus = codes "bus"
 
+abbrev pub json : Text
+json = codes "json"
+
 abbrev pub activate : Text
 activate = codes "activate"
 
@@ -32,10 +35,10 @@ first = codes "first"
 
 unfoldable pub commands : List Entry
 commands =
-    record { name = codes "inventory"; command = Inventory; flags = bus ∷ [] }
-    ∷ record { name = codes "apps"; command = Apps; flags = bus ∷ [] }
-    ∷ record { name = codes "monitors"; command = Monitors; flags = bus ∷ [] }
-    ∷ record { name = codes "flags"; command = Flags; flags = bus ∷ [] }
+    record { name = codes "inventory"; command = Inventory; flags = bus ∷ json ∷ [] }
+    ∷ record { name = codes "apps"; command = Apps; flags = bus ∷ json ∷ [] }
+    ∷ record { name = codes "monitors"; command = Monitors; flags = bus ∷ json ∷ [] }
+    ∷ record { name = codes "flags"; command = Flags; flags = bus ∷ json ∷ [] }
     ∷ record { name = codes "plan"; command = Plan; flags = keep ∷ [] }
     ∷ record { name = codes "check"; command = Check; flags = first ∷ [] }
     ∷ record { name = codes "provision"; command = Provision; flags = activate ∷ keep ∷ [] }
@@ -81,6 +84,7 @@ abbrev pub choice_in : Option (Text × List Row) → Option Choice
 choice_in = option_and_then (λ found. option_map (λ entry. record {
   name = entry.command;
   bus = is_given bus found.1;
+  json = is_given json found.1;
   activate = is_given activate found.1;
   keep = is_given keep found.1;
   first = is_given first found.1;
@@ -91,6 +95,7 @@ abbrev pub plain_choice : CommandName → Choice
 plain_choice command = record {
   name = command;
   bus = false;
+  json = false;
   activate = false;
   keep = false;
   first = false;

@@ -36,10 +36,10 @@ use Rattle.command_line.specs.declared.status.Status.TheVariants as status
 
 -- what each command answers to an input, with the flags that are given
 abbrev pub IsAnswerBy : CommandName → Choice → List ℕ → Answer → Type 0
-IsAnswerBy Inventory given = IsAnswerTo 1 (IsInventoryAnswer given.bus)
-IsAnswerBy Apps given = IsAnswerTo 1 (IsAppsAnswer given.bus)
-IsAnswerBy Monitors given = IsAnswerTo 1 (IsMonitorsAnswer given.bus)
-IsAnswerBy Flags given = IsAnswerTo 1 (IsFlagsAnswer given.bus)
+IsAnswerBy Inventory given = IsAnswerTo 1 (IsInventoryAnswer given.bus given.json)
+IsAnswerBy Apps given = IsAnswerTo 1 (IsAppsAnswer given.bus given.json)
+IsAnswerBy Monitors given = IsAnswerTo 1 (IsMonitorsAnswer given.bus given.json)
+IsAnswerBy Flags given = IsAnswerTo 1 (IsFlagsAnswer given.bus given.json)
 IsAnswerBy Plan given = IsAnswerTo (count_with given.keep 2) (IsPlanAnswer given.keep)
 IsAnswerBy Check given = IsAnswerTo 3 (IsCheckAnswer record { tells_first = given.first })
 IsAnswerBy Provision given = IsAnswerTo (count_with given.keep 3) (IsProvisionAnswer given.activate given.keep)

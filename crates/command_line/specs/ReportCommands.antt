@@ -1,37 +1,58 @@
--- What a command that reports of an image answers to its part, with the flag `--bus` or without it. (docs/formats.md,
--- "Input", "Reports" and "Reports over a bus"; this project's own)
-use Rattle.std.specs.Prelude.{◌≡◌, ◌⊎◌, ℕ, Bool, List, [], ◌∷◌, Option, Some, None, Ok, Err}
-use Rattle.text_lines.specs.Lines.{lines_of, text_of}
+-- What a command that reports of an image answers to its part, with the flags `--bus` and `--json` or without them.
+-- (docs/formats.md, "Input", "Reports", "JSON" and "Reports over a bus"; this project's own)
+use Rattle.std.specs.Prelude.{◌≡◌, ◌⊎◌, ℕ, Bool, true, false, List, [], ◌∷◌, Option, Some, None, MatchOption, Result, Ok, Err, Vec}
+use Rattle.std.specs.Result.{result_map_both}
+use Rattle.std.specs.declared.alloc.Global.{Global}
+use Rattle.text_lines.specs.Lines.{lines_of}
 use Rattle.paged_memory.specs.Images.{Memory}
 use Rattle.paged_memory.specs.ImageFaults.{IsFirstFault}
 use Rattle.applications.specs.Advertised.{advertised_by}
-use Rattle.reports.specs.Apps.{apps_fault, apps_lines}
-use Rattle.reports.specs.Inventory.{inventory_fault, inventory_lines}
-use Rattle.reports.specs.Measured.{monitors_fault, monitors_lines}
-use Rattle.reports.specs.Warned.{flags_fault, flags_lines}
+use Rattle.reports.specs.Apps.{apps_entries, apps_fault}
+use Rattle.reports.specs.Entries.{Entry}
+use Rattle.reports.specs.EntryJson.{json_text, report_json}
+use Rattle.reports.specs.EntryText.{report_text}
+use Rattle.reports.specs.Inventory.{inventory_entries, inventory_fault}
+use Rattle.reports.specs.Measured.{monitors_entries, monitors_fault}
+use Rattle.reports.specs.Warned.{flags_entries, flags_fault}
 use Rattle.reports.specs.declared.fault.ReportFault.{ReportFault}
+use Rattle.reports.specs.declared.fault.ReportFault.TheVariants.{Memory as NoMemory}
 use Rattle.command_line.specs.declared.fault.Fault.TheVariants as fault
 use Rattle.command_line.specs.OverBus.{IsToReport, IsUnread}
 use Rattle.command_line.specs.Runs.{Answer}
 
--- the answer of a report, over a bus or not, by why there is none of a memory and what its lines are
-abbrev pub IsReportAnswer : Bool → (Memory → Option ReportFault) → (Memory → List (List ℕ)) → List (List ℕ) → Answer → Type 0
-IsReportAnswer bus refusal lines (image ∷ []) (Ok (text, None)) =
-    (memory : Memory) × IsToReport bus image memory × (refusal memory ≡ None) × (text ≡ text_of (lines memory))
-IsReportAnswer bus refusal lines (image ∷ []) (Err (fault.Report f)) =
+-- what is printed of entries, as JSON or as text
+abbrev pub printed : Bool → List Entry → List ℕ
+printed true entries = json_text (report_json entries)
+printed false entries = report_text entries
+
+-- this text, if there is memory for it
+abbrev pub IsPrinted : List ℕ → Result (List ℕ) ReportFault → Type 0
+IsPrinted text (Ok written) = written ≡ text
+IsPrinted text (Err f) = f ≡ NoMemory
+
+-- this fault if there is one, and else this text
+abbrev pub Prints : Option ReportFault → List ℕ → Result (Vec ℕ Global) ReportFault → Type 0
+Prints refused text result =
+    MatchOption refused (IsPrinted text (result_map_both (λ written. written.items) (λ f. f) result)) (λ f. result ≡ Err f)
+
+-- the answer of a report, over a bus or not, by why there is none of a memory and what its text is
+abbrev pub IsReportAnswer : Bool → (Memory → Option ReportFault) → (Memory → List ℕ) → List (List ℕ) → Answer → Type 0
+IsReportAnswer bus refusal text_of (image ∷ []) (Ok (text, None)) =
+    (memory : Memory) × IsToReport bus image memory × (refusal memory ≡ None) × (text ≡ text_of memory)
+IsReportAnswer bus refusal text_of (image ∷ []) (Err (fault.Report f)) =
     IsUnread bus image f ⊎ ((memory : Memory) × IsToReport bus image memory × (refusal memory ≡ Some f))
-IsReportAnswer bus refusal lines (image ∷ []) (Err (fault.Image f)) = IsFirstFault (lines_of image) f
+IsReportAnswer bus refusal text_of (image ∷ []) (Err (fault.Image f)) = IsFirstFault (lines_of image) f
 -- the faults of other commands don't come
-IsReportAnswer bus refusal lines parts answer = ⊥
+IsReportAnswer bus refusal text_of parts answer = ⊥
 
-abbrev pub IsInventoryAnswer : Bool → List (List ℕ) → Answer → Type 0
-IsInventoryAnswer bus = IsReportAnswer bus inventory_fault inventory_lines
+abbrev pub IsInventoryAnswer : Bool → Bool → List (List ℕ) → Answer → Type 0
+IsInventoryAnswer bus json = IsReportAnswer bus inventory_fault (λ memory. printed json (inventory_entries memory))
 
-abbrev pub IsAppsAnswer : Bool → List (List ℕ) → Answer → Type 0
-IsAppsAnswer bus = IsReportAnswer bus apps_fault (λ memory. apps_lines (advertised_by memory))
+abbrev pub IsAppsAnswer : Bool → Bool → List (List ℕ) → Answer → Type 0
+IsAppsAnswer bus json = IsReportAnswer bus apps_fault (λ memory. printed json (apps_entries (advertised_by memory)))
 
-abbrev pub IsMonitorsAnswer : Bool → List (List ℕ) → Answer → Type 0
-IsMonitorsAnswer bus = IsReportAnswer bus monitors_fault monitors_lines
+abbrev pub IsMonitorsAnswer : Bool → Bool → List (List ℕ) → Answer → Type 0
+IsMonitorsAnswer bus json = IsReportAnswer bus monitors_fault (λ memory. printed json (monitors_entries memory))
 
-abbrev pub IsFlagsAnswer : Bool → List (List ℕ) → Answer → Type 0
-IsFlagsAnswer bus = IsReportAnswer bus flags_fault flags_lines
+abbrev pub IsFlagsAnswer : Bool → Bool → List (List ℕ) → Answer → Type 0
+IsFlagsAnswer bus json = IsReportAnswer bus flags_fault (λ memory. printed json (flags_entries memory))

@@ -83,6 +83,7 @@ fn chosen(matches: &ArgMatches<'_>) -> Choice
     Choice {
         name: entry.command,
         bus: is_given(given, "bus"),
+        json: is_given(given, "json"),
         activate: is_given(given, "activate"),
         keep: is_given(given, "keep"),
         first: is_given(given, "first"),

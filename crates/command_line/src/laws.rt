@@ -1,5 +1,5 @@
 //! What holds of two runs: one command after the other, and one command with a flag and without it.
-ghost use Rattle.std.specs.Prelude.{◌≡◌, ℕ, ◌≤◌, true, false, List, [], ◌∷◌, length, None, Ok};
+ghost use Rattle.std.specs.Prelude.{◌≡◌, ℕ, ◌≤◌, Bool, true, false, List, [], ◌∷◌, length, None, Ok};
 ghost use Rattle.command_line.specs.Limits.{input_limit};
 ghost use Rattle.command_line.specs.Parts.{parts_of};
 ghost use Rattle.command_line.specs.PlanCommand.{IsPlanAnswer};
@@ -21,11 +21,11 @@ pub fn what_is_planned_is_good()
         → length (input_with input text) ≤ input_limit → IsGoodInPlace input kept text }
 {}
 
-/// What a report prints with `--bus`, and how it ends, is what it prints without and how it ends then, unless the module was not
-/// read whole, or an allocation or a read was refused.
+/// What a report prints with `--bus`, and how it ends, is what it prints without and how it ends then, with `--json` and without
+/// it, unless the module was not read whole, or an allocation or a read was refused.
 pub fn a_bus_changes_no_report()
-    ensures inventory { IsToldAlike IsInventoryAnswer }
-    ensures apps { IsToldAlike IsAppsAnswer }
-    ensures monitors { IsToldAlike IsMonitorsAnswer }
-    ensures flags { IsToldAlike IsFlagsAnswer }
+    ensures inventory { (json : Bool) → IsToldAlike (λ bus. IsInventoryAnswer bus json) }
+    ensures apps { (json : Bool) → IsToldAlike (λ bus. IsAppsAnswer bus json) }
+    ensures monitors { (json : Bool) → IsToldAlike (λ bus. IsMonitorsAnswer bus json) }
+    ensures flags { (json : Bool) → IsToldAlike (λ bus. IsFlagsAnswer bus json) }
 {}

@@ -91,10 +91,16 @@ fn command<R: Read, W: Write>(
         reader.old reader.new writer.old writer.new result }
 {
     match choice.name {
-        CommandName::Inventory => commands::inventory(alloc, choice.bus, reader, writer),
-        CommandName::Apps => commands::apps(alloc, choice.bus, reader, writer),
-        CommandName::Monitors => commands::monitors(alloc, choice.bus, reader, writer),
-        CommandName::Flags => commands::flags(alloc, choice.bus, reader, writer),
+        CommandName::Inventory => commands::inventory(
+            alloc,
+            choice.bus,
+            choice.json,
+            reader,
+            writer,
+        ),
+        CommandName::Apps => commands::apps(alloc, choice.bus, choice.json, reader, writer),
+        CommandName::Monitors => commands::monitors(alloc, choice.bus, choice.json, reader, writer),
+        CommandName::Flags => commands::flags(alloc, choice.bus, choice.json, reader, writer),
         CommandName::Plan => commands::plan(alloc, choice.keep, reader, writer),
         CommandName::Check => commands::check(alloc, choice.first, reader, writer),
         CommandName::Provision => commands::provision(

@@ -1,5 +1,5 @@
 -- Memories that agree in the halves of their family advertise the same.
-use Rattle.std.proofs.Common.{◌≡◌, ℕ, zero, suc, ◌+◌, ◌-◌, ◌≤◌, Bool, true, false, [], ◌∷◌, ◌++◌, Option, Some, None, map, refl, sym, ap, subst, if◌then◌else◌, nat_le, arith}
+use Rattle.std.proofs.Common.{◌≡◌, ℕ, zero, suc, ◌+◌, ◌-◌, ◌≤◌, Bool, true, false, ◌∷◌, ◌++◌, Option, Some, None, map, refl, sym, ap, subst, if◌then◌else◌, nat_le, arith}
 use Rattle.std.proofs.lemmas.Bool.{not-false}
 use Rattle.std.proofs.lemmas.Bool.Decides.{nat_tests}
 use Rattle.std.specs.Prelude.{option_map, take_while, unsigned_abs}
@@ -24,7 +24,7 @@ use Rattle.applications.specs.Advertised.{advertised_by}
 use Rattle.applications.specs.Descriptors.{app_at, apps_of, described, is_listed}
 use Rattle.applications.specs.Refusals.{advert_fault, module_reasons, page_reasons}
 use Rattle.applications.specs.declared.fault.AdvertFault.{AdvertFault}
-use Rattle.reports.specs.Apps.{apps_fault, apps_lines}
+use Rattle.reports.specs.Apps.{apps_entries, apps_fault}
 use Rattle.reports.specs.declared.fault.ReportFault.TheVariants.{Advert}
 use Rattle.reports.specs.Families.{identifier, is_flat}
 use Rattle.reports.specs.SameReports.{IsSame}
@@ -125,11 +125,11 @@ same_advert_fault a b agrees =
       ),
     )
 
-pub same_apps : (a b : Memory) → FamilyAgrees a b → IsSame apps_fault (λ (m : Memory). apps_lines (advertised_by m)) a b
+pub same_apps : (a b : Memory) → FamilyAgrees a b → IsSame apps_fault (λ (m : Memory). apps_entries (advertised_by m)) a b
 same_apps a b agrees = record {
   fault = ap (option_map (λ (fault : AdvertFault). Advert fault)) (same_advert_fault a b agrees);
   said = λ e.
       let paged = is_paged a (none_mapped (λ (fault : AdvertFault). Advert fault) (advert_fault a) e) in
       let agree = agrees.cmis paged.cmis in
-      ap apps_lines (same_advertised a b agree (agree.paged paged.paged).0);
+      ap apps_entries (same_advertised a b agree (agree.paged paged.paged).0);
 }

@@ -1,5 +1,5 @@
 -- Memories that agree in the halves of their family warn of the same.
-use Rattle.std.proofs.Common.{◌≡◌, Bool, true, false, List, [], ◌∷◌, ◌++◌, None, map, refl, sym, ap, ◌∙◌}
+use Rattle.std.proofs.Common.{◌≡◌, Bool, true, false, List, [], ◌∷◌, ◌++◌, None, map, refl, ap, ◌∙◌}
 use Rattle.bus_model.specs.declared.device.Dev.TheVariants.{A0, A2}
 use Rattle.paged_memory.specs.declared.family.Family.TheVariants.{Cmis, Sff8636, Sff8472}
 use Rattle.paged_memory.specs.Images.{Memory}
@@ -12,7 +12,6 @@ use Rattle.sff8472_map.specs.Refusals as sfp_refusals
 use Rattle.reports.specs.CmisFlags as cmis
 use Rattle.reports.specs.SffFlags as sff
 use Rattle.reports.specs.declared.flag.Flag.{Flag}
-use Rattle.reports.specs.EntryText.{entries_lines}
 use Rattle.reports.specs.FlagRows.{flags_entry, rows_flags}
 use Rattle.reports.proofs.SameRows.{by_flat, rows_same}
 use Rattle.reports.proofs.SameFlagRows.{flag_rows_same}
@@ -20,7 +19,7 @@ use Rattle.reports.specs.Families.{is_flat, of_sff}
 use Rattle.reports.specs.Flags.{raised}
 use Rattle.reports.specs.Rows.{rows_entries}
 use Rattle.reports.specs.SameReports.{IsSame}
-use Rattle.reports.specs.Warned.{entries_in, fault_in, flags_entries, flags_fault, flags_lines}
+use Rattle.reports.specs.Warned.{entries_in, fault_in, flags_entries, flags_fault}
 use Rattle.reports.proofs.SameFamilies.{CmisAgree, FamilyAgrees, QsfpAgree, SfpAgree, by_family, no_sff, none_applies, same_flat, same_unless_flat}
 use Rattle.reports.proofs.SameMonitors.{are_diagnosed, same_qsfp_module}
 
@@ -97,8 +96,6 @@ module _ (a b : Memory) (agree : SfpAgree a b) where
     said = λ e. ap (λ (flags : List (Flag × Bool)). flags_entry (raised flags) ∷ []) (same_sfp_flags (agree.diagnostics (diagnosed (no_sff (sfp_refusals.flags_fault a) e))));
   }
 
-pub same_flags : (a b : Memory) → FamilyAgrees a b → IsSame flags_fault flags_lines a b
-unfolding flags_fault flags_entries flags_lines
-same_flags a b agrees =
-    let same = by_family fault_in entries_in a b agrees (same_cmis a b) (same_qsfp a b) (same_sfp a b) in
-    record { fault = same.fault; said = λ none. ap entries_lines (same.said none) }
+pub same_flags : (a b : Memory) → FamilyAgrees a b → IsSame flags_fault flags_entries a b
+unfolding flags_fault flags_entries
+same_flags a b agrees = by_family fault_in entries_in a b agrees (same_cmis a b) (same_qsfp a b) (same_sfp a b)

@@ -8,9 +8,8 @@ use Rattle.field_tables.proofs.SameRefusals.{same_refusal}
 use Rattle.sff8472_map.specs.Refusals as sfp_refusals
 use Rattle.sff8636_map.specs.Refusals as qsfp_refusals
 use Rattle.reports.specs.CmisInventory as cmis
-use Rattle.reports.specs.EntryText.{entries_lines}
 use Rattle.reports.specs.Families.{is_flat, of_sff}
-use Rattle.reports.specs.Inventory.{entries_in, fault_in, inventory_entries, inventory_fault, inventory_lines}
+use Rattle.reports.specs.Inventory.{entries_in, fault_in, inventory_entries, inventory_fault}
 use Rattle.reports.specs.SameReports.{IsSame}
 use Rattle.reports.specs.SffInventory.{qsfp_entries, qsfp_rows, sfp_entries, sfp_rows}
 use Rattle.reports.proofs.SameRows.{by_flat, rows_same}
@@ -53,8 +52,6 @@ module _ (a b : Memory) (agree : SfpAgree a b) where
   same_sfp : IsSame (fault_in Sff8472) (entries_in Sff8472) a b
   same_sfp = record { fault = ap of_sff same_sfp_fault; said = λ none. same_sfp_said }
 
-pub same_inventory : (a b : Memory) → FamilyAgrees a b → IsSame inventory_fault inventory_lines a b
-unfolding inventory_fault inventory_entries inventory_lines
-same_inventory a b agrees =
-    let same = by_family fault_in entries_in a b agrees (same_cmis a b) (same_qsfp a b) (same_sfp a b) in
-    record { fault = same.fault; said = λ none. ap entries_lines (same.said none) }
+pub same_inventory : (a b : Memory) → FamilyAgrees a b → IsSame inventory_fault inventory_entries a b
+unfolding inventory_fault inventory_entries
+same_inventory a b agrees = by_family fault_in entries_in a b agrees (same_cmis a b) (same_qsfp a b) (same_sfp a b)

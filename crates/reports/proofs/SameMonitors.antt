@@ -1,5 +1,5 @@
 -- Memories that agree in the halves of their family measure the same.
-use Rattle.std.proofs.Common.{◌≡◌, ◌==◌, Bool, true, false, List, [], ◌∷◌, None, map, refl, sym, ap, ◌∙◌}
+use Rattle.std.proofs.Common.{◌≡◌, Bool, true, false, [], ◌∷◌, None, map, refl, sym, ap}
 use Rattle.std.proofs.lemmas.Bool.{and_from, not-false}
 use Rattle.std.specs.Prelude.{not}
 use Rattle.std.specs.Option.{option_or}
@@ -16,9 +16,8 @@ use Rattle.sff8472_map.specs.Refusals as sfp_refusals
 use Rattle.sff8636_map.specs.Refusals as qsfp_refusals
 use Rattle.reports.specs.CmisMonitors as cmis
 use Rattle.reports.specs.SffMonitors.{qsfp_limits_fault, qsfp_rows, sff8472_entries, sff8636_entries, sfp_rows}
-use Rattle.reports.specs.EntryText.{entries_lines}
 use Rattle.reports.specs.Families.{is_flat, of_sff}
-use Rattle.reports.specs.Measured.{entries_in, fault_in, monitors_entries, monitors_fault, monitors_lines}
+use Rattle.reports.specs.Measured.{entries_in, fault_in, monitors_entries, monitors_fault}
 use Rattle.module_reading.specs.Regions.{has_diagnostics}
 use Rattle.reports.specs.SameReports.{IsSame}
 use Rattle.reports.specs.Rows.{rows_entries}
@@ -122,8 +121,6 @@ module _ (a b : Memory) (agree : SfpAgree a b) where
     said = λ e. same_sfp_said (agree.diagnostics (diagnosed (no_sff (sfp_refusals.measured_fault a) e)));
   }
 
-pub same_monitors : (a b : Memory) → FamilyAgrees a b → IsSame monitors_fault monitors_lines a b
-unfolding monitors_fault monitors_entries monitors_lines
-same_monitors a b agrees =
-    let same = by_family fault_in entries_in a b agrees (same_cmis a b) (same_qsfp a b) (same_sfp a b) in
-    record { fault = same.fault; said = λ none. ap entries_lines (same.said none) }
+pub same_monitors : (a b : Memory) → FamilyAgrees a b → IsSame monitors_fault monitors_entries a b
+unfolding monitors_fault monitors_entries
+same_monitors a b agrees = by_family fault_in entries_in a b agrees (same_cmis a b) (same_qsfp a b) (same_sfp a b)

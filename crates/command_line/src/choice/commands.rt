@@ -22,6 +22,8 @@ pub struct Choice {
     pub name: CommandName,
     /// Whether the module is to be read over a bus.
     pub bus: bool,
+    /// Whether the report is to be JSON.
+    pub json: bool,
     /// Whether the plan is to be activated too.
     pub activate: bool,
     /// Whether the plan is to keep data paths that the input names.
@@ -38,6 +40,7 @@ impl Choice {
         Choice {
             name: command,
             bus: false,
+            json: false,
             activate: false,
             keep: false,
             first: false,
@@ -69,6 +72,12 @@ pub struct CommandEntry {
 const BUS: Flag = Flag {
     name: "bus",
     help: "Read the module over a simulated bus, as a host does",
+};
+
+/// Asks for JSON.
+const JSON: Flag = Flag {
+    name: "json",
+    help: "Print the report as JSON",
 };
 
 /// Asks for activation.
@@ -107,10 +116,10 @@ pub fn commands() -> &'static [CommandEntry]
     ensures { map entry_of result.now ≡ commands }
 {
     table! {
-        "inventory" Inventory [BUS] "Print what the module is";
-        "apps" Apps [BUS] "Print the Applications that the module advertises";
-        "monitors" Monitors [BUS] "Print what the module measures";
-        "flags" Flags [BUS] "Print the states of the module and its lanes, and the flags that are raised";
+        "inventory" Inventory [BUS JSON] "Print what the module is";
+        "apps" Apps [BUS JSON] "Print the Applications that the module advertises";
+        "monitors" Monitors [BUS JSON] "Print what the module measures";
+        "flags" Flags [BUS JSON] "Print the states of the module and its lanes, and the flags that are raised";
         "plan" Plan [KEEP] "Print the plan that weighs most for an image and weights, with its certificate";
         "check" Check [FIRST] "Judge a certificate for an image and weights, and print its plan if it is good";
         "provision" Provision [ACTIVATE KEEP] "Put the plan into the Active Control Set of a simulated module, over a bus that does as a script says";

@@ -50,7 +50,8 @@ macro_rules! end {
 pub fn of_command(command: CommandName) -> &'static str {
     match command {
         CommandName::Inventory => end!([image] []
-            ["inventory < examples/qsfp_dd_400g_dr4.txt" "inventory --bus < examples/qsfp28_100g_sr4.txt"]),
+            ["inventory < examples/qsfp_dd_400g_dr4.txt" "inventory --bus < examples/qsfp28_100g_sr4.txt"
+                "inventory --json < examples/qsfp_dd_400g_dr4.txt"]),
         CommandName::Apps => end!([image] []
             ["apps < examples/osfp_800g_many_apps.txt" "apps --bus < examples/osfp_800g_many_apps.txt"]),
         CommandName::Monitors => end!([image] []

@@ -1,9 +1,9 @@
 ghost use Rattle.applications.specs.Advertised.{advertised_by};
-ghost use Rattle.reports.specs.Apps.{apps_fault, apps_lines};
-ghost use Rattle.reports.specs.Inventory.{inventory_fault, inventory_lines};
-ghost use Rattle.reports.specs.Measured.{monitors_fault, monitors_lines};
-ghost use Rattle.reports.specs.Warned.{flags_fault, flags_lines};
-ghost use Rattle.command_line.specs.ReportCommands.{IsReportAnswer, IsInventoryAnswer, IsAppsAnswer, IsMonitorsAnswer, IsFlagsAnswer};
+ghost use Rattle.reports.specs.Apps.{apps_entries, apps_fault};
+ghost use Rattle.reports.specs.Inventory.{inventory_entries, inventory_fault};
+ghost use Rattle.reports.specs.Measured.{monitors_entries, monitors_fault};
+ghost use Rattle.reports.specs.Warned.{flags_entries, flags_fault};
+ghost use Rattle.command_line.specs.ReportCommands.{IsReportAnswer, IsInventoryAnswer, IsAppsAnswer, IsMonitorsAnswer, IsFlagsAnswer, Prints, printed};
 ghost use Rattle.command_line.specs.Runs.{IsAnswerTo, IsCommandRun};
 
 use super::command::{Command, run};
@@ -21,22 +21,25 @@ use std::io::{Read, Write};
 
 /// A report of an image.
 trait Report {
-    ghost use Rattle.std.specs.Prelude.{ℕ, List, Option, ◌≡◌, Err, MatchOption};
-    ghost use Rattle.std.specs.Result.{result_map_both};
+    ghost use Rattle.std.specs.Prelude.{List, Option};
     ghost use Rattle.paged_memory.specs.Images.{Memory};
-    ghost use Rattle.reports.specs.Lines.{IsReport};
+    ghost use Rattle.reports.specs.Entries.{Entry};
+    ghost use Rattle.reports.specs.EntryJson.{ReportsJson};
+    ghost use Rattle.reports.specs.EntryText.{entries_lines};
+    ghost use Rattle.reports.specs.Lines.{Reports};
     ghost use Rattle.reports.specs.declared.fault.ReportFault.{ReportFault};
 
     /// Why there is none of a memory.
     ghost refusal: { Memory → Option ReportFault };
 
-    /// Its lines.
-    ghost lines: { Memory → List (List ℕ) };
+    /// What it says.
+    ghost entries: { Memory → List Entry };
 
     fn text(&self, alloc: Global, image: &Image) -> Result<Vec<u8>, ReportFault>
-        ensures { MatchOption (refusal image.now)
-            (IsReport (lines image.now) (result_map_both (λ text. text.items) (λ fault. fault) result))
-            (λ fault. result ≡ Err fault) };
+        ensures { Reports (refusal image.now) (entries_lines (entries image.now)) result };
+
+    fn json(&self, alloc: Global, image: &Image) -> Result<Vec<u8>, ReportFault>
+        ensures { ReportsJson (refusal image.now) (entries image.now) result };
 }
 
 /// The command that prints it, of the image or of what is read of it over a bus.
@@ -44,12 +47,27 @@ trait Report {
 struct ReportCommand<T> {
     report: T,
     is_over_bus: bool,
+    is_json: bool,
+}
+
+impl<T: Report> ReportCommand<T> {
+    /// What it prints of an image.
+    fn printed(&self, alloc: Global, image: &Image) -> Result<Vec<u8>, ReportFault>
+        ensures { Prints (T.refusal image.now) (printed self.now.is_json (T.entries image.now)) result }
+    {
+        if self.is_json {
+            self.report.json(alloc, image)
+        } else {
+            self.report.text(alloc, image)
+        }
+    }
 }
 
 impl<T: Report> Command for ReportCommand<T> {
     ghost count = { λ _. 1 };
 
-    ghost answers = { λ command. IsReportAnswer command.is_over_bus T.refusal T.lines };
+    ghost answers = { λ command. IsReportAnswer command.is_over_bus T.refusal
+        (λ memory. printed command.is_json (T.entries memory)) };
 
     fn parts(&self) -> usize {
         1
@@ -58,7 +76,7 @@ impl<T: Report> Command for ReportCommand<T> {
     fn answer(&self, alloc: Global, parts: &[&[u8]]) -> Result<Told, Fault> {
         let image = image_to_report(alloc, parts[0], self.is_over_bus)?;
         Ok(Told {
-            text: self.report.text(alloc, &image)?,
+            text: self.printed(alloc, &image)?,
             fault: None,
             warnings: Warnings::none(),
         })
@@ -71,10 +89,15 @@ struct InventoryReport;
 impl Report for InventoryReport {
     ghost refusal = { inventory_fault };
 
-    ghost lines = { inventory_lines };
+    ghost entries = { inventory_entries };
 
+    #[tactic(auto, unfolding(reports::specs::Inventory::inventory_lines))]
     fn text(&self, alloc: Global, image: &Image) -> Result<Vec<u8>, ReportFault> {
         reports::inventory(alloc, image)
+    }
+
+    fn json(&self, alloc: Global, image: &Image) -> Result<Vec<u8>, ReportFault> {
+        reports::inventory_json(alloc, image)
     }
 }
 
@@ -84,10 +107,14 @@ struct AppsReport;
 impl Report for AppsReport {
     ghost refusal = { apps_fault };
 
-    ghost lines = { λ memory. apps_lines (advertised_by memory) };
+    ghost entries = { λ memory. apps_entries (advertised_by memory) };
 
     fn text(&self, alloc: Global, image: &Image) -> Result<Vec<u8>, ReportFault> {
         reports::apps(alloc, image)
+    }
+
+    fn json(&self, alloc: Global, image: &Image) -> Result<Vec<u8>, ReportFault> {
+        reports::apps_json(alloc, image)
     }
 }
 
@@ -97,10 +124,15 @@ struct MonitorsReport;
 impl Report for MonitorsReport {
     ghost refusal = { monitors_fault };
 
-    ghost lines = { monitors_lines };
+    ghost entries = { monitors_entries };
 
+    #[tactic(auto, unfolding(reports::specs::Measured::monitors_lines))]
     fn text(&self, alloc: Global, image: &Image) -> Result<Vec<u8>, ReportFault> {
         reports::monitors(alloc, image)
+    }
+
+    fn json(&self, alloc: Global, image: &Image) -> Result<Vec<u8>, ReportFault> {
+        reports::monitors_json(alloc, image)
     }
 }
 
@@ -110,10 +142,15 @@ struct FlagsReport;
 impl Report for FlagsReport {
     ghost refusal = { flags_fault };
 
-    ghost lines = { flags_lines };
+    ghost entries = { flags_entries };
 
+    #[tactic(auto, unfolding(reports::specs::Warned::flags_lines))]
     fn text(&self, alloc: Global, image: &Image) -> Result<Vec<u8>, ReportFault> {
         reports::flags(alloc, image)
+    }
+
+    fn json(&self, alloc: Global, image: &Image) -> Result<Vec<u8>, ReportFault> {
+        reports::flags_json(alloc, image)
     }
 }
 
@@ -121,71 +158,78 @@ fn print<T: Report + Drop, R: Read, W: Write>(
     alloc: Global,
     report: T,
     is_over_bus: bool,
+    is_json: bool,
     reader: &mut CountedReader<R>,
     writer: &mut StoppingWriter<W>,
 ) -> Ending
-    ensures { IsCommandRun R.remaining W.contents (IsAnswerTo 1 (IsReportAnswer is_over_bus T.refusal T.lines))
+    ensures { IsCommandRun R.remaining W.contents (IsAnswerTo 1
+        (IsReportAnswer is_over_bus T.refusal (λ memory. printed is_json (T.entries memory))))
         reader.old reader.new writer.old writer.new result }
 {
     let command = ReportCommand {
         report,
         is_over_bus,
+        is_json,
     };
     run(alloc, &command, reader, writer)
 }
 
 /// Reads the text of an image, and writes the module's inventory or why there is none; where `bus` is set, that of the module
-/// as it is read over a bus.
+/// as it is read over a bus, and where `json` is set, as JSON.
 pub fn inventory<R: Read, W: Write>(
     alloc: Global,
     bus: bool,
+    json: bool,
     reader: &mut CountedReader<R>,
     writer: &mut StoppingWriter<W>,
 ) -> Ending
-    ensures { IsCommandRun R.remaining W.contents (IsAnswerTo 1 (IsInventoryAnswer bus))
+    ensures { IsCommandRun R.remaining W.contents (IsAnswerTo 1 (IsInventoryAnswer bus json))
         reader.old reader.new writer.old writer.new result }
 {
-    print(alloc, InventoryReport, bus, reader, writer)
+    print(alloc, InventoryReport, bus, json, reader, writer)
 }
 
 /// Reads the text of an image, and writes the Applications that the module advertises or why they are not read; where `bus` is
-/// set, those of the module as it is read over a bus.
+/// set, those of the module as it is read over a bus, and where `json` is set, as JSON.
 pub fn apps<R: Read, W: Write>(
     alloc: Global,
     bus: bool,
+    json: bool,
     reader: &mut CountedReader<R>,
     writer: &mut StoppingWriter<W>,
 ) -> Ending
-    ensures { IsCommandRun R.remaining W.contents (IsAnswerTo 1 (IsAppsAnswer bus))
+    ensures { IsCommandRun R.remaining W.contents (IsAnswerTo 1 (IsAppsAnswer bus json))
         reader.old reader.new writer.old writer.new result }
 {
-    print(alloc, AppsReport, bus, reader, writer)
+    print(alloc, AppsReport, bus, json, reader, writer)
 }
 
 /// Reads the text of an image, and writes what the module measures or why it is not told; where `bus` is set, by what is read
-/// of it over a bus.
+/// of it over a bus, and where `json` is set, as JSON.
 pub fn monitors<R: Read, W: Write>(
     alloc: Global,
     bus: bool,
+    json: bool,
     reader: &mut CountedReader<R>,
     writer: &mut StoppingWriter<W>,
 ) -> Ending
-    ensures { IsCommandRun R.remaining W.contents (IsAnswerTo 1 (IsMonitorsAnswer bus))
+    ensures { IsCommandRun R.remaining W.contents (IsAnswerTo 1 (IsMonitorsAnswer bus json))
         reader.old reader.new writer.old writer.new result }
 {
-    print(alloc, MonitorsReport, bus, reader, writer)
+    print(alloc, MonitorsReport, bus, json, reader, writer)
 }
 
 /// Reads the text of an image, and writes the module's states and the flags that are raised or why they are not told; where
-/// `bus` is set, by what is read of it over a bus.
+/// `bus` is set, by what is read of it over a bus, and where `json` is set, as JSON.
 pub fn flags<R: Read, W: Write>(
     alloc: Global,
     bus: bool,
+    json: bool,
     reader: &mut CountedReader<R>,
     writer: &mut StoppingWriter<W>,
 ) -> Ending
-    ensures { IsCommandRun R.remaining W.contents (IsAnswerTo 1 (IsFlagsAnswer bus))
+    ensures { IsCommandRun R.remaining W.contents (IsAnswerTo 1 (IsFlagsAnswer bus json))
         reader.old reader.new writer.old writer.new result }
 {
-    print(alloc, FlagsReport, bus, reader, writer)
+    print(alloc, FlagsReport, bus, json, reader, writer)
 }
