@@ -28,7 +28,7 @@ good_line = codes "good"
 unfoldable pub kept_line : ℕ → List ℕ
 kept_line count = spaced (codes "kept" ∷ decimal count ∷ [])
 
--- how many paths are kept, where some are
+-- how many paths are kept, if some are
 abbrev pub kept_lines : ℕ → List (List ℕ)
 kept_lines count = if count == 0 then [] else kept_line count ∷ []
 
@@ -36,7 +36,7 @@ unfoldable pub first_line : Bool → List ℕ
 first_line true = codes "first yes"
 first_line false = codes "first no"
 
--- whether the plan is the first of the best, where that is asked for
+-- whether the plan is the first of the best, if that is asked for
 abbrev pub SaysFirst : Bool → Advertised → HostWeights → Claim → List (List ℕ) → Type 0
 SaysFirst true advert weights certificate lines =
     (is_first : Bool) × (IsTrue is_first ↔ IsFirstBest advert weights certificate.kept certificate.paths) × (lines ≡ first_line is_first ∷ [])

@@ -15,7 +15,7 @@ abbrev pub fault_by_kind : ErrorKind → Error → ChoiceFault
 fault_by_kind OutOfMemory error = Memory
 fault_by_kind _ error = Line error
 
--- what `clap`'s error comes to: its want of memory is the program's
+-- what `clap`'s error comes to: its `OutOfMemory` is the program's `Memory`
 abbrev pub fault_of_error : Error → ChoiceFault
 fault_of_error error = fault_by_kind (kind_of error) error
 
@@ -25,13 +25,13 @@ status_by_kind DisplayHelp = status.Done
 status_by_kind DisplayVersion = status.Done
 status_by_kind _ = status.CommandLine
 
--- how the program ends where there is no choice
+-- how the program ends if there is no choice
 abbrev pub status_of_fault : ChoiceFault → Status
 status_of_fault Memory = status.Memory
 status_of_fault (Line error) = status_by_kind (kind_of error)
 
--- an allocation was refused, or the words are refused for one of these kinds, of which none is want
--- of memory
+-- an allocation was refused, or the words are refused for one of these kinds, of which none is
+-- `OutOfMemory`
 abbrev pub IsFaultAmong : Kinds → ChoiceFault → Type 0
 IsFaultAmong kinds Memory = ⊤
 IsFaultAmong kinds (Line error) = IsAmong (kind_of error) kinds × (kind_of error ≢ OutOfMemory)

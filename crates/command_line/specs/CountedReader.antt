@@ -25,6 +25,6 @@ reading_failed reader = inner_failed reader || reader.is_used_up
 abbrev pub IsSpent : {R : Type 0} → CountedReader R → Type 0
 IsSpent reader = (reading_failed reader ≡ true) ⊎ (reads_of reader ≡ read_limit)
 
--- the bytes that the reader has left, where they are known
+-- the bytes that the reader has left, if they are known
 abbrev pub remaining_of : {R : Type 0} → (R → Option (List ℕ)) → CountedReader R → Option (List ℕ)
 remaining_of remaining reader = left_of remaining reader.inner

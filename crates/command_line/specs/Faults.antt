@@ -53,7 +53,7 @@ status_of (Bad reason n) = status.BadCertificate
 status_of (Provision f) = status.NotProvisioned
 status_of _ = status.Refused
 
--- want of memory is the program's
+-- a report's `Memory` is the program's
 abbrev pub fault_of_report : ReportFault → Fault
 fault_of_report report.Memory = Memory
 fault_of_report f = Report f

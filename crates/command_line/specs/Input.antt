@@ -7,7 +7,7 @@ use Rattle.command_line.specs.declared.fault.Fault.{Fault}
 use Rattle.command_line.specs.declared.fault.Fault.TheVariants.{Memory, Io, TooLong}
 use Rattle.command_line.specs.Limits.{input_limit}
 
--- the answer is for this input: all of it where it is within the limit, `TooLong` only where it is not
+-- the answer is for this input: all of it if it is within the limit, `TooLong` only if it is not
 abbrev pub IsReadOf : List ℕ → Result (Vec ℕ Global) Fault → Type 0
 IsReadOf input (Ok bytes) = (bytes.items ≡ input) × (length input ≤ input_limit)
 IsReadOf input (Err TooLong) = input_limit < length input
@@ -26,7 +26,7 @@ pub record Takes (before after : Option (List ℕ)) (IsTooLong : Type 0) (taken 
 abbrev pub TakesWithinLimit : Option (List ℕ) → Option (List ℕ) → Type 0 → Type 0
 TakesWithinLimit before after IsTooLong = (taken : List ℕ) × Takes before after IsTooLong taken
 
--- the answer is `Io` exactly where a read has failed
+-- the answer is `Io` exactly if a read has failed
 abbrev pub AnswersFailure : {T : Type 0} → Bool → Result T Fault → Type 0
 AnswersFailure failed (Ok _) = failed ≡ false
 AnswersFailure failed (Err Io) = failed ≡ true

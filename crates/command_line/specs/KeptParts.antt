@@ -1,4 +1,4 @@
--- Where the text of kept paths stands among the parts of an input: behind the weights, where the flag `--keep` is given.
+-- Where the text of kept paths stands among the parts of an input: after the weights, if the flag `--keep` is given.
 -- (docs/formats.md, "Input"; this project's own)
 use Rattle.std.specs.Prelude.{ℕ, ◌+◌, Bool, true, false, List, [], ◌∷◌, get_or}
 

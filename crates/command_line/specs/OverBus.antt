@@ -51,7 +51,7 @@ abbrev pub IsUnread : Bool → List ℕ → ReportFault → Type 0
 IsUnread true text f = IsReadOverBus text (Err f)
 IsUnread false text f = ⊥
 
--- why there is nothing to report of: the steps of a bus alone want memory
+-- why there is nothing to report of: only the steps of a bus need memory
 abbrev pub IsInputRefusal : Bool → List ℕ → Fault → Type 0
 IsInputRefusal bus text fault.Memory = bus ≡ true
 IsInputRefusal bus text (fault.Image f) = IsFirstFault (lines_of text) f

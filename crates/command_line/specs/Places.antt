@@ -61,7 +61,7 @@ place_of_report (report.Sff f) = place_of_sff f
 place_of_report (report.Advert f) = place_of_advert f
 place_of_report _ = Nowhere
 
--- the line of the weights, where one is told
+-- the line of the weights, if one is told
 abbrev pub line_of_weights : Option ℕ → Place
 line_of_weights (Some line) = WeightsLine line
 line_of_weights None = Nowhere
@@ -131,7 +131,7 @@ byte_text byte = slice_index upper_digits (byte / 16) ∷ slice_index upper_digi
 abbrev pub parts_text : ℕ → List ℕ
 parts_text count = if count == 1 then codes ", 1 part" else codes ", " ++ decimal count ++ codes " parts"
 
--- the place in words, behind a comma
+-- the place in words, after a comma
 abbrev pub place_text : Place → List ℕ
 place_text Nowhere = []
 place_text (Parts count) = parts_text count

@@ -1,4 +1,4 @@
--- What `check` answers to the text that `plan` wrote, in its place behind the same image and weights. (docs/formats.md,
+-- What `check` answers to the text that `plan` wrote, in its place after the same image and weights. (docs/formats.md,
 -- "check"; this project's own)
 use Rattle.std.specs.Prelude.{◌≡◌, ◌≢◌, ℕ, ◌≤◌, Bool, true, false, List, [], ◌∷◌, ◌++◌, length, codes, None, Ok, Err}
 use Rattle.text_lines.specs.Lines.{text_of}
@@ -15,11 +15,11 @@ use Rattle.command_line.specs.declared.fault.Fault.TheVariants.{Memory, Io}
 abbrev pub IsEnded : List ℕ → Type 0
 IsEnded text = (before : List ℕ) × (text ≡ before ++ 10 ∷ [])
 
--- an input, a line `---` and a text behind it
+-- an input, a line `---` and a text after it
 abbrev pub input_with : List ℕ → List ℕ → List ℕ
 input_with input text = input ++ (codes "---\n" ++ text)
 
--- the plan is the first of the best, where that is asked for
+-- the plan is the first of the best, if that is asked for
 abbrev pub first_lines : Bool → List (List ℕ)
 first_lines true = first_line true ∷ []
 first_lines false = []
@@ -29,19 +29,19 @@ abbrev pub good_text : {image_text weights_text kept_text text : List ℕ} → C
 good_text command planned = text_of (good_line ∷ kept_lines (length planned.certificate.kept)
     ++ plan_lines planned.given.advert planned.given.weights planned.certificate.paths ++ first_lines command.tells_first)
 
--- whatever flags are given, `check` answers `good` and the plan to this input, and, where no allocation and no read is refused,
+-- whatever flags are given, `check` answers `good` and the plan to this input, and, if no allocation and no read is refused,
 -- nothing else
 pub record IsCalledGood {image_text weights_text kept_text text : List ℕ} (planned : IsPlanned image_text weights_text kept_text text) (input : List ℕ) : Type 0 where
   pub good : (command : CheckCommand) → IsAnswerTo 3 (IsCheckAnswer command) input (Ok (good_text command planned, None))
   pub alone : (command : CheckCommand) (answer : Answer) → IsAnswerTo 3 (IsCheckAnswer command) input answer → answer ≢ Err Memory → answer ≢ Err Io
       → answer ≡ Ok (good_text command planned, None)
 
--- the text is of the plan of these texts, and behind the image and the weights `check` calls it good
+-- the text is of the plan of these texts, and after the image and the weights `check` calls it good
 pub record IsGoodBehind (image_text weights_text kept_text text : List ℕ) : Type 0 where
   pub planned : IsPlanned image_text weights_text kept_text text
   pub good : (input : List ℕ) → length input ≤ input_limit → parts_of input ≡ image_text ∷ weights_text ∷ text ∷ [] → IsCalledGood planned input
 
--- the text is of the plan of an input without kept paths, and is the third part behind that input
+-- the text is of the plan of an input without kept paths, and is the third part after that input
 pub record IsGoodBehindInput (input text : List ℕ) : Type 0 where
   pub image_text : List ℕ
   pub weights_text : List ℕ

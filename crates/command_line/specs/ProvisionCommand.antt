@@ -1,5 +1,5 @@
 -- What the commands `provision` and `trace` answer to their parts: the plan that is given is provisioned on a simulated
--- module of the image, but for its kept paths, over a bus that does as the script says, and activated where that is asked
+-- module of the image, but for its kept paths, over a bus that does as the script says, and activated if that is asked
 -- for. (docs/formats.md, "Input", "provision" and "trace"; this project's own)
 use Rattle.std.specs.Prelude.{◌≡◌, ℕ, Bool, true, false, List, [], ◌∷◌, ◌++◌, codes, map, Option, Some, None, Result, Ok, Err, IfOk}
 use Rattle.std.specs.Fmt.{decimal}
@@ -63,7 +63,7 @@ Activates advert paths before after ended =
     MakesHistory (script_rules conduct) before after
     (λ history. IsActivation (control_bytes advert paths) (plan_lanes advert paths) (IsFull after) history ended)
 
--- activation follows a success of provisioning, where it is asked for, and else no step is made
+-- activation follows a success of provisioning, if it is asked for, and else no step is made
 abbrev pub GoesOn : Bool → Advertised → List Path → Ended → ModuleBus → ModuleBus → Option Ended → Type 0
 GoesOn true advert paths (Ok steps) before after (Some ended) = Activates advert paths before after ended
 GoesOn true advert paths (Err fault) before after None = after ≡ before
@@ -92,7 +92,7 @@ control_words bytes = map (λ byte. encode_lower (byte ∷ [])) bytes
 unfoldable pub active_line : List ℕ → List ℕ
 active_line bytes = spaced (codes "active" ∷ control_words bytes)
 
--- each success, and the active bytes where there is no fault
+-- each success, and the active bytes if there is no fault
 abbrev pub outcome_lines : Ended → Option Ended → List ℕ → List (List ℕ)
 outcome_lines (Err fault) activated active = []
 outcome_lines (Ok steps) None active = provisioned_line steps ∷ active_line active ∷ []
@@ -105,7 +105,7 @@ outcome_fault (Ok steps) None = None
 outcome_fault (Ok steps) (Some (Ok more)) = None
 outcome_fault (Ok steps) (Some (Err fault)) = Some fault
 
--- the steps stand first, where they are shown
+-- the steps stand first, if they are shown
 abbrev pub steps_lines : Bool → List Step → List (List ℕ)
 steps_lines true steps = trace_lines steps
 steps_lines false steps = []

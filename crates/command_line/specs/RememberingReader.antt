@@ -10,6 +10,6 @@ read_of reader = reader.inner
 abbrev pub last_failed : {R : Type 0} → RememberingReader R → Bool
 last_failed reader = reader.failed
 
--- the bytes that the reader has left, where they are known
+-- the bytes that the reader has left, if they are known
 abbrev pub left_of : {R : Type 0} → (R → Option (List ℕ)) → RememberingReader R → Option (List ℕ)
 left_of remaining reader = remaining reader.inner

@@ -41,7 +41,7 @@ status_after (Ok (text, None)) = Done
 status_after (Ok (text, Some fault)) = NotProvisioned
 status_after (Err fault) = status_of fault
 
--- what a command itself answers to its parts, where no allocation was refused
+-- what a command itself answers to its parts, if no allocation was refused
 abbrev pub IsOwnAnswer : (List (List ℕ) → Answer → Type 0) → List (List ℕ) → Answer → Type 0
 IsOwnAnswer IsAnswer parts (Err Memory) = Unit {0}
 -- reading and cutting the input are no business of its own
@@ -59,21 +59,21 @@ IsAnswerTo count IsAnswer input (Err TooLong) = input_limit < length input
 IsAnswerTo count IsAnswer input (Err (Parts n)) = (length input ≤ input_limit) × (n ≡ length (parts_of input)) × (n ≢ count)
 IsAnswerTo count IsAnswer input answer = (length input ≤ input_limit) × (length (parts_of input) ≡ count) × IsAnswer (parts_of input) answer
 
--- how the run ends where it was to end so: a failed write is said before all else
+-- how the run ends if it was to end so: a failed write is said before all else
 abbrev pub ended : Bool → Status → Status
 ended true status = ReadOrWrite
 ended false status = status
 
--- the answer is want of a read exactly where a read failed
+-- the answer is `Io` exactly if a read failed
 abbrev pub SaysReading : Bool → Answer → Type 0
 SaysReading failed answer = (answer ≡ Err Io) ↔ (failed ≡ true)
 
--- the answer was written whole where no write failed, after what the writer held before, and the run ended so
+-- the answer was written whole if no write failed, after what the writer held before, and the run ended so
 abbrev pub IsWritten : Answer → Option (List ℕ) → Option (List ℕ) → Bool → Status → Type 0
 IsWritten answer before after write_failed status =
     (status ≡ ended write_failed (status_after answer)) × (write_failed ≡ false → Appends before after (output_of answer))
 
--- the run ends so exactly where a read or a write failed
+-- the run ends so exactly if a read or a write failed
 abbrev pub EndsByFailure : Bool → Bool → Status → Type 0
 EndsByFailure read_failed write_failed status = (status ≡ ReadOrWrite) ↔ ((read_failed || write_failed) ≡ true)
 
@@ -116,5 +116,5 @@ pub record IsCommandRun {R W : Type 0} (remaining : R → Option (List ℕ)) (co
   pub failure : EndsByFailure (reading_failed reader_after) (writing_failed writer_after) ending.status
   -- after a failed write nothing more is written
   pub stopped : writing_failed writer ≡ true → writer_after ≡ writer
-  -- where the reader's bytes are known
+  -- if the reader's bytes are known
   pub answered : IfSome (remaining_of remaining reader) (λ input. IsAnswered remaining contents IsAnswer input reader reader_after writer writer_after ending)

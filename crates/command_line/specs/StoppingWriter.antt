@@ -11,6 +11,6 @@ inner_of writer = writer.inner
 abbrev pub writing_failed : {W : Type 0} → StoppingWriter W → Bool
 writing_failed writer = writer.failed
 
--- the bytes that the writer holds, where they are known
+-- the bytes that the writer holds, if they are known
 abbrev pub contents_of : {W : Type 0} → (W → Option (List ℕ)) → StoppingWriter W → Option (List ℕ)
 contents_of contents writer = contents writer.inner

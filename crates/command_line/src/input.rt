@@ -32,7 +32,7 @@ pub fn read_input<R: Read>(alloc: Global, reader: &mut CountedReader<R>) -> Resu
     ensures reads { reads_of reader.new ≤ read_limit }
     ensures failure { AnswersFailure (reading_failed reader.new) result }
 
-    // Where the reader's bytes are known.
+    // If the reader's bytes are known.
     ensures input { IfSome (remaining_of R.remaining reader.old) (λ input. IsReadOf input result) }
     ensures end { OnOk result (IsAtEnd (remaining_of R.remaining reader.new)) }
     ensures taken { TakesWithinLimit (remaining_of R.remaining reader.old)
@@ -53,7 +53,7 @@ pub fn read_input<R: Read>(alloc: Global, reader: &mut CountedReader<R>) -> Resu
     }
 }
 
-/// One read, made again where it was interrupted.
+/// One read, made again if it was interrupted.
 fn read_retrying<R: Read>(reader: &mut CountedReader<R>, buffer: &mut [u8]) -> Result<usize, Fault>
     ensures bound { ReadsAtMost result buffer.new }
     ensures bytes { ReadConsumes (remaining_of R.remaining reader.old) (remaining_of R.remaining reader.new) result buffer.new }

@@ -14,7 +14,7 @@ use text_lines::{LF, split_ended_line};
 /// The most parts that a command takes.
 pub const MAX_PARTS: usize = 4;
 
-/// The parts of an input, where there are so many.
+/// The parts of an input, if there are so many.
 pub fn parts(input: &[u8], count: usize) -> Result<ArrayVec<&[u8], MAX_PARTS>, Fault>
     requires room { count ≤ most_parts }
     requires limit { length input.now ≤ input_limit }
@@ -67,7 +67,7 @@ impl<'a> Iterator for Pieces<'a> {
     }
 }
 
-// The first part, and what stands behind the separator that ends it, if one does.
+// The first part, and what stands after the separator that ends it, if one does.
 fn split_part(text: &[u8]) -> (&[u8], Option<&[u8]>)
     ensures { parts_of text.now ≡ result.0.now ∷ option_map_or (λ rest. parts_of rest.now) result.1 [] }
 {

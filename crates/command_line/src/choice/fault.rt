@@ -59,7 +59,7 @@ pub fn choice_refused<W: Write>(fault: &ChoiceFault, writer: &mut StoppingWriter
     }
 }
 
-/// How the program ends where `clap` answers this: help is an answer, and all else a fault.
+/// How the program ends if `clap` answers this: help is an answer, and all else a fault.
 fn status_of(error: &clap::Error) -> Status
     ensures { result ≡ status_by_kind (kind_of error.now) }
 {

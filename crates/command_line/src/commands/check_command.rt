@@ -46,7 +46,7 @@ impl Command for CheckCommand {
 
 impl CheckCommand {
     // What is told of the certificate. A function of its own, since a certificate has room for all states, which is blanked
-    // where the function begins.
+    // when the function begins.
     #[inline(never)]
     fn judged(
         self,
@@ -104,7 +104,7 @@ fn push_kept(text: &mut Vec<u8>, count: usize) -> Result<(), AllocError>
     text.extend_from_slice(line.as_slice())
 }
 
-// Whether the plan is the first of the best, where that is asked for.
+// Whether the plan is the first of the best, if that is asked for.
 fn push_first(
     text: &mut Vec<u8>,
     advert: &Advert,
@@ -135,8 +135,8 @@ fn push_first_line(text: &mut Vec<u8>, is_first: bool) -> Result<(), AllocError>
     text.extend_from_slice(line.as_bytes())
 }
 
-/// Reads the texts of an image, of weights and of a certificate, and writes whether the certificate is good, and where it is
-/// its plan, and whether that is the first of the best, where that is asked for.
+/// Reads the texts of an image, of weights and of a certificate, and writes whether the certificate is good, and if it is,
+/// its plan, and whether that is the first of the best, if that is asked for.
 pub fn check<R: Read, W: Write>(
     alloc: Global,
     first: bool,

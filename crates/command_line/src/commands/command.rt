@@ -25,7 +25,7 @@ pub trait Command {
     /// How many parts the input has.
     ghost count: { Self → ℕ };
 
-    /// What is the answer to the parts, where no allocation is refused.
+    /// What is the answer to the parts, if no allocation is refused.
     ghost answers: { Self → List (List ℕ) → Answer → Type 0 };
 
     fn parts(&self) -> usize

@@ -1,4 +1,4 @@
-// The part of an input that names kept paths: the third, where there is one.
+// The part of an input that names kept paths: the third, if there is one.
 ghost use Rattle.std.specs.Prelude.{◌≡◌, ◌≤◌, ◌+◌, length, map};
 ghost use Rattle.command_line.specs.KeptParts.{count_with, kept_part};
 

@@ -10,7 +10,7 @@ use control_sets::ProvisionFault;
 use std::alloc::AllocError;
 use text_lines::{HexByte, Spelled, Spelling};
 
-/// Adds each success, and the active control bytes where there is no fault; answers the fault.
+/// Adds each success, and the active control bytes if there is no fault; answers the fault.
 pub fn push_outcome(
     text: &mut Vec<u8>,
     ended: Ended,

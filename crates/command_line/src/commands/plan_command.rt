@@ -51,7 +51,7 @@ fn has_path(text: &[u8]) -> bool {
     Lines::of(text).any(|line| line.starts_with(b"path "))
 }
 
-/// Reads the texts of an image, of weights and, where that is asked for, of kept paths, and writes the certificate of the plan
+/// Reads the texts of an image, of weights and, if that is asked for, of kept paths, and writes the certificate of the plan
 /// that weighs most of those that keep them.
 pub fn plan<R: Read, W: Write>(
     alloc: Global,

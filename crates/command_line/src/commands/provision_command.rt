@@ -62,7 +62,7 @@ impl Command for ProvisionCommand {
     }
 }
 
-// The steps, where they are shown.
+// The steps, if they are shown.
 fn steps_text(alloc: Global, is_traced: bool, steps: &[Step]) -> Result<Vec<u8>, AllocError>
     ensures { IfOk result (λ text. text.items ≡ text_of (steps_lines is_traced steps.now)) }
 {
@@ -73,8 +73,8 @@ fn steps_text(alloc: Global, is_traced: bool, steps: &[Step]) -> Result<Vec<u8>,
     }
 }
 
-/// Reads the texts of an image, of weights, of kept paths where that is asked for, and of a script, provisions the plan that
-/// weighs most of those that keep them, activates it where that is asked for, and writes how many steps were made and the
+/// Reads the texts of an image, of weights, of kept paths if that is asked for, and of a script, provisions the plan that
+/// weighs most of those that keep them, activates it if that is asked for, and writes how many steps were made and the
 /// control bytes that are active, or the fault.
 pub fn provision<R: Read, W: Write>(
     alloc: Global,

@@ -79,13 +79,13 @@ pub fn set_up(
     })
 }
 
-/// How provisioning ended, and then activation where it was made.
+/// How provisioning ended, and then activation if it was made.
 pub type Ended = (
     Result<Provisioned, ProvisionFault>,
     Option<Result<Activated, ProvisionFault>>,
 );
 
-/// Provisions the plan but for its kept paths, and where that succeeds and it is asked for, activates it.
+/// Provisions the plan but for its kept paths, and if that succeeds and activation is asked for, activates it.
 pub fn carry_out(
     bus: &mut ScriptBus<SimModule>,
     advert: &Advert,

@@ -37,7 +37,7 @@ impl<W> StoppingWriter<W> {
         self.failed
     }
 
-    /// An error where a write has failed.
+    /// An error if a write has failed.
     fn ready(&self) -> io::Result<()>
         ensures { MatchResult result (λ _. writing_failed self.now ≡ false) (λ e. IsFailure e × (writing_failed self.now ≡ true)) }
     {

@@ -29,7 +29,7 @@ pub enum Place {
     Code(u8),
 }
 
-/// Behind a comma, or nothing.
+/// After a comma, or nothing.
 impl fmt::Display for Place {
     ghost output = { λ place. Some (place_text place) };
 
