@@ -247,6 +247,7 @@ static int is_whole_answer(char **words, const char *last) {
         {"monitors", "temperature ", ""},         {"flags", "", ""},
         {"plan", "certificate ", "end\n"},        {"check", "good\n", "control "},
         {"provision", "provisioned ", "active "}, {"trace", "1 fetch A0 3 1 = ", "active "}};
+    if (has_word(words, "--json")) return begins(answer, "{\n  \"dovecounter\": 1,\n") && begins(last, "}\n");
     for (size_t form = 0; form < sizeof forms / sizeof *forms; form++) {
         if (strcmp(words[1], forms[form][0])) continue;
         return begins(answer, forms[form][1]) && begins(last, has_word(words, "--first") ? "first " : forms[form][2]);
