@@ -1,19 +1,9 @@
 /* Reads modules in software through the library for firmware, as its header says: modules of each family, on buses that carry much
    or little at once and refuse some operations, and compares the halves that were read with the module's memory. */
-#include "dovecounter.h"
+#include "expect.h"
 
 #include <stdbool.h>
-#include <stdio.h>
 #include <stdlib.h>
-#include <string.h>
-
-static int failures;
-
-static void expect(const char *what, unsigned long wanted, unsigned long found) {
-    if (wanted == found) return;
-    printf("reading: %s: wanted %lu, found %lu\n", what, wanted, found);
-    failures++;
-}
 
 /* ---- a module in software ---- */
 
@@ -135,7 +125,7 @@ static void refuse_reply(const char *what, uint32_t wanted, struct dovecounter_r
     static const uint8_t bytes[200];
     struct dovecounter_reading before = reading;
     expect(what, wanted, dovecounter_read_reply(&reading, outcome, bytes, count));
-    expect("a refused reply changes nothing", 0, (unsigned long)(memcmp(&before, &reading, sizeof reading) != 0));
+    expect_same("a refused reply changes nothing", &before, &reading, sizeof reading);
 }
 
 static void try_refusals(void) {
@@ -170,6 +160,5 @@ static void try_refusals(void) {
 int main(void) {
     try_modules();
     try_refusals();
-    printf("reading: %d failures\n", failures);
-    return failures != 0;
+    return judged("reading");
 }
