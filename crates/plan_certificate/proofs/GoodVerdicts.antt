@@ -15,12 +15,12 @@ use Rattle.plan_certificate.specs.declared.path.Path.{Path}
 use Rattle.plan_certificate.specs.declared.state.State.{State}
 use Rattle.plan_certificate.specs.declared.state.Step.{Step}
 use Rattle.plan_certificate.specs.declared.verdict.Verdict.TheVariants.{Good}
-use Rattle.plan_certificate.specs.declared.verdict.Reason.{Reason}
+use Rattle.plan_certificate.specs.declared.verdict.Flaw.{Flaw}
 use Rattle.plan_certificate.specs.declared.verdict.Reason.TheVariants.{WeightWrong, NoStart, NotClosed, TooLow, StartNotWeight}
 use Rattle.plan_certificate.specs.Plans.{plan_weight}
 use Rattle.plan_certificate.specs.States.{start, state_place, steps_from}
 use Rattle.plan_certificate.specs.Certificates.{Claim, HasStates, IsBound, IsCovered, IsGood, state_of, entry_place}
-use Rattle.plan_certificate.specs.Verdicts.{Flaw, Flaws, potential_of, kept_flaws, missing_flaws, paths_flaws, plan_flaws, step_flaws, entry_flaws, entries_flaws, bound_flaws, all_flaws, judged, verdict}
+use Rattle.plan_certificate.specs.Verdicts.{Flaws, PossibleFlaw, all_flaws, bound_flaws, entries_flaws, entry_flaws, flaw, judged, kept_flaws, missing_flaws, paths_flaws, plan_flaws, potential_of, step_flaws, verdict}
 use Rattle.plan_certificate.proofs.ByteLanes.{IsByte, lanes_of_byte, start_is_byte, each_end_is_byte}
 use Rattle.plan_certificate.proofs.Lists.{each_pair, found, map_each}
 use Rattle.plan_certificate.proofs.Lookups.{is_there, found_there}
@@ -66,11 +66,11 @@ not_none : (o : Option ℕ) → is_none o ≡ false → (potential : ℕ) × (o 
 not_none None is = absurd cc
 not_none (Some potential) is = (potential, refl)
 
-abbrev open_flaw : List Entry → ℕ → Step → Flaw
-open_flaw entries number step = (is_none (potential_of entries step.end), (NotClosed, number))
+abbrev open_flaw : List Entry → ℕ → Step → PossibleFlaw
+open_flaw entries number step = (is_none (potential_of entries step.end), flaw NotClosed number)
 
-abbrev low_flaw : List Entry → ℕ → Entry → Step → Flaw
-low_flaw entries number entry step = (nat_lt entry.potential (step.weight + unwrap_or (potential_of entries step.end) 0), (TooLow, number))
+abbrev low_flaw : List Entry → ℕ → Entry → Step → PossibleFlaw
+low_flaw entries number entry step = (nat_lt entry.potential (step.weight + unwrap_or (potential_of entries step.end) 0), flaw TooLow number)
 
 abbrev is_low : Entry → Step → Option ℕ → Bool
 is_low entry step later = nat_lt entry.potential (step.weight + unwrap_or later 0)
@@ -139,14 +139,14 @@ entries_covered advert weights kept entries states =
 
 -- ---- the whole certificate
 
-abbrev start_flaw : List Entry → Flaw
-start_flaw entries = (is_none (potential_of entries start), (NoStart, 0))
+abbrev start_flaw : List Entry → PossibleFlaw
+start_flaw entries = (is_none (potential_of entries start), flaw NoStart 0)
 
 abbrev is_other : ℕ → Option ℕ → Bool
 is_other weight found = not (unwrap_or found 0 == weight)
 
-abbrev end_flaw : List Entry → ℕ → Flaw
-end_flaw entries weight = (is_other weight (potential_of entries start), (StartNotWeight, 0))
+abbrev end_flaw : List Entry → ℕ → PossibleFlaw
+end_flaw entries weight = (is_other weight (potential_of entries start), flaw StartNotWeight 0)
 
 record IsBounded (advert : Advertised) (weights : HostWeights) (kept : List Path) (entries : List Entry) (weight : ℕ) : Type 0 where
   closed : All (CoveredAt advert weights kept entries) entries
@@ -176,7 +176,7 @@ pub no_flaw_is_good : (advert : Advertised) (weights : HostWeights) (c : Claim) 
 no_flaw_is_good advert weights c states =
     let right : ℕ = plan_weight advert weights c.paths in
     let bounds = bound_flaws advert weights c.kept c.entries c.weight in
-    let weighed : Flaw = (not (c.weight == right), (WeightWrong, 0)) in
+    let weighed : PossibleFlaw = (not (c.weight == right), flaw WeightWrong 0) in
     let missing = missing_flaws c.kept c.paths in
     let plan = plan_flaws advert c.paths in
     let all = neither_flaw (paths_flaws advert c.kept c.paths) (weighed ∷ bounds) in
@@ -206,7 +206,7 @@ no_flaw_is_good advert weights c states =
           all.1 (zeroth.1 (is_kept.1 good.kept, first.1 (is_plan.1 good.admissible, is_held.1 good.keeps)), weighs),
     )
 
-judged_good : (found : Option (Reason × ℕ)) → (judged found ≡ Good) ↔ (found ≡ None)
+judged_good : (found : Option Flaw) → (judged found ≡ Good) ↔ (found ≡ None)
 judged_good None = (λ is. refl, λ is. refl)
 judged_good (Some flaw) = (λ is. absurd cc, λ is. absurd cc)
 

@@ -11,11 +11,11 @@ use Rattle.plan_certificate.specs.declared.moves.Move.{Move}
 use Rattle.plan_certificate.specs.declared.path.Path.{Path}
 use Rattle.plan_certificate.specs.declared.state.State.{State}
 use Rattle.plan_certificate.specs.declared.state.Step.{Step}
-use Rattle.plan_certificate.specs.declared.verdict.Reason.{Reason}
+use Rattle.plan_certificate.specs.declared.verdict.Flaw.{Flaw}
 use Rattle.plan_certificate.specs.declared.verdict.Reason.TheVariants.{NotClosed, TooLow}
 use Rattle.plan_certificate.specs.Certificates.{state_of}
 use Rattle.plan_certificate.specs.Moves.{AreHeaviest, AreMoves, move_steps, steps_by}
-use Rattle.plan_certificate.specs.Verdicts.{Flaw, Flaws, entry_flaws, potential_of, step_flaws, steps_flaws}
+use Rattle.plan_certificate.specs.Verdicts.{Flaws, PossibleFlaw, entry_flaws, flaw, potential_of, step_flaws, steps_flaws}
 use Rattle.plan_certificate.proofs.HeaviestMoves.{HoldsOfLighter, each_outweighed}
 use Rattle.plan_certificate.proofs.MoveSteps.{no_steps, steps_are}
 use Rattle.plan_certificate.proofs.NoFlaw.{NoFlaw, flaw_first, none_of_each}
@@ -29,9 +29,9 @@ lighter_none : (entries : List Entry) (entry : ℕ × Entry) → HoldsOfLighter 
 lighter_none entries (number, entry) step weight light none =
     let later = potential_of entries step.end in
     let Low : ℕ → Bool = λ w. nat_lt entry.potential (w + unwrap_or later 0) in
-    let not_closed : Flaw = (is_none later, (NotClosed, number)) in
-    let low : Flaw = (Low step.weight, (TooLow, number)) in
-    let lighter : Flaw = (Low weight, (TooLow, number)) in
+    let not_closed : PossibleFlaw = (is_none later, flaw NotClosed number) in
+    let low : PossibleFlaw = (Low step.weight, flaw TooLow number) in
+    let lighter : PossibleFlaw = (Low weight, flaw TooLow number) in
     let first = (flaw_first not_closed (low ∷ [])).0 none in
     let second = (flaw_first low []).0 first.1 in
     let heavy : nat_lt entry.potential (step.weight + unwrap_or later 0) ≡ false = second.0 in
@@ -55,6 +55,6 @@ entry_flaws_are advert weights kept entries number entry free moves heaviest bel
 pub ended_has_none : (advert : Advertised) (weights : HostWeights) (kept : List Path) (entries : List Entry) (number : ℕ) (entry : Entry) → 8 ≤ entry.boundary → first_fault (entry_flaws advert weights kept entries (number, entry)) ≡ None
 ended_has_none advert weights kept entries number entry past = ap (λ (steps : List Step). first_fault (steps_flaws entries (number, entry) steps)) (no_steps advert weights kept (state_of entry) past)
 
-pub none_is : (found : Option (Reason × ℕ)) → is_some found ≡ false → found ≡ None
+pub none_is : (found : Option Flaw) → is_some found ≡ false → found ≡ None
 none_is None is = refl
 none_is (Some flaw) is = absurd cc

@@ -12,7 +12,7 @@ use Rattle.plan_certificate.specs.declared.path.Path.{Path}
 use Rattle.plan_certificate.specs.Paths.{is_allowed}
 use Rattle.plan_certificate.specs.Plans.{are_apart, IsAdmissible, Keeps}
 use Rattle.plan_certificate.specs.KeptPaths.{is_apart_from}
-use Rattle.plan_certificate.specs.Verdicts.{Flaw, Flaws, kept_flaw, path_flaw, lane_flaw, missing_flaw, kept_flaws, path_flaws, lane_flaws, missing_flaws, plan_flaws}
+use Rattle.plan_certificate.specs.Verdicts.{Flaws, PossibleFlaw, kept_flaw, kept_flaws, lane_flaw, lane_flaws, missing_flaw, missing_flaws, path_flaw, path_flaws, plan_flaws}
 use Rattle.plan_certificate.proofs.KeptPaths.{among_listed, listed_among}
 use Rattle.plan_certificate.proofs.Searches.{numbered_at, numbered_below}
 
@@ -26,7 +26,7 @@ neither_flaw [] more = (λ none. (refl, none), λ none. none.1)
 neither_flaw ((true, flaw) ∷ flaws) more = (λ none. absurd cc, λ none. absurd (let some = none.0 in cc))
 neither_flaw ((false, flaw) ∷ flaws) more = neither_flaw flaws more
 
-pub flaw_first : (flaw : Flaw) (more : Flaws) → NoFlaw (flaw ∷ more) ↔ ((flaw.0 ≡ false) × NoFlaw more)
+pub flaw_first : (flaw : PossibleFlaw) (more : Flaws) → NoFlaw (flaw ∷ more) ↔ ((flaw.0 ≡ false) × NoFlaw more)
 flaw_first (true, flaw) more = (λ none. absurd cc, λ none. absurd (let some = none.0 in cc))
 flaw_first (false, flaw) more = (λ none. (refl, none), λ none. none.1)
 
@@ -37,7 +37,7 @@ none_of_each flaws (x ∷ xs) =
     let rest = none_of_each flaws xs in
     (λ none. ((parts.0 none).0, rest.0 (parts.0 none).1), λ each. parts.1 (each.0, rest.1 each.1))
 
-none_of_map : {X : Type 0} (flaw : X → Flaw) (xs : List X) → NoFlaw (map flaw xs) ↔ AllByRecursion (λ x. (flaw x).0 ≡ false) xs
+none_of_map : {X : Type 0} (flaw : X → PossibleFlaw) (xs : List X) → NoFlaw (map flaw xs) ↔ AllByRecursion (λ x. (flaw x).0 ≡ false) xs
 none_of_map flaw [] = (λ none. tt, λ each. refl)
 none_of_map flaw (x ∷ xs) =
     let parts = flaw_first (flaw x) (map flaw xs) in
@@ -46,10 +46,10 @@ none_of_map flaw (x ∷ xs) =
 
 -- ---- flaws of numbered elements
 
-abbrev NoneAt : {X : Type 0} → (ℕ × X → Flaw) → List X → Type 0
+abbrev NoneAt : {X : Type 0} → (ℕ × X → PossibleFlaw) → List X → Type 0
 NoneAt {X} flaw xs = (k : ℕ) (d : X) → k < length xs → (flaw (k + 1, get_or xs k d)).0 ≡ false
 
-none_at : {X : Type 0} (flaw : ℕ × X → Flaw) (xs : List X) → NoFlaw (map flaw (enumerate_from 1 xs)) ↔ NoneAt flaw xs
+none_at : {X : Type 0} (flaw : ℕ × X → PossibleFlaw) (xs : List X) → NoFlaw (map flaw (enumerate_from 1 xs)) ↔ NoneAt flaw xs
 none_at {X} flaw xs =
     let Passes : ℕ × X → Type 0 = λ p. (flaw p).0 ≡ false in
     let numbered = enumerate_from 1 xs in

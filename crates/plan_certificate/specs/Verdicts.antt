@@ -12,6 +12,7 @@ use Rattle.plan_certificate.specs.declared.state.Step.{Step}
 use Rattle.plan_certificate.specs.declared.certificate.Entry.{Entry}
 use Rattle.plan_certificate.specs.declared.verdict.Verdict.{Verdict}
 use Rattle.plan_certificate.specs.declared.verdict.Verdict.TheVariants.{Good, Bad}
+use Rattle.plan_certificate.specs.declared.verdict.Flaw.{Flaw}
 use Rattle.plan_certificate.specs.declared.verdict.Reason.{Reason}
 use Rattle.plan_certificate.specs.declared.verdict.Reason.TheVariants.{KeptNotAdmissible, PathNotAllowed, LaneTwice, KeptMissing, WeightWrong, NoStart, NotClosed, TooLow, StartNotWeight}
 use Rattle.plan_certificate.specs.Paths.{is_allowed}
@@ -20,28 +21,31 @@ use Rattle.plan_certificate.specs.KeptPaths.{is_among, is_apart_from, may_join}
 use Rattle.plan_certificate.specs.States.{start, state_place, steps_from}
 use Rattle.plan_certificate.specs.Certificates.{Claim, state_of, entry_place}
 
--- whether it applies, the reason, and the number
-abbrev pub Flaw : Type 0
-Flaw = Bool × (Reason × ℕ)
+-- what may be wrong, and whether it is
+abbrev pub PossibleFlaw : Type 0
+PossibleFlaw = Bool × Flaw
 
 abbrev pub Flaws : Type 0
-Flaws = List Flaw
+Flaws = List PossibleFlaw
+
+abbrev pub flaw : Reason → ℕ → Flaw
+flaw reason number = record { reason = reason; number = number }
 
 -- a kept path that isn't allowed, or takes a lane of a kept path before it; kept paths count from 1
-abbrev pub kept_flaw : Advertised → List Path → ℕ × Path → Flaw
-kept_flaw advert kept (number, path) = (not (may_join advert (take (number - 1) kept) path), (KeptNotAdmissible, number))
+abbrev pub kept_flaw : Advertised → List Path → ℕ × Path → PossibleFlaw
+kept_flaw advert kept (number, path) = (not (may_join advert (take (number - 1) kept) path), flaw KeptNotAdmissible number)
 
 -- a path that isn't allowed; paths count from 1
-abbrev pub path_flaw : Advertised → ℕ × Path → Flaw
-path_flaw advert (number, path) = (not (is_allowed advert path), (PathNotAllowed, number))
+abbrev pub path_flaw : Advertised → ℕ × Path → PossibleFlaw
+path_flaw advert (number, path) = (not (is_allowed advert path), flaw PathNotAllowed number)
 
 -- a path that takes a lane of a path before it
-abbrev pub lane_flaw : Advertised → List Path → ℕ × Path → Flaw
-lane_flaw advert paths (number, path) = (not (is_apart_from advert (take (number - 1) paths) path), (LaneTwice, number))
+abbrev pub lane_flaw : Advertised → List Path → ℕ × Path → PossibleFlaw
+lane_flaw advert paths (number, path) = (not (is_apart_from advert (take (number - 1) paths) path), flaw LaneTwice number)
 
 -- a kept path that the plan lacks
-abbrev pub missing_flaw : List Path → ℕ × Path → Flaw
-missing_flaw paths (number, path) = (not (is_among paths path), (KeptMissing, number))
+abbrev pub missing_flaw : List Path → ℕ × Path → PossibleFlaw
+missing_flaw paths (number, path) = (not (is_among paths path), flaw KeptMissing number)
 
 unfoldable pub kept_flaws : Advertised → List Path → Flaws
 kept_flaws advert kept = map (kept_flaw advert kept) (enumerate_from 1 kept)
@@ -57,7 +61,7 @@ missing_flaws kept paths = map (missing_flaw paths) (enumerate_from 1 kept)
 
 -- the number of the first kept path that isn't allowed, or takes a lane of a kept path before it
 abbrev pub kept_fault : Advertised → List Path → Option ℕ
-kept_fault advert kept = option_map (λ flaw. flaw.1) (first_fault (kept_flaws advert kept))
+kept_fault advert kept = option_map (λ found. found.number) (first_fault (kept_flaws advert kept))
 
 abbrev pub plan_flaws : Advertised → List Path → Flaws
 plan_flaws advert paths = path_flaws advert paths ++ lane_flaws advert paths
@@ -73,8 +77,8 @@ potential_of entries state = option_map (λ entry. entry.potential) (find (λ en
 -- a step to a state without an entry, or to one from which too much can still be gained; entries count from 1
 abbrev pub step_flaws : List Entry → ℕ × Entry → Step → Flaws
 step_flaws entries (number, entry) step =
-    (is_none (potential_of entries step.end), (NotClosed, number))
-    ∷ (nat_lt entry.potential (step.weight + unwrap_or (potential_of entries step.end) 0), (TooLow, number))
+    (is_none (potential_of entries step.end), flaw NotClosed number)
+    ∷ (nat_lt entry.potential (step.weight + unwrap_or (potential_of entries step.end) 0), flaw TooLow number)
     ∷ []
 
 -- the flaws of steps from an entry's state
@@ -90,20 +94,20 @@ entries_flaws advert weights kept entries = flat_map (entry_flaws advert weights
 -- entries that don't bound what can be gained, or not by the weight
 unfoldable pub bound_flaws : Advertised → HostWeights → List Path → List Entry → ℕ → Flaws
 bound_flaws advert weights kept entries weight =
-    (is_none (potential_of entries start), (NoStart, 0))
+    (is_none (potential_of entries start), flaw NoStart 0)
     ∷ entries_flaws advert weights kept entries
-    ++ (not (unwrap_or (potential_of entries start) 0 == weight), (StartNotWeight, 0))
+    ++ (not (unwrap_or (potential_of entries start) 0 == weight), flaw StartNotWeight 0)
     ∷ []
 
 abbrev pub all_flaws : Advertised → HostWeights → Claim → Flaws
 all_flaws advert weights certificate =
     paths_flaws advert certificate.kept certificate.paths
-    ++ (not (certificate.weight == plan_weight advert weights certificate.paths), (WeightWrong, 0))
+    ++ (not (certificate.weight == plan_weight advert weights certificate.paths), flaw WeightWrong 0)
     ∷ bound_flaws advert weights certificate.kept certificate.entries certificate.weight
 
-abbrev pub judged : Option (Reason × ℕ) → Verdict
+abbrev pub judged : Option Flaw → Verdict
 judged None = Good
-judged (Some flaw) = Bad flaw.0 flaw.1
+judged (Some found) = Bad found.reason found.number
 
 unfoldable pub verdict : Advertised → HostWeights → Claim → Verdict
 verdict advert weights certificate = judged (first_fault (all_flaws advert weights certificate))

@@ -11,7 +11,7 @@ use crate::moves::{Move, Moves};
 use crate::path::Path;
 use crate::plan::{Plan, weight_of};
 use crate::state::{HOST_LANES, State, Step};
-use crate::verdict::{Reason, Verdict};
+use crate::verdict::{Flaw, Reason, Verdict};
 use applications::{Advert, Weights};
 
 /// Judges a certificate, whoever made it. A bad one says nothing of its plan, which may be best all the same.
@@ -33,7 +33,7 @@ pub fn check<const STATES: usize>(
         &certificate.entries,
     ) {
         None => Verdict::Good,
-        Some((reason, number)) => Verdict::Bad(reason, number),
+        Some(flaw) => Verdict::Bad(flaw.reason, flaw.number),
     }
 }
 
@@ -44,7 +44,7 @@ fn flaw<const ROOM: usize>(
     kept: &Plan,
     plan: &Plan,
     entries: &Entries<ROOM>,
-) -> Option<(Reason, usize)>
+) -> Option<Flaw>
     ensures { result ≡ first_fault (spec.all_flaws advert.now weights.now (record { weight = weight; kept = kept.now; paths = plan.now; entries = entries.now })) }
 {
     let (kept, paths) = (kept.paths.as_slice(), plan.paths.as_slice());
@@ -52,7 +52,10 @@ fn flaw<const ROOM: usize>(
         return Some(flaw);
     }
     if weight != weight_of(advert, weights, plan) {
-        return Some((Reason::WeightWrong, 0));
+        return Some(Flaw {
+            reason: Reason::WeightWrong,
+            number: 0,
+        });
     }
     bound_flaw(advert, weights, kept, entries, weight)
 }
@@ -64,18 +67,24 @@ fn bound_flaw<const ROOM: usize>(
     kept: &[Path],
     entries: &Entries<ROOM>,
     weight: u64,
-) -> Option<(Reason, usize)>
+) -> Option<Flaw>
     requires { AreAllowed advert.now kept.now }
     ensures { result ≡ first_fault (spec.bound_flaws advert.now weights.now kept.now entries.now weight) }
 {
     let Some(start) = entries.potential_of(State::start()) else {
-        return Some((Reason::NoStart, 0));
+        return Some(Flaw {
+            reason: Reason::NoStart,
+            number: 0,
+        });
     };
     if let Some(flaw) = entries_flaw(advert, weights, kept, entries) {
         return Some(flaw);
     }
     if start != weight {
-        return Some((Reason::StartNotWeight, 0));
+        return Some(Flaw {
+            reason: Reason::StartNotWeight,
+            number: 0,
+        });
     }
     None
 }
@@ -85,7 +94,7 @@ fn entries_flaw<const ROOM: usize>(
     weights: &Weights,
     kept: &[Path],
     entries: &Entries<ROOM>,
-) -> Option<(Reason, usize)>
+) -> Option<Flaw>
     requires { AreAllowed advert.now kept.now }
     ensures { result ≡ first_fault (spec.entries_flaws advert.now weights.now kept.now entries.now) }
 {
@@ -116,7 +125,7 @@ fn entry_flaw<const ROOM: usize>(
     entries: &Entries<ROOM>,
     number: usize,
     entry: &Entry,
-) -> Option<(Reason, usize)>
+) -> Option<Flaw>
     requires open { moves.old.boundary < 8 }
     requires kept { AreAllowed advert.now kept.now }
     requires moves { AreMoves advert.now weights.now kept.now moves.old.boundary moves.old.may_stay_free moves.old.all.items moves.old.heaviest.items }
@@ -142,7 +151,7 @@ fn steps_flaw<const ROOM: usize>(
     entries: &Entries<ROOM>,
     number: usize,
     entry: &Entry,
-) -> Option<(Reason, usize)>
+) -> Option<Flaw>
     requires open { entry.now.boundary < 8 }
     requires lead_on { All (LeadsOn entry.now.boundary) moves.now }
     ensures { result ≡ first_fault (spec.steps_flaws entries.now (number, entry.now) (steps_by may_stay_free (state_of entry.now) moves.now)) }
@@ -170,14 +179,20 @@ fn step_flaw<const ROOM: usize>(
     number: usize,
     entry: &Entry,
     step: &Step,
-) -> Option<(Reason, usize)>
+) -> Option<Flaw>
     ensures { result ≡ first_fault (spec.step_flaws entries.now (number, entry.now) step.now) }
 {
     let Some(later) = entries.potential_of(step.end) else {
-        return Some((Reason::NotClosed, number));
+        return Some(Flaw {
+            reason: Reason::NotClosed,
+            number,
+        });
     };
     if u128::from(entry.potential) < u128::from(step.weight) + u128::from(later) {
-        return Some((Reason::TooLow, number));
+        return Some(Flaw {
+            reason: Reason::TooLow,
+            number,
+        });
     }
     None
 }

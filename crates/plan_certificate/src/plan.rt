@@ -39,7 +39,7 @@ pub fn kept_fault(advert: &Advert, kept: &Plan) -> Option<u8>
     ensures none { (result ≡ None) ↔ IsAdmissible advert.now kept.now }
 {
     match kept_flaw(advert, kept.paths.as_slice()) {
-        Some((_, number)) => Some(number as u8),
+        Some(flaw) => Some(flaw.number as u8),
         None => None,
     }
 }

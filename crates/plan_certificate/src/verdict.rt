@@ -45,6 +45,14 @@ impl Spelled for Reason {
     }
 }
 
+/// What is wrong with a certificate.
+#[derive(Clone, Copy, Debug, PartialEq, Eq)]
+pub struct Flaw {
+    pub reason: Reason,
+    /// The number from 1 of the path, the kept path or the entry, or else 0.
+    pub number: usize,
+}
+
 /// What a certificate is worth.
 #[derive(Clone, Copy, Debug, PartialEq, Eq)]
 pub enum Verdict {

@@ -3,19 +3,19 @@ use Rattle.std.specs.Option.{is_none, unwrap_or}
 use Rattle.std.proofs.lemmas.Bool.{eq-eqb, ne_eqb}
 use Rattle.plan_certificate.specs.declared.verdict.Reason.TheVariants.{NoStart, StartNotWeight}
 use Rattle.plan_certificate.specs.States.{start}
-use Rattle.plan_certificate.specs.Verdicts.{Flaws, potential_of, entries_flaws, bound_flaws}
+use Rattle.plan_certificate.specs.Verdicts.{Flaws, bound_flaws, entries_flaws, flaw, potential_of}
 use Rattle.plan_certificate.proofs.Searches.{applies, passes, first_then, none_then}
 use Rattle.plan_certificate.proofs.checker.bound_flaw.Goals as goal
 
 abbrev last_flaws : Option ℕ → ℕ → Flaws
-last_flaws found weight = (not (unwrap_or found 0 == weight), (StartNotWeight, 0)) ∷ []
+last_flaws found weight = (not (unwrap_or found 0 == weight), flaw StartNotWeight 0) ∷ []
 
 pub returns-in_default : goal.returns-in_default
 unfolding bound_flaws
 returns-in_default g c =
     let found = potential_of c.args.entries.now start in
     let none : found ≡ None = ap (potential_of c.args.entries.now) (sym c.start.ensures) ∙ sym c.potential_of.ensures ∙ c.in_default.is in
-    sym (applies (is_none found) (NoStart, 0) (entries_flaws c.args.advert.now c.args.weights.now c.args.kept.now c.args.entries.now ++ last_flaws found c.args.weight) (ap is_none none))
+    sym (applies (is_none found) (flaw NoStart 0) (entries_flaws c.args.advert.now c.args.weights.now c.args.kept.now c.args.entries.now ++ last_flaws found c.args.weight) (ap is_none none))
 
 pub returns-in-Some-entries_flaw : goal.returns-in-Some-entries_flaw
 unfolding bound_flaws
@@ -23,7 +23,7 @@ returns-in-Some-entries_flaw g c =
     let found = potential_of c.args.entries.now start in
     let some : found ≡ Some c.in-Some.start = ap (potential_of c.args.entries.now) (sym c.start.ensures) ∙ sym c.potential_of.ensures ∙ c.in-Some.is in
     let entries = entries_flaws c.args.advert.now c.args.weights.now c.args.kept.now c.args.entries.now in
-    sym (passes (is_none found) (NoStart, 0) (entries ++ last_flaws found c.args.weight) (ap is_none some)
+    sym (passes (is_none found) (flaw NoStart 0) (entries ++ last_flaws found c.args.weight) (ap is_none some)
     ∙ first_then entries (last_flaws found c.args.weight) c.in-Some-entries_flaw.flaw (sym c.entries_flaw.ensures ∙ c.in-Some-entries_flaw.is))
 
 pub returns-then-start-weight : goal.returns-then-start-weight
@@ -33,9 +33,9 @@ returns-then-start-weight g c =
     let some : found ≡ Some c.in-Some.start = ap (potential_of c.args.entries.now) (sym c.start.ensures) ∙ sym c.potential_of.ensures ∙ c.in-Some.is in
     let entries = entries_flaws c.args.advert.now c.args.weights.now c.args.kept.now c.args.entries.now in
     let other : not (unwrap_or found 0 == c.args.weight) ≡ true = ap (λ (o : Option ℕ). not (unwrap_or o 0 == c.args.weight)) some ∙ ap not (ne_eqb c.in-Some.start c.args.weight c.if-start-weight.true) in
-    sym (passes (is_none found) (NoStart, 0) (entries ++ last_flaws found c.args.weight) (ap is_none some)
+    sym (passes (is_none found) (flaw NoStart 0) (entries ++ last_flaws found c.args.weight) (ap is_none some)
     ∙ none_then entries (last_flaws found c.args.weight) (sym c.entries_flaw.ensures ∙ c.in_default-entries_flaw.is)
-    ∙ applies (not (unwrap_or found 0 == c.args.weight)) (StartNotWeight, 0) [] other)
+    ∙ applies (not (unwrap_or found 0 == c.args.weight)) (flaw StartNotWeight 0) [] other)
 
 pub returns : goal.returns
 unfolding bound_flaws
@@ -44,6 +44,6 @@ returns g c =
     let some : found ≡ Some c.in-Some.start = ap (potential_of c.args.entries.now) (sym c.start.ensures) ∙ sym c.potential_of.ensures ∙ c.in-Some.is in
     let entries = entries_flaws c.args.advert.now c.args.weights.now c.args.kept.now c.args.entries.now in
     let same : not (unwrap_or found 0 == c.args.weight) ≡ false = ap (λ (o : Option ℕ). not (unwrap_or o 0 == c.args.weight)) some ∙ ap not (eq-eqb c.in-Some.start c.args.weight c.if-start-weight.false) in
-    sym (passes (is_none found) (NoStart, 0) (entries ++ last_flaws found c.args.weight) (ap is_none some)
+    sym (passes (is_none found) (flaw NoStart 0) (entries ++ last_flaws found c.args.weight) (ap is_none some)
     ∙ none_then entries (last_flaws found c.args.weight) (sym c.entries_flaw.ensures ∙ c.in_default-entries_flaw.is)
-    ∙ passes (not (unwrap_or found 0 == c.args.weight)) (StartNotWeight, 0) [] same)
+    ∙ passes (not (unwrap_or found 0 == c.args.weight)) (flaw StartNotWeight 0) [] same)

@@ -1,6 +1,6 @@
 use Rattle.std.proofs.Common.{◌≡◌, ℕ, Option, refl, sym, subst, ap, ◌∙◌}
 use Rattle.field_tables.specs.FirstFault.{first_fault}
-use Rattle.plan_certificate.specs.declared.verdict.Reason.{Reason}
+use Rattle.plan_certificate.specs.declared.verdict.Flaw.{Flaw}
 use Rattle.plan_certificate.specs.Certificates.{Claim, HasStates}
 use Rattle.plan_certificate.specs.Verdicts.{all_flaws, judged, verdict}
 use Rattle.plan_certificate.proofs.GoodVerdicts.{good_verdict}
@@ -10,7 +10,7 @@ use Rattle.plan_certificate.proofs.checker.check.Goals as goal
 pub returns-in-None-clause-verdict : goal.returns-in-None-clause-verdict
 unfolding verdict
 returns-in-None-clause-verdict g c =
-    let of : Claim → Option (Reason × ℕ) = λ certificate. first_fault (all_flaws c.args.advert.now c.args.weights.now certificate) in
+    let of : Claim → Option Flaw = λ certificate. first_fault (all_flaws c.args.advert.now c.args.weights.now certificate) in
     let whole : record { weight = c.certificate.inside.weight; kept = c.certificate.inside.kept; paths = c.certificate.inside.plan; entries = c.certificate.inside.entries } ≡ c.args.certificate.now = c.certificate.view_is in
     ap judged (sym c.in-None.is ∙ c.flaw.ensures ∙ ap of whole)
 
@@ -26,7 +26,7 @@ returns-in-None-clause-best g c = λ good. good_is_best c.args.advert.now c.args
 pub returns-in-Some-clause-verdict : goal.returns-in-Some-clause-verdict
 unfolding verdict
 returns-in-Some-clause-verdict g c =
-    let of : Claim → Option (Reason × ℕ) = λ certificate. first_fault (all_flaws c.args.advert.now c.args.weights.now certificate) in
+    let of : Claim → Option Flaw = λ certificate. first_fault (all_flaws c.args.advert.now c.args.weights.now certificate) in
     let whole : record { weight = c.certificate.inside.weight; kept = c.certificate.inside.kept; paths = c.certificate.inside.plan; entries = c.certificate.inside.entries } ≡ c.args.certificate.now = c.certificate.view_is in
     ap judged (sym c.in-Some.is ∙ c.flaw.ensures ∙ ap of whole)
 

@@ -2,7 +2,7 @@ use Rattle.std.proofs.Common.{◌≡◌, ℕ, List, None, Option, not, sym, subs
 use Rattle.std.specs.List.{All}
 use Rattle.field_tables.specs.FirstFault.{first_fault}
 use Rattle.plan_certificate.specs.declared.moves.Move.{Move}
-use Rattle.plan_certificate.specs.declared.verdict.Reason.{Reason}
+use Rattle.plan_certificate.specs.declared.verdict.Flaw.{Flaw}
 use Rattle.plan_certificate.specs.Certificates.{state_of}
 use Rattle.plan_certificate.specs.Moves.{LeadsOn, steps_by}
 use Rattle.plan_certificate.specs.Verdicts.{steps_flaws}
@@ -28,7 +28,7 @@ returns-then-is_none-clause-flaw g c =
     let all = c.turn_to.new.self.all.items in
     let heaviest = c.turn_to.new.self.heaviest.items in
     let are = c.turn_to.ensures.moves in
-    let flaws : List Move → Option (Reason × ℕ) = λ moves. first_fault (steps_flaws entries (c.args.number, entry) (steps_by c.turn_to.new.self.may_stay_free (state_of entry) moves)) in
+    let flaws : List Move → Option Flaw = λ moves. first_fault (steps_flaws entries (c.args.number, entry) (steps_by c.turn_to.new.self.may_stay_free (state_of entry) moves)) in
     let none : c.steps_flaw.result ≡ None = none_is c.steps_flaw.result (c.is_none.ensures ∙ ap not c.if-is_none.true) in
     let of_heaviest : flaws heaviest ≡ None = ap flaws (sym c.as_slice.ensures.value) ∙ sym c.steps_flaw.ensures ∙ none in
     sym (ap first_fault (entry_flaws_are c.args.advert.now c.args.weights.now c.args.kept.now entries c.args.number entry c.turn_to.new.self.may_stay_free all heaviest c.if-entry-ge-HOST_LANES.false are)
@@ -40,6 +40,6 @@ returns-clause-flaw g c =
     let entries = c.args.entries.now in
     let all = c.turn_to.new.self.all.items in
     let heaviest = c.turn_to.new.self.heaviest.items in
-    let flaws : List Move → Option (Reason × ℕ) = λ moves. first_fault (steps_flaws entries (c.args.number, entry) (steps_by c.turn_to.new.self.may_stay_free (state_of entry) moves)) in
+    let flaws : List Move → Option Flaw = λ moves. first_fault (steps_flaws entries (c.args.number, entry) (steps_by c.turn_to.new.self.may_stay_free (state_of entry) moves)) in
     c.steps_flaw-2.ensures ∙ ap flaws c.as_slice-2.ensures.value
     ∙ sym (ap first_fault (entry_flaws_are c.args.advert.now c.args.weights.now c.args.kept.now entries c.args.number entry c.turn_to.new.self.may_stay_free all heaviest c.if-entry-ge-HOST_LANES.false c.turn_to.ensures.moves))

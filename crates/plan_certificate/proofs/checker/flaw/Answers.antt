@@ -3,7 +3,7 @@ use Rattle.std.proofs.lemmas.Bool.{eq-eqb, ne_eqb}
 use Rattle.field_tables.specs.FirstFault.{first_fault}
 use Rattle.plan_certificate.specs.declared.verdict.Reason.TheVariants.{WeightWrong}
 use Rattle.plan_certificate.specs.Plans.{plan_weight}
-use Rattle.plan_certificate.specs.Verdicts.{Flaws, paths_flaws, bound_flaws}
+use Rattle.plan_certificate.specs.Verdicts.{Flaws, bound_flaws, flaw, paths_flaws}
 use Rattle.plan_certificate.proofs.Searches.{applies, passes, first_then, none_then}
 use Rattle.plan_certificate.proofs.checker.flaw.Goals as goal
 
@@ -15,7 +15,7 @@ returns-in-Some g c =
     let kept = c.args.kept.now in
     let plan = c.args.plan.now in
     let flaws = paths_flaws c.args.advert.now kept plan in
-    let rest : Flaws = (weight_flaw c.args.weight (plan_weight c.args.advert.now c.args.weights.now plan), (WeightWrong, 0)) ∷ bound_flaws c.args.advert.now c.args.weights.now kept c.args.entries.now c.args.weight in
+    let rest : Flaws = (weight_flaw c.args.weight (plan_weight c.args.advert.now c.args.weights.now plan), flaw WeightWrong 0) ∷ bound_flaws c.args.advert.now c.args.weights.now kept c.args.entries.now c.args.weight in
     let kept_is = c.as_slice-kept.ensures.value ∙ c.kept.view_is in
     let plan_is = c.as_slice-paths.ensures.value ∙ c.plan.view_is in
     let same : first_fault flaws ≡ c.paths_flaw.result = (λ i. first_fault (paths_flaws c.args.advert.now (sym kept_is i) (sym plan_is i))) ∙ sym c.paths_flaw.ensures.flaw in
@@ -32,7 +32,7 @@ returns-then-weight-weight_of g c =
     let plan_is = c.as_slice-paths.ensures.value ∙ c.plan.view_is in
     let same : first_fault flaws ≡ c.paths_flaw.result = (λ i. first_fault (paths_flaws c.args.advert.now (sym kept_is i) (sym plan_is i))) ∙ sym c.paths_flaw.ensures.flaw in
     let wrong : weight_flaw c.args.weight right ≡ true = ap not (ne_eqb c.args.weight right (λ is. c.if-weight-weight_of.true (is ∙ sym c.weight_of.ensures))) in
-    sym (none_then flaws ((weight_flaw c.args.weight right, (WeightWrong, 0)) ∷ bounds) (same ∙ c.in_default.is) ∙ applies (weight_flaw c.args.weight right) (WeightWrong, 0) bounds wrong)
+    sym (none_then flaws ((weight_flaw c.args.weight right, flaw WeightWrong 0) ∷ bounds) (same ∙ c.in_default.is) ∙ applies (weight_flaw c.args.weight right) (flaw WeightWrong 0) bounds wrong)
 
 pub returns : goal.returns
 returns g c =
@@ -46,4 +46,4 @@ returns g c =
     let same : first_fault flaws ≡ c.paths_flaw.result = (λ i. first_fault (paths_flaws c.args.advert.now (sym kept_is i) (sym plan_is i))) ∙ sym c.paths_flaw.ensures.flaw in
     let is_right : weight_flaw c.args.weight right ≡ false = ap not (eq-eqb c.args.weight right (c.if-weight-weight_of.false ∙ c.weight_of.ensures)) in
     let found : c.bound_flaw.result ≡ first_fault bounds = c.bound_flaw.ensures ∙ (λ i. first_fault (bound_flaws c.args.advert.now c.args.weights.now (kept_is i) c.args.entries.now c.args.weight)) in
-    sym (none_then flaws ((weight_flaw c.args.weight right, (WeightWrong, 0)) ∷ bounds) (same ∙ c.in_default.is) ∙ passes (weight_flaw c.args.weight right) (WeightWrong, 0) bounds is_right ∙ sym found)
+    sym (none_then flaws ((weight_flaw c.args.weight right, flaw WeightWrong 0) ∷ bounds) (same ∙ c.in_default.is) ∙ passes (weight_flaw c.args.weight right) (flaw WeightWrong 0) bounds is_right ∙ sym found)

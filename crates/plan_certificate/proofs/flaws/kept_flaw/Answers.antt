@@ -7,7 +7,7 @@ use Rattle.plan_certificate.specs.declared.path.Path.{Path}
 use Rattle.plan_certificate.specs.declared.verdict.Reason.TheVariants.{KeptNotAdmissible}
 use Rattle.plan_certificate.specs.Paths.{is_allowed}
 use Rattle.plan_certificate.specs.KeptPaths.{may_join}
-use Rattle.plan_certificate.specs.Verdicts.{kept_flaw, kept_flaws}
+use Rattle.plan_certificate.specs.Verdicts.{flaw, kept_flaw, kept_flaws}
 use Rattle.plan_certificate.proofs.NoFlaw.{kept_admissible}
 use Rattle.plan_certificate.proofs.Searches.{alone, flaw_here, flaw_later, flaws_end}
 use Rattle.plan_certificate.proofs.flaws.kept_flaw.Goals as goal
@@ -27,7 +27,7 @@ returns-then-not-may_join-clause-flaw c =
     let place : c.loop-place.place + 1 - 1 ≡ c.loop-place.place = omega arith in
     let joins : ℕ → Bool = λ n. may_join c.args.advert.now (take n c.args.kept.now) (get_or c.args.kept.now c.loop-place.place no_path) in
     let at : joins (c.loop-place.place + 1 - 1) ≡ false = ap joins place ∙ sym c.may_join.ensures ∙ c.if-not-may_join.true in
-    sym (sym c.loop-place.invariant.none ∙ flaw_here (kept_flaw c.args.advert.now c.args.kept.now) c.args.kept.now c.loop-place.place no_path _ c.loop-place-test.true (ap (λ (b : Bool). (not b, (KeptNotAdmissible, c.loop-place.place + 1))) at))
+    sym (sym c.loop-place.invariant.none ∙ flaw_here (kept_flaw c.args.advert.now c.args.kept.now) c.args.kept.now c.loop-place.place no_path _ c.loop-place-test.true (ap (λ (b : Bool). (not b, flaw KeptNotAdmissible (c.loop-place.place + 1))) at))
 
 pub returns-then-not-may_join-clause-none : goal.returns-then-not-may_join-clause-none
 returns-then-not-may_join-clause-none c =

@@ -5,7 +5,7 @@ use Rattle.plan_certificate.specs.declared.path.Path.{Path}
 use Rattle.plan_certificate.specs.declared.verdict.Reason.TheVariants.{LaneTwice}
 use Rattle.applications.specs.Advertised.{Advertised}
 use Rattle.plan_certificate.specs.Plans.{are_apart}
-use Rattle.plan_certificate.specs.Verdicts.{lane_flaw, lane_flaws}
+use Rattle.plan_certificate.specs.Verdicts.{flaw, lane_flaw, lane_flaws}
 use Rattle.plan_certificate.proofs.Searches.{alone, flaw_here, flaw_later, flaws_end}
 use Rattle.plan_certificate.proofs.flaws.lane_flaw.Goals as goal
 
@@ -24,7 +24,7 @@ returns-then-not-is_apart_from c =
     let place : c.loop-place.place + 1 - 1 ≡ c.loop-place.place = omega arith in
     let among = ap (λ (n : ℕ). list_all (λ (earlier : Path). are_apart c.args.advert.now earlier (get_or c.args.paths.now c.loop-place.place no_path)) (take n c.args.paths.now)) place in
     let at : alone_at c.args.advert.now c.args.paths.now c.loop-place.place ≡ false = among ∙ sym c.is_apart_from.ensures ∙ c.if-not-is_apart_from.true in
-    sym (sym c.loop-place.invariant ∙ flaw_here (lane_flaw c.args.advert.now c.args.paths.now) c.args.paths.now c.loop-place.place no_path _ c.loop-place-test.true (ap (λ (b : Bool). (not b, (LaneTwice, c.loop-place.place + 1))) at))
+    sym (sym c.loop-place.invariant ∙ flaw_here (lane_flaw c.args.advert.now c.args.paths.now) c.args.paths.now c.loop-place.place no_path _ c.loop-place-test.true (ap (λ (b : Bool). (not b, flaw LaneTwice (c.loop-place.place + 1))) at))
 
 pub loop-place-preserved : goal.loop-place-preserved
 loop-place-preserved c =
