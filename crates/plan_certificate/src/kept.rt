@@ -47,14 +47,6 @@ pub fn may_join(advert: &Advert, others: &[Path], path: Path) -> bool
     path.is_allowed(advert) && is_apart_from(advert, others, path)
 }
 
-/// Whether a plan that keeps the first paths may hold the last one.
-pub fn is_eligible(advert: &Advert, kept: &[Path], path: Path) -> bool
-    requires { AreAllowed advert.now kept.now }
-    ensures { result ≡ spec.is_eligible advert.now kept.now path }
-{
-    path.is_allowed(advert) && (is_among(kept, path) || is_apart_from(advert, kept, path))
-}
-
 /// Whether the host lane is one of none of the kept paths.
 pub fn may_stay_free(advert: &Advert, kept: &[Path], lane: u8) -> bool
     requires { AreAllowed advert.now kept.now }
@@ -68,7 +60,8 @@ pub fn may_stay_free(advert: &Advert, kept: &[Path], lane: u8) -> bool
     true
 }
 
-/// As `is_eligible`, of a path with this Application; `begins` is whether it may begin at the path's host lane.
+/// Whether a plan that keeps the first paths may hold the last one, given its Application and whether that may begin at the path's
+/// host lane.
 #[tactic(auto, unfolding(crate::specs::Paths::is_allowed))]
 pub fn is_eligible_as(advert: &Advert, kept: &[Path], app: &App, begins: bool, path: Path) -> bool
     requires kept { AreAllowed advert.now kept.now }
