@@ -1,5 +1,6 @@
 -- Why the memory of a module is not read. (docs/fields.md, "What is read of SFF modules"; SFF-8636, "Status Indicators")
-use Rattle.std.specs.Prelude.{List, [], ◌∷◌, ◌++◌, Option}
+use Rattle.std.specs.Prelude.{if◌then◌else◌, List, [], ◌∷◌, ◌++◌, Option, None}
+use Rattle.std.specs.Option.{option_or}
 use Rattle.bus_model.specs.declared.device.Dev.TheVariants.{A0}
 use Rattle.paged_memory.specs.declared.family.Family.TheVariants.{Sff8636}
 use Rattle.paged_memory.specs.Keys.{lower_key, upper_key}
@@ -7,6 +8,7 @@ use Rattle.paged_memory.specs.Images.{Memory}
 use Rattle.field_tables.specs.declared.field.Field.TheVariants.{QFlatMemory, QIdentifier}
 use Rattle.field_tables.specs.declared.sff_fault.SffFault.{SffFault}
 use Rattle.field_tables.specs.declared.sff_fault.SffFault.TheVariants.{Absent, FlatMemory, WrongIdentifier}
+use Rattle.field_tables.specs.Readings.{bit}
 use Rattle.field_tables.specs.Reasons.{Reason, lacks, if_set, of_another, refused_by}
 
 abbrev pub module_reasons : List (Reason SffFault)
@@ -34,3 +36,7 @@ identity_fault memory = refused_by memory identity_reasons
 
 unfoldable pub threshold_fault : Memory → Option SffFault
 threshold_fault memory = refused_by memory threshold_reasons
+
+-- of measured values and their limits, which a module with flat memory doesn't have
+unfoldable pub measured_fault : Memory → Option SffFault
+measured_fault memory = option_or (module_fault memory) (if bit memory QFlatMemory then None else threshold_fault memory)

@@ -11,5 +11,5 @@ pub use field_tables::{Levels, SffFault};
 pub use flags::Flags;
 pub use identity::Identity;
 pub use monitors::Monitors;
-pub use refusal::{identity_refusal, module_refusal, threshold_refusal};
+pub use refusal::{identity_refusal, measured_refusal, module_refusal, threshold_refusal};
 pub use thresholds::Thresholds;

@@ -1,5 +1,5 @@
 ghost use Rattle.std.specs.Prelude.{◌≡◌};
-ghost use Rattle.sff8636_map.specs.Refusals.{identity_fault, module_fault, threshold_fault};
+ghost use Rattle.sff8636_map.specs.Refusals.{identity_fault, measured_fault, module_fault, threshold_fault};
 
 use bus_model::Dev;
 use field_tables::{Field, SffFault, bit, number};
@@ -52,4 +52,18 @@ pub fn threshold_refusal(image: &Image) -> Option<SffFault>
         return Some(SffFault::Absent(page));
     }
     None
+}
+
+/// Why an image has no measured values, or none of their limits, which a module with flat memory doesn't have.
+#[tactic(auto, unfolding(crate::specs::Refusals::measured_fault))]
+pub fn measured_refusal(image: &Image) -> Option<SffFault>
+    ensures { result ≡ measured_fault image.now }
+{
+    if let Some(fault) = module_refusal(image) {
+        return Some(fault);
+    }
+    if bit(image, Field::QFlatMemory) {
+        return None;
+    }
+    threshold_refusal(image)
 }

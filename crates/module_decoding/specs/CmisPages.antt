@@ -1,0 +1,34 @@
+-- The pages of a CMIS module that have what is told of it. (docs/formats.md, "inventory", "monitors" and "flags"; OIF-CMIS-05.0,
+-- "Management Characteristics" and "Management Memory Map")
+use Rattle.std.specs.Prelude.{ℕ, Bool, if◌then◌else◌, List, [], ◌∷◌, map, Option, find}
+use Rattle.bus_model.specs.declared.device.Dev.TheVariants.{A0}
+use Rattle.paged_memory.specs.declared.key.Key.{Key}
+use Rattle.paged_memory.specs.Images.{Memory}
+use Rattle.paged_memory.specs.Keys.{upper_key}
+use Rattle.field_tables.specs.declared.field.Field.TheVariants.{CFlatMemory}
+use Rattle.field_tables.specs.Halves.{is_absent}
+use Rattle.field_tables.specs.Readings.{bit}
+
+-- it has no pages but 00h
+abbrev pub is_flat : Memory → Bool
+is_flat memory = bit memory CFlatMemory
+
+-- those that are needed of a module that has more
+abbrev pub unless_flat : Memory → List ℕ → List ℕ
+unless_flat memory pages = if is_flat memory then [] else pages
+
+-- of what it is
+abbrev pub identity_pages : List ℕ
+identity_pages = 0x00 ∷ []
+
+-- of what it measures
+abbrev pub monitor_pages : Memory → List ℕ
+monitor_pages memory = unless_flat memory (0x01 ∷ 0x02 ∷ 0x11 ∷ [])
+
+-- of its states and flags
+abbrev pub flag_pages : Memory → List ℕ
+flag_pages memory = unless_flat memory (0x11 ∷ [])
+
+-- the first of these pages of bank 0 that memory lacks
+unfoldable pub absent_page : List ℕ → Memory → Option Key
+absent_page pages memory = find (is_absent memory) (map (λ (page : ℕ). upper_key A0 0 page) pages)

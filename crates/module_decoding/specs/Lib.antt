@@ -1,0 +1,4 @@
+pub mod ModuleFamilies
+pub mod CmisPages
+pub mod Amounts
+pub mod PaddedTexts

@@ -1,0 +1,13 @@
+//! What decoders of modules of all families share: which family a module is of, the pages that they need, amounts in
+//! thousandths, and what is shown of texts.
+#![tactic(auto)]
+
+mod amounts;
+mod cmis_pages;
+mod module_family;
+mod padded_texts;
+
+pub use amounts::{amount_at, length_in, limit_amounts, unit_of};
+pub use cmis_pages::{absent_flag_page, absent_identity_page, absent_monitor_page, is_flat};
+pub use module_family::{ModuleFault, family_of};
+pub use padded_texts::{shown_byte, trimmed};
