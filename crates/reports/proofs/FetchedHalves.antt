@@ -37,7 +37,7 @@ use Rattle.field_tables.specs.Halves.{byte_in, is_absent}
 use Rattle.field_tables.specs.Readings.{reading_at}
 use Rattle.field_tables.proofs.PlaceNumbers.{number-bits_up}
 use Rattle.field_tables.proofs.SameValues.{Agree, same_absent, same_number}
-use Rattle.reports.specs.Families.{identifier}
+use Rattle.module_decoding.specs.ModuleFamilies.{identifier}
 use Rattle.reports.specs.FetchedImages.{IsFetching}
 use Rattle.module_reading.specs.ReadImages.{IsFetch, IsImageOf, IsLeftOut, IsRead, IsSettled, IsShown, SomeStep, StoresNothing, WasSelected}
 use Rattle.module_reading.specs.Regions.{has_diagnostics, key_of, operation, paging_in, paging_of, regions_in, regions_of, sfp_regions}

@@ -7,7 +7,7 @@ use Rattle.paged_memory.specs.Images.{Memory}
 use Rattle.field_tables.specs.declared.field.Field.TheVariants.{QFlatMemory}
 use Rattle.field_tables.specs.Readings.{bit}
 use Rattle.field_tables.proofs.SameValues.{Agree}
-use Rattle.reports.specs.Families.{is_flat}
+use Rattle.module_decoding.specs.CmisPages.{is_flat}
 use Rattle.module_reading.specs.Regions.{cmis_regions, has_diagnostics, key_of, qsfp_regions, regions_in, sfp_regions}
 use Rattle.reports.specs.SameReports.{FetchedReportsSame}
 use Rattle.module_reading.specs.declared.region.Region.{Region}

@@ -26,7 +26,8 @@ use Rattle.applications.specs.Refusals.{advert_fault, module_reasons, page_reaso
 use Rattle.applications.specs.declared.fault.AdvertFault.{AdvertFault}
 use Rattle.reports.specs.Apps.{apps_entries, apps_fault}
 use Rattle.reports.specs.declared.fault.ReportFault.TheVariants.{Advert}
-use Rattle.reports.specs.Families.{identifier, is_flat}
+use Rattle.module_decoding.specs.CmisPages.{is_flat}
+use Rattle.module_decoding.specs.ModuleFamilies.{identifier}
 use Rattle.reports.specs.SameReports.{IsSame}
 use Rattle.reports.proofs.SameFamilies.{CmisAgree, FamilyAgrees, none_applies, none_mapped}
 

@@ -1,5 +1,5 @@
 -- Memories that agree in the halves that are read of a module are of the same family, and are refused for the same reasons.
-use Rattle.std.proofs.Common.{◌≡◌, inl, inr, ℕ, ◌==◌, ◌&&◌, Bool, true, false, List, [], ◌∷◌, ◌++◌, map, Option, Some, None, refl, sym, ap, ◌∙◌, if◌then◌else◌}
+use Rattle.std.proofs.Common.{◌≡◌, inl, inr, ℕ, ◌==◌, ◌&&◌, Bool, true, false, List, [], ◌∷◌, Option, Some, None, refl, sym, ap, ◌∙◌, if◌then◌else◌}
 use Rattle.std.proofs.lemmas.Bool.{cases_Bool, not-false}
 use Rattle.std.specs.Prelude.{is_some, not, option_map, unwrap_or}
 use Rattle.std.specs.List.{AllByRecursion}
@@ -10,6 +10,7 @@ use Rattle.paged_memory.specs.declared.family.Family.TheVariants.{Cmis, Sff8636,
 use Rattle.paged_memory.specs.Families.{family_by, is_of}
 use Rattle.paged_memory.specs.Images.{Memory}
 use Rattle.paged_memory.specs.Keys.{lower_key, upper_key}
+use Rattle.paged_memory.specs.declared.key.Key.{Key}
 use Rattle.field_tables.specs.declared.field.Field.TheVariants.{CFlatMemory, CIdentifier, CRevision, QFlatMemory}
 use Rattle.field_tables.specs.declared.sff_fault.SffFault.{SffFault}
 use Rattle.field_tables.specs.FirstFault.{first_fault}
@@ -18,8 +19,13 @@ use Rattle.field_tables.specs.Readings.{bit, number}
 use Rattle.field_tables.proofs.SameValues.{Agree, same_absent, same_number}
 use Rattle.applications.specs.Refusals.{is_read_revision}
 use Rattle.reports.specs.declared.fault.ReportFault.{ReportFault}
-use Rattle.reports.specs.declared.fault.ReportFault.TheVariants.{Absent, Unknown, Revision, Sff}
-use Rattle.reports.specs.Families.{absent_page, family_of, identifier, is_flat, module_fault, module_faults, of_sff, unless_flat}
+use Rattle.reports.specs.declared.fault.ReportFault.TheVariants.{Sff}
+use Rattle.reports.specs.Families.{lacks, module_fault, of_sff, unread}
+use Rattle.module_decoding.specs.declared.module_family.ModuleFault.{ModuleFault}
+use Rattle.module_decoding.specs.declared.module_family.ModuleFault.TheVariants.{Absent, Unknown, Revision}
+use Rattle.module_decoding.specs.CmisPages.{absent_page, is_flat, unless_flat}
+use Rattle.module_decoding.specs.ModuleFamilies as families
+use Rattle.module_decoding.specs.ModuleFamilies.{family_of, identifier}
 use Rattle.module_reading.specs.Regions.{has_diagnostics}
 use Rattle.reports.specs.SameReports.{IsSame}
 
@@ -97,13 +103,17 @@ module _ (a b : Memory) (low : Agree a b (lower_key A0)) where
   pub same_lower : is_absent a (lower_key A0) ≡ is_absent b (lower_key A0)
   same_lower = same_absent a b (lower_key A0) low
 
-  pub same_module_fault : module_fault a ≡ module_fault b
-  unfolding module_fault
-  same_module_fault = λ i. first_fault (
+  same_unread : families.module_fault a ≡ families.module_fault b
+  unfolding families.module_fault
+  same_unread = λ i. first_fault (
       (same_lower i, Absent (lower_key A0))
       ∷ (not (is_some (family_by (same_identifier i))), Unknown (same_identifier i))
       ∷ (is_of Cmis (same_identifier i) && not (is_read_revision (same_revision i)), Revision (same_revision i))
       ∷ [])
+
+  pub same_module_fault : module_fault a ≡ module_fault b
+  unfolding module_fault
+  same_module_fault = ap (option_map (λ (fault : ModuleFault). unread fault)) same_unread
 
   pub same_family : family_of a ≡ family_of b
   unfolding family_of
@@ -111,29 +121,26 @@ module _ (a b : Memory) (low : Agree a b (lower_key A0)) where
 
 -- ---- pages
 
-abbrev absence : Memory → ℕ → Bool × ReportFault
-absence memory page = (is_absent memory (upper_key A0 0 page), Absent (upper_key A0 0 page))
-
-same_absences : (a b : Memory) (pages : List ℕ) → AllByRecursion (λ page. Agree a b (upper_key A0 0 page)) pages → map (absence a) pages ≡ map (absence b) pages
+same_absences : (a b : Memory) (pages : List ℕ) → AllByRecursion (λ page. Agree a b (upper_key A0 0 page)) pages → absent_page pages a ≡ absent_page pages b
+unfolding absent_page
 same_absences a b [] all = refl
 same_absences a b (page ∷ pages) all =
     let here = same_absent a b (upper_key A0 0 page) all.0 in
     let later = same_absences a b pages all.1 in
-    λ i. (here i, Absent (upper_key A0 0 page)) ∷ later i
+    λ i. if here i then Some (upper_key A0 0 page) else later i
 
-pub same_pages : (a b : Memory) (pages : List ℕ) → AllByRecursion (λ page. Agree a b (upper_key A0 0 page)) pages → absent_page pages a ≡ absent_page pages b
+pub same_pages : (a b : Memory) (pages : List ℕ) → AllByRecursion (λ page. Agree a b (upper_key A0 0 page)) pages → lacks (absent_page pages a) ≡ lacks (absent_page pages b)
+same_pages a b pages agree = ap (λ (page : Option Key). lacks page) (same_absences a b pages agree)
+
+none_needed : (a : Memory) (pages : List ℕ) → is_flat a ≡ true → lacks (absent_page (unless_flat a pages) a) ≡ None
 unfolding absent_page
-same_pages a b pages agree = ap first_fault (same_absences a b pages agree)
+none_needed a pages flat = ap (λ (f : Bool). lacks (absent_page (if f then [] else pages) a)) flat
 
-none_needed : (a : Memory) (pages : List ℕ) → is_flat a ≡ true → absent_page (unless_flat a pages) a ≡ None
-unfolding absent_page
-none_needed a pages flat = ap (λ (f : Bool). absent_page (if f then [] else pages) a) flat
-
-some_needed : (a : Memory) (pages : List ℕ) → is_flat a ≡ false → absent_page (unless_flat a pages) a ≡ absent_page pages a
-some_needed a pages paged = ap (λ (f : Bool). absent_page (if f then [] else pages) a) paged
+some_needed : (a : Memory) (pages : List ℕ) → is_flat a ≡ false → lacks (absent_page (unless_flat a pages) a) ≡ lacks (absent_page pages a)
+some_needed a pages paged = ap (λ (f : Bool). lacks (absent_page (if f then [] else pages) a)) paged
 
 pub same_unless_flat : (a b : Memory) (pages : List ℕ) → is_flat a ≡ is_flat b → (is_flat a ≡ false → AllByRecursion (λ page. Agree a b (upper_key A0 0 page)) pages) →
-    absent_page (unless_flat a pages) a ≡ absent_page (unless_flat b pages) b
+    lacks (absent_page (unless_flat a pages) a) ≡ lacks (absent_page (unless_flat b pages) b)
 same_unless_flat a b pages same agree =
     elim (cases_Bool (is_flat a)) [
       | inl flat ↦ none_needed a pages flat ∙ sym (none_needed b pages (sym same ∙ flat))
@@ -144,8 +151,9 @@ same_unless_flat a b pages same agree =
 
 -- where no module fault applies the family is known
 is_known : (a : Memory) → module_fault a ≡ None → is_some (family_by (identifier a)) ≡ true
-unfolding module_fault
-is_known a none = not-false (is_some (family_by (identifier a))) (none_applies (module_faults a) none).1.0
+unfolding module_fault families.module_fault
+is_known a none =
+    not-false (is_some (family_by (identifier a))) (none_applies (families.module_faults a) (none_mapped (λ (fault : ModuleFault). unread fault) (families.module_fault a) none)).1.0
 
 -- what holds in each family holds in the module's
 in_family : (P : Family → Type 0) (a b : Memory) → FamilyAgrees a b → (CmisAgree a b → P Cmis) → (QsfpAgree a b → P Sff8636) → (SfpAgree a b → P Sff8472) → is_some (family_by (identifier a)) ≡ true → P (family_of a)

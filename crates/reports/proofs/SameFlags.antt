@@ -15,7 +15,8 @@ use Rattle.reports.specs.declared.flag.Flag.{Flag}
 use Rattle.reports.specs.FlagRows.{flags_entry, rows_flags}
 use Rattle.reports.proofs.SameRows.{by_flat, rows_same}
 use Rattle.reports.proofs.SameFlagRows.{flag_rows_same}
-use Rattle.reports.specs.Families.{is_flat, of_sff}
+use Rattle.module_decoding.specs.CmisPages.{is_flat}
+use Rattle.reports.specs.Families.{of_sff}
 use Rattle.reports.specs.Flags.{raised}
 use Rattle.reports.specs.Rows.{rows_entries}
 use Rattle.reports.specs.SameReports.{IsSame}

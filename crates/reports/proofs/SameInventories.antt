@@ -8,7 +8,8 @@ use Rattle.field_tables.proofs.SameRefusals.{same_refusal}
 use Rattle.sff8472_map.specs.Refusals as sfp_refusals
 use Rattle.sff8636_map.specs.Refusals as qsfp_refusals
 use Rattle.reports.specs.CmisInventory as cmis
-use Rattle.reports.specs.Families.{is_flat, of_sff}
+use Rattle.module_decoding.specs.CmisPages.{identity_pages, is_flat}
+use Rattle.reports.specs.Families.{of_sff}
 use Rattle.reports.specs.Inventory.{entries_in, fault_in, inventory_entries, inventory_fault}
 use Rattle.reports.specs.SameReports.{IsSame}
 use Rattle.reports.specs.SffInventory.{qsfp_entries, qsfp_rows, sfp_entries, sfp_rows}
@@ -24,7 +25,7 @@ module _ (a b : Memory) (agree : CmisAgree a b) where
 
   same_cmis : IsSame (fault_in Cmis) (entries_in Cmis) a b
   same_cmis = record {
-    fault = same_pages a b cmis.inventory_pages (agree.first, tt);
+    fault = same_pages a b identity_pages (agree.first, tt);
     said = λ none. same_said;
   }
 

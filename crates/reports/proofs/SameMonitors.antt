@@ -15,8 +15,9 @@ use Rattle.field_tables.proofs.SameValues.{Agree}
 use Rattle.sff8472_map.specs.Refusals as sfp_refusals
 use Rattle.sff8636_map.specs.Refusals as qsfp_refusals
 use Rattle.reports.specs.CmisMonitors as cmis
-use Rattle.reports.specs.SffMonitors.{qsfp_limits_fault, qsfp_rows, sff8472_entries, sff8636_entries, sfp_rows}
-use Rattle.reports.specs.Families.{is_flat, of_sff}
+use Rattle.reports.specs.SffMonitors.{qsfp_rows, sff8472_entries, sff8636_entries, sfp_rows}
+use Rattle.module_decoding.specs.CmisPages.{is_flat}
+use Rattle.reports.specs.Families.{of_sff}
 use Rattle.reports.specs.Measured.{entries_in, fault_in, monitors_entries, monitors_fault}
 use Rattle.module_reading.specs.Regions.{has_diagnostics}
 use Rattle.reports.specs.SameReports.{IsSame}
@@ -55,11 +56,11 @@ module _ (a b : Memory) (agree : QsfpAgree a b) where
   unfolding qsfp_refusals.threshold_fault
   same_threshold_fault limits = same_refusal a b qsfp_refusals.threshold_reasons refl (agree.low, λ here. (agree.low, λ of. (agree.low, λ paged. (limits, λ there. tt))))
 
-  same_limits_fault : qsfp_limits_fault a ≡ qsfp_limits_fault b
-  unfolding qsfp_limits_fault
-  same_limits_fault =
-      same_if (bit a fields.QFlatMemory) (bit a fields.QFlatMemory) (bit b fields.QFlatMemory) None (qsfp_refusals.threshold_fault a) (qsfp_refusals.threshold_fault b) refl (sym (same_qsfp_flat a b agree.low))
-      (λ paged. same_threshold_fault (agree.paged paged))
+  same_measured : qsfp_refusals.measured_fault a ≡ qsfp_refusals.measured_fault b
+  unfolding qsfp_refusals.measured_fault
+  same_measured =
+      let limits = same_if (bit a fields.QFlatMemory) (bit a fields.QFlatMemory) (bit b fields.QFlatMemory) None (qsfp_refusals.threshold_fault a) (qsfp_refusals.threshold_fault b) refl (sym (same_qsfp_flat a b agree.low)) (λ paged. same_threshold_fault (agree.paged paged)) in
+      λ i. option_or (same_qsfp_module i) (limits i)
 
   same_qsfp_of : (flat : Bool) → bit a fields.QFlatMemory ≡ flat → rows_entries a flat qsfp_rows ≡ rows_entries b flat qsfp_rows
   unfolding qsfp_rows
@@ -72,7 +73,7 @@ module _ (a b : Memory) (agree : QsfpAgree a b) where
 
   same_qsfp : IsSame (fault_in Sff8636) (entries_in Sff8636) a b
   same_qsfp = record {
-    fault = λ i. of_sff (option_or (same_qsfp_module i) (same_limits_fault i));
+    fault = ap of_sff same_measured;
     said = λ none. same_qsfp_said;
   }
 

@@ -17,10 +17,11 @@ use Rattle.field_tables.specs.Sums.{sum_key}
 use Rattle.field_tables.specs.Texts.{text_key}
 use Rattle.field_tables.specs.Units.{millis_of}
 use Rattle.field_tables.proofs.SameValues.{Agree, is_selection, same_number, same_numbers, same_reading_at, same_sum_right, same_text}
+use Rattle.module_decoding.specs.Amounts.{amount_at, limit_amounts, times, unit_of}
 use Rattle.reports.specs.Entries.{Entry, entry, word, right, number, code, revision, text, oui, amount, lanes, limits, state, lane_states}
 use Rattle.reports.specs.declared.entry.LaneState.{LaneState}
 use Rattle.reports.specs.declared.printed_unit.PrintedUnit.TheVariants.{Metre}
-use Rattle.reports.specs.Rows.{Row, Source, Instead, Word, Either, Code, Revision, Next, Text, Oui, Right, Amount, Length, Lanes, Limits, State, LaneStates, Nothing, Says, amount_at, applies, decided_entries, deciding, lane_state_at, levels_of, printed_unit, row_entries, rows_entries, source_said, times, unit_of}
+use Rattle.reports.specs.Rows.{Row, Source, Instead, Word, Either, Code, Revision, Next, Text, Oui, Right, Amount, Length, Lanes, Limits, State, LaneStates, Nothing, Says, applies, decided_entries, deciding, lane_state_at, printed_unit, row_entries, rows_entries, source_said}
 use Rattle.module_reading.proofs.RegionLaws.{keys_are}
 
 -- ---- the test
@@ -106,7 +107,7 @@ module _ (a b : Memory) (keys : List Key) (all : AllByRecursion (λ key. Agree a
       let later = amounts_same field power e counts (first + 1) count (omega (arith, from)) (omega (arith, to)) in
       λ i. here i ∷ later i
 
-  limits_same : (field : Field) (power : Option Field) → field_in keys 4 field ≡ true → power_in keys power ≡ true → levels_of (amount_at a field power) ≡ levels_of (amount_at b field power)
+  limits_same : (field : Field) (power : Option Field) → field_in keys 4 field ≡ true → power_in keys power ≡ true → limit_amounts a field power ≡ limit_amounts b field power
   limits_same field power e counts =
       let counted = field_counted field 4 e in
       let four : 4 ≤ (row_of field).count = grind (arith, nat_tests) in

@@ -1,9 +1,10 @@
 -- The states of a CMIS module and of its lanes, and the flags that it raises. (docs/formats.md, "flags"; OIF-CMIS-05.0,
 -- "Global Status Information" and "Module-Level Flags" of lower memory; of page 11h the data path states, the
 -- lane-specific flags and "Configuration Command Status")
-use Rattle.std.specs.Prelude.{ℕ, Bool, List, [], ◌∷◌, ◌++◌, codes}
+use Rattle.std.specs.Prelude.{Bool, List, [], ◌∷◌, ◌++◌, codes}
 use Rattle.paged_memory.specs.Images.{Memory}
 use Rattle.field_tables.specs.declared.field.Field.TheVariants as fields
+use Rattle.module_decoding.specs.CmisPages.{is_flat}
 use Rattle.reports.specs.declared.flag.Flag.{Flag}
 use Rattle.reports.specs.declared.flag.Condition.TheVariants as conditions
 use Rattle.reports.specs.declared.flag.FlagName.TheVariants.{Holds, Passed}
@@ -13,12 +14,7 @@ use Rattle.reports.specs.declared.quantity.Quantity.TheVariants.{Temperature, Vc
 use Rattle.reports.specs.Entries.{Entry}
 use Rattle.reports.specs.FlagRows.{flags_entry, of_paged_lanes, past_limits, rows_flags}
 use Rattle.reports.specs.Flags.{raised}
-use Rattle.reports.specs.Families.{is_flat, unless_flat}
 use Rattle.reports.specs.Rows.{Row, LaneStates, State, always, if_paged, rows_entries}
-
--- the pages that it needs
-abbrev pub flag_pages : Memory → List ℕ
-flag_pages memory = unless_flat memory (0x11 ∷ [])
 
 -- a module with flat memory tells nothing of its lanes
 unfoldable pub state_rows : List Row

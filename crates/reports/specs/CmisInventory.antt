@@ -1,17 +1,13 @@
 -- The inventory of a CMIS module. (docs/formats.md, "inventory"; OIF-CMIS-05.0, "Lower Memory" and "Administrative
 -- Information (Page 00h)")
-use Rattle.std.specs.Prelude.{ℕ, List, [], ◌∷◌, codes}
+use Rattle.std.specs.Prelude.{List, [], ◌∷◌, codes}
 use Rattle.paged_memory.specs.Images.{Memory}
 use Rattle.field_tables.specs.declared.field.Field.TheVariants as fields
 use Rattle.field_tables.specs.declared.field.Sum.TheVariants as sums
 use Rattle.field_tables.specs.declared.field.TextField.TheVariants as texts
+use Rattle.module_decoding.specs.CmisPages.{is_flat}
 use Rattle.reports.specs.Entries.{Entry}
-use Rattle.reports.specs.Families.{is_flat}
 use Rattle.reports.specs.Rows.{Row, Word, Either, Code, Revision, Next, Text, Oui, Right, Amount, Length, always, rows_entries}
-
--- the pages that it needs
-abbrev pub inventory_pages : List ℕ
-inventory_pages = 0x00 ∷ []
 
 unfoldable pub inventory_rows : List Row
 inventory_rows =

@@ -1,17 +1,13 @@
 -- What a CMIS module measures. (docs/formats.md, "monitors"; OIF-CMIS-05.0, "Module-Level Monitor Values" of lower memory,
 -- "Supported Monitors Advertisement" of page 01h, the monitor thresholds of page 02h and "Lane-Specific Monitors" of page
 -- 11h)
-use Rattle.std.specs.Prelude.{ℕ, List, [], ◌∷◌, None, Some, codes}
+use Rattle.std.specs.Prelude.{List, [], ◌∷◌, None, Some, codes}
 use Rattle.paged_memory.specs.Images.{Memory}
 use Rattle.field_tables.specs.declared.field.Field.TheVariants as fields
 use Rattle.field_tables.specs.declared.field.Sum.TheVariants as sums
+use Rattle.module_decoding.specs.CmisPages.{is_flat}
 use Rattle.reports.specs.Entries.{Entry}
-use Rattle.reports.specs.Families.{is_flat, unless_flat}
 use Rattle.reports.specs.Rows.{Row, Instead, Amount, Lanes, Limits, Right, Nothing, Says, always, if_paged, rows_entries}
-
--- the pages that it needs
-abbrev pub monitor_pages : Memory → List ℕ
-monitor_pages memory = unless_flat memory (0x01 ∷ 0x02 ∷ 0x11 ∷ [])
 
 -- the module says that it measures none, or multiplies bias by a reserved code
 abbrev bias_words : List Instead

@@ -25,7 +25,8 @@ use Rattle.reports.specs.FlagNames.{flag_name}
 use Rattle.reports.specs.JsonTrees.{Member, array_of, object_of}
 use Rattle.reports.specs.PrintedUnits.{unit_key}
 use Rattle.reports.specs.Shown as shown
-use Rattle.reports.specs.Shown.{printable, shown_byte, thousandths}
+use Rattle.module_decoding.specs.PaddedTexts.{shown_byte}
+use Rattle.reports.specs.Shown.{printable, thousandths}
 use Rattle.reports.specs.declared.entry.LaneState.{LaneState}
 use Rattle.reports.specs.declared.fault.ReportFault.{ReportFault}
 use Rattle.reports.specs.declared.fault.ReportFault.TheVariants.{Memory}

@@ -4,18 +4,20 @@ use Rattle.std.specs.Option.{option_or}
 use Rattle.paged_memory.specs.declared.family.Family.{Family}
 use Rattle.paged_memory.specs.declared.family.Family.TheVariants.{Cmis, Sff8636, Sff8472}
 use Rattle.paged_memory.specs.Images.{Memory}
+use Rattle.module_decoding.specs.CmisPages.{absent_page, identity_pages}
+use Rattle.module_decoding.specs.ModuleFamilies.{family_of}
 use Rattle.sff8636_map.specs.Refusals as sff8636_refusals
 use Rattle.sff8472_map.specs.Refusals as sff8472_refusals
 use Rattle.reports.specs.CmisInventory as cmis
 use Rattle.reports.specs.declared.fault.ReportFault.{ReportFault}
 use Rattle.reports.specs.Entries.{Entry}
 use Rattle.reports.specs.EntryText.{entries_lines}
-use Rattle.reports.specs.Families.{absent_page, family_of, module_fault, of_sff}
+use Rattle.reports.specs.Families.{lacks, module_fault, of_sff}
 use Rattle.reports.specs.SffInventory.{qsfp_entries, sfp_entries}
 
 -- why there is none of a module of this family
 abbrev pub fault_in : Family → Memory → Option ReportFault
-fault_in Cmis memory = absent_page cmis.inventory_pages memory
+fault_in Cmis memory = lacks (absent_page identity_pages memory)
 fault_in Sff8636 memory = of_sff (sff8636_refusals.identity_fault memory)
 fault_in Sff8472 memory = of_sff (sff8472_refusals.module_fault memory)
 

@@ -4,16 +4,18 @@ use Rattle.std.specs.Option.{option_or}
 use Rattle.paged_memory.specs.declared.family.Family.{Family}
 use Rattle.paged_memory.specs.declared.family.Family.TheVariants.{Cmis, Sff8636, Sff8472}
 use Rattle.paged_memory.specs.Images.{Memory}
+use Rattle.module_decoding.specs.CmisPages.{absent_page, monitor_pages}
+use Rattle.module_decoding.specs.ModuleFamilies.{family_of}
 use Rattle.reports.specs.CmisMonitors as cmis
 use Rattle.reports.specs.SffMonitors as sff
 use Rattle.reports.specs.declared.fault.ReportFault.{ReportFault}
 use Rattle.reports.specs.Entries.{Entry}
 use Rattle.reports.specs.EntryText.{entries_lines}
-use Rattle.reports.specs.Families.{absent_page, family_of, module_fault}
+use Rattle.reports.specs.Families.{lacks, module_fault}
 
 -- why there is no such report of a module of this family
 abbrev pub fault_in : Family → Memory → Option ReportFault
-fault_in Cmis memory = absent_page (cmis.monitor_pages memory) memory
+fault_in Cmis memory = lacks (absent_page (monitor_pages memory) memory)
 fault_in Sff8636 memory = sff.sff8636_fault memory
 fault_in Sff8472 memory = sff.sff8472_fault memory
 

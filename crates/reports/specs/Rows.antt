@@ -1,19 +1,15 @@
 -- What the rows of a report say of a module's memory. (docs/formats.md, "Reports"; this project's own)
-use Rattle.std.specs.Prelude.{ℕ, ◌+◌, ◌*◌, ◌^◌, ◌==◌, ◌&&◌, if◌then◌else◌, Bool, true, false, nat_le, ℤ, pos, ◌*ℤ◌, unwrap_or, is_some, List, [], ◌∷◌, map, Option, Some, None}
+use Rattle.std.specs.Prelude.{ℕ, ◌+◌, ◌==◌, ◌&&◌, if◌then◌else◌, Bool, true, false, nat_le, is_some, List, [], ◌∷◌, map, Option, Some, None}
 use Rattle.std.specs.List.{find, flat_map, list_all, range_with_len}
 use Rattle.paged_memory.specs.Images.{Memory}
 use Rattle.field_tables.specs.declared.field.Field.{Field}
 use Rattle.field_tables.specs.declared.field.Sum.{Sum}
 use Rattle.field_tables.specs.declared.field.TextField.{TextField}
-use Rattle.field_tables.specs.declared.readings.Levels.{Levels}
-use Rattle.field_tables.specs.declared.units.Unit.{Unit}
-use Rattle.field_tables.specs.declared.units.Unit.TheVariants as units
 use Rattle.field_tables.specs.FieldRows.{row_of}
 use Rattle.field_tables.specs.FieldValues.{of_each}
 use Rattle.field_tables.specs.Readings as readings
-use Rattle.field_tables.specs.Readings.{all_numbers, is_of_bytes, is_sum_right, reading_at}
-use Rattle.field_tables.specs.RowPlaces.{width_by}
-use Rattle.field_tables.specs.Units.{millis_of}
+use Rattle.field_tables.specs.Readings.{all_numbers, is_of_bytes, is_sum_right}
+use Rattle.module_decoding.specs.Amounts.{amount_at, is_power, length_in, limit_amounts, power_fits, unit_of}
 use Rattle.reports.specs.Entries.{Entry, Said, entry, word, right, number, code, revision, text, oui, amount, lanes, limits, state, lane_states}
 use Rattle.reports.specs.PrintedUnits.{printed_in}
 use Rattle.reports.specs.declared.entry.LaneState.{LaneState}
@@ -69,31 +65,9 @@ always name source = record { name = name; source = source; paged = false; inste
 abbrev pub if_paged : List ℕ → Source → List Instead → Row
 if_paged name source instead = record { name = name; source = source; paged = true; instead = instead }
 
--- ---- amounts
-
--- the unit that the field's row names
-abbrev pub unit_of : Field → Unit
-unit_of field = unwrap_or (row_of field).unit units.ModulePower
-
--- and the one that its amounts print in
+-- the unit that a field's amounts print in
 abbrev pub printed_unit : Field → PrintedUnit
 printed_unit field = printed_in (unit_of field)
-
--- steps that count more, by a field that says how often they are doubled
-abbrev pub times : Memory → ℤ → Option Field → ℤ
-times memory steps None = steps
-times memory steps (Some power) = steps *ℤ pos (2 ^ readings.number memory power)
-
--- value i of a field in thousandths of its unit
-unfoldable pub amount_at : Memory → Field → Option Field → ℕ → ℤ
-amount_at memory field power i = millis_of (times memory (reading_at memory field i) power) (unit_of field)
-
-abbrev pub levels_of : (ℕ → ℤ) → Levels ℤ
-levels_of of = record { high_alarm = of 1; low_alarm = of 2; high_warning = of 3; low_warning = of 4 }
-
--- in thousandths of a metre
-abbrev pub length_of : Memory → Field → Field → ℤ
-length_of memory base power = pos (readings.number memory base * 100 * 10 ^ readings.number memory power)
 
 abbrev pub lane_state_at : Memory → Field → Field → ℕ → LaneState
 lane_state_at memory paths statuses lane = record { path = readings.number_at memory paths lane; status = readings.number_at memory statuses lane }
@@ -110,9 +84,9 @@ source_said memory (Text field) = text (readings.text memory field)
 source_said memory (Oui field) = oui (all_numbers memory field)
 source_said memory (Right sum) = right (is_sum_right memory sum)
 source_said memory (Amount field) = amount (amount_at memory field None 1) (printed_unit field)
-source_said memory (Length base power) = amount (length_of memory base power) Metre
+source_said memory (Length base power) = amount (length_in memory base power) Metre
 source_said memory (Lanes field power) = lanes (of_each field (amount_at memory field power)) (printed_unit field)
-source_said memory (Limits field power) = limits (levels_of (amount_at memory field power)) (printed_unit field)
+source_said memory (Limits field power) = limits (limit_amounts memory field power) (printed_unit field)
 source_said memory (State field) = state (readings.number memory field)
 source_said memory (LaneStates paths statuses) = lane_states (map (lane_state_at memory paths statuses) (range_with_len 1 8))
 
@@ -141,14 +115,6 @@ rows_entries memory flat rows = flat_map (row_entries memory flat) rows
 -- so many numbers of at most a byte
 abbrev pub is_counted : Field → ℕ → Bool
 is_counted field n = is_of_bytes (row_of field) && (row_of field).count == n
-
--- one number of at most two bits
-abbrev pub is_power : Field → Bool
-is_power field = is_counted field 1 && nat_le (width_by (row_of field).layout (row_of field).bits) 2
-
-abbrev pub power_fits : Option Field → Bool
-power_fits None = true
-power_fits (Some field) = is_power field
 
 abbrev pub instead_fits : Instead → Bool
 instead_fits (Nothing field n) = is_counted field 1

@@ -1,13 +1,11 @@
 -- What a module of SFF-8636 or SFF-8472 measures. (docs/formats.md, "monitors"; SFF-8636, "Free Side Device Monitors",
 -- "Channel Monitors" and their thresholds; SFF-8472, "Real Time Diagnostic and Control Registers" and "Alarm and Warning
 -- Thresholds")
-use Rattle.std.specs.Prelude.{false, if◌then◌else◌, List, [], ◌∷◌, Option, None, codes}
-use Rattle.std.specs.Option.{option_or}
+use Rattle.std.specs.Prelude.{false, List, [], ◌∷◌, Option, None, codes}
 use Rattle.paged_memory.specs.Images.{Memory}
 use Rattle.field_tables.specs.declared.field.Field.TheVariants as fields
 use Rattle.field_tables.specs.declared.field.Field.TheVariants.{QFlatMemory}
 use Rattle.field_tables.specs.declared.field.Sum.TheVariants as sums
-use Rattle.field_tables.specs.declared.sff_fault.SffFault.{SffFault}
 use Rattle.field_tables.specs.Readings.{bit}
 use Rattle.sff8636_map.specs.Refusals as qsfp_refusals
 use Rattle.sff8472_map.specs.Refusals as sfp_refusals
@@ -16,12 +14,8 @@ use Rattle.reports.specs.Entries.{Entry}
 use Rattle.reports.specs.Families.{of_sff}
 use Rattle.reports.specs.Rows.{Row, Amount, Lanes, Limits, Right, always, if_paged, rows_entries}
 
--- a module of SFF-8636 with flat memory has no limits
-unfoldable pub qsfp_limits_fault : Memory → Option SffFault
-qsfp_limits_fault memory = if bit memory QFlatMemory then None else qsfp_refusals.threshold_fault memory
-
 abbrev pub sff8636_fault : Memory → Option ReportFault
-sff8636_fault memory = of_sff (option_or (qsfp_refusals.module_fault memory) (qsfp_limits_fault memory))
+sff8636_fault memory = of_sff (qsfp_refusals.measured_fault memory)
 
 unfoldable pub qsfp_rows : List Row
 qsfp_rows =

@@ -1,8 +1,9 @@
 -- How values are shown in reports. (docs/formats.md, "Values in reports"; this project's own)
-use Rattle.std.specs.Prelude.{ℕ, ◌-◌, ◌/◌, ◌%◌, ◌==◌, ◌||◌, ◌&&◌, Bool, nat_le, if◌then◌else◌, length, take, map, ℤ, pos, negsuc, unsigned_abs, List, [], ◌∷◌, ◌++◌, codes, slice_index}
-use Rattle.std.specs.List.{flat_map, suffix_len}
+use Rattle.std.specs.Prelude.{ℕ, ◌/◌, ◌%◌, Bool, if◌then◌else◌, map, ℤ, pos, negsuc, unsigned_abs, List, [], ◌∷◌, ◌++◌, codes, slice_index}
+use Rattle.std.specs.List.{flat_map}
 use Rattle.std.specs.Fmt.{decimal}
 use Rattle.hex.specs.Hex.{encode_lower, upper_digits}
+use Rattle.module_decoding.specs.PaddedTexts.{shown_byte, trimmed}
 
 -- two upper-case digits and `h`
 unfoldable pub byte_code : ℕ → List ℕ
@@ -28,17 +29,7 @@ measure amount unit = thousandths amount ++ 32 ∷ unit
 unfoldable pub revision : ℕ → List ℕ
 revision byte = decimal (byte / 16) ++ 46 ∷ decimal (byte % 16)
 
-abbrev pub is_padding : ℕ → Bool
-is_padding byte = byte == 32 || byte == 0
-
--- without the padding at the end
-abbrev pub trimmed : List ℕ → List ℕ
-trimmed bytes = take (length bytes - suffix_len is_padding bytes) bytes
-
--- what is no printable ASCII shows as a question mark
-abbrev pub shown_byte : ℕ → ℕ
-shown_byte byte = if nat_le 32 byte && nat_le byte 126 then byte else 63
-
+-- the bytes of a text without the padding at their end
 unfoldable pub printable : List ℕ → List ℕ
 printable bytes = map shown_byte (trimmed bytes)
 

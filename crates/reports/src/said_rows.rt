@@ -1,23 +1,20 @@
 // What rows say of a module's memory.
-ghost use Rattle.std.specs.Prelude.{◌≡◌, ◌++◌, ◌<◌, ◌≤◌, ◌≤ℤ◌, ◌^◌, pos, neg_ℤ, FitsSigned, IfOk, IsTrue, OnOk, map, option_map};
-ghost use Rattle.std.specs.Int.{w64};
+ghost use Rattle.std.specs.Prelude.{◌≡◌, ◌++◌, ◌≤◌, IfOk, IsTrue, OnOk, map, option_map};
 ghost use Rattle.std.specs.List.{list_all, range_with_len};
 ghost use Rattle.field_tables.specs.FieldRows.{row_of};
 ghost use Rattle.field_tables.specs.FieldValues.{of_each};
-ghost use Rattle.field_tables.specs.Readings.{IsWord};
+ghost use Rattle.module_decoding.specs.Amounts.{amount_at, power_fits};
 ghost use Rattle.reports.specs.Entries.{said_in, said_of};
 ghost use Rattle.reports.specs.RowTables.{case_in, cases_in, row_in, rows_in, source_in};
 ghost use Rattle.reports.specs.Rows as spec;
-ghost use Rattle.reports.specs.Rows.{instead_fits, is_counted, is_power, lane_state_at, levels_of, power_fits, printed_unit, row_entries, row_fits, rows_entries, source_fits, source_said};
+ghost use Rattle.reports.specs.Rows.{instead_fits, is_counted, lane_state_at, printed_unit, row_entries, row_fits, rows_entries, source_fits, source_said};
 
 use crate::entry::{Entry, LaneState, Said, say};
 use crate::printed_unit::PrintedUnit;
 use crate::row::{Instead, Line, Source};
 use arrayvec::ArrayVec;
-use field_tables::{
-    Field, Levels, Unit, all_numbers, is_sum_right, millis, number, number_at, reading_at, row,
-    text,
-};
+use field_tables::{Field, all_numbers, is_sum_right, number, number_at, row, text};
+use module_decoding::{amount_at, length_in, limit_amounts, unit_of};
 use paged_memory::Image;
 use std::alloc::{AllocError, Global};
 
@@ -123,12 +120,15 @@ fn said(image: &Image, source: &Source<&'static str>) -> Said
         Source::Amount(field) => {
             Said::Amount(amount_at(image, field, None, 1), printed_unit(field))
         }
-        Source::Length(base, power) => Said::Amount(length(image, base, power), PrintedUnit::Metre),
+        Source::Length(base, power) => Said::Amount(
+            length_in(image, base, power),
+            PrintedUnit::Metre,
+        ),
         Source::Lanes(field, power) => {
             Said::Lanes(amounts(image, field, power), printed_unit(field))
         }
         Source::Limits(field, power) => {
-            Said::Limits(levels(image, field, power), printed_unit(field))
+            Said::Limits(limit_amounts(image, field, power), printed_unit(field))
         }
         Source::State(field) => Said::State(number(image, field)),
         Source::LaneStates(paths, statuses) => {
@@ -137,98 +137,16 @@ fn said(image: &Image, source: &Source<&'static str>) -> Said
     }
 }
 
-// Value `index` of a field in thousandths of its unit.
-#[tactic(auto, unfolding(crate::specs::Rows::amount_at))]
-fn amount_at(image: &Image, field: Field, power: Option<Field>, index: u8) -> i64
-    requires first { 1 ≤ index }
-    requires last { index ≤ (row_of field).count }
-    requires power { IsTrue (power_fits power) }
-    ensures value { result ≡ spec.amount_at image.now field power index }
-    ensures fits { FitsSigned w64 result }
-{
-    let steps = times(image, reading_at(image, field, index), power);
-    millis(i64::from(steps), unit_of(field))
-}
-
-fn times(image: &Image, steps: i32, power: Option<Field>) -> i32
-    requires steps { IsWord steps }
-    requires power { IsTrue (power_fits power) }
-    ensures value { result ≡ spec.times image.now steps power }
-    ensures low { neg_ℤ (pos 262144) ≤ℤ result }
-    ensures high { result ≤ℤ pos 524280 }
-{
-    match power {
-        None => steps,
-        Some(field) => steps * two_to(number(image, field)),
-    }
-}
-
-fn two_to(power: u8) -> i32
-    requires { power < 4 }
-    ensures value { result ≡ pos (2 ^ power) }
-    ensures range { (pos 1 ≤ℤ result) × (result ≤ℤ pos 8) }
-{
-    match power {
-        0 => 1,
-        1 => 2,
-        2 => 4,
-        _ => 8,
-    }
-}
-
 fn amounts(image: &Image, field: Field, power: Option<Field>) -> ArrayVec<i64, 8>
     requires count { (row_of field).count ≤ 8 }
     requires power { IsTrue (power_fits power) }
-    ensures { result.items ≡ of_each field (spec.amount_at image.now field power) }
+    ensures { result.items ≡ of_each field (amount_at image.now field power) }
 {
     let mut amounts = ArrayVec::new();
     for before in 0..row(field).count {
         amounts.push(amount_at(image, field, power, before + 1));
     }
     amounts
-}
-
-fn levels(image: &Image, field: Field, power: Option<Field>) -> Levels<i64>
-    requires count { 4 ≡ (row_of field).count }
-    requires power { IsTrue (power_fits power) }
-    ensures { result ≡ levels_of (spec.amount_at image.now field power) }
-{
-    Levels {
-        high_alarm: amount_at(image, field, power, 1),
-        low_alarm: amount_at(image, field, power, 2),
-        high_warning: amount_at(image, field, power, 3),
-        low_warning: amount_at(image, field, power, 4),
-    }
-}
-
-// In thousandths of a metre.
-fn length(image: &Image, base: Field, power: Field) -> i64
-    requires base { IsTrue (is_counted base 1) }
-    requires power { IsTrue (is_power power) }
-    ensures value { result ≡ spec.length_of image.now base power }
-    ensures fits { FitsSigned w64 result }
-{
-    i64::from(number(image, base)) * 100 * ten_to(number(image, power))
-}
-
-fn ten_to(power: u8) -> i64
-    requires { power < 4 }
-    ensures value { result ≡ pos (10 ^ power) }
-    ensures small { result ≤ℤ pos 1000 }
-{
-    match power {
-        0 => 1,
-        1 => 10,
-        2 => 100,
-        _ => 1000,
-    }
-}
-
-// The unit of a field that has one.
-fn unit_of(field: Field) -> Unit
-    ensures { result ≡ spec.unit_of field }
-{
-    row(field).unit.unwrap_or(Unit::ModulePower)
 }
 
 fn printed_unit(field: Field) -> PrintedUnit

@@ -1,15 +1,12 @@
 // What a module of SFF-8636 or SFF-8472 measures.
-ghost use Rattle.std.specs.Prelude.{◌≡◌};
-ghost use Rattle.std.specs.Option.{option_or};
-ghost use Rattle.sff8636_map.specs.Refusals as qsfp_refusals;
 ghost use Rattle.reports.specs.Entries.{Says};
-ghost use Rattle.reports.specs.SffMonitors.{qsfp_limits_fault, sff8472_fault, sff8472_entries, sff8636_fault, sff8636_entries};
+ghost use Rattle.reports.specs.SffMonitors.{sff8472_fault, sff8472_entries, sff8636_fault, sff8636_entries};
 
 use crate::entry::Entry;
 use crate::fault::ReportFault;
 use crate::said_rows::said_by;
 use crate::tables;
-use field_tables::{Field, SffFault, bit};
+use field_tables::{Field, bit};
 use paged_memory::Image;
 use std::alloc::Global;
 
@@ -18,25 +15,11 @@ use std::alloc::Global;
 pub fn sff8636(alloc: Global, image: &Image) -> Result<Vec<Entry>, ReportFault>
     ensures { Says (sff8636_fault image.now) (sff8636_entries image.now) result }
 {
-    if let Some(fault) = qsfp_refusal(image) {
+    if let Some(fault) = sff8636_map::measured_refusal(image) {
         return Err(ReportFault::Sff(fault));
     }
     let flat = bit(image, Field::QFlatMemory);
     Ok(said_by(alloc, image, flat, tables::qsfp_monitors())?)
-}
-
-// A module of SFF-8636 with flat memory has no limits.
-#[tactic(auto, unfolding(crate::specs::SffMonitors::qsfp_limits_fault))]
-fn qsfp_refusal(image: &Image) -> Option<SffFault>
-    ensures { result ≡ option_or (qsfp_refusals.module_fault image.now) (qsfp_limits_fault image.now) }
-{
-    if let Some(fault) = sff8636_map::module_refusal(image) {
-        return Some(fault);
-    }
-    if bit(image, Field::QFlatMemory) {
-        return None;
-    }
-    sff8636_map::threshold_refusal(image)
 }
 
 /// What a module of SFF-8472 measures.

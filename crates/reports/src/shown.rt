@@ -2,10 +2,12 @@
 ghost use Rattle.std.specs.Prelude.{◌≡◌, ◌<◌, Some, slice_index};
 ghost use Rattle.field_tables.specs.LaneSets.{byte_of};
 ghost use Rattle.hex.specs.Hex.{upper_digits};
-ghost use Rattle.reports.specs.Shown.{byte_code, measure, minus_of, thousandths, three_digits, revision, printable, trimmed, is_padding, shown_byte, spaced_bytes, sum_word};
+ghost use Rattle.module_decoding.specs.PaddedTexts.{shown_byte};
+ghost use Rattle.reports.specs.Shown.{byte_code, measure, minus_of, thousandths, three_digits, revision, printable, spaced_bytes, sum_word};
 
 use arrayvec::ArrayVec;
 use field_tables::LaneSet;
+use module_decoding::trimmed;
 use std::fmt;
 use text_lines::HexByte;
 
@@ -142,31 +144,12 @@ impl fmt::Display for TextIn<'_> {
     }
 }
 
-fn trimmed(bytes: &[u8]) -> &[u8]
-    ensures { result.now ≡ trimmed bytes.now }
-{
-    let mut len = bytes.len();
-    while len > 0 && is_padding(bytes[len - 1]) {
-        len -= 1;
-    }
-    &bytes[..len]
-}
-
-fn is_padding(byte: u8) -> bool
-    ensures { result ≡ is_padding byte }
-{
-    byte == b' ' || byte == 0
-}
-
+/// What a byte of a text shows as.
 pub fn shown_byte(byte: u8) -> char
     ensures letter { result ≡ shown_byte byte }
     ensures ascii { result < 128 }
 {
-    if b' ' <= byte && byte <= b'~' {
-        char::from(byte)
-    } else {
-        '?'
-    }
+    char::from(module_decoding::shown_byte(byte))
 }
 
 /// Whether a sum is right, in a word.

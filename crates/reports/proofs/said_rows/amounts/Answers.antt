@@ -3,7 +3,7 @@ use Rattle.std.proofs.lemmas.Grind.{common_steps}
 use Rattle.std.proofs.lemmas.List.FromFn.{length-map-range_with_len, map-range_with_len_more}
 use Rattle.field_tables.specs.declared.layout.Row.{Row}
 use Rattle.field_tables.specs.FieldRows.{row_of}
-use Rattle.reports.specs.Rows.{amount_at}
+use Rattle.module_decoding.specs.Amounts.{amount_at}
 use Rattle.reports.proofs.said_rows.amounts.Goals as goal
 
 pub loop-before-preserved : goal.loop-before-preserved

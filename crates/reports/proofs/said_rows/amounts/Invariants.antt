@@ -1,6 +1,6 @@
 use Rattle.std.proofs.Common.{◌≡◌, map}
 use Rattle.std.specs.List.{range_with_len}
-use Rattle.reports.specs.Rows.{amount_at}
+use Rattle.module_decoding.specs.Amounts.{amount_at}
 use Rattle.reports.proofs.said_rows.amounts.Given as goal
 
 -- the amounts so far

@@ -1,11 +1,12 @@
 use Rattle.std.proofs.Common.{◌≡◌, true, subst}
 use Rattle.std.proofs.lemmas.Bool.{and_parts}
-use Rattle.reports.specs.Rows.{is_counted, is_power, source_fits}
+use Rattle.module_decoding.specs.Amounts.{is_power}
+use Rattle.reports.specs.Rows.{is_counted, source_fits}
 use Rattle.reports.specs.RowTables.{source_in}
 use Rattle.reports.proofs.said_rows.said.Goals as goal
 
-pub length-requires-clause-power : goal.length-requires-clause-power
-length-requires-clause-power c =
+pub length_in-requires-clause-power : goal.length_in-requires-clause-power
+length_in-requires-clause-power c =
     let base = c.in-Length.base in
     let power = c.in-Length.power in
     (and_parts (is_counted base 1) (is_power power) (subst (λ s. source_fits (source_in s) ≡ true) c.in-Length.is c.requires)).1

@@ -1,6 +1,6 @@
 use Rattle.std.proofs.Common.{map, take}
 use Rattle.std.specs.Fmt.{HasWritten, IsPlainFormatter}
-use Rattle.reports.specs.Shown.{shown_byte}
+use Rattle.module_decoding.specs.PaddedTexts.{shown_byte}
 use Rattle.reports.proofs.shown.TextInDisplay.fmt.Given as goal
 
 -- the letters of the bytes so far
