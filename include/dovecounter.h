@@ -23,7 +23,8 @@ extern "C" {
 #define DOVECOUNTER_VERSION 2
 
 /* What a function answers. On any status but DOVECOUNTER_DONE it has written nothing. The comments name the faults that the
-   program cmisctl prints for the same reason. */
+   program cmisctl prints for the same reason. Each function below has a table of the statuses besides 0 that it answers; if more
+   than one applies, it answers the one that stands first. */
 enum dovecounter_status {
     DOVECOUNTER_DONE = 0,
 
@@ -80,6 +81,7 @@ enum dovecounter_status {
     DOVECOUNTER_UNREAD_REVISION = 74, /* RP4: the major number of the CMIS revision, byte 1, is neither 4 nor 5 */
     DOVECOUNTER_NO_DIAGNOSTICS = 84,  /* SF4: a module of SFF-8472 has no diagnostics */
     DOVECOUNTER_ADDRESS_CHANGE = 86,  /* SF6: it wants an address change before they are read */
+    DOVECOUNTER_EXTERNAL_CALIBRATION = 85, /* SF5: the host has to calibrate what it measures */
     DOVECOUNTER_SFF_LACKS_HALF = 83   /* SF3: a module of SFF-8636 or SFF-8472 lacks a half */
 };
 
@@ -95,13 +97,24 @@ enum dovecounter_status {
    4        buffer_size is below the text's length */
 uint32_t dovecounter_status_text(uint32_t status, uint8_t *buffer, size_t buffer_size, size_t *text_length);
 
-/* The same of the code of a dovecounter_fault, 1 to 7. */
+/* The same of the code of a dovecounter_fault, 1 to 7.
+
+   status   if
+   3        it is no such code
+   4        buffer_size is below the text's length */
 uint32_t dovecounter_fault_text(uint32_t code, uint8_t *buffer, size_t buffer_size, size_t *text_length);
 
-/* The same of the reason of a dovecounter_judgement, 1 to 9. */
+/* The same of the reason of a dovecounter_judgement, 1 to 9.
+
+   status   if
+   3        it is no such reason
+   4        buffer_size is below the text's length */
 uint32_t dovecounter_verdict_text(uint32_t reason, uint8_t *buffer, size_t buffer_size, size_t *text_length);
 
-/* Writes the version, such as 0.1.0, likewise. Status 3 does not come. */
+/* Writes the version, such as 0.1.0, likewise.
+
+   status   if
+   4        buffer_size is below the text's length */
 uint32_t dovecounter_version(uint8_t *buffer, size_t buffer_size, size_t *text_length);
 
 /* 128 bytes of a module's memory, and their place. */
@@ -132,7 +145,18 @@ struct dovecounter_advertisement {
 };
 
 /* Writes to *advertisement what the module with these halves advertises. Of device 0xA0 the lower half and the pages 00h and 01h
-   of bank 0 are needed; other halves are ignored. If two halves have the same place, the first counts. */
+   of bank 0 are needed; other halves are ignored. If two halves have the same place, the first counts.
+
+   status   if
+   1        there are more than 16 halves
+   2        a half has no place
+   14       there is no lower half
+   11       the module is not of CMIS
+   12       its revision is not read
+   16       it does not have eight lanes
+   13       it has flat memory
+   14       page 00h or 01h is missing
+   15       the sum of one of them is wrong */
 uint32_t dovecounter_advertisement(const struct dovecounter_half *halves, size_t half_count,
                                    struct dovecounter_advertisement *advertisement);
 
@@ -165,9 +189,14 @@ struct dovecounter_identity {
 /* Writes to *identity what the module with these halves is. Needed are the lower half of device 0xA0, and its page 00h unless the
    module is of SFF-8472; other halves are ignored.
 
-   status          if
-   1, 2            the halves have no place
-   71, 74, 76, 83  the module is of no family that is read, or a half is missing */
+   status   if
+   1        there are more than 16 halves
+   2        a half has no place
+   76       device 0xA0 has no lower half
+   71       no family that is read has the module's identifier
+   74       the module's CMIS revision is not read
+   76       page 00h is missing (CMIS)
+   83       page 00h is missing (SFF-8636) */
 uint32_t dovecounter_identity(const struct dovecounter_half *halves, size_t half_count,
                               struct dovecounter_identity *identity);
 
@@ -205,11 +234,76 @@ struct dovecounter_flags {
    module with paged memory page 11h of bank 0, and of a module of SFF-8472 the lower half of device 0xA2. In memory that was read,
    most flags have become 0 by that.
 
-   status          if
-   1, 2            the halves have no place
-   71, 74, 76, 83  the module is of no family that is read, or a half is missing
-   84, 86          a module of SFF-8472 has no diagnostics, or wants an address change */
+   status   if
+   1        there are more than 16 halves
+   2        a half has no place
+   76       device 0xA0 has no lower half
+   71       no family that is read has the module's identifier
+   74       the module's CMIS revision is not read
+   76       page 11h is missing (CMIS with paged memory)
+   84       the module has no diagnostics (SFF-8472)
+   86       it wants an address change before they are read (SFF-8472)
+   83       device 0xA2 has no lower half (SFF-8472) */
 uint32_t dovecounter_flags(const struct dovecounter_half *halves, size_t half_count, struct dovecounter_flags *flags);
+
+/* The limits of a value, in thousandths of its unit. */
+struct dovecounter_limits {
+    int64_t high_alarm;
+    int64_t low_alarm;
+    int64_t high_warning;
+    int64_t low_warning;
+};
+
+/* What a module measures of itself, in thousandths of a unit. */
+struct dovecounter_value {
+    int64_t value;
+    struct dovecounter_limits limits; /* zeros if has_limits is 0 */
+};
+
+enum dovecounter_support {
+    DOVECOUNTER_UNSUPPORTED = 0,        /* the module does not measure it, or has flat memory (CMIS) */
+    DOVECOUNTER_MEASURED = 1,           /* there are values, and limits if has_limits is 1 */
+    DOVECOUNTER_RESERVED_MULTIPLIER = 2 /* bias is measured, but counted by a reserved code (CMIS) */
+};
+
+/* What a module measures in each lane, in thousandths of a unit: of CMIS its media lanes. */
+struct dovecounter_lane_values {
+    int64_t values[8];                /* lane 1 first; zeros after the last lane, and unless support is 1 */
+    struct dovecounter_limits limits; /* of each lane; zeros if has_limits is 0, and unless support is 1 */
+    uint8_t support;                  /* of enum dovecounter_support */
+};
+
+/* What a module measures: what the command `monitors` prints. Rounded down, below zero too. */
+struct dovecounter_monitors {
+    struct dovecounter_value temperature;    /* thousandths of a degree Celsius */
+    struct dovecounter_value vcc;            /* the supply voltage: thousandths of a millivolt */
+    struct dovecounter_lane_values tx_power; /* transmitted light: thousandths of a microwatt */
+    struct dovecounter_lane_values tx_bias;  /* a laser's bias current: thousandths of a milliampere */
+    struct dovecounter_lane_values rx_power; /* received light: thousandths of a microwatt */
+    uint8_t family;                          /* of enum dovecounter_family */
+    uint8_t lanes;                           /* how many lanes are told of: 8, 4 or 1; 0 if a CMIS module has flat memory */
+    uint8_t has_limits;                      /* 0 if a module of CMIS or SFF-8636 has flat memory, else 1 */
+    uint8_t sum; /* 1 if the sum of page 02h (CMIS) or CC_DMI (SFF-8472) is right, in which the limits are; 0 if it is wrong or there
+                    is none */
+};
+
+/* Writes to *monitors what the module with these halves measures. Needed are the lower half of device 0xA0; of a CMIS module with
+   paged memory the pages 01h, 02h and 11h of bank 0; of a module of SFF-8636 with paged memory page 03h; and of a module of SFF-8472
+   the lower half of device 0xA2. Other halves are ignored.
+
+   status   if
+   1        there are more than 16 halves
+   2        a half has no place
+   76       device 0xA0 has no lower half
+   71       no family that is read has the module's identifier
+   74       the module's CMIS revision is not read
+   76       page 01h, 02h or 11h is missing (CMIS with paged memory)
+   84       the module has no diagnostics (SFF-8472)
+   86       it wants an address change before they are read (SFF-8472)
+   85       the host has to calibrate what it measures (SFF-8472)
+   83       page 03h (SFF-8636 with paged memory) or the lower half of device 0xA2 (SFF-8472) is missing */
+uint32_t dovecounter_monitors(const struct dovecounter_half *halves, size_t half_count,
+                              struct dovecounter_monitors *monitors);
 
 /* How long states last at most, in milliseconds, as the module advertises: the upper end of the range that its code stands for, and
    DOVECOUNTER_UNBOUNDED if the range has none or the code is reserved. */
@@ -227,9 +321,9 @@ struct dovecounter_durations {
 /* Writes to *durations how long states of the module with these halves last at most. The halves are those of
    dovecounter_advertisement.
 
-   status   if
-   1, 2     there are more than 16 halves, or one has no place
-   11 to 16 the halves do not say what the module advertises */
+   status     if
+   1, 2       there are more than 16 halves, or one has no place
+   11 to 16   the halves do not say what the module advertises, as dovecounter_advertisement tells */
 uint32_t dovecounter_durations(const struct dovecounter_half *halves, size_t half_count,
                                struct dovecounter_durations *durations);
 
@@ -252,11 +346,16 @@ struct dovecounter_plan {
 
 /* Writes to *plan the best plan for the module with these halves: its paths are allowed, no two share a lane, the kept paths are
    among them, and no such plan weighs more. Of several such plans it is the first, in the order of docs/planning.md. A path
-   weighs what `weights` has at its HostInterfaceID. The kept paths may come in any order. The statuses are those of
-   dovecounter_advertisement, and then those of kept paths.
+   weighs what `weights` has at its HostInterfaceID. The kept paths may come in any order.
 
    To provision the plan and leave the kept data paths alone, hand plan->control and plan->outside to dovecounter_provision,
-   and then plan->control and plan->lanes to dovecounter_activate. */
+   and then plan->control and plan->lanes to dovecounter_activate.
+
+   status     if
+   1, 2       there are more than 16 halves, or one has no place
+   11 to 16   the halves do not say what the module advertises, as dovecounter_advertisement tells
+   42         there are more than 8 kept paths
+   43         a kept path is not allowed, or shares a lane with another one */
 uint32_t dovecounter_plan(const struct dovecounter_half *halves, size_t half_count, const uint32_t weights[256],
                           const struct dovecounter_path *kept, size_t kept_count, struct dovecounter_plan *plan);
 
@@ -269,8 +368,12 @@ struct dovecounter_judgement {
 };
 
 /* Judges the certificate with this text, as the command plan of cmisctl prints it, for the module with these halves and for these
-   weights, and writes to *judgement. The text says which paths are kept. Statuses of the halves come before those of the
-   text. */
+   weights, and writes to *judgement. The text says which paths are kept.
+
+   status     if
+   1, 2       there are more than 16 halves, or one has no place
+   11 to 16   the halves do not say what the module advertises, as dovecounter_advertisement tells
+   21 to 24   the text is no certificate: the first of its faults */
 uint32_t dovecounter_check(const struct dovecounter_half *halves, size_t half_count, const uint32_t weights[256],
                            const uint8_t *text, size_t text_length, struct dovecounter_judgement *judgement);
 
@@ -468,30 +571,37 @@ struct dovecounter_module {
 /* Begins a simulated module that has these halves: at least the lower half and the pages 00h, 01h, 10h and 11h of device 0xA0.
    Writes *module.
 
-   status   if
-   1, 2     there are more than 16 halves, or one has no place
-   51       a half is missing
-   11 to 16 the halves do not say what the module advertises
-   53       a delay is out of range
-   54       the active control bytes are no host paths */
+   status     if
+   1, 2       there are more than 16 halves, or one has no place
+   51         a half is missing
+   11 to 16   the halves do not say what the module advertises, as dovecounter_advertisement tells
+   53         a delay is out of range
+   54         the active control bytes are no host paths */
 uint32_t dovecounter_module_begin(const struct dovecounter_half *halves, size_t half_count,
                                   const struct dovecounter_delays *delays, struct dovecounter_module *module);
 
 /* Fetches 1 to 128 bytes of one half, from the address `offset` on, from the module that has these halves, which are to be those that
    it began with. A flag that is read becomes 0. Writes *module and the bytes.
 
-   status   if
-   1, 2     there are more than 16 halves, or one has no place
-   11 to 16 the halves do not say what the module advertises
-   61       the numbers are none of a module
-   62       there is no such device, or the bytes are none, too many or of two halves
-   63       the module does not answer: it lacks the half, or the device is 0xA2 */
+   status     if
+   1, 2       there are more than 16 halves, or one has no place
+   11 to 16   the halves do not say what the module advertises, as dovecounter_advertisement tells
+   61         the numbers are none of a module
+   62         there is no such device, or the bytes are none, too many or of two halves
+   63         the module does not answer: it lacks the half, or the device is 0xA2 */
 uint32_t dovecounter_module_fetch(const struct dovecounter_half *halves, size_t half_count,
                                   struct dovecounter_module *module, uint8_t device, uint8_t offset, uint8_t *bytes,
                                   size_t byte_count);
 
 /* Stores 1 to 8 bytes in one half, from the address `offset` on, one after the other. A store that is cut short is a store of its first
-   bytes. Writes *module. The statuses are those of dovecounter_module_fetch. */
+   bytes. Writes *module.
+
+   status     if
+   1, 2       there are more than 16 halves, or one has no place
+   11 to 16   the halves do not say what the module advertises, as dovecounter_advertisement tells
+   61         the numbers are none of a module
+   62         there is no such device, or the bytes are none, too many or of two halves
+   63         the module does not take the bytes */
 uint32_t dovecounter_module_store(const struct dovecounter_half *halves, size_t half_count,
                                   struct dovecounter_module *module, uint8_t device, uint8_t offset,
                                   const uint8_t *bytes, size_t byte_count);
@@ -502,11 +612,16 @@ uint32_t dovecounter_module_store(const struct dovecounter_half *halves, size_t 
    61       the numbers are none of a module */
 uint32_t dovecounter_module_tick(struct dovecounter_module *module);
 
-/* The host holds the low power pin, or leaves it if `on` is 0. Writes *module. The status is that of dovecounter_module_tick. */
+/* The host holds the low power pin, or leaves it if `on` is 0. Writes *module.
+
+   status   if
+   61       the numbers are none of a module */
 uint32_t dovecounter_module_pin(struct dovecounter_module *module, uint8_t on);
 
-/* Says which control bytes are in the Active Control Set, lane 1 first. Writes the bytes. The status is that of
-   dovecounter_module_tick. */
+/* Says which control bytes are in the Active Control Set, lane 1 first. Writes the bytes.
+
+   status   if
+   61       the numbers are none of a module */
 uint32_t dovecounter_module_active(const struct dovecounter_module *module, uint8_t active[8]);
 
 #ifdef __cplusplus

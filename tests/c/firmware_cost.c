@@ -1,6 +1,7 @@
 /* Says how deep the stack of each call of the library for firmware is, by a thread whose stack was painted before. Reads the
    text of a module's image on standard input. */
 #include "dovecounter.h"
+#include "image.h"
 
 #include <pthread.h>
 #include <stdio.h>
@@ -9,8 +10,6 @@
 enum { STACK = 1 << 20, PAINT = 0xA5 };
 
 static _Alignas(4096) uint8_t stack[STACK];
-static struct dovecounter_half halves[16];
-static size_t half_count;
 static uint32_t weights[256];
 static struct dovecounter_path kept[1];
 static struct dovecounter_plan plan;
@@ -24,6 +23,9 @@ static struct dovecounter_module module;
 static uint8_t bytes[8];
 static struct dovecounter_reading reading;
 static struct dovecounter_durations durations;
+static struct dovecounter_identity identity;
+static struct dovecounter_flags flags;
+static struct dovecounter_monitors monitors;
 static const char certificate[] = "certificate 1\nweight 0\nstate 0 00 0\nend\n";
 
 static void *nothing(void *x) { return x; }
@@ -102,6 +104,19 @@ static void *read_replies(void *x) {
     return x;
 }
 
+static void *identifies(void *x) {
+    dovecounter_identity(halves, half_count, &identity);
+    return x;
+}
+static void *flags_raised(void *x) {
+    dovecounter_flags(halves, half_count, &flags);
+    return x;
+}
+static void *measures(void *x) {
+    dovecounter_monitors(halves, half_count, &monitors);
+    return x;
+}
+
 static size_t used(void *(*run)(void *)) {
     pthread_attr_t attributes;
     pthread_t thread;
@@ -118,25 +133,6 @@ static size_t used(void *(*run)(void *)) {
 static void print_used(const char *name, void *(*run)(void *), size_t alone) {
     size_t with = used(run);
     printf("stack %s %zu\n", name, with > alone ? with - alone : 0);
-}
-
-static void read_halves(void) {
-    char line[512], digits[257];
-    while (half_count < 16 && fgets(line, sizeof line, stdin)) {
-        struct dovecounter_half *half = &halves[half_count];
-        unsigned device, bank = 0, page = 0, byte;
-        if (sscanf(line, "lower %x %256s", &device, digits) == 2)
-            half->upper = 0;
-        else if (sscanf(line, "upper %x %x %x %256s", &device, &bank, &page, digits) == 4)
-            half->upper = 1;
-        else
-            continue;
-        half->device = (uint8_t)device;
-        half->bank = (uint8_t)bank;
-        half->page = (uint8_t)page;
-        for (int i = 0; i < 128 && sscanf(digits + 2 * i, "%2x", &byte) == 1; i++) half->bytes[i] = (uint8_t)byte;
-        half_count++;
-    }
 }
 
 int main(void) {
@@ -162,5 +158,8 @@ int main(void) {
     print_used("dovecounter_read", reads, alone);
     print_used("dovecounter_read_next", reads_next, alone);
     print_used("dovecounter_read_reply", read_replies, alone);
+    print_used("dovecounter_identity", identifies, alone);
+    print_used("dovecounter_flags", flags_raised, alone);
+    print_used("dovecounter_monitors", measures, alone);
     return 0;
 }

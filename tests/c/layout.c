@@ -74,6 +74,32 @@ AT(flags, tx_power, 34);
 AT(flags, tx_bias, 38);
 AT(flags, rx_power, 42);
 
+SIZE(limits, 32);
+AT(limits, high_alarm, 0);
+AT(limits, low_alarm, 8);
+AT(limits, high_warning, 16);
+AT(limits, low_warning, 24);
+
+SIZE(value, 40);
+AT(value, value, 0);
+AT(value, limits, 8);
+
+SIZE(lane_values, 104);
+AT(lane_values, values, 0);
+AT(lane_values, limits, 64);
+AT(lane_values, support, 96);
+
+SIZE(monitors, 400);
+AT(monitors, temperature, 0);
+AT(monitors, vcc, 40);
+AT(monitors, tx_power, 80);
+AT(monitors, tx_bias, 184);
+AT(monitors, rx_power, 288);
+AT(monitors, family, 392);
+AT(monitors, lanes, 393);
+AT(monitors, has_limits, 394);
+AT(monitors, sum, 395);
+
 SIZE(durations, 24);
 AT(durations, module_power_up, 0);
 AT(durations, module_power_down, 4);

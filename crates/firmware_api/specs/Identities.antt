@@ -9,6 +9,9 @@ use Rattle.field_tables.specs.declared.field.Field.TheVariants as fields
 use Rattle.field_tables.specs.declared.field.Sum.TheVariants as sums
 use Rattle.field_tables.specs.declared.field.TextField.TheVariants as texts
 use Rattle.field_tables.specs.Readings.{all_numbers, is_sum_right, number, text}
+use Rattle.module_decoding.specs.Amounts.{amount_at, length_in}
+use Rattle.module_decoding.specs.CmisPages.{absent_page, identity_pages, is_flat}
+use Rattle.module_decoding.specs.ModuleFamilies.{family_of}
 use Rattle.sff8636_map.specs.Identity as sff8636
 use Rattle.sff8636_map.specs.Refusals as sff8636_refusals
 use Rattle.sff8636_map.specs.declared.identity.Identity as qsfp
@@ -18,9 +21,8 @@ use Rattle.sff8472_map.specs.declared.identity.Identity as sfp
 use Rattle.firmware_api.specs.declared.identity.ModuleIdentity.{ModuleIdentity}
 use Rattle.firmware_api.specs.declared.status.Refusal.{Refusal}
 use Rattle.firmware_api.specs.declared.status.Refusal.TheVariants.{Sff}
-use Rattle.firmware_api.specs.Amounts.{amount_at, length_in}
 use Rattle.firmware_api.specs.Plans.{refusal_before}
-use Rattle.firmware_api.specs.ReadModules.{family_in, family_number, is_flat, number_of, page_refusal, unread_refusal}
+use Rattle.firmware_api.specs.ReadModules.{family_number, lacks, number_of, unread_refusal}
 use Rattle.firmware_api.specs.ShownTexts.{shown_text}
 
 abbrev pub cmis_identity : Memory → ModuleIdentity
@@ -91,7 +93,7 @@ sfp_identity identity = record {
 }
 
 abbrev pub refusal_of : Family → Memory → Option Refusal
-refusal_of Cmis memory = page_refusal 0x00 memory
+refusal_of Cmis memory = lacks (absent_page identity_pages memory)
 refusal_of Sff8636 memory = option_map Sff (sff8636_refusals.identity_fault memory)
 refusal_of Sff8472 memory = option_map Sff (sff8472_refusals.module_fault memory)
 
@@ -102,8 +104,8 @@ identity_of Sff8472 memory = sfp_identity (sff8472.identity_of memory)
 
 -- why C is not told what a module is
 unfoldable pub identity_refusal : Memory → Option Refusal
-identity_refusal memory = refusal_before (unread_refusal memory) (refusal_of (family_in memory) memory)
+identity_refusal memory = refusal_before (unread_refusal memory) (refusal_of (family_of memory) memory)
 
 -- by its family
 unfoldable pub identity_in : Memory → ModuleIdentity
-identity_in memory = identity_of (family_in memory) memory
+identity_in memory = identity_of (family_of memory) memory

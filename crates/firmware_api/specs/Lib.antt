@@ -12,6 +12,7 @@ pub mod Durations
 pub mod Texts
 pub mod ReadModules
 pub mod ShownTexts
-pub mod Amounts
 pub mod Identities
 pub mod RaisedFlags
+pub mod MeasuredValues
+pub mod Monitors

@@ -1,7 +1,7 @@
 -- The states of a module and the flags that it raises, as C sees them, and why C is not told. (docs/firmware.md, "Decoders";
 -- OIF-CMIS-05.0, "Module-Level Flags" of lower memory, of page 11h the data path states, the lane-specific flags and "Configuration
 -- Command Status"; SFF-8636, "Interrupt Flags"; SFF-8472, "Alarm and Warning Flag Bits")
-use Rattle.std.specs.Prelude.{ℕ, ◌+◌, Bool, if◌then◌else◌, List, [], ◌∷◌, Option, None}
+use Rattle.std.specs.Prelude.{ℕ, ◌+◌, if◌then◌else◌, List, [], ◌∷◌, Option}
 use Rattle.std.specs.Option.{option_map}
 use Rattle.paged_memory.specs.declared.family.Family.{Family}
 use Rattle.paged_memory.specs.declared.family.Family.TheVariants.{Cmis, Sff8636, Sff8472}
@@ -9,6 +9,8 @@ use Rattle.paged_memory.specs.Images.{Memory}
 use Rattle.field_tables.specs.declared.field.Field.{Field}
 use Rattle.field_tables.specs.declared.field.Field.TheVariants as fields
 use Rattle.field_tables.specs.Readings.{all_numbers, bit_at, number}
+use Rattle.module_decoding.specs.CmisPages.{absent_page, flag_pages, is_flat}
+use Rattle.module_decoding.specs.ModuleFamilies.{family_of}
 use Rattle.sff8636_map.specs.Refusals as sff8636_refusals
 use Rattle.sff8472_map.specs.Refusals as sff8472_refusals
 use Rattle.firmware_api.specs.declared.flags.ModuleFlags.{ModuleFlags}
@@ -16,7 +18,7 @@ use Rattle.firmware_api.specs.declared.flags.LevelFlags.{LevelFlags}
 use Rattle.firmware_api.specs.declared.status.Refusal.{Refusal}
 use Rattle.firmware_api.specs.declared.status.Refusal.TheVariants.{Sff}
 use Rattle.firmware_api.specs.Plans.{refusal_before}
-use Rattle.firmware_api.specs.ReadModules.{family_in, family_number, is_flat, page_refusal, unread_refusal}
+use Rattle.firmware_api.specs.ReadModules.{family_number, lacks, unread_refusal}
 
 -- a bit of a byte of lanes
 abbrev pub lane_bit : Memory → Field → ℕ → ℕ → ℕ
@@ -149,14 +151,11 @@ sfp_flags memory = record {
   rx_power = past_pairs memory fields.SRxAlarms fields.SRxWarnings 1;
 }
 
-unfoldable pub cmis_refusal : Memory → Option Refusal
-cmis_refusal memory = if is_flat memory then None else page_refusal 0x11 memory
-
 unfoldable pub cmis_flags : Memory → ModuleFlags
 cmis_flags memory = if is_flat memory then flat_flags memory else paged_flags memory
 
 abbrev pub refusal_of : Family → Memory → Option Refusal
-refusal_of Cmis memory = cmis_refusal memory
+refusal_of Cmis memory = lacks (absent_page (flag_pages memory) memory)
 refusal_of Sff8636 memory = option_map Sff (sff8636_refusals.module_fault memory)
 refusal_of Sff8472 memory = option_map Sff (sff8472_refusals.flags_fault memory)
 
@@ -167,8 +166,8 @@ flags_of Sff8472 memory = sfp_flags memory
 
 -- why C is not told which flags are raised
 unfoldable pub flags_refusal : Memory → Option Refusal
-flags_refusal memory = refusal_before (unread_refusal memory) (refusal_of (family_in memory) memory)
+flags_refusal memory = refusal_before (unread_refusal memory) (refusal_of (family_of memory) memory)
 
 -- by the family
 unfoldable pub flags_in : Memory → ModuleFlags
-flags_in memory = flags_of (family_in memory) memory
+flags_in memory = flags_of (family_of memory) memory

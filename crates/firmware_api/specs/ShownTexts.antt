@@ -1,17 +1,11 @@
 -- Texts of a module's memory as C is shown them. (docs/firmware.md, "Decoders"; this project's own)
-use Rattle.std.specs.Prelude.{ℕ, ◌-◌, ◌==◌, ◌||◌, ◌&&◌, Bool, nat_le, if◌then◌else◌, length, take, map, List, Option, Some, None, slice_get}
-use Rattle.std.specs.List.{range_with_len, suffix_len}
+use Rattle.std.specs.Prelude.{ℕ, map, List, Option, Some, None, slice_get}
+use Rattle.std.specs.List.{range_with_len}
+use Rattle.module_decoding.specs.PaddedTexts.{shown_byte, trimmed}
 
-abbrev pub is_padding : ℕ → Bool
-is_padding byte = byte == 32 || byte == 0
-
--- without the padding at the end
-abbrev pub trimmed : List ℕ → List ℕ
-trimmed bytes = take (length bytes - suffix_len is_padding bytes) bytes
-
--- what is no printable ASCII shows as a question mark; after the last byte comes NUL
+-- after the last byte comes NUL
 abbrev pub shown_letter : Option ℕ → ℕ
-shown_letter (Some byte) = if nat_le 32 byte && nat_le byte 126 then byte else 63
+shown_letter (Some byte) = shown_byte byte
 shown_letter None = 0
 
 abbrev pub letter_at : List ℕ → ℕ → ℕ

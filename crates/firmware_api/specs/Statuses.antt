@@ -5,12 +5,14 @@ use Rattle.applications.specs.declared.fault.AdvertFault.{AdvertFault}
 use Rattle.applications.specs.declared.fault.AdvertFault.TheVariants.{NotCmis, Revision, NotEightLanes, FlatMemory, Absent, BadSum}
 use Rattle.field_tables.specs.declared.sff_fault.SffFault.{SffFault}
 use Rattle.field_tables.specs.declared.sff_fault.SffFault.TheVariants as sff_fault
+use Rattle.module_decoding.specs.declared.module_family.ModuleFault.{ModuleFault}
+use Rattle.module_decoding.specs.declared.module_family.ModuleFault.TheVariants as module_fault
 use Rattle.plan_certificate.specs.declared.fault.CertificateFault.{CertificateFault}
 use Rattle.plan_certificate.specs.declared.fault.CertificateFault.TheVariants.{BadLine, OutOfOrder, TooMany, NoEnd}
 use Rattle.sim_module.specs.declared.fault.SimFault.{SimFault}
 use Rattle.sim_module.specs.declared.fault.SimFault.TheVariants as sim_fault
 use Rattle.firmware_api.specs.declared.status.Refusal.{Refusal}
-use Rattle.firmware_api.specs.declared.status.Refusal.TheVariants.{TooManyHalves, NoPlace, NoText, TooSmall, Advert, Certificate, TooManyKept, KeptNotAdmissible, NoProcedure, Ended, NotEnded, NoReply, GaveUp, TooFewBytes, NoStart, NoModule, NoRange, NotTaken, UnknownModule, UnreadRevision, LacksHalf, Sff}
+use Rattle.firmware_api.specs.declared.status.Refusal.TheVariants.{TooManyHalves, NoPlace, NoText, TooSmall, Advert, Certificate, TooManyKept, KeptNotAdmissible, NoProcedure, Ended, NotEnded, NoReply, GaveUp, TooFewBytes, NoStart, NoModule, NoRange, NotTaken, Module, Sff}
 
 -- of a call that did what it is for
 abbrev pub done : ℕ
@@ -37,6 +39,11 @@ start_status (sim_fault.Absent key) = 51
 start_status (sim_fault.Advert fault) = advert_status fault
 start_status sim_fault.BadDelay = 53
 start_status (sim_fault.ActiveNotPaths lane) = 54
+
+abbrev pub module_status : ModuleFault → ℕ
+module_status (module_fault.Unknown identifier) = 71
+module_status (module_fault.Revision revision) = 74
+module_status (module_fault.Absent key) = 76
 
 abbrev pub sff_status : SffFault → ℕ
 sff_status (sff_fault.WrongIdentifier identifier) = 81
@@ -65,9 +72,7 @@ status_of (NoStart fault) = start_status fault
 status_of NoModule = 61
 status_of NoRange = 62
 status_of NotTaken = 63
-status_of UnknownModule = 71
-status_of UnreadRevision = 74
-status_of LacksHalf = 76
+status_of (Module fault) = module_status fault
 status_of (Sff fault) = sff_status fault
 
 -- a call is refused, or does what it is for

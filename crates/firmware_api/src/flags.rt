@@ -10,9 +10,10 @@ ghost use Rattle.firmware_api.specs.Statuses.{done, status_by};
 ghost use Rattle.paged_memory.specs.declared.family.Family.TheVariants as families;
 
 use crate::half::{Half, image_in};
-use crate::read_module::{family_in, family_number, is_flat, page_refusal};
+use crate::read_module::{family_in, family_number, lacks};
 use crate::status::{DONE, Refusal};
 use field_tables::{Field, all_numbers, bit_at, number};
+use module_decoding::{absent_flag_page, is_flat};
 use paged_memory::{Family, Image};
 
 /// Which limits are passed: 0 or 1 for a value of the module, a byte of lanes for a value of its lanes.
@@ -84,16 +85,12 @@ fn flags_in(image: &Image) -> Result<ModuleFlags, Refusal>
     }
 }
 
-#[tactic(auto, unfolding(crate::specs::RaisedFlags::cmis_refusal, crate::specs::RaisedFlags::cmis_flags))]
 fn cmis(image: &Image) -> Result<ModuleFlags, Refusal>
     ensures { MatchOption (spec.refusal_of families.Cmis image.now) (result ≡ Ok (spec.flags_of families.Cmis image.now)) (λ refusal. result ≡ Err refusal) }
 {
-    if is_flat(image) {
-        return Ok(flat_flags(image));
-    }
-    match page_refusal(image, 0x11) {
+    match lacks(absent_flag_page(image)) {
         Some(refusal) => Err(refusal),
-        None => Ok(paged_flags(image)),
+        None => Ok(cmis_flags(image)),
     }
 }
 
@@ -112,6 +109,17 @@ fn sff8472(image: &Image) -> Result<ModuleFlags, Refusal>
     match sff8472_map::flags_refusal(image) {
         Some(fault) => Err(Refusal::Sff(fault)),
         None => Ok(sfp_flags(image)),
+    }
+}
+
+#[tactic(auto, unfolding(crate::specs::RaisedFlags::cmis_flags))]
+fn cmis_flags(image: &Image) -> ModuleFlags
+    ensures { result ≡ spec.cmis_flags image.now }
+{
+    if is_flat(image) {
+        flat_flags(image)
+    } else {
+        paged_flags(image)
     }
 }
 

@@ -9,12 +9,12 @@ ghost use Rattle.firmware_api.specs.ShownTexts.{shown_text};
 ghost use Rattle.field_tables.specs.Readings.{text};
 ghost use Rattle.paged_memory.specs.declared.family.Family.TheVariants as families;
 
-use crate::amount::{amount_at, length_in};
 use crate::half::{Half, image_in};
-use crate::read_module::{family_in, family_number, is_flat, number_of, page_refusal};
+use crate::read_module::{family_in, family_number, lacks, number_of};
 use crate::shown_texts::shown_text;
 use crate::status::{DONE, Refusal};
 use field_tables::{Field, Sum, TextField, all_numbers, is_sum_right, number, text};
+use module_decoding::{absent_identity_page, amount_at, is_flat, length_in};
 use paged_memory::{Family, Image};
 
 /// What a module is. Amounts are in thousandths of a watt and of a metre. What only CMIS has is 0 for other modules.
@@ -81,7 +81,7 @@ fn identity_in(image: &Image) -> Result<ModuleIdentity, Refusal>
 fn cmis(image: &Image) -> Result<ModuleIdentity, Refusal>
     ensures { MatchOption (spec.refusal_of families.Cmis image.now) (result ≡ Ok (spec.identity_of families.Cmis image.now)) (λ refusal. result ≡ Err refusal) }
 {
-    match page_refusal(image, 0x00) {
+    match lacks(absent_identity_page(image)) {
         Some(refusal) => Err(refusal),
         None => Ok(cmis_identity(image)),
     }

@@ -1,14 +1,16 @@
-//! What C calls: a module's Applications, a plan of its lanes, the check of a certificate, the longest that its states
-//! last, readings and procedures that are told what the caller's bus answered, and simulated modules.
+//! What C calls: what a module is, measures and warns of, its Applications, a plan of its lanes, the check of a
+//! certificate, the longest that its states last, readings and procedures that are told what the caller's bus answered,
+//! and simulated modules.
 #![tactic(auto)]
 
 mod advertisement;
-mod amount;
 mod checking;
 mod durations;
 mod flags;
 mod half;
 mod identity;
+mod measured_values;
+mod monitors;
 mod operation;
 mod planning;
 mod procedure;

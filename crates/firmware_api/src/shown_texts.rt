@@ -1,6 +1,8 @@
 ghost use Rattle.std.specs.Prelude.{◌≡◌, map};
 ghost use Rattle.std.specs.List.{range_with_len};
-ghost use Rattle.firmware_api.specs.ShownTexts.{is_padding, letter_at, shown_letter, shown_text, trimmed};
+ghost use Rattle.firmware_api.specs.ShownTexts.{letter_at, shown_letter, shown_text};
+
+use module_decoding::{shown_byte, trimmed};
 
 /// The bytes of a text field as C is shown them: without the padding at their end, and NUL after the last one.
 #[tactic(auto, unfolding(crate::specs::ShownTexts::shown_text))]
@@ -30,29 +32,7 @@ fn shown_letter(byte: Option<u8>) -> u8
     ensures { result ≡ shown_letter byte }
 {
     match byte {
-        Some(byte) => {
-            if b' ' <= byte && byte <= b'~' {
-                byte
-            } else {
-                b'?'
-            }
-        }
+        Some(byte) => shown_byte(byte),
         None => 0,
     }
-}
-
-fn trimmed(bytes: &[u8]) -> &[u8]
-    ensures { result.now ≡ trimmed bytes.now }
-{
-    let mut len = bytes.len();
-    while len > 0 && is_padding(bytes[len - 1]) {
-        len -= 1;
-    }
-    &bytes[..len]
-}
-
-fn is_padding(byte: u8) -> bool
-    ensures { result ≡ is_padding byte }
-{
-    byte == b' ' || byte == 0
 }

@@ -1,8 +1,9 @@
 ghost use Rattle.std.specs.Prelude.{◌≡◌, ◌≢◌};
-ghost use Rattle.firmware_api.specs.Statuses.{advert_status, certificate_status, done, sff_status, start_status, status_of};
+ghost use Rattle.firmware_api.specs.Statuses.{advert_status, certificate_status, done, module_status, sff_status, start_status, status_of};
 
 use applications::AdvertFault;
 use field_tables::SffFault;
+use module_decoding::ModuleFault;
 use plan_certificate::CertificateFault;
 use sim_module::SimFault;
 
@@ -48,12 +49,8 @@ pub enum Refusal {
     NoRange,
     /// The simulated module refuses.
     NotTaken,
-    /// No family of modules has the identifier.
-    UnknownModule,
-    /// The CMIS revision is not read.
-    UnreadRevision,
-    /// A half that is needed is absent.
-    LacksHalf,
+    /// The module is not decoded, or lacks a page that is needed.
+    Module(ModuleFault),
     /// The memory of the SFF module is not read.
     Sff(SffFault),
 }
@@ -83,9 +80,7 @@ impl Refusal {
             Refusal::NoModule => 61,
             Refusal::NoRange => 62,
             Refusal::NotTaken => 63,
-            Refusal::UnknownModule => 71,
-            Refusal::UnreadRevision => 74,
-            Refusal::LacksHalf => 76,
+            Refusal::Module(fault) => module_status(fault),
             Refusal::Sff(fault) => sff_status(fault),
         }
     }
@@ -126,6 +121,17 @@ fn start_status(fault: SimFault) -> u32
         SimFault::Advert(fault) => advert_status(fault),
         SimFault::BadDelay => 53,
         SimFault::ActiveNotPaths(_) => 54,
+    }
+}
+
+fn module_status(fault: ModuleFault) -> u32
+    ensures status { result ≡ module_status fault }
+    ensures refused { result ≢ done }
+{
+    match fault {
+        ModuleFault::Unknown(_) => 71,
+        ModuleFault::Revision(_) => 74,
+        ModuleFault::Absent(_) => 76,
     }
 }
 

@@ -54,6 +54,7 @@ statuses =
     ∷ stands_for 76 (codes "RP6")
     ∷ stands_for 83 (codes "SF3")
     ∷ stands_for 84 (codes "SF4")
+    ∷ stands_for 85 (codes "SF5")
     ∷ stands_for 86 (codes "SF6")
     ∷ []
 

@@ -60,6 +60,7 @@ pub fn statuses() -> &'static [Numbered]
         76 "RP6" "";
         83 "SF3" "";
         84 "SF4" "";
+        85 "SF5" "";
         86 "SF6" "";
     }
 }

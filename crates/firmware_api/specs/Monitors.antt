@@ -1,0 +1,100 @@
+-- What a module measures, as C sees it, and why C is not told. (docs/firmware.md, "Decoders"; OIF-CMIS-05.0, "Module-Level Monitor
+-- Values" of lower memory, "Supported Monitors Advertisement" of page 01h, the monitor thresholds of page 02h and "Lane-Specific
+-- Monitors" of page 11h; SFF-8636, "Free Side Device Monitors", "Channel Monitors" and their thresholds; SFF-8472, "Real Time
+-- Diagnostic and Control Registers" and "Alarm and Warning Thresholds")
+use Rattle.std.specs.Prelude.{not, if◌then◌else◌, Bool, true, false, Option, Some, None}
+use Rattle.std.specs.Option.{option_map}
+use Rattle.paged_memory.specs.declared.family.Family.{Family}
+use Rattle.paged_memory.specs.declared.family.Family.TheVariants.{Cmis, Sff8636, Sff8472}
+use Rattle.paged_memory.specs.Images.{Memory}
+use Rattle.field_tables.specs.declared.field.Field.TheVariants as fields
+use Rattle.field_tables.specs.declared.field.Sum.TheVariants as sums
+use Rattle.field_tables.specs.Readings.{bit, is_sum_right}
+use Rattle.module_decoding.specs.CmisPages.{absent_page, is_flat, monitor_pages}
+use Rattle.module_decoding.specs.ModuleFamilies.{family_of}
+use Rattle.sff8636_map.specs.Refusals as sff8636_refusals
+use Rattle.sff8472_map.specs.Refusals as sff8472_refusals
+use Rattle.firmware_api.specs.declared.monitors.ModuleMonitors.{ModuleMonitors}
+use Rattle.firmware_api.specs.declared.status.Refusal.{Refusal}
+use Rattle.firmware_api.specs.declared.status.Refusal.TheVariants.{Sff}
+use Rattle.firmware_api.specs.MeasuredValues.{lane_values, module_value, no_lane_values, supported_values, unsupported}
+use Rattle.firmware_api.specs.Plans.{refusal_before}
+use Rattle.firmware_api.specs.ReadModules.{family_number, lacks, number_of, unread_refusal}
+
+-- a CMIS module with flat memory has neither lanes nor limits
+abbrev pub flat_monitors : Memory → ModuleMonitors
+flat_monitors memory = record {
+  temperature = module_value memory false fields.CTemperature fields.CTempLimits;
+  vcc = module_value memory false fields.CVcc fields.CVccLimits;
+  tx_power = no_lane_values unsupported;
+  tx_bias = no_lane_values unsupported;
+  rx_power = no_lane_values unsupported;
+  family = family_number Cmis;
+  lanes = 0;
+  has_limits = 0;
+  sum = 0;
+}
+
+abbrev pub paged_monitors : Memory → ModuleMonitors
+paged_monitors memory = record {
+  temperature = module_value memory true fields.CTemperature fields.CTempLimits;
+  vcc = module_value memory true fields.CVcc fields.CVccLimits;
+  tx_power = supported_values memory fields.CTxPowerMonitor fields.CTxPower None fields.CTxPowerLimits;
+  tx_bias = supported_values memory fields.CTxBiasMonitor fields.CTxBias (Some fields.CBiasMultiplier) fields.CTxBiasLimits;
+  rx_power = supported_values memory fields.CRxPowerMonitor fields.CRxPower None fields.CRxPowerLimits;
+  family = family_number Cmis;
+  lanes = 8;
+  has_limits = 1;
+  sum = number_of (is_sum_right memory sums.CSum02);
+}
+
+unfoldable pub cmis_monitors : Memory → ModuleMonitors
+cmis_monitors memory = if is_flat memory then flat_monitors memory else paged_monitors memory
+
+-- limits stand on a page that flat memory doesn't have
+abbrev pub qsfp_has_limits : Memory → Bool
+qsfp_has_limits memory = not (bit memory fields.QFlatMemory)
+
+abbrev pub qsfp_monitors : Memory → ModuleMonitors
+qsfp_monitors memory = record {
+  temperature = module_value memory (qsfp_has_limits memory) fields.QTemperature fields.QTempLimits;
+  vcc = module_value memory (qsfp_has_limits memory) fields.QVcc fields.QVccLimits;
+  tx_power = lane_values memory (qsfp_has_limits memory) fields.QTxPower None fields.QTxPowerLimits;
+  tx_bias = lane_values memory (qsfp_has_limits memory) fields.QTxBias None fields.QTxBiasLimits;
+  rx_power = lane_values memory (qsfp_has_limits memory) fields.QRxPower None fields.QRxPowerLimits;
+  family = family_number Sff8636;
+  lanes = 4;
+  has_limits = number_of (qsfp_has_limits memory);
+  sum = 0;
+}
+
+abbrev pub sfp_monitors : Memory → ModuleMonitors
+sfp_monitors memory = record {
+  temperature = module_value memory true fields.STemperature fields.STempLimits;
+  vcc = module_value memory true fields.SVcc fields.SVccLimits;
+  tx_power = lane_values memory true fields.STxPower None fields.STxPowerLimits;
+  tx_bias = lane_values memory true fields.STxBias None fields.STxBiasLimits;
+  rx_power = lane_values memory true fields.SRxPower None fields.SRxPowerLimits;
+  family = family_number Sff8472;
+  lanes = 1;
+  has_limits = 1;
+  sum = number_of (is_sum_right memory sums.SSumDmi);
+}
+
+abbrev pub refusal_of : Family → Memory → Option Refusal
+refusal_of Cmis memory = lacks (absent_page (monitor_pages memory) memory)
+refusal_of Sff8636 memory = option_map Sff (sff8636_refusals.measured_fault memory)
+refusal_of Sff8472 memory = option_map Sff (sff8472_refusals.measured_fault memory)
+
+abbrev pub monitors_of : Family → Memory → ModuleMonitors
+monitors_of Cmis memory = cmis_monitors memory
+monitors_of Sff8636 memory = qsfp_monitors memory
+monitors_of Sff8472 memory = sfp_monitors memory
+
+-- why C is not told what a module measures
+unfoldable pub monitors_refusal : Memory → Option Refusal
+monitors_refusal memory = refusal_before (unread_refusal memory) (refusal_of (family_of memory) memory)
+
+-- by the family
+unfoldable pub monitors_in : Memory → ModuleMonitors
+monitors_in memory = monitors_of (family_of memory) memory
