@@ -148,8 +148,7 @@ struct dovecounter_advertisement {
    of bank 0 are needed; other halves are ignored. If two halves have the same place, the first counts.
 
    status   if
-   1        there are more than 16 halves
-   2        a half has no place
+   1, 2     there are more than 16 halves, or one has no place
    14       there is no lower half
    11       the module is not of CMIS
    12       its revision is not read
@@ -190,11 +189,9 @@ struct dovecounter_identity {
    module is of SFF-8472; other halves are ignored.
 
    status   if
-   1        there are more than 16 halves
-   2        a half has no place
+   1, 2     there are more than 16 halves, or one has no place
    76       device 0xA0 has no lower half
-   71       no family that is read has the module's identifier
-   74       the module's CMIS revision is not read
+   71, 74   no family that is read has the identifier, or the CMIS revision is not read
    76       page 00h is missing (CMIS)
    83       page 00h is missing (SFF-8636) */
 uint32_t dovecounter_identity(const struct dovecounter_half *halves, size_t half_count,
@@ -235,11 +232,9 @@ struct dovecounter_flags {
    most flags have become 0 by that.
 
    status   if
-   1        there are more than 16 halves
-   2        a half has no place
+   1, 2     there are more than 16 halves, or one has no place
    76       device 0xA0 has no lower half
-   71       no family that is read has the module's identifier
-   74       the module's CMIS revision is not read
+   71, 74   no family that is read has the identifier, or the CMIS revision is not read
    76       page 11h is missing (CMIS with paged memory)
    84       the module has no diagnostics (SFF-8472)
    86       it wants an address change before they are read (SFF-8472)
@@ -292,11 +287,9 @@ struct dovecounter_monitors {
    the lower half of device 0xA2. Other halves are ignored.
 
    status   if
-   1        there are more than 16 halves
-   2        a half has no place
+   1, 2     there are more than 16 halves, or one has no place
    76       device 0xA0 has no lower half
-   71       no family that is read has the module's identifier
-   74       the module's CMIS revision is not read
+   71, 74   no family that is read has the identifier, or the CMIS revision is not read
    76       page 01h, 02h or 11h is missing (CMIS with paged memory)
    84       the module has no diagnostics (SFF-8472)
    86       it wants an address change before they are read (SFF-8472)
