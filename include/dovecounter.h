@@ -268,7 +268,7 @@ struct dovecounter_lane_values {
     uint8_t support;                  /* of enum dovecounter_support */
 };
 
-/* What a module measures: what the command `monitors` prints. Rounded down, below zero too. */
+/* What a module measures: what the command `monitors` prints. Thousandths are rounded down, below zero too. */
 struct dovecounter_monitors {
     struct dovecounter_value temperature;    /* thousandths of a degree Celsius */
     struct dovecounter_value vcc;            /* the supply voltage: thousandths of a millivolt */
