@@ -1,13 +1,15 @@
-"""Reads, plans, checks and provisions pluggable optical modules of CMIS, and simulates them, by
-Dovecounter's library for C.
+"""Says what pluggable optical modules are and which flags they raise; plans, checks and provisions
+those of CMIS, and simulates them; by Dovecounter's library for C.
 
 docs/python.md has a first page. The package touches no bus by itself; only `Image.from_port` opens
 a file."""
 from .faults import Fault
-from .image import LOWER, Advertisement, Application, Durations, Image, Key, page
+from .image import LOWER, Image, Key, page
 from .planning import DataPath, Judgement, Plan, check, plan
 from .procedures import Activation, Operation, Procedure, Provisioning, Reading, Reply
-from .simulated import ConfigStatus, Delays, ModuleState, PathState, SimulatedModule
+from .reports import Advertisement, Application, Durations, Family, Flags, Inventory, Levels
+from .simulated import Delays, SimulatedModule
+from .states import ConfigStatus, ModuleState, PathState
 
 __all__ = [
     "LOWER",
@@ -18,10 +20,14 @@ __all__ = [
     "DataPath",
     "Delays",
     "Durations",
+    "Family",
     "Fault",
+    "Flags",
     "Image",
+    "Inventory",
     "Judgement",
     "Key",
+    "Levels",
     "ModuleState",
     "Operation",
     "PathState",

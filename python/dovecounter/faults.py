@@ -3,6 +3,8 @@ from __future__ import annotations
 
 from typing import Callable, Tuple, Union
 
+from . import library
+
 Value = Union[int, str]
 
 # By the statuses of the library (include/dovecounter.h).
@@ -23,10 +25,18 @@ CODES = {
     51: "SM1",
     53: "SM3",
     54: "SM4",
+    71: "RP1",
+    74: "RP4",
+    76: "RP6",
+    83: "SF3",
+    84: "SF4",
+    86: "SF6",
 }
 
-# Each as it stands in docs/faults.md, "Sentences"; a test compares them.
-SENTENCES = {
+_STATUSES = {code: status for status, code in CODES.items()}
+
+# The library reads no texts of images, so these are here, as in docs/faults.md; a test compares them.
+_OF_IMAGES = {
     "IM1": (
         "the image does not begin with the line 'module-image 1': if it is a dump of a module, "
         "'tools/module-image FILE' makes an image of it"
@@ -48,118 +58,18 @@ SENTENCES = {
         "a line stands after 'end': delete it, or put a line '---' before it if another part of "
         "the input begins there"
     ),
-    "RP3": (
-        "4096 transactions did not read the module: without --bus the same command names the half "
-        "that the image lacks"
-    ),
-    "AD1": (
-        "only modules of CMIS advertise Applications (identifier 18h, 19h or 1Eh, byte 0 of lower "
-        "A0): 'inventory' reads other modules too"
-    ),
-    "AD2": "only the revisions 4 and 5 of CMIS are read (byte 1 of lower A0)",
-    "AD3": (
-        "the memory is flat (byte 2 of lower A0, bit 7), so there is nothing to plan: 'inventory' "
-        "works"
-    ),
-    "AD4": (
-        "the image lacks this half, which Applications and plans need: read it too, and look at "
-        "what tools/module-image says on standard error when it leaves one out"
-    ),
-    "AD5": (
-        "the sum of this page is wrong: the image was damaged, or read while the module was "
-        "starting, so read it again"
-    ),
-    "AD6": (
-        "plans are made for modules of eight lanes, and this one has another number: 'inventory', "
-        "'monitors' and 'flags' work"
-    ),
-    "CT1": (
-        "the line has none of the forms of a certificate's lines, or one that may not stand "
-        "there: write single spaces, numbers without leading zeros, and used media lanes as two "
-        "digits in lower case"
-    ),
-    "CT2": (
-        "the state of the line is not above the one before: put states in rising order, by "
-        "boundary and then by used media lanes, and each once"
-    ),
-    "CT3": (
-        "there is a ninth path, a ninth kept path or a state too many: eight lanes have at most "
-        "eight paths"
-    ),
-    "CT4": "the text ends before a line 'end', so it was cut off: make the certificate anew",
-    "VR1": (
-        "the path is not allowed on this module: compare it with what 'apps' prints (is the "
-        "Application usable, may it begin there, are the lanes there and supported?)"
-    ),
-    "VR2": (
-        "the path shares a lane with an earlier one: compare the host lanes and the media lanes "
-        "of both"
-    ),
-    "VR3": "the weight is not the plan's: is the certificate of these weights?",
-    "VR4": (
-        "there is no entry for the state without decided and used lanes: add a line 'state 0 00 "
-        "POTENTIAL'"
-    ),
-    "VR5": (
-        "a step from the state of this entry leads to a state that has no entry: add a line "
-        "'state' for that one"
-    ),
-    "VR6": (
-        "the potential of this entry is below the weight of a step and the potential of where it "
-        "leads: it is too low, or the other one is too high"
-    ),
-    "VR7": (
-        "the potential of the state without decided and used lanes is not the weight, so the "
-        "certificate does not show that this plan is best"
-    ),
-    "VR8": (
-        "the kept path is not allowed on this module, or shares a lane with an earlier kept one: "
-        "compare it with what 'apps' prints"
-    ),
-    "VR9": (
-        "the kept path is not in the plan: add a line 'path' with the same three numbers, or have "
-        "a certificate made that does not keep it"
-    ),
-    "KP2": "a ninth kept path stands there, and eight lanes have at most eight",
-    "KP3": (
-        "the path is not allowed on this module, or shares a lane with an earlier one: compare it "
-        "with what 'apps' prints"
-    ),
-    "SM1": (
-        "the image lacks this half, which the simulated module needs: read it too, and look at "
-        "what tools/module-image says on standard error when it leaves one out"
-    ),
-    "SM3": "a delay of the simulated module is 0 or above 1000",
-    "SM4": (
-        "the active control bytes (bytes 206 to 213 of page 11h) are no data paths at this lane: "
-        "the image was changed by hand, or read while the module changed them"
-    ),
-    "PV1": (
-        "the module rejected the configuration of this lane: the status says the cause "
-        "(docs/states.md)"
-    ),
-    "PV2": (
-        "the staged control byte of this lane is another one than was stored: something else "
-        "writes there, or the module does not keep what it took"
-    ),
-    "PV3": (
-        "the active control byte of this lane is another one than the plan's: something else has "
-        "configured the module, it did not apply all lanes, or a path to keep is not active"
-    ),
-    "PV4": (
-        "4096 transactions were made without another answer: look at the end of what 'trace' "
-        "prints; if the module is slow, wait between reads, and begin again"
-    ),
-    "PV5": "the bus made no further transaction",
-    "PV6": (
-        "the module is in this state, and not in ModuleReady: while it powers up, wait and call "
-        "again; in low power, byte 26 of lower A0 or the pin asks for it"
-    ),
-    "PV7": (
-        "the standard reserves the code that the module shows, of its state, of a path state or "
-        "of a status: look at the last fetch that 'trace' prints"
-    ),
 }
+
+
+def sentence_of(code: str) -> str:
+    """What is wrong and what to do, in the library's words."""
+    if code in _OF_IMAGES:
+        return _OF_IMAGES[code]
+    if code.startswith("PV"):
+        return library.text("fault", int(code[2:]))
+    if code.startswith("VR"):
+        return library.text("verdict", int(code[2:]))
+    return library.text("status", _STATUSES[code])
 
 
 class Fault(Exception):
@@ -171,7 +81,7 @@ class Fault(Exception):
         super().__init__(" ".join([code, *map(str, values)]))
         self.code = code
         self.values: Tuple[Value, ...] = values
-        self.sentence = SENTENCES[code]
+        self.sentence = sentence_of(code)
 
     def __reduce__(self) -> Tuple[object, ...]:
         return Fault, (self.code, *self.values)

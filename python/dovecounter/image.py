@@ -1,14 +1,25 @@
-"""What is known of a module's memory (docs/formats.md, "Image"), and what it advertises."""
+"""What is known of a module's memory (docs/formats.md, "Image"), and what that says."""
 from __future__ import annotations
 
 import os
 import re
 from ctypes import Array, byref, c_uint8
 from dataclasses import dataclass
-from typing import Callable, Dict, List, Mapping, Optional, Tuple, Union
+from typing import Callable, Dict, List, Mapping, Tuple, Union
 
 from . import library
-from .faults import CODES, Fault, Value, look_at, look_at_bytes
+from .faults import CODES, Fault, look_at, look_at_bytes
+from .reports import (
+    Advertisement,
+    Application,
+    Durations,
+    Flags,
+    Inventory,
+    advertisement_of,
+    durations_of,
+    flags_of,
+    inventory_of,
+)
 
 HALF = 128  # bytes
 MOST_HALVES = 16
@@ -24,6 +35,8 @@ _PAGE_LINE = re.compile(
 
 _advertisement = library.function("advertisement")
 _durations = library.function("durations")
+_identity = library.function("identity")
+_flags = library.function("flags")
 
 
 @dataclass(frozen=True, order=True)
@@ -56,6 +69,7 @@ class Key:
 
 
 LOWER = Key(0xA0)
+LOWER_A2 = Key(0xA2)
 
 
 def page(number: int, bank: int = 0, device: int = 0xA0) -> Key:
@@ -63,47 +77,14 @@ def page(number: int, bank: int = 0, device: int = 0xA0) -> Key:
     return Key(device, True, bank, number)
 
 
-@dataclass(frozen=True)
-class Application:
-    """What a data path may carry, and where it may begin. In a byte of lanes, bit i-1 stands for
-    lane i."""
-
-    number: int
-    """1 to 15, its AppSelCode"""
-    host_id: int
-    """HostInterfaceID (SFF-8024)"""
-    media_id: int
-    """MediaInterfaceID (SFF-8024)"""
-    host_lanes: int
-    """how many a data path takes"""
-    media_lanes: int
-    """how many a data path takes"""
-    host_starts: int
-    """a byte of lanes where a data path may begin"""
-    media_starts: int
-    """a byte of lanes where a data path may begin"""
-
-
-@dataclass(frozen=True)
-class Advertisement:
-    """What a module advertises."""
-
-    applications: Tuple[Application, ...]
-    unsupported: int
-    """a byte of media lanes that no data path may use"""
-
-
-@dataclass(frozen=True)
-class Durations:
-    """How long states last at most, in milliseconds, as the module advertises; None if there is no
-    limit, or its code is reserved."""
-
-    module_power_up: Optional[int]
-    module_power_down: Optional[int]
-    path_init: Optional[int]
-    path_deinit: Optional[int]
-    path_tx_turn_on: Optional[int]
-    path_tx_turn_off: Optional[int]
+# Which halves have to be there, by the code of the fault that says that one of them isn't.
+_Needed = Mapping[str, Tuple[Key, ...]]
+_OF_APPLICATIONS: _Needed = {
+    "AD4": (LOWER, page(0x00), page(0x01)),
+    "SM1": (LOWER, page(0x00), page(0x01), page(0x10), page(0x11)),
+}
+_OF_INVENTORY: _Needed = {"RP6": (LOWER, page(0x00)), "SF3": (page(0x00),)}
+_OF_FLAGS: _Needed = {"RP6": (LOWER, page(0x11)), "SF3": (LOWER_A2,)}
 
 
 class Image:
@@ -204,11 +185,7 @@ class Image:
         """What the module advertises. Raises a Fault of AD1 to AD6."""
         found = library.Advertisement()
         self.take(_advertisement(*self.arguments(), byref(found)))
-        applications = tuple(
-            Application(*(getattr(one, name) for name, _ in library.Application._fields_))
-            for one in found.applications[: found.count]
-        )
-        return Advertisement(applications, found.unsupported)
+        return advertisement_of(found)
 
     def applications(self) -> Tuple[Application, ...]:
         """The Applications that the module advertises, by rising number. Raises a Fault of AD1 to
@@ -220,8 +197,23 @@ class Image:
         AD6."""
         found = library.Durations()
         self.take(_durations(*self.arguments(), byref(found)))
-        numbers = (getattr(found, name) for name, _ in library.Durations._fields_)
-        return Durations(*(None if number == 2**32 - 1 else number for number in numbers))
+        return durations_of(found)
+
+    def inventory(self) -> Inventory:
+        """What the module is. Needs the lower half of 0xA0, and its page 00h unless the module is of
+        SFF-8472. Raises a Fault of RP1, RP4, RP6 or SF3."""
+        found = library.Identity()
+        self.take(_identity(*self.arguments(), byref(found)), _OF_INVENTORY)
+        return inventory_of(found)
+
+    def flags(self) -> Flags:
+        """The states of the module and the flags that it raises. Needs the lower half of 0xA0; of a
+        CMIS module with paged memory page 11h too, and of a module of SFF-8472 the lower half of
+        0xA2. In memory that was read, most flags have become 0 by that. Raises a Fault of RP1, RP4,
+        RP6, SF3, SF4 or SF6."""
+        found = library.Flags()
+        self.take(_flags(*self.arguments(), byref(found)), _OF_FLAGS)
+        return flags_of(found)
 
     def arguments(self) -> Tuple[Array[library.Half], int]:
         """The halves as the library takes them, and their number."""
@@ -231,27 +223,22 @@ class Image:
         )
         return (library.Half * len(self._halves))(*halves), len(self._halves)
 
-    def take(self, status: int) -> None:
+    def take(self, status: int, needed: _Needed = _OF_APPLICATIONS) -> None:
         """Raises what a status says of these halves."""
         code = CODES.get(status)
-        if code in ("AD1", "AD6"):
+        if code is None:
+            if status:
+                raise AssertionError(f"the library answered status {status}")
+            return
+        if code in needed:
+            raise Fault(code, str(next(key for key in needed[code] if key not in self._halves)))
+        if code in ("AD1", "AD6", "RP1"):
             raise Fault(code, self._halves[LOWER][0])
-        if code == "AD2":
+        if code in ("AD2", "RP4"):
             raise Fault(code, self._halves[LOWER][1])
-        if code in ("AD4", "SM1"):
-            raise Fault(code, self._first_absent(code))
         if code == "AD5":
             raise Fault(code, 1 if _has_right_sum(self._halves[page(0x00)]) else 0)
-        if code is not None:
-            raise Fault(code)
-        if status:
-            raise AssertionError(f"the library answered status {status}")
-
-    def _first_absent(self, code: str) -> Value:
-        needed = (LOWER, page(0x00), page(0x01)) + (
-            (page(0x10), page(0x11)) if code == "SM1" else ()
-        )
-        return str(next(key for key in needed if key not in self._halves))
+        raise Fault(code)
 
 
 def _take_page_line(halves: Dict[Key, bytes], number: int, line: bytes) -> None:
@@ -283,7 +270,7 @@ def _places_in_row(lower: bytes) -> List[Tuple[Key, int]]:
     """The halves that are read of such a module besides the lower one of 0xA0, and where they are
     in its row."""
     if lower[0] in _SFF_8472:
-        return [(Key(0xA2), 2 * HALF)]
+        return [(LOWER_A2, 2 * HALF)]
     pages = (
         (0x00,)
         if _is_flat(lower)

@@ -9,61 +9,87 @@ from __future__ import annotations
 import ctypes
 import os
 import pathlib
-from ctypes import POINTER, Structure, c_char_p, c_size_t, c_uint8, c_uint16, c_uint32, c_uint64
+from ctypes import (
+    POINTER,
+    Structure,
+    byref,
+    c_char,
+    c_char_p,
+    c_int64,
+    c_size_t,
+    c_uint8,
+    c_uint16,
+    c_uint32,
+    c_uint64,
+)
 from typing import Any, Callable, Dict, List, Tuple
 
 VERSION = 2  # DOVECOUNTER_VERSION
+TEXT_SIZE = 256  # DOVECOUNTER_TEXT_SIZE
 FILE = f"libdovecounter.so.{VERSION}"
 
 Lanes = c_uint8 * 8
 Weights = c_uint32 * 256
 
 
-def _members(size: Any, *names: str) -> List[Tuple[str, Any]]:
-    return [(name, size) for name in names]
+def _members(size: Any, names: str) -> List[Tuple[str, Any]]:
+    """Members of one size, by their names with spaces between them."""
+    return [(name, size) for name in names.split()]
 
 
 class Half(Structure):
-    _fields_ = [*_members(c_uint8, "device", "upper", "bank", "page"), ("bytes", c_uint8 * 128)]
+    _fields_ = [*_members(c_uint8, "device upper bank page"), ("bytes", c_uint8 * 128)]
 
 
 class Application(Structure):
-    _fields_ = _members(
-        c_uint8,
-        "number",
-        "host_id",
-        "media_id",
-        "host_lanes",
-        "media_lanes",
-        "host_starts",
-        "media_starts",
-    )
+    _fields_ = [
+        *_members(c_uint8, "number host_id media_id host_lanes media_lanes"),
+        *_members(c_uint8, "host_starts media_starts"),
+    ]
 
 
 class Advertisement(Structure):
-    _fields_ = [*_members(c_uint8, "count", "unsupported"), ("applications", Application * 15)]
+    _fields_ = [*_members(c_uint8, "count unsupported"), ("applications", Application * 15)]
+
+
+class Identity(Structure):
+    _fields_ = [
+        *_members(c_int64, "max_power length"),
+        *_members(c_uint8, "family identifier revision flat media_type power_class connector"),
+        *_members(c_uint8, "technology sum_base sum_ext"),
+        ("oui", c_uint8 * 3),
+        *_members(c_char * 17, "vendor part part_revision serial date"),
+    ]
+
+
+class Levels(Structure):
+    _fields_ = _members(c_uint8, "high_alarm low_alarm high_warning low_warning")
+
+
+class Flags(Structure):
+    _fields_ = [
+        *_members(c_uint8, "family lanes state"),
+        *_members(Lanes, "path_states statuses"),
+        *_members(c_uint8, "path_state_changed tx_fault tx_los tx_lol tx_eq_fail rx_los rx_lol"),
+        *_members(Levels, "temperature vcc tx_power tx_bias rx_power"),
+    ]
 
 
 class Durations(Structure):
-    _fields_ = _members(
-        c_uint32,
-        "module_power_up",
-        "module_power_down",
-        "path_init",
-        "path_deinit",
-        "path_tx_turn_on",
-        "path_tx_turn_off",
-    )
+    _fields_ = [
+        *_members(c_uint32, "module_power_up module_power_down path_init path_deinit"),
+        *_members(c_uint32, "path_tx_turn_on path_tx_turn_off"),
+    ]
 
 
 class Path(Structure):
-    _fields_ = _members(c_uint8, "application", "host", "media")
+    _fields_ = _members(c_uint8, "application host media")
 
 
 class Plan(Structure):
     _fields_ = [
         ("weight", c_uint64),
-        *_members(c_uint8, "count", "lanes", "outside"),
+        *_members(c_uint8, "count lanes outside"),
         ("control", Lanes),
         ("paths", Path * 8),
     ]
@@ -74,16 +100,16 @@ class Judgement(Structure):
 
 
 class Fault(Structure):
-    _fields_ = _members(c_uint8, "code", "first", "second")
+    _fields_ = _members(c_uint8, "code first second")
 
 
 class Progress(Structure):
     _fields_ = [
         ("met", c_size_t),
         ("steps", c_uint16),
-        *_members(c_uint8, "work", "lanes"),
+        *_members(c_uint8, "work lanes"),
         ("control", Lanes),
-        *_members(c_uint8, "selection", "page"),
+        *_members(c_uint8, "selection page"),
         ("fault", Fault),
     ]
 
@@ -94,7 +120,7 @@ class Procedure(Structure):
 
 class Operation(Structure):
     _fields_ = [
-        *_members(c_uint8, "kind", "device", "offset", "count"),
+        *_members(c_uint8, "kind device offset count"),
         ("bytes", c_uint8 * 8),
         ("wait", c_uint8),
     ]
@@ -108,34 +134,28 @@ class Reading(Structure):
     _fields_ = [
         ("magic", c_uint32),
         ("steps", c_uint16),
-        *_members(
-            c_uint8, "settled", "selection", "page", "accepted", "piece", "read", "wait", "count"
-        ),
+        *_members(c_uint8, "settled selection page accepted piece read wait count"),
         ("halves", Half * 5),
         ("part", c_uint8 * 128),
     ]
 
 
 class Delays(Structure):
-    _fields_ = _members(
-        c_uint16, "apply", "init", "turn_on", "turn_off", "deinit", "power_up", "power_down"
-    )
+    _fields_ = _members(c_uint16, "apply init turn_on turn_off deinit power_up power_down")
 
 
 class Lane(Structure):
     _fields_ = [
         ("left", c_uint16),
-        *_members(c_uint8, "path", "status", "custom", "staged", "active", "keeps", "kept"),
+        *_members(c_uint8, "path status custom staged active keeps kept"),
     ]
 
 
 class Module(Structure):
     _fields_ = [
         ("delays", Delays),
-        *_members(c_uint16, "left", "apply_left"),
-        *_members(
-            c_uint8, "bank", "page", "waiting", "pin", "control", "state", "deinit", "module_flags"
-        ),
+        *_members(c_uint16, "left apply_left"),
+        *_members(c_uint8, "bank page waiting pin control state deinit module_flags"),
         ("lane_flags", c_uint8 * 19),
         ("lanes", Lane * 8),
     ]
@@ -146,10 +166,16 @@ _BYTES = (c_char_p, c_size_t)  # that are read
 _BUFFER = (POINTER(c_uint8), c_size_t)  # that is written
 _CONTROL = POINTER(c_uint8)
 _WEIGHTS = POINTER(c_uint32)
+_TEXT = (c_uint32, (c_uint32, *_BUFFER, POINTER(c_size_t)))
 
 # What each function answers, and what it takes.
 FUNCTIONS: Dict[str, Tuple[Any, Tuple[Any, ...]]] = {
+    "status_text": _TEXT,
+    "fault_text": _TEXT,
+    "verdict_text": _TEXT,
     "advertisement": (c_uint32, (*_HALVES, POINTER(Advertisement))),
+    "identity": (c_uint32, (*_HALVES, POINTER(Identity))),
+    "flags": (c_uint32, (*_HALVES, POINTER(Flags))),
     "durations": (c_uint32, (*_HALVES, POINTER(Durations))),
     "plan": (c_uint32, (*_HALVES, _WEIGHTS, POINTER(Path), c_size_t, POINTER(Plan))),
     "check": (c_uint32, (*_HALVES, _WEIGHTS, *_BYTES, POINTER(Judgement))),
@@ -192,3 +218,13 @@ def function(name: str) -> Callable[..., Any]:
     found = getattr(_SHARED, f"dovecounter_{name}")
     found.restype, found.argtypes = FUNCTIONS[name]
     return found  # type: ignore[no-any-return]
+
+
+def text(kind: str, number: int) -> str:
+    """What the library says of a number: of a status, of a fault of procedures, or of the reason of
+    a verdict."""
+    buffer, length = (c_uint8 * TEXT_SIZE)(), c_size_t()
+    status = function(f"{kind}_text")(number, buffer, TEXT_SIZE, byref(length))
+    if status:
+        raise AssertionError(f"the library has no text for the {kind} {number}")
+    return bytes(buffer[: length.value]).decode("ascii")

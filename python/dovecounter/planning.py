@@ -6,7 +6,7 @@ from dataclasses import dataclass
 from typing import Any, Mapping, Optional, Sequence, Tuple, Union
 
 from . import library
-from .faults import CODES, SENTENCES, Fault, first_refused, look_at
+from .faults import CODES, Fault, first_refused, look_at, sentence_of
 from .image import Image
 
 _plan = library.function("plan")
@@ -60,7 +60,7 @@ class Judgement:
     @property
     def sentence(self) -> str:
         """What is wrong and what to do, or nothing if it is good."""
-        return SENTENCES[self.reason] if self.reason else ""
+        return sentence_of(self.reason) if self.reason else ""
 
 
 def _weights(weights: Mapping[int, int]) -> Array[c_uint32]:

@@ -3,13 +3,13 @@ from __future__ import annotations
 
 from ctypes import byref, c_uint8
 from dataclasses import astuple, dataclass
-from enum import IntEnum
 from typing import Optional, Tuple
 
 from . import library
 from .faults import CODES, Fault, first_refused, look_at
 from .image import Image, page
 from .procedures import Operation, Reply
+from .states import ConfigStatus, ModuleState, PathState
 
 _NO_RANGE, _NOT_TAKEN = 62, 63
 _ACTIVE = 206  # the address of the Active Control Set in page 11h
@@ -20,42 +20,6 @@ _store = library.function("module_store")
 _tick = library.function("module_tick")
 _pin = library.function("module_pin")
 _active = library.function("module_active")
-
-
-class ModuleState(IntEnum):
-    """Of a module, by its code (docs/states.md)."""
-
-    ModuleLowPwr = 1
-    ModulePwrUp = 2
-    ModuleReady = 3
-    ModulePwrDn = 4
-    ModuleFault = 5
-
-
-class PathState(IntEnum):
-    """Of a lane's data path, by its code (docs/states.md)."""
-
-    DPDeactivated = 1
-    DPInit = 2
-    DPDeinit = 3
-    DPActivated = 4
-    DPTxTurnOn = 5
-    DPTxTurnOff = 6
-    DPInitialized = 7
-
-
-class ConfigStatus(IntEnum):
-    """What became of a lane's last configuration, by its code (docs/states.md)."""
-
-    ConfigUndefined = 0
-    ConfigSuccess = 1
-    ConfigRejected = 2
-    ConfigRejectedInvalidAppSel = 3
-    ConfigRejectedInvalidDataPath = 4
-    ConfigRejectedInvalidSI = 5
-    ConfigRejectedLanesInUse = 6
-    ConfigRejectedPartialDataPath = 7
-    ConfigInProgress = 12
 
 
 @dataclass(frozen=True)

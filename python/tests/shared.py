@@ -178,6 +178,29 @@ def random_image(chance: random.Random) -> Image:
     return image
 
 
+def image_by_chance(chance: random.Random) -> Image:
+    """An image of any family, most often with other bytes, and perhaps without a half; the bytes
+    that decide what is read are often good ones."""
+    image = image_of(chance.choice(IMAGES))
+    for key, half in image.halves.items():
+        changed = bytearray(half)
+        for _ in range(chance.choice([0, 3, 60])):
+            changed[chance.randrange(128)] = chance.choice([0x00, 0xFF, chance.randrange(256)])
+        if key == LOWER:
+            for place, good in ((1, b"\x40\x5A"), (2, b"\x00\x80\x04"), (92, b"\x00\x40\x44\x68")):
+                if chance.random() < 0.7:
+                    changed[place] = chance.choice(good)
+            if chance.random() < 0.8:
+                changed[0] = chance.choice([half[0], 0x18, 0x19, 0x1E, 0x0C, 0x0D, 0x11, 0x03])
+        if key == page(0x00) and chance.random() < 0.9:
+            changed[222 - 128] = sum(changed[: 222 - 128]) % 256
+        if key == page(0x01) and chance.random() < 0.9:
+            changed[255 - 128] = sum(changed[130 - 128 : 255 - 128]) % 256
+        image = image.changed(key, 128 if key.upper else 0, bytes(changed))
+    absent = [key for key in image.halves if chance.random() < 0.03]
+    return image.without(*absent)
+
+
 def random_weights(chance: random.Random, image: Image) -> Dict[int, int]:
     return {
         application.host_id: chance.randrange(1000)

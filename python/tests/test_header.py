@@ -14,7 +14,7 @@ from typing import Any, Dict, List
 import pytest
 
 from shared import ROOT
-from dovecounter import library, procedures, simulated
+from dovecounter import Family, library, procedures, simulated
 from dovecounter.faults import CODES
 
 HEADER = re.sub(r"/\*.*?\*/", "", (ROOT / "include/dovecounter.h").read_text(), flags=re.DOTALL)
@@ -105,11 +105,16 @@ def test_each_function_is_declared_as_in_the_header() -> None:
 
 def test_numbers_are_those_of_the_header() -> None:
     assert f"#define DOVECOUNTER_VERSION {library.VERSION}\n" in HEADER
+    assert f"#define DOVECOUNTER_TEXT_SIZE {library.TEXT_SIZE}\n" in HEADER
+    for family in Family:
+        assert STATUSES[family.name] == family
     named = re.findall(
-        r"DOVECOUNTER_\w+ = (\d+), */\* (AD\d|CT\d|KP\d|SM\d):",
+        r"DOVECOUNTER_\w+ = (\d+),? */\* ((?:AD|CT|KP|SM|RP|SF)\d):",
         (ROOT / "include/dovecounter.h").read_text(),
     )
-    assert {int(number): code for number, code in named}.items() <= CODES.items()
+    assert {int(number): code for number, code in named} == {
+        number: code for number, code in CODES.items() if code != "RP3"
+    }
     assert STATUSES["GAVE_UP"] == 35 and CODES[35] == "RP3"
     assert (STATUSES["DONE"], STATUSES["ENDED"], STATUSES["NO_REPLY"], STATUSES["GAVE_UP"]) == (
         procedures._DONE,

@@ -27,12 +27,15 @@ from shared import (
 from dovecounter import (
     LOWER,
     Activation,
+    ConfigStatus,
+    DataPath,
     Delays,
     Fault,
     Image,
     Judgement,
     Key,
-    DataPath,
+    ModuleState,
+    PathState,
     Plan,
     Provisioning,
     Reading,
@@ -41,8 +44,7 @@ from dovecounter import (
     page,
     plan,
 )
-from dovecounter.faults import SENTENCES
-from dovecounter.simulated import ConfigStatus, ModuleState, PathState
+from dovecounter.faults import CODES, sentence_of
 
 DR4 = example("qsfp_dd_400g_dr4.txt")
 
@@ -255,14 +257,19 @@ def test_sentences_are_those_of_the_page() -> None:
             re.MULTILINE,
         )
     )
-    assert {code: rows[code] for code in SENTENCES} == SENTENCES
+    numbered = [("IM", 6), ("PV", 7), ("VR", 9)]
+    codes = {f"{kind}{number}" for kind, most in numbered for number in range(1, most + 1)}
+    codes |= set(CODES.values()) - {"RP3"}
+    assert {code: sentence_of(code) for code in codes} == {code: rows[code] for code in codes}
+    # of a reading by a caller the library says more than of one by the program
+    assert "begin again" in sentence_of("RP3")
     fault = Fault("PV1", 3, 5)
     for same in (pickle.loads(pickle.dumps(fault)), copy.copy(fault)):
         assert (str(same), same.code, same.values, same.sentence) == (
             "PV1 3 5",
             "PV1",
             (3, 5),
-            SENTENCES["PV1"],
+            rows["PV1"],
         )
 
 

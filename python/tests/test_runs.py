@@ -23,7 +23,7 @@ from dovecounter import (
     page,
     plan,
 )
-from dovecounter.faults import SENTENCES
+from dovecounter.faults import sentence_of
 
 DR4 = example("qsfp_dd_400g_dr4.txt")
 
@@ -149,6 +149,8 @@ def test_the_page_s_code_runs(
         "17 operations",
         "17 operations",
         "20 20 24 24 28 28 2c 2c DPActivated",
+        "EXAMPLE QDD-400G-DR4 12000 mW",
+        "ModuleReady ()",
         f"{example('qsfp_dd_400g_dr4.txt').durations().path_init} ms for DPInit at most",
-        f"KP3 (2,) {SENTENCES['KP3']}",
+        f"KP3 (2,) {sentence_of('KP3')}",
     ]

@@ -1,0 +1,164 @@
+"""What a module says of itself, against the program's text and JSON."""
+from __future__ import annotations
+
+import json
+import operator
+import pathlib
+import random
+from typing import Any, Callable, Dict, List, Optional, Tuple
+
+import pytest
+
+from shared import IMAGES, cmisctl, example, image_by_chance, image_of
+from dovecounter import (
+    LOWER,
+    ConfigStatus,
+    Fault,
+    Family,
+    Flags,
+    Image,
+    Inventory,
+    Key,
+    ModuleState,
+    PathState,
+    page,
+)
+
+DR4 = example("qsfp_dd_400g_dr4.txt")
+
+
+def inventory_lines(found: Inventory) -> List[str]:
+    """What `cmisctl inventory` prints."""
+    lines = {
+        "family": found.family.name.replace("_", "-"),
+        "identifier": code(found.identifier),
+        "revision": found.revision and "{}.{}".format(*found.revision),
+        "memory": either(found.is_flat, "flat", "paged"),
+        "media-type": code(found.media_type),
+        "vendor": found.vendor,
+        "oui": found.oui.hex(),
+        "part": found.part,
+        "part-revision": found.part_revision,
+        "serial": found.serial,
+        "date": found.date,
+        "power-class": found.power_class,
+        "max-power": amount(found.max_power_mw, "W"),
+        "length": amount(found.length_mm, "m"),
+        "connector": code(found.connector),
+        "technology": code(found.technology),
+        either(found.family == Family.CMIS, "sum-00h", "sum-base"): right(found.sum_base_right),
+        "sum-ext": right(found.sum_ext_right),
+    }
+    return [f"{name} {value}" for name, value in lines.items() if value is not None]
+
+
+def code(byte: Optional[int]) -> Optional[str]:
+    return None if byte is None else f"{byte:02X}h"
+
+
+def amount(number: Optional[int], unit: str) -> Optional[str]:
+    return None if number is None else f"{number // 1000}.{number % 1000:03} {unit}"
+
+
+def either(is_first: Optional[bool], first: str, second: str) -> Optional[str]:
+    return None if is_first is None else first if is_first else second
+
+
+def right(is_right: Optional[bool]) -> Optional[str]:
+    return either(is_right, "right", "wrong")
+
+
+def inventory_object(found: Inventory) -> Dict[str, Any]:
+    """What `cmisctl inventory --json` prints."""
+    said: Dict[str, Any] = {"dovecounter": 1, **vars(found)}
+    said.update(family=found.family.name.replace("_", "-"), oui=found.oui.hex())
+    if found.family == Family.CMIS:
+        said["revision"] = "{}.{}".format(*said["revision"])
+        said["memory"] = either(found.is_flat, "flat", "paged")
+        said.update(max_power_w=said["max_power_mw"] / 1000, length_m=said["length_mm"] / 1000)
+        said["sum_00h_right"] = said.pop("sum_base_right")
+    for name in ("is_flat", "max_power_mw", "length_mm"):
+        del said[name]
+    return {key: value for key, value in said.items() if value is not None}
+
+
+def state(shown: Any) -> str:
+    return shown.name if isinstance(shown, (ModuleState, PathState)) else f"reserved-{shown}"
+
+
+def status(shown: Any) -> str:
+    if isinstance(shown, ConfigStatus):
+        return shown.name
+    return f"{'custom' if shown > 12 else 'reserved'}-{shown}"
+
+
+def flag_lines(found: Flags) -> List[str]:
+    """What `cmisctl flags` prints, its flags in the order of their names and lanes."""
+    lines = [] if found.state is None else [f"state {state(found.state)}"]
+    lines += [
+        f"lane {lane} {state(path)} {status(config)}"
+        for lane, (path, config) in enumerate(zip(found.path_states, found.statuses), 1)
+    ]
+    raised = [f"flag {name} {lane}" if lane else f"flag {name}" for name, lane in found.raised]
+    return lines + (sorted(raised) or ["flag none"])
+
+
+def flags_in_order(lines: List[str]) -> List[str]:
+    flags = [line for line in lines if line.startswith("flag ")]
+    return [line for line in lines if line not in flags] + sorted(flags)
+
+
+def said(ask: Callable[[Image], Any], say: Callable[[Any], List[str]], image: Image) -> List[str]:
+    """The lines of what is found, or of the fault."""
+    try:
+        return say(ask(image))
+    except Fault as fault:
+        return [f"fault {fault}"]
+
+
+def compare(image: Image) -> Tuple[str, str]:
+    """Compares both reports with the program's; gives how they begin."""
+    text = image.to_text()
+    inventory = said(Image.inventory, inventory_lines, image)
+    assert inventory == cmisctl("inventory", text)
+    flags = said(Image.flags, flag_lines, image)
+    assert flags == flags_in_order(cmisctl("flags", text))
+    return inventory[0][:9], flags[0][:9]
+
+
+@pytest.mark.parametrize("path", IMAGES, ids=operator.attrgetter("name"))
+def test_what_a_module_is_and_its_flags_are_what_the_program_prints(path: pathlib.Path) -> None:
+    image = image_of(path)
+    _, begin_of_flags = compare(image)
+    found = json.loads("\n".join(cmisctl("inventory --json", image.to_text())))
+    assert inventory_object(image.inventory()) == found
+    if begin_of_flags.startswith("fault"):
+        return
+    raised = json.loads("\n".join(cmisctl("flags --json", image.to_text())))
+    flags = image.flags()
+    assert raised.get("state") == flags.state
+    lanes = raised.get("lane", [])
+    assert [lane["path_state"] for lane in lanes] == list(flags.path_states)
+    assert [lane["config_status"] for lane in lanes] == list(flags.statuses)
+    told = [(flag["name"], flag.get("lane")) for flag in raised["flag"]]
+    assert sorted(told, key=str) == sorted(flags.raised, key=str)
+
+
+def test_images_by_chance_say_what_the_program_prints() -> None:
+    chance = random.Random(11)
+    begins = {begin for _ in range(500) for begin in compare(image_by_chance(chance))}
+    faults = {begin[6:] for begin in begins if begin.startswith("fault ")}
+    assert faults == {"RP1", "RP4", "RP6", "SF3", "SF4", "SF6"}
+    assert {"family CM", "family SF", "state Mod", "state res", "flag none"} <= begins
+
+
+def test_a_fault_names_the_half_that_is_absent() -> None:
+    sfp = example("sfp_10g_lr.txt")
+    for image in (
+        DR4.without(LOWER),
+        DR4.without(page(0x00)),
+        DR4.without(page(0x11)),
+        sfp.without(Key(0xA2)),
+    ):
+        compare(image)
+    assert said(Image.flags, flag_lines, sfp.without(Key(0xA2))) == ["fault SF3 lower A2"]
