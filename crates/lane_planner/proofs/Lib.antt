@@ -21,4 +21,7 @@ mod FirstLaws
 mod ReadOffs
 mod PlansReadOff
 mod ReachedEntries
+mod MarkedEntries
 mod CertifiedPlans
+mod PutPieces
+mod OneText

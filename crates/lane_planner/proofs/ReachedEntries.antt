@@ -63,7 +63,7 @@ no_entry_more marks table place entries are not = record {
 
 -- ---- what they are worth
 
-contains_mapped : {X Y : Type 0} (f : X → Y) (xs : List X) (x : X) → Contains xs x → Contains (map f xs) (f x)
+pub contains_mapped : {X Y : Type 0} (f : X → Y) (xs : List X) (x : X) → Contains xs x → Contains (map f xs) (f x)
 contains_mapped f xs x contains = (contains.0, omega (arith, contains.1, length-map xs f), get_or-map f xs contains.0 x (f x) contains.1 ∙ ap f contains.2)
 
 module _ (advert : Advertised) (weights : HostWeights) (kept : List Path) (marks : List Bool) (table : List ℕ) (entries : List Entry) (reached : MarksReached advert weights kept marks) (has : HasGains advert weights kept 0 table) (are : AreEntries marks table 2304 entries) where

@@ -1,6 +1,6 @@
 -- What the certificate of the plan that is given holds. (docs/planning.md, "The planner"; this project's own)
-use Rattle.std.specs.Prelude.{◌≡◌, ◌↔◌, ◌<◌, ◌++◌, ℕ, Bool, List, Contains, map}
-use Rattle.std.specs.List.{All, AllByRecursion, AllPairs}
+use Rattle.std.specs.Prelude.{◌≡◌, ◌↔◌, ◌<◌, ℕ, Bool, List, Contains, map, slice_index}
+use Rattle.std.specs.List.{All, AllPairs}
 use Rattle.text_lines.specs.Lines.{lines_of, text_of}
 use Rattle.applications.specs.Advertised.{Advertised}
 use Rattle.applications.specs.Weights.{HostWeights}
@@ -10,14 +10,12 @@ use Rattle.plan_certificate.specs.declared.verdict.Verdict.TheVariants.{Good}
 use Rattle.plan_certificate.specs.Plans.{IsBest}
 use Rattle.plan_certificate.specs.ReachedStates.{IsReached}
 use Rattle.plan_certificate.specs.Certificates.{Claim, IsGood, state_of}
-use Rattle.plan_certificate.specs.CertificateText.{IsEntryInRange, IsTextOf, certificate_lines, line_text}
+use Rattle.plan_certificate.specs.CertificateText.{IsTextOf, certificate_lines}
 use Rattle.plan_certificate.specs.Verdicts.{verdict}
-use Rattle.plan_certificate.specs.declared.certificate.Entry.{Entry}
-use Rattle.plan_certificate.specs.declared.line.Line.TheVariants.{StateLine}
 use Rattle.plan_certificate.specs.Limits.{most_states}
 use Rattle.lane_planner.specs.FirstBest.{IsFirstBest}
 use Rattle.lane_planner.specs.Gains.{IsGain}
-use Rattle.lane_planner.specs.Tables.{AreEntries}
+use Rattle.lane_planner.specs.Tables.{marked_entries}
 
 -- it is good, for the first best plan that holds the kept paths, by the gains of the states that are reached
 pub record IsCertified (advert : Advertised) (weights : HostWeights) (kept : List Path) (certificate : Claim) : Type 0 where
@@ -37,9 +35,11 @@ pub record IsPlanText (advert : Advertised) (weights : HostWeights) (kept : List
   pub written : text ≡ text_of (certificate_lines certificate)
   pub read_back : IsTextOf most_states (lines_of text) certificate
 
--- the entries of the marked states before a place were added to a text
-pub record AddsEntries (marks : List Bool) (table : List ℕ) (upto : ℕ) (before text : List ℕ) : Type 0 where
-  pub entries : List Entry
-  pub are : AreEntries marks table upto entries
-  pub in_range : AllByRecursion IsEntryInRange entries
-  pub written : text ≡ before ++ text_of (map line_text (map StateLine entries))
+-- the certificate of a plan by the planner's tables
+abbrev pub claim_by : List Path → List Path → List Bool → List ℕ → Claim
+claim_by kept paths marks table = record {
+  weight = slice_index table 0;
+  kept = kept;
+  paths = paths;
+  entries = marked_entries marks table most_states;
+}

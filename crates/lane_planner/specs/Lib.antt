@@ -1,3 +1,4 @@
+pub mod Buffers
 pub mod CertifiedPlans
 pub mod FirstBest
 pub mod Gains

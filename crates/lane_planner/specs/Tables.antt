@@ -1,6 +1,7 @@
 -- The planner's table of gains, by the places of states, and the plan that it reads off. (docs/planning.md, "The planner";
 -- this project's own)
-use Rattle.std.specs.Prelude.{◌≡◌, ℕ, Bool, ◌+◌, ◌-◌, ◌*◌, ◌/◌, ◌%◌, ◌<◌, ◌≤◌, ◌==◌, ◌&&◌, ◌||◌, ◌⊎◌, nat_lt, List, [], ◌∷◌, ◌++◌, Option, All, AllPairs, Contains, find, length, replicate, slice_index}
+use Rattle.std.specs.Prelude.{◌≡◌, ℕ, Bool, ◌+◌, ◌-◌, ◌*◌, ◌/◌, ◌%◌, ◌<◌, ◌≤◌, ◌==◌, ◌&&◌, ◌||◌, ◌⊎◌, nat_lt, false, List, [], ◌∷◌, ◌++◌, Option, All, AllPairs, Contains, filter, find, length, map, replicate, slice_index, slice_index_or}
+use Rattle.std.specs.List.{range_with_len}
 use Rattle.applications.specs.Advertised.{Advertised}
 use Rattle.applications.specs.Weights.{HostWeights}
 use Rattle.plan_certificate.specs.declared.path.Path.{Path}
@@ -94,3 +95,8 @@ pub record AreEntries (marks : List Bool) (table : List ℕ) (upto : ℕ) (entri
   pub marked : All (λ entry. IsMarked marks (entry_place entry) × (entry ≡ entry_at table (entry_place entry))) entries
   pub each : (place : ℕ) → place < upto → IsMarked marks place → Contains entries (entry_at table place)
   pub few : length entries ≤ upto
+
+-- these entries themselves, by rising places
+unfoldable pub marked_entries : List Bool → List ℕ → ℕ → List Entry
+marked_entries marks table upto =
+    filter (λ entry. slice_index_or marks (entry_place entry) false) (map (entry_at table) (range_with_len 0 upto))

@@ -12,4 +12,4 @@ mod written;
 
 pub use first::first_best;
 pub use planner::{first_plan, plan, plan_keeping};
-pub use written::certificate_text;
+pub use written::{certificate_text, put_certificate};

@@ -1,15 +1,26 @@
 // The text of the certificate of the plan, without the certificate.
-ghost use Rattle.std.specs.Prelude.{◌≡◌, IfOk, OnOk, length};
+ghost use Rattle.std.specs.Prelude.{◌≡◌, ◌+◌, ◌*◌, ◌≤◌, List, ℕ, IfOk, length, map};
+ghost use Rattle.std.specs.List.{AllByRecursion};
+ghost use Rattle.text_lines.specs.Lines.{text_of};
+ghost use Rattle.plan_certificate.specs.declared.line.Line.{Line};
+ghost use Rattle.plan_certificate.specs.declared.line.Line.TheVariants.{StateLine};
 ghost use Rattle.plan_certificate.specs.Plans.{IsAdmissible};
-ghost use Rattle.lane_planner.specs.CertifiedPlans.{AddsEntries, IsPlanText};
+ghost use Rattle.plan_certificate.specs.CertificateText.{IsEntryInRange, IsReadable, certificate_lines, line_text};
+ghost use Rattle.plan_certificate.specs.Limits.{most_states};
+ghost use Rattle.lane_planner.specs.Buffers.{Puts, buffer_with};
+ghost use Rattle.lane_planner.specs.CertifiedPlans.{IsPlanText, claim_by};
+ghost use Rattle.lane_planner.specs.Tables.{marked_entries};
 
 use crate::gains::put_gains;
 use crate::planner::{entry_at, read_off};
 use crate::reached::reached;
 use crate::table::Table;
 use applications::{Advert, Weights};
-use plan_certificate::{Plan, STATES, write_end, write_entry, write_head};
+use plan_certificate::{ENTRY_LINE, HEAD, Plan, STATES, end_line, entry_line, head_of};
 use std::alloc::{AllocError, Global};
+
+/// No text of a certificate is longer.
+const MOST_TEXT: usize = HEAD + ENTRY_LINE * STATES + 4;
 
 /// The text of the certificate that `plan_keeping` gives. It has no room for the certificate, which is large.
 pub fn certificate_text(
@@ -21,27 +32,85 @@ pub fn certificate_text(
     requires { IsAdmissible advert.now kept.now }
     ensures { IfOk result (λ text. IsPlanText advert.now weights.now kept.now text.items) }
 {
+    let mut text = Vec::from_elem(alloc, 0, MOST_TEXT)?;
+    let len = put_certificate(text.as_mut_slice(), advert, weights, kept);
+    text.truncate(len);
+    Ok(text)
+}
+
+/// Puts that text into a buffer that has room for it, and answers how many bytes it has.
+pub fn put_certificate(buffer: &mut [u8], advert: &Advert, weights: &Weights, kept: &Plan) -> usize
+    requires { IsAdmissible advert.now kept.now }
+    ensures put { (text : List ℕ) × IsPlanText advert.now weights.now kept.now text
+        × (result ≡ length text) × (buffer.new ≡ buffer_with buffer.old text) }
+    ensures small { result ≤ 74046 }
+{
     let paths = kept.paths.as_slice();
     let mut marks = [false; STATES];
     reached(advert, weights, paths, &mut marks);
     let mut table = Table::blank();
     put_gains(advert, weights, paths, &marks, &mut table);
     let plan = read_off(advert, weights, paths, &table);
-    let mut text = write_head(alloc, table.at(0), kept, &plan)?;
-    write_entries(&mut text, &marks, &table)?;
-    write_end(&mut text)?;
-    Ok(text)
+    put_if_room(buffer, kept, &plan, &marks, &table)
 }
 
-// Adds the lines of the marked states.
-fn write_entries(text: &mut Vec<u8>, marks: &[bool], table: &Table) -> Result<(), AllocError>
+fn put_if_room(buffer: &mut [u8], kept: &Plan, plan: &Plan, marks: &[bool], table: &Table) -> usize
     requires { length marks.now ≡ STATES }
-    ensures { OnOk result (AddsEntries marks.now table.now STATES text.old.items text.new.items) }
+    ensures readable { IsReadable most_states (claim_by kept.now plan.now marks.now table.now) }
+    ensures len { result ≡ length (text_of (certificate_lines (claim_by kept.now plan.now marks.now table.now))) }
+    ensures put { buffer.new ≡ buffer_with buffer.old (text_of (certificate_lines (claim_by kept.now plan.now marks.now table.now))) }
+    ensures small { result ≤ 74046 }
+{
+    if buffer.len() < MOST_TEXT {
+        let mut nothing = [0; 0];
+        let len = put_text(&mut nothing, kept, plan, marks, table);
+        if buffer.len() < len {
+            return len;
+        }
+    }
+    put_text(buffer, kept, plan, marks, table)
+}
+
+// Puts the text at the front of a buffer; if this has no room for it, nobody is to look at the buffer again.
+fn put_text(buffer: &mut [u8], kept: &Plan, plan: &Plan, marks: &[bool], table: &Table) -> usize
+    requires { length marks.now ≡ STATES }
+    ensures readable { IsReadable most_states (claim_by kept.now plan.now marks.now table.now) }
+    ensures put { Puts (text_of (certificate_lines (claim_by kept.now plan.now marks.now table.now))) buffer.old 0 buffer.new result }
+    ensures small { result ≤ 74046 }
+{
+    let mut len = 0;
+    let head = head_of(table.at(0), kept, plan);
+    put(buffer, &mut len, head.as_slice());
+    put_entries(buffer, &mut len, marks, table);
+    put(buffer, &mut len, &end_line());
+    len
+}
+
+// Puts the lines of the marked states.
+fn put_entries(buffer: &mut [u8], len: &mut usize, marks: &[bool], table: &Table)
+    requires all { length marks.now ≡ STATES }
+    requires few { len.old ≤ 314 }
+    ensures put { Puts (text_of (map line_text (map (λ entry. StateLine entry) (marked_entries marks.now table.now STATES))))
+        buffer.old len.old buffer.new len.new }
+    ensures each { AllByRecursion IsEntryInRange (marked_entries marks.now table.now STATES) }
+    ensures small { len.new ≤ len.old + 32 * STATES }
 {
     for place in 0..STATES {
         if marks[place] {
-            write_entry(text, entry_at(table, place))?;
+            let line = entry_line(entry_at(table, place));
+            put(buffer, len, line.as_slice());
         }
     }
-    Ok(())
+}
+
+// Puts a piece after so many bytes, if there is room for it, and counts its bytes in any case.
+fn put(buffer: &mut [u8], len: &mut usize, piece: &[u8])
+    requires { len.old + length piece.now ≤ 80000 }
+    ensures { Puts piece.now buffer.old len.old buffer.new len.new }
+{
+    let end = *len + piece.len();
+    if end <= buffer.len() {
+        buffer[*len..end].copy_from_slice(piece);
+    }
+    *len = end;
 }

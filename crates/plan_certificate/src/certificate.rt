@@ -7,7 +7,7 @@ use crate::state::State;
 pub use entries::Entries;
 use field_tables::LaneSet;
 use std::marker::Model;
-pub use writing::{write_end, write_entry, write_head};
+pub use writing::{ENTRY_LINE, HEAD, end_line, entry_line, head_of};
 
 /// A state and a bound on what can still be gained from it.
 #[derive(Clone, Copy, Debug, PartialEq, Eq, Default)]

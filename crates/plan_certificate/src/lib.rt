@@ -17,7 +17,9 @@ mod stage;
 mod state;
 mod verdict;
 
-pub use certificate::{Certificate, Entries, Entry, write_end, write_entry, write_head};
+pub use certificate::{
+    Certificate, ENTRY_LINE, Entries, Entry, HEAD, end_line, entry_line, head_of,
+};
 pub use checker::check;
 pub use fault::{CertificateFault, KeptFault};
 pub use kept::is_among;

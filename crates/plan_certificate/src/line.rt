@@ -9,8 +9,7 @@ ghost use Rattle.plan_certificate.specs.CertificateText.{path_values, state_valu
 use crate::certificate::Entry;
 use crate::path::Path;
 use crate::state::HOST_LANES;
-use std::fmt;
-use text_lines::{HexByte, read_decimal, read_hex_byte, split_words};
+use text_lines::{read_decimal, read_hex_byte, split_words};
 
 /// A line of a certificate's text.
 #[derive(Clone, Copy)]
@@ -24,33 +23,6 @@ pub enum Line {
     PathLine(Path),
     StateLine(Entry),
     End,
-}
-
-impl fmt::Display for Line {
-    ghost output = { λ line. Some (line_text line) };
-
-    #[tactic(auto, unfolding(crate::specs::CertificateText::line_words))]
-    fn fmt<W: fmt::Write>(&self, f: &mut fmt::Formatter<W>) -> fmt::Result {
-        match self {
-            Line::Header => write!(f, "certificate 1"),
-            Line::KeptHeader => write!(f, "certificate 2"),
-            Line::Weight(weight) => write!(f, "weight {weight}"),
-            Line::KeepLine(path) => {
-                let (app, host, media) = (path.app, path.host, path.media);
-                write!(f, "keep {app} {host} {media}")
-            }
-            Line::PathLine(path) => {
-                let (app, host, media) = (path.app, path.host, path.media);
-                write!(f, "path {app} {host} {media}")
-            }
-            Line::StateLine(entry) => {
-                let (boundary, potential) = (entry.boundary, entry.potential);
-                let used = HexByte(entry.used);
-                write!(f, "state {boundary} {used} {potential}")
-            }
-            Line::End => write!(f, "end"),
-        }
-    }
 }
 
 /// The line that bytes spell.

@@ -1,21 +1,26 @@
-// Writing a certificate's text.
-ghost use Rattle.std.specs.Prelude.{◌≡◌, ◌≤◌, ◌++◌, ◌∷◌, [], IfOk, OnOk, codes, length, map};
+// Writing a certificate's text: the lines before those of the entries, the line of an entry, and the last line.
+ghost use Rattle.std.specs.Prelude.{◌≡◌, ◌+◌, ◌*◌, ◌≤◌, ◌++◌, ◌∷◌, [], IfOk, OnOk, codes, length, map};
 ghost use Rattle.std.specs.Fmt.{decimal};
 ghost use Rattle.hex.specs.Hex.{encode_lower};
-ghost use Rattle.std.specs.String.{string_bytes};
 ghost use Rattle.std.specs.List.{AllByRecursion};
 ghost use Rattle.text_lines.specs.Lines.{lines_of, text_of};
+ghost use Rattle.text_lines.specs.Words.{spaced};
 ghost use Rattle.plan_certificate.specs.declared.line.Line.{Line};
-ghost use Rattle.plan_certificate.specs.CertificateText.{header_of, line_text, certificate_lines, IsPathInRange, IsEntryInRange, IsHead, IsReadable, IsTextOf};
+ghost use Rattle.plan_certificate.specs.CertificateText.{header_of, line_text, path_values, certificate_lines, IsPathInRange, IsEntryInRange, IsHead, IsReadable, IsTextOf};
 
 use super::{Certificate, Entries, Entry};
-use crate::line::Line;
 use crate::path::Path;
 use crate::plan::Plan;
+use arrayvec::ArrayVec;
 use itoa::Buffer;
 use std::alloc::{AllocError, Global};
-use std::fmt::Write;
-use text_lines::HexByte;
+use text_lines::{HexByte, LF};
+
+/// The most bytes of the lines before those of the entries: 14 of the header, 28 of the weight, 17 of each path.
+pub const HEAD: usize = 314;
+
+/// The most bytes of the line of an entry.
+pub const ENTRY_LINE: usize = 32;
 
 impl<const STATES: usize> Certificate<STATES> {
     /// The text of the certificate.
@@ -24,87 +29,15 @@ impl<const STATES: usize> Certificate<STATES> {
         ensures readable { OnOk result (IsReadable STATES self.now) }
         ensures read_back { IfOk result (λ text. IsTextOf STATES (lines_of text.items) self.now) }
     {
-        let mut text = write_head(alloc, self.weight, &self.kept, &self.plan)?;
+        let head = head_of(self.weight, &self.kept, &self.plan);
+        let mut text = Vec::from_slice(alloc, head.as_slice())?;
         write_entries(&mut text, &self.entries)?;
-        write_end(&mut text)?;
+        text.extend_from_slice(&end_line())?;
         Ok(text)
     }
 }
 
-/// The lines of a certificate before those of its entries.
-pub fn write_head(
-    alloc: Global,
-    weight: u64,
-    kept: &Plan,
-    plan: &Plan,
-) -> Result<Vec<u8>, AllocError>
-    ensures { IfOk result (λ text. IsHead weight kept.now plan.now text.items) }
-{
-    let (kept, paths) = (kept.paths.as_slice(), plan.paths.as_slice());
-    let mut text = String::new(alloc);
-    write_line(&mut text, header_of(kept))?;
-    write_line(&mut text, Line::Weight(weight))?;
-    write_kept(&mut text, kept)?;
-    write_paths(&mut text, paths)?;
-    Ok(text.into_bytes())
-}
-
-fn write_line(text: &mut String, line: Line) -> Result<(), AllocError>
-    ensures { OnOk result (string_bytes text.new ≡ string_bytes text.old ++ (line_text line ++ 10 ∷ [])) }
-{
-    writeln!(text, "{line}")
-}
-
-// The first line of a certificate that keeps these paths.
-fn header_of(kept: &[Path]) -> Line
-    ensures { result ≡ header_of kept.now }
-{
-    if kept.is_empty() {
-        Line::Header
-    } else {
-        Line::KeptHeader
-    }
-}
-
-fn write_kept(text: &mut String, paths: &[Path]) -> Result<(), AllocError>
-    ensures written { OnOk result (string_bytes text.new ≡ string_bytes text.old ++ text_of (map line_text (map (λ path. Line.KeepLine path) paths.now))) }
-    ensures each { OnOk result (AllByRecursion IsPathInRange paths.now) }
-{
-    for path in paths {
-        write_keep(text, *path)?;
-    }
-    Ok(())
-}
-
-fn write_keep(text: &mut String, path: Path) -> Result<(), AllocError>
-    ensures written { OnOk result (string_bytes text.new ≡ string_bytes text.old ++ (line_text (Line.KeepLine path) ++ 10 ∷ [])) }
-    ensures fits { OnOk result (IsPathInRange path) }
-{
-    // Read here, the three are known to be bytes, as `fits` says.
-    let (_app, _host, _media) = (path.app, path.host, path.media);
-    write_line(text, Line::KeepLine(path))
-}
-
-fn write_paths(text: &mut String, paths: &[Path]) -> Result<(), AllocError>
-    ensures written { OnOk result (string_bytes text.new ≡ string_bytes text.old ++ text_of (map line_text (map (λ path. Line.PathLine path) paths.now))) }
-    ensures each { OnOk result (AllByRecursion IsPathInRange paths.now) }
-{
-    for path in paths {
-        write_path(text, *path)?;
-    }
-    Ok(())
-}
-
-fn write_path(text: &mut String, path: Path) -> Result<(), AllocError>
-    ensures written { OnOk result (string_bytes text.new ≡ string_bytes text.old ++ (line_text (Line.PathLine path) ++ 10 ∷ [])) }
-    ensures fits { OnOk result (IsPathInRange path) }
-{
-    // Read here, the three are known to be bytes, as `fits` says.
-    let (_app, _host, _media) = (path.app, path.host, path.media);
-    write_line(text, Line::PathLine(path))
-}
-
-// Most lines are states, so these are put together byte by byte, with no formatter.
+// Most lines are states, so these are put together byte by byte.
 fn write_entries<const STATES: usize>(
     text: &mut Vec<u8>,
     entries: &Entries<STATES>,
@@ -114,21 +47,133 @@ fn write_entries<const STATES: usize>(
     ensures few { OnOk result (length entries.now ≤ STATES) }
 {
     for index in 0..entries.len() {
-        write_entry(text, entries.at(index))?;
+        text.extend_from_slice(entry_line(entries.at(index)).as_slice())?;
     }
     Ok(())
 }
 
-/// Adds the line of an entry.
-pub fn write_entry(text: &mut Vec<u8>, entry: Entry) -> Result<(), AllocError>
-    requires { entry.boundary ≤ 8 }
-    ensures written { OnOk result (text.new.items ≡ text.old.items ++ (line_text (Line.StateLine entry) ++ 10 ∷ [])) }
-    ensures fits { OnOk result (IsEntryInRange entry) }
+/// The lines of a certificate before those of its entries.
+pub fn head_of(weight: u64, kept: &Plan, plan: &Plan) -> ArrayVec<u8, HEAD>
+    ensures { IsHead weight kept.now plan.now result.items }
 {
-    text.extend_from_slice(&state_words(entry.boundary, entry.used))?;
-    text.extend_from_slice(Buffer::new().format(entry.potential).as_bytes())?;
-    text.extend_from_slice(b"\n")?;
-    Ok(())
+    let (kept, paths) = (kept.paths.as_slice(), plan.paths.as_slice());
+    let mut head = ArrayVec::new();
+    add(&mut head, header_of(kept));
+    add_weight(&mut head, weight);
+    add_kept(&mut head, kept);
+    add_paths(&mut head, paths);
+    head
+}
+
+// The first line of a certificate that keeps these paths.
+#[tactic(auto, unfolding(crate::specs::CertificateText::line_words))]
+fn header_of(kept: &[Path]) -> &'static [u8]
+    ensures line { result.now ≡ line_text (header_of kept.now) ++ 10 ∷ [] }
+    ensures small { length result.now ≤ 14 }
+{
+    if kept.is_empty() {
+        b"certificate 1\n"
+    } else {
+        b"certificate 2\n"
+    }
+}
+
+#[tactic(auto, unfolding(crate::specs::CertificateText::line_words))]
+fn add_weight(head: &mut ArrayVec<u8, HEAD>, weight: u64)
+    requires room { length head.old.items + 28 ≤ 314 }
+    ensures written { head.new.items ≡ head.old.items ++ (line_text (Line.Weight weight) ++ 10 ∷ []) }
+    ensures small { length head.new.items ≤ length head.old.items + 28 }
+{
+    add(head, b"weight ");
+    add(head, Buffer::new().format(weight).as_bytes());
+    head.push(LF);
+}
+
+fn add_kept(head: &mut ArrayVec<u8, HEAD>, paths: &[Path])
+    requires room { length head.old.items + 17 * length paths.now ≤ 314 }
+    ensures written { head.new.items ≡ head.old.items ++ text_of (map line_text (map (λ path. Line.KeepLine path) paths.now)) }
+    ensures small { length head.new.items ≤ length head.old.items + 17 * length paths.now }
+    ensures each { AllByRecursion IsPathInRange paths.now }
+{
+    for path in paths {
+        add_keep(head, *path);
+    }
+}
+
+#[tactic(auto, unfolding(crate::specs::CertificateText::line_words))]
+fn add_keep(head: &mut ArrayVec<u8, HEAD>, path: Path)
+    requires room { length head.old.items + 17 ≤ 314 }
+    ensures written { head.new.items ≡ head.old.items ++ (line_text (Line.KeepLine path) ++ 10 ∷ []) }
+    ensures small { length head.new.items ≤ length head.old.items + 17 }
+    ensures fits { IsPathInRange path }
+{
+    add_words(head, b"keep", path);
+}
+
+fn add_paths(head: &mut ArrayVec<u8, HEAD>, paths: &[Path])
+    requires room { length head.old.items + 17 * length paths.now ≤ 314 }
+    ensures written { head.new.items ≡ head.old.items ++ text_of (map line_text (map (λ path. Line.PathLine path) paths.now)) }
+    ensures small { length head.new.items ≤ length head.old.items + 17 * length paths.now }
+    ensures each { AllByRecursion IsPathInRange paths.now }
+{
+    for path in paths {
+        add_path(head, *path);
+    }
+}
+
+#[tactic(auto, unfolding(crate::specs::CertificateText::line_words))]
+fn add_path(head: &mut ArrayVec<u8, HEAD>, path: Path)
+    requires room { length head.old.items + 17 ≤ 314 }
+    ensures written { head.new.items ≡ head.old.items ++ (line_text (Line.PathLine path) ++ 10 ∷ []) }
+    ensures small { length head.new.items ≤ length head.old.items + 17 }
+    ensures fits { IsPathInRange path }
+{
+    add_words(head, b"path", path);
+}
+
+// Adds the line of a word and a path's numbers.
+fn add_words(head: &mut ArrayVec<u8, HEAD>, word: &[u8], path: Path)
+    requires word { length word.now ≤ 4 }
+    requires room { length head.old.items + 17 ≤ 314 }
+    ensures written { head.new.items ≡ head.old.items ++ (spaced (word.now ∷ path_values path) ++ 10 ∷ []) }
+    ensures small { length head.new.items ≤ length head.old.items + 17 }
+    ensures fits { IsPathInRange path }
+{
+    add(head, word);
+    add_number(head, path.app);
+    add_number(head, path.host);
+    add_number(head, path.media);
+    head.push(LF);
+}
+
+// Adds a space and a number.
+fn add_number(head: &mut ArrayVec<u8, HEAD>, number: u8)
+    requires room { length head.old.items + 4 ≤ 314 }
+    ensures written { head.new.items ≡ head.old.items ++ 32 ∷ decimal number }
+    ensures small { length head.new.items ≤ length head.old.items + 4 }
+{
+    head.push(b' ');
+    add(head, Buffer::new().format(number).as_bytes());
+}
+
+fn add(head: &mut ArrayVec<u8, HEAD>, bytes: &[u8])
+    requires room { length head.old.items + length bytes.now ≤ 314 }
+    ensures { head.new.items ≡ head.old.items ++ bytes.now }
+{
+    head.try_extend_from_slice(bytes).unwrap();
+}
+
+/// The line of an entry.
+pub fn entry_line(entry: Entry) -> ArrayVec<u8, ENTRY_LINE>
+    requires { entry.boundary ≤ 8 }
+    ensures written { result.items ≡ line_text (Line.StateLine entry) ++ 10 ∷ [] }
+    ensures fits { IsEntryInRange entry }
+{
+    let mut line = ArrayVec::try_from(state_words(entry.boundary, entry.used).as_slice()).unwrap();
+    line.try_extend_from_slice(Buffer::new().format(entry.potential).as_bytes())
+        .unwrap();
+    line.push(LF);
+    line
 }
 
 // A state's line before its potential.
@@ -153,10 +198,10 @@ fn state_words(boundary: u8, used: u8) -> [u8; 11]
     ]
 }
 
-/// Adds the last line.
+/// The last line.
 #[tactic(auto, unfolding(crate::specs::CertificateText::line_words))]
-pub fn write_end(text: &mut Vec<u8>) -> Result<(), AllocError>
-    ensures { OnOk result (text.new.items ≡ text.old.items ++ (line_text Line.End ++ 10 ∷ [])) }
+pub fn end_line() -> [u8; 4]
+    ensures { result ≡ line_text Line.End ++ 10 ∷ [] }
 {
-    text.extend_from_slice(b"end\n")
+    *b"end\n"
 }

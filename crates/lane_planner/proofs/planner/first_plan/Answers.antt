@@ -1,10 +1,11 @@
-use Rattle.std.proofs.Common.{◌≡◌, List, refl, sym, subst, arith}
+use Rattle.std.proofs.Common.{◌≡◌, List, refl, sym, subst}
 use Rattle.plan_certificate.specs.declared.path.Path.{Path}
 use Rattle.plan_certificate.specs.Plans.{AreAllowed, IsAdmissible}
+use Rattle.lane_planner.specs.CertifiedPlans.{claim_by}
 use Rattle.lane_planner.specs.FirstBest.{IsFirstBest}
 use Rattle.lane_planner.specs.Marks.{MarksReached}
 use Rattle.lane_planner.specs.Tables.{HasGains, IsReadOff}
-use Rattle.lane_planner.proofs.CertifiedPlans.{certified, claim, entries_upto}
+use Rattle.lane_planner.proofs.CertifiedPlans.{certified}
 use Rattle.lane_planner.proofs.PlansReadOff.{read_off_is_first}
 use Rattle.lane_planner.proofs.planner.first_plan.Goals as goal
 
@@ -35,8 +36,7 @@ returns-clause-certified c =
     let reached = subst (λ (l : List Path). MarksReached advert weights l marks) same c.reached.ensures in
     let has = subst (λ (l : List Path). HasGains advert weights l 0 table) same c.put_gains.ensures in
     let off = subst (λ (l : List Path). IsReadOff advert weights l table paths) same c.read_off.ensures in
-    let entries = entries_upto marks table 2304 (omega arith) in
-    (claim advert weights kept paths marks table entries.0 c.requires reached has off entries.1, certified advert weights kept paths marks table entries.0 c.requires reached has off entries.1, refl)
+    (claim_by kept paths marks table, certified advert weights kept paths marks table c.requires reached has off, refl)
 
 pub returns-clause-first : goal.returns-clause-first
 returns-clause-first c =

@@ -1,38 +1,15 @@
-use Rattle.std.proofs.Common.{◌≡◌, ℕ, List, sym, subst}
-use Rattle.plan_certificate.specs.declared.path.Path.{Path}
-use Rattle.plan_certificate.specs.Plans.{AreAllowed, IsAdmissible}
-use Rattle.plan_certificate.specs.CertificateText.{IsHead}
-use Rattle.lane_planner.specs.Marks.{MarksReached}
-use Rattle.lane_planner.specs.Tables.{HasGains, IsReadOff}
-use Rattle.lane_planner.proofs.CertifiedPlans.{plan_text}
+use Rattle.std.proofs.Common.{◌∙◌, ◌≤◌, ℕ, List, drop, length, sym, subst, arith}
+use Rattle.lane_planner.specs.CertifiedPlans.{IsPlanText}
+use Rattle.lane_planner.proofs.PutPieces.{cut_off}
 use Rattle.lane_planner.proofs.written.certificate_text.Goals as goal
-
-pub reached-requires-clause-kept : goal.reached-requires-clause-kept
-reached-requires-clause-kept c =
-    let same : c.as_slice-paths.result.now ≡ c.args.kept.now = (let read = c.as_slice-paths.ensures.value in let seen = c.kept.view_is in cc) in
-    subst (AreAllowed c.args.advert.now) (sym same) c.requires.allowed
-
-pub put_gains-requires-clause-kept : goal.put_gains-requires-clause-kept
-put_gains-requires-clause-kept c =
-    let same : c.as_slice-paths.result.now ≡ c.args.kept.now = (let read = c.as_slice-paths.ensures.value in let seen = c.kept.view_is in cc) in
-    subst (AreAllowed c.args.advert.now) (sym same) c.requires.allowed
-
-pub read_off-plan-requires-clause-kept : goal.read_off-plan-requires-clause-kept
-read_off-plan-requires-clause-kept c =
-    let same : c.as_slice-paths.result.now ≡ c.args.kept.now = (let read = c.as_slice-paths.ensures.value in let seen = c.kept.view_is in cc) in
-    subst (IsAdmissible c.args.advert.now) (sym same) c.requires
 
 pub returns : goal.returns
 returns c =
-    let advert = c.args.advert.now in
-    let weights = c.args.weights.now in
-    let marks = c.reached.new.marks in
-    let table = c.put_gains.new.table in
-    let plan = c.read_off-plan.result in
-    let same : c.as_slice-paths.result.now ≡ c.args.kept.now = (let read = c.as_slice-paths.ensures.value in let seen = c.kept.view_is in cc) in
-    let reached = subst (λ (paths : List Path). MarksReached advert weights paths marks) same c.reached.ensures in
-    let has = subst (λ (paths : List Path). HasGains advert weights paths 0 table) same c.put_gains.ensures in
-    let off = subst (λ (paths : List Path). IsReadOff advert weights paths table plan) same c.read_off-plan.ensures in
-    let head = subst (λ (weight : ℕ). IsHead weight c.args.kept.now plan c.in_ok-text.text.items) c.at.ensures c.in_ok-text.ensures in
-    plan_text advert weights c.args.kept.now plan marks table c.in_ok-text.text.items c.write_entries.new.text.items c.write_end.new.text.items c.requires reached has off
-    head c.in_ok-write_entries.ensures c.in_ok-write_end.ensures
+    let put = c.put_certificate-len.ensures.put in
+    let Is : List ℕ → Type 0 = IsPlanText c.args.advert.now c.args.weights.now c.args.kept.now in
+    let new : List ℕ = c.put_certificate-len.new.buffer in
+    let rest : List ℕ = drop (length new) c.in_ok-text.text.items in
+    let fits : c.put_certificate-len.result ≤ length c.as_mut_slice.result.now = omega (arith, c.as_mut_slice.ensures.len, c.in_ok-text.ensures.len, c.put_certificate-len.ensures.small) in
+    let within : c.put_certificate-len.result ≤ c.in_ok-text.text.len = omega (arith, c.in_ok-text.ensures.len, c.put_certificate-len.ensures.small) in
+    let cut = cut_off put.0 c.as_mut_slice.result.now new rest c.put_certificate-len.result c.in_ok-text.text.len put.3 put.2 fits within in
+    subst Is (sym (c.truncate.ensures.items ∙ cut)) put.1

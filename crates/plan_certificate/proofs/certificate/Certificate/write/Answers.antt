@@ -1,4 +1,4 @@
-use Rattle.std.proofs.Common.{List, ℕ, sym, subst}
+use Rattle.std.proofs.Common.{List, ℕ, ◌∙◌, sym, subst}
 use Rattle.text_lines.specs.Lines.{lines_of}
 use Rattle.plan_certificate.specs.CertificateText.{IsTextOf}
 use Rattle.plan_certificate.proofs.WrittenCertificates.{is_readable, whole_text, written_lines}
@@ -6,13 +6,15 @@ use Rattle.plan_certificate.proofs.certificate.Certificate.write.Goals as goal
 
 pub returns-clause-readable : goal.returns-clause-readable
 returns-clause-readable g c =
-    let head = c.in_ok-text.ensures in
+    let head = c.head_of-head.ensures in
     let entries = c.in_ok-write_entries.ensures in
     rw (← c.self.view_is) (is_readable g.row.STATES _ head.small head.kept_in_range head.paths_in_range entries.each c.self.invariant head.few_kept head.few_paths entries.few)
 
 pub returns-clause-written : goal.returns-clause-written
 returns-clause-written g c =
-    rw (← c.self.view_is) (whole_text _ _ _ _ c.in_ok-text.ensures.written c.in_ok-write_entries.ensures.written c.in_ok-write_end.ensures)
+    let head = c.in_ok-text.ensures.items ∙ c.as_slice.ensures.value ∙ c.head_of-head.ensures.written in
+    let end = rw c.end_line.ensures at c.in_ok-extend_from_slice.ensures.items in
+    rw (← c.self.view_is) (whole_text _ _ _ _ head c.in_ok-write_entries.ensures.written end)
 
 pub returns-clause-read_back : goal.returns-clause-read_back
 returns-clause-read_back g c =
