@@ -187,7 +187,11 @@ def image_by_chance(chance: random.Random) -> Image:
         for _ in range(chance.choice([0, 3, 60])):
             changed[chance.randrange(128)] = chance.choice([0x00, 0xFF, chance.randrange(256)])
         if key == LOWER:
-            for place, good in ((1, b"\x40\x5A"), (2, b"\x00\x80\x04"), (92, b"\x00\x40\x44\x68")):
+            for place, good in (
+                (1, b"\x40\x5A"),
+                (2, b"\x00\x80\x04"),
+                (92, b"\x00\x40\x44\x50\x68"),
+            ):
                 if chance.random() < 0.7:
                     changed[place] = chance.choice(good)
             if chance.random() < 0.8:
