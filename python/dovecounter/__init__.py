@@ -7,7 +7,20 @@ from .faults import Fault
 from .image import LOWER, Image, Key, page
 from .planning import DataPath, Judgement, Plan, check, plan
 from .procedures import Activation, Operation, Procedure, Provisioning, Reading, Reply
-from .reports import Advertisement, Application, Durations, Family, Flags, Inventory, Levels
+from .reports import (
+    Advertisement,
+    Application,
+    Durations,
+    Family,
+    Flags,
+    Inventory,
+    LaneValues,
+    Levels,
+    Limits,
+    Monitors,
+    Support,
+    Value,
+)
 from .simulated import Delays, SimulatedModule
 from .states import ConfigStatus, ModuleState, PathState
 
@@ -27,8 +40,11 @@ __all__ = [
     "Inventory",
     "Judgement",
     "Key",
+    "LaneValues",
     "Levels",
+    "Limits",
     "ModuleState",
+    "Monitors",
     "Operation",
     "PathState",
     "Plan",
@@ -37,6 +53,8 @@ __all__ = [
     "Reading",
     "Reply",
     "SimulatedModule",
+    "Support",
+    "Value",
     "check",
     "page",
     "plan",

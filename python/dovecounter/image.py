@@ -15,10 +15,12 @@ from .reports import (
     Durations,
     Flags,
     Inventory,
+    Monitors,
     advertisement_of,
     durations_of,
     flags_of,
     inventory_of,
+    monitors_of,
 )
 
 HALF = 128  # bytes
@@ -37,6 +39,7 @@ _advertisement = library.function("advertisement")
 _durations = library.function("durations")
 _identity = library.function("identity")
 _flags = library.function("flags")
+_monitors = library.function("monitors")
 
 
 @dataclass(frozen=True, order=True)
@@ -85,6 +88,8 @@ _OF_APPLICATIONS: _Needed = {
 }
 _OF_INVENTORY: _Needed = {"RP6": (LOWER, page(0x00)), "SF3": (page(0x00),)}
 _OF_FLAGS: _Needed = {"RP6": (LOWER, page(0x11)), "SF3": (LOWER_A2,)}
+_OF_MONITORS: _Needed = {"RP6": (LOWER, page(0x01), page(0x02), page(0x11)), "SF3": (LOWER_A2,)}
+_OF_QSFP_MONITORS: _Needed = {"SF3": (page(0x03),)}
 
 
 class Image:
@@ -214,6 +219,16 @@ class Image:
         found = library.Flags()
         self.take(_flags(*self.arguments(), byref(found)), _OF_FLAGS)
         return flags_of(found)
+
+    def monitors(self) -> Monitors:
+        """What the module measures. Needs the lower half of 0xA0; of a CMIS module with paged memory
+        the pages 01h, 02h and 11h too, of a module of SFF-8636 with paged memory page 03h, and of a
+        module of SFF-8472 the lower half of 0xA2. Raises a Fault of RP1, RP4, RP6 or SF3 to SF6."""
+        found = library.Monitors()
+        status = _monitors(*self.arguments(), byref(found))
+        is_qsfp = CODES.get(status) == "SF3" and self._halves[LOWER][0] in _SFF_8636
+        self.take(status, _OF_QSFP_MONITORS if is_qsfp else _OF_MONITORS)
+        return monitors_of(found)
 
     def arguments(self) -> Tuple[Array[library.Half], int]:
         """The halves as the library takes them, and their number."""

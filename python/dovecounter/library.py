@@ -75,6 +75,26 @@ class Flags(Structure):
     ]
 
 
+class Limits(Structure):
+    _fields_ = _members(c_int64, "high_alarm low_alarm high_warning low_warning")
+
+
+class Value(Structure):
+    _fields_ = [("value", c_int64), ("limits", Limits)]
+
+
+class LaneValues(Structure):
+    _fields_ = [("values", c_int64 * 8), ("limits", Limits), ("support", c_uint8)]
+
+
+class Monitors(Structure):
+    _fields_ = [
+        *_members(Value, "temperature vcc"),
+        *_members(LaneValues, "tx_power tx_bias rx_power"),
+        *_members(c_uint8, "family lanes has_limits sum"),
+    ]
+
+
 class Durations(Structure):
     _fields_ = [
         *_members(c_uint32, "module_power_up module_power_down path_init path_deinit"),
@@ -176,6 +196,7 @@ FUNCTIONS: Dict[str, Tuple[Any, Tuple[Any, ...]]] = {
     "advertisement": (c_uint32, (*_HALVES, POINTER(Advertisement))),
     "identity": (c_uint32, (*_HALVES, POINTER(Identity))),
     "flags": (c_uint32, (*_HALVES, POINTER(Flags))),
+    "monitors": (c_uint32, (*_HALVES, POINTER(Monitors))),
     "durations": (c_uint32, (*_HALVES, POINTER(Durations))),
     "plan": (c_uint32, (*_HALVES, _WEIGHTS, POINTER(Path), c_size_t, POINTER(Plan))),
     "check": (c_uint32, (*_HALVES, _WEIGHTS, *_BYTES, POINTER(Judgement))),

@@ -157,6 +157,67 @@ class Flags:
         )
 
 
+@dataclass(frozen=True)
+class Limits:
+    """Of a value, in its unit."""
+
+    high_alarm: int
+    low_alarm: int
+    high_warning: int
+    low_warning: int
+
+
+class Support(IntEnum):
+    """Whether a module measures something in its lanes."""
+
+    UNSUPPORTED = 0
+    MEASURED = 1
+    RESERVED_MULTIPLIER = 2
+    """bias is measured, but counted by a reserved code (CMIS)"""
+
+
+@dataclass(frozen=True)
+class Value:
+    """What a module measures of itself."""
+
+    value: int
+    limits: Optional[Limits]
+    """None if the memory is flat"""
+
+
+@dataclass(frozen=True)
+class LaneValues:
+    """What a module measures in each lane."""
+
+    support: Support
+    values: Tuple[int, ...]
+    """lane 1 first; empty unless they are measured"""
+    limits: Optional[Limits]
+    """None unless they are measured, and if the memory is flat"""
+
+
+@dataclass(frozen=True)
+class Monitors:
+    """What a module measures, of CMIS in its media lanes. Numbers are rounded down, below zero too."""
+
+    family: Family
+    lanes: int
+    """how many lanes are told of: 8, 4 or 1; 0 if a CMIS module has flat memory"""
+    temperature: Value
+    """in thousandths of a degree Celsius"""
+    vcc: Value
+    """the supply voltage, in microvolts"""
+    tx_power: LaneValues
+    """transmitted light, in nanowatts"""
+    tx_bias: LaneValues
+    """a laser's bias current, in microamperes"""
+    rx_power: LaneValues
+    """received light, in nanowatts"""
+    sum_right: Optional[bool]
+    """whether the sum of page 02h (CMIS) or CC_DMI (SFF-8472), in which the limits are, is right;
+    None if there is no such sum"""
+
+
 def advertisement_of(found: library.Advertisement) -> Advertisement:
     """What the library's numbers say."""
     applications = tuple(
@@ -218,3 +279,30 @@ def flags_of(found: library.Flags) -> Flags:
         statuses=tuple(known(ConfigStatus, code) for code in found.statuses if has_lanes),
     )
     return Flags(**members)
+
+
+def monitors_of(found: library.Monitors) -> Monitors:
+    """What the library's numbers say."""
+
+    def limits(of: Any) -> Optional[Limits]:
+        levels = (getattr(of.limits, level) for level, _ in library.Limits._fields_)
+        return Limits(*levels) if found.has_limits else None
+
+    def of_lanes(of: Any) -> LaneValues:
+        support = Support(of.support)
+        if support != Support.MEASURED:
+            return LaneValues(support, (), None)
+        return LaneValues(support, tuple(of.values[: found.lanes]), limits(of))
+
+    family = Family(found.family)
+    has_sum = found.has_limits and family != Family.SFF_8636
+    return Monitors(
+        family=family,
+        lanes=found.lanes,
+        temperature=Value(found.temperature.value, limits(found.temperature)),
+        vcc=Value(found.vcc.value, limits(found.vcc)),
+        tx_power=of_lanes(found.tx_power),
+        tx_bias=of_lanes(found.tx_bias),
+        rx_power=of_lanes(found.rx_power),
+        sum_right=bool(found.sum) if has_sum else None,
+    )

@@ -39,14 +39,14 @@ NUMBERS = {
 
 
 def structure(name: str) -> Any:
-    return getattr(library, name.title())
+    return getattr(library, name.title().replace("_", ""))
 
 
 def test_each_structure_has_the_layout_that_c_gives_it(tmp_path: pathlib.Path) -> None:
     if shutil.which(COMPILER) is None:
         pytest.skip("there is no C compiler")
     declared = {
-        name.lower()
+        re.sub("(?<=[a-z])(?=[A-Z])", "_", name).lower()
         for name, found in vars(library).items()
         if isinstance(found, type(ctypes.Structure))
         and issubclass(found, ctypes.Structure)

@@ -19,8 +19,11 @@ from dovecounter import (
     Image,
     Inventory,
     Key,
+    Limits,
     ModuleState,
+    Monitors,
     PathState,
+    Support,
     page,
 )
 
@@ -57,7 +60,10 @@ def code(byte: Optional[int]) -> Optional[str]:
 
 
 def amount(number: Optional[int], unit: str) -> Optional[str]:
-    return None if number is None else f"{number // 1000}.{number % 1000:03} {unit}"
+    if number is None:
+        return None
+    minus, number = "-" if number < 0 else "", abs(number)
+    return f"{minus}{number // 1000}.{number % 1000:03} {unit}"
 
 
 def either(is_first: Optional[bool], first: str, second: str) -> Optional[str]:
@@ -108,6 +114,32 @@ def flags_in_order(lines: List[str]) -> List[str]:
     return [line for line in lines if line not in flags] + sorted(flags)
 
 
+def monitor_lines(found: Monitors) -> List[str]:
+    """What `cmisctl monitors` prints."""
+    lines: List[str] = []
+    for name, unit in (("temperature", "C"), ("vcc", "mV")):
+        of_module = getattr(found, name)
+        lines.append(f"{name} {amount(of_module.value, unit)}")
+        lines += limits(name, of_module.limits)
+    for name, unit in (("tx-power", "uW"), ("tx-bias", "mA"), ("rx-power", "uW")):
+        of_lanes = getattr(found, name.replace("-", "_"))
+        if found.lanes and of_lanes.support != Support.MEASURED:
+            is_reserved = of_lanes.support == Support.RESERVED_MULTIPLIER
+            lines.append(f"{name} {either(is_reserved, 'reserved', 'unsupported')}")
+        for lane, value in enumerate(of_lanes.values, 1):
+            lines.append(f"{name} {lane} {amount(value, unit)}")
+        lines += limits(name, of_lanes.limits)
+    if found.sum_right is not None:
+        name = either(found.family == Family.CMIS, "sum-02h", "sum-a2") or ""
+        lines.append(f"{name} {right(found.sum_right)}")
+    return lines
+
+
+def limits(name: str, levels: Optional[Limits]) -> List[str]:
+    shown = [amount(level, "") or "" for level in vars(levels).values()] if levels else []
+    return [f"{name}-limits {''.join(shown).rstrip()}"] if shown else []
+
+
 def said(ask: Callable[[Image], Any], say: Callable[[Any], List[str]], image: Image) -> List[str]:
     """The lines of what is found, or of the fault."""
     try:
@@ -116,20 +148,22 @@ def said(ask: Callable[[Image], Any], say: Callable[[Any], List[str]], image: Im
         return [f"fault {fault}"]
 
 
-def compare(image: Image) -> Tuple[str, str]:
-    """Compares both reports with the program's; gives how they begin."""
+def compare(image: Image) -> Tuple[str, str, str]:
+    """Compares the reports with the program's; gives how they begin."""
     text = image.to_text()
     inventory = said(Image.inventory, inventory_lines, image)
     assert inventory == cmisctl("inventory", text)
     flags = said(Image.flags, flag_lines, image)
     assert flags == flags_in_order(cmisctl("flags", text))
-    return inventory[0][:9], flags[0][:9]
+    monitors = said(Image.monitors, monitor_lines, image)
+    assert monitors == cmisctl("monitors", text)
+    return inventory[0][:9], flags[0][:9], monitors[0][:9]
 
 
 @pytest.mark.parametrize("path", IMAGES, ids=operator.attrgetter("name"))
 def test_what_a_module_is_and_its_flags_are_what_the_program_prints(path: pathlib.Path) -> None:
     image = image_of(path)
-    _, begin_of_flags = compare(image)
+    _, begin_of_flags, _ = compare(image)
     found = json.loads("\n".join(cmisctl("inventory --json", image.to_text())))
     assert inventory_object(image.inventory()) == found
     if begin_of_flags.startswith("fault"):
@@ -148,7 +182,7 @@ def test_images_by_chance_say_what_the_program_prints() -> None:
     chance = random.Random(11)
     begins = {begin for _ in range(500) for begin in compare(image_by_chance(chance))}
     faults = {begin[6:] for begin in begins if begin.startswith("fault ")}
-    assert faults == {"RP1", "RP4", "RP6", "SF3", "SF4", "SF6"}
+    assert faults == {"RP1", "RP4", "RP6", "SF3", "SF4", "SF5", "SF6"}
     assert {"family CM", "family SF", "state Mod", "state res", "flag none"} <= begins
 
 

@@ -150,6 +150,7 @@ def test_the_page_s_code_runs(
         "17 operations",
         "20 20 24 24 28 28 2c 2c DPActivated",
         "EXAMPLE QDD-400G-DR4 12000 mW",
+        "912000 nW in lane 1",
         "ModuleReady ()",
         f"{example('qsfp_dd_400g_dr4.txt').durations().path_init} ms for DPInit at most",
         f"KP3 (2,) {sentence_of('KP3')}",
