@@ -3,7 +3,8 @@ use Rattle.std.proofs.Common.{◌≡◌, ℕ, ◌-◌, true, List, get_or, filte
 use Rattle.std.proofs.lemmas.List.Elements.{All-filter, All-map, filter_passes}
 use Rattle.std.proofs.lemmas.List.FromFn.{get_or-range_with_len}
 use Rattle.std.specs.List.{range_with_len}
-use Rattle.control_sets.specs.HostPaths.{IsLane, begins, host_paths, path_from}
+use Rattle.field_tables.specs.LaneSets.{IsLane}
+use Rattle.control_sets.specs.HostPaths.{begins, host_paths, path_from}
 use Rattle.control_sets.proofs.Counts.{kept, mapped}
 
 pub are_lanes : All IsLane (range_with_len 1 8)

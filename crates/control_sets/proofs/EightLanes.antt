@@ -1,6 +1,6 @@
 -- What holds of each of the eight lanes.
 use Rattle.std.proofs.Common.{ℕ, zero, suc, arith}
-use Rattle.control_sets.specs.HostPaths.{IsLane}
+use Rattle.field_tables.specs.LaneSets.{IsLane}
 
 -- of eight lanes, each
 pub each_of_eight : (P : ℕ → Type 0) → P 1 → P 2 → P 3 → P 4 → P 5 → P 6 → P 7 → P 8 → (lane : ℕ) → IsLane lane → P lane

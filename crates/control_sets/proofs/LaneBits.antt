@@ -4,8 +4,7 @@ use Rattle.std.proofs.lemmas.Bool.Decides.{nat_tests}
 use Rattle.std.specs.FinSet as set
 use Rattle.std.specs.Int.{bit_at}
 use Rattle.field_tables.specs.LaneBytes.{at_bit, contains-lanes_in, contains-run_of}
-use Rattle.field_tables.specs.LaneSets.{Lanes, byte_of, every_lane, lanes_in}
-use Rattle.control_sets.specs.HostPaths.{IsLane}
+use Rattle.field_tables.specs.LaneSets.{IsLane, Lanes, byte_of, every_lane, lanes_in}
 use Rattle.control_sets.proofs.EightLanes.{each_of_eight}
 
 -- 1 for a lane that is in the set

@@ -6,7 +6,8 @@ use Rattle.std.proofs.lemmas.List.FromFn.{get_or-range_with_len, length-range_wi
 use Rattle.std.proofs.lemmas.List.Sums.{AllPass-from_list_all}
 use Rattle.std.specs.List.{range_with_len}
 use Rattle.control_sets.specs.declared.control_byte.ControlByte.{ControlByte}
-use Rattle.control_sets.specs.HostPaths.{IsLane, agree, all_agree, are_same, begins, control_at, first_lane, host_paths, is_reached, is_right, is_used, path_from, wrong_lane}
+use Rattle.field_tables.specs.LaneSets.{IsLane}
+use Rattle.control_sets.specs.HostPaths.{agree, all_agree, are_same, begins, control_at, first_lane, host_paths, is_reached, is_right, is_used, path_from, wrong_lane}
 use Rattle.control_sets.specs.LanesOfPaths.{HasLane, IsOnLane, TakesWhatAgrees}
 use Rattle.control_sets.proofs.Begun.{are_lanes, begun_is_told}
 use Rattle.control_sets.proofs.Counts.{count_later, front_counted}

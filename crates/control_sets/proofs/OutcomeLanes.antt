@@ -4,11 +4,10 @@ use Rattle.std.proofs.lemmas.Bool.{and_parts, and_from, cases_Bool, eqb-true, no
 use Rattle.std.specs.List.{range_with_len}
 use Rattle.std.specs.Option.{is_none}
 use Rattle.std.specs.FinSet as set
-use Rattle.field_tables.specs.LaneSets.{Lanes}
+use Rattle.field_tables.specs.LaneSets.{IsLane, Lanes}
 use Rattle.datapath_states.specs.Lanes.{code_in, codes_in}
 use Rattle.datapath_states.specs.StateCodes.{state_at as path_state_at}
 use Rattle.datapath_states.specs.StatusCodes.{status_at}
-use Rattle.control_sets.specs.HostPaths.{IsLane}
 use Rattle.control_sets.specs.Judgements.{all_lanes_have, at_lane, differing_lane, is_rejection, is_reserved_state, is_reserved_status, lowest_lane}
 use Rattle.control_sets.specs.OutcomeCodes.{AllHave, DiffersAt, HasSuch, IsLowest, IsLowestSuch, IsRejection, IsReservedPathState, IsReservedStatus, NoneHas, byte_at}
 use Rattle.field_tables.proofs.TrueTests.{in_range, range_passes}

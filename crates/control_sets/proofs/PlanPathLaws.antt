@@ -11,7 +11,8 @@ use Rattle.plan_certificate.specs.Paths.{app_of}
 use Rattle.control_sets.specs.declared.control_byte.ControlByte.{ControlByte}
 use Rattle.control_sets.specs.declared.host_path.HostPath.{HostPath}
 use Rattle.control_sets.specs.ControlBytes.{control_bytes, control_in, control_of}
-use Rattle.control_sets.specs.HostPaths.{IsLane, agree, are_same, begins, control_at, first_lane, host_paths, is_used, path_from}
+use Rattle.field_tables.specs.LaneSets.{IsLane}
+use Rattle.control_sets.specs.HostPaths.{agree, are_same, begins, control_at, first_lane, host_paths, is_used, path_from}
 use Rattle.control_sets.specs.PlanPaths.{AreHostPathsOf, host_path_of}
 use Rattle.control_sets.proofs.Begun.{are_lanes, begun_is_told}
 use Rattle.control_sets.proofs.Bytes.{takes}

@@ -1,5 +1,5 @@
 -- Numbers in a row: one more at the end.
-use Rattle.std.proofs.Common.{◌≡◌, ℕ, zero, suc, ◌+◌, ◌-◌, ◌≤◌, Bool, true, false, cond, List, [], ◌∷◌, ◌++◌, map, filter, refl, ap, ◌∙◌, arith}
+use Rattle.std.proofs.Common.{◌≡◌, ℕ, zero, suc, ◌+◌, Bool, true, false, cond, List, [], ◌∷◌, ◌++◌, map, filter, refl, ap, ◌∙◌, arith}
 use Rattle.std.proofs.lemmas.List.{map-append}
 use Rattle.std.proofs.lemmas.List.Elements.{filter-append}
 use Rattle.std.specs.List.{range_with_len}
@@ -14,15 +14,15 @@ map_if : {X : Type 0} (f : ℕ → X) (b : Bool) (k : ℕ) → map f (cond b (k 
 map_if f true k = refl
 map_if f false k = refl
 
--- what is made of the numbers from 1 up to one that pass a test, and of this one
-pub kept_more : {X : Type 0} (f : ℕ → X) (p : ℕ → Bool) (k : ℕ) → 1 ≤ k →
-    map f (filter p (range_with_len 1 (k + 1 - 1))) ≡ map f (filter p (range_with_len 1 (k - 1))) ++ cond (p k) (f k ∷ []) []
-kept_more {X} f p k from =
-    let more : k + 1 - 1 ≡ suc (k - 1) = omega (arith, from) in
-    let last : 1 + (k - 1) ≡ k = omega (arith, from) in
-    let before = range_with_len 1 (k - 1) in
+-- what is made of the first numbers from 1 on that pass a test, and of the next one
+pub kept_more : {X : Type 0} (f : ℕ → X) (p : ℕ → Bool) (count next : ℕ) → next ≡ count + 1 →
+    map f (filter p (range_with_len 1 (count + 1))) ≡ map f (filter p (range_with_len 1 count)) ++ cond (p next) (f next ∷ []) []
+kept_more {X} f p count next is =
+    let more : count + 1 ≡ suc count = omega arith in
+    let last : 1 + count ≡ next = omega (arith, is) in
+    let before = range_with_len 1 count in
     ap (λ (n : ℕ). map f (filter p (range_with_len 1 n))) more
-    ∙ ap (λ (ks : List ℕ). map f (filter p ks)) (range-last 1 (k - 1) ∙ ap (λ (n : ℕ). before ++ n ∷ []) last)
-    ∙ ap (map f) (filter-append p before (k ∷ []))
-    ∙ map-append f (filter p before) (cond (p k) (k ∷ []) [])
-    ∙ ap (λ (xs : List X). map f (filter p before) ++ xs) (map_if f (p k) k)
+    ∙ ap (λ (ks : List ℕ). map f (filter p ks)) (range-last 1 count ∙ ap (λ (n : ℕ). before ++ n ∷ []) last)
+    ∙ ap (map f) (filter-append p before (next ∷ []))
+    ∙ map-append f (filter p before) (cond (p next) (next ∷ []) [])
+    ∙ ap (λ (xs : List X). map f (filter p before) ++ xs) (map_if f (p next) next)

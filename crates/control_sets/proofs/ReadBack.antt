@@ -5,7 +5,8 @@ use Rattle.applications.specs.Advertised.{Advertised}
 use Rattle.plan_certificate.specs.declared.path.Path.{Path}
 use Rattle.control_sets.specs.declared.control_byte.ControlByte.{ControlByte}
 use Rattle.control_sets.specs.ControlBytes.{control_bytes, control_in}
-use Rattle.control_sets.specs.HostPaths.{IsLane, agree, all_agree, are_same, control_at, first_lane, is_reached, is_right, is_used, wrong_lane}
+use Rattle.field_tables.specs.LaneSets.{IsLane}
+use Rattle.control_sets.specs.HostPaths.{agree, all_agree, are_same, control_at, first_lane, is_reached, is_right, is_used, wrong_lane}
 use Rattle.field_tables.proofs.TrueTests.{range_passes}
 use Rattle.control_sets.proofs.Bytes.{takes}
 use Rattle.control_sets.proofs.Finding.{none_found}

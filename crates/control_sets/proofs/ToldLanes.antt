@@ -7,7 +7,8 @@ use Rattle.plan_certificate.specs.Paths.{is_allowed}
 use Rattle.plan_certificate.specs.Plans.{IsAdmissible}
 use Rattle.control_sets.specs.declared.control_byte.ControlByte.{ControlByte}
 use Rattle.control_sets.specs.ControlBytes.{byte_on, byte_saying, control_byte, control_bytes, control_in, control_of, path_on}
-use Rattle.control_sets.specs.HostPaths.{IsLane, control_at}
+use Rattle.field_tables.specs.LaneSets.{IsLane}
+use Rattle.control_sets.specs.HostPaths.{control_at}
 use Rattle.control_sets.proofs.Allowed.{HasLanes, lanes_of_allowed, number_of_allowed}
 use Rattle.control_sets.proofs.Bytes.{takes}
 use Rattle.control_sets.proofs.Finding.{found}

@@ -1,15 +1,11 @@
 -- The host paths of eight control bytes: which lanes say that they belong together. (docs/planning.md, "Control bytes";
 -- OIF-CMIS-05.0, chapter 8 "Module Management Memory Map", "Data Path Configuration", DPConfigLane of Staged Control Set
 -- 0)
-use Rattle.std.specs.Prelude.{ℕ, ◌+◌, ◌-◌, ◌≤◌, ◌==◌, ◌&&◌, ◌||◌, Bool, not, nat_le, List, Option, slice_index, find, filter, map, count_by}
+use Rattle.std.specs.Prelude.{ℕ, ◌+◌, ◌-◌, ◌==◌, ◌&&◌, ◌||◌, Bool, not, nat_le, List, Option, slice_index, find, filter, map, count_by}
 use Rattle.std.specs.List.{list_all, range_with_len}
 use Rattle.control_sets.specs.declared.control_byte.ControlByte.{ControlByte}
 use Rattle.control_sets.specs.declared.host_path.HostPath.{HostPath}
 use Rattle.control_sets.specs.ControlBytes.{control_of}
-
--- host lanes are counted from 1
-abbrev pub IsLane : ℕ → Type 0
-IsLane lane = (1 ≤ lane) × (lane ≤ 8)
 
 -- what a lane is told
 abbrev pub control_at : List ℕ → ℕ → ControlByte

@@ -2,7 +2,8 @@
 -- "Data Path Configuration", DPConfigLane of Staged Control Set 0)
 use Rattle.std.specs.Prelude.{◌≡◌, ℕ, ◌+◌, ◌<◌, ◌≤◌, ◌↔◌, List, IsTrue}
 use Rattle.control_sets.specs.declared.host_path.HostPath.{HostPath}
-use Rattle.control_sets.specs.HostPaths.{IsLane, agree, control_at}
+use Rattle.field_tables.specs.LaneSets.{IsLane}
+use Rattle.control_sets.specs.HostPaths.{agree, control_at}
 
 -- the lane is one of the path's
 abbrev pub HasLane : HostPath → ℕ → Type 0

@@ -4,14 +4,13 @@ use Rattle.std.specs.Prelude.{◌≡◌, ◌≢◌, ◌⊎◌, ◌-◌, ◌<◌,
 use Rattle.std.specs.FinSet as set
 use Rattle.field_tables.specs.declared.field.Field.TheVariants.{CModuleState}
 use Rattle.field_tables.specs.FieldValues.{number_in_byte}
-use Rattle.field_tables.specs.LaneSets.{Lanes}
+use Rattle.field_tables.specs.LaneSets.{IsLane, Lanes}
 use Rattle.module_states.specs.declared.state.ModuleState.{ModuleState}
 use Rattle.module_states.specs.declared.state.ModuleState.TheVariants.{Ready}
 use Rattle.module_states.specs.Codes.{state_at as module_state_at}
 use Rattle.datapath_states.specs.StateCodes.{state_at as path_state_at}
 use Rattle.datapath_states.specs.StatusCodes.{status_at}
 use Rattle.datapath_states.specs.Lanes.{code_in}
-use Rattle.control_sets.specs.HostPaths.{IsLane}
 
 -- one of the lanes of a set
 abbrev pub IsOf : Lanes → ℕ → Type 0

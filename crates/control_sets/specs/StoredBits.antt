@@ -7,8 +7,7 @@ use Rattle.bus_model.specs.declared.operation.Op.TheVariants.{Fetch, Store}
 use Rattle.bus_model.specs.declared.operation.Step.{Step}
 use Rattle.field_tables.specs.declared.field.Register.TheVariants.{CApplyDPInit, CDPDeinit}
 use Rattle.field_tables.specs.Registers.{first_byte}
-use Rattle.field_tables.specs.LaneSets.{Lanes, lanes_in}
-use Rattle.control_sets.specs.HostPaths.{IsLane}
+use Rattle.field_tables.specs.LaneSets.{IsLane, Lanes, lanes_in}
 
 -- the byte that a store has for an address
 abbrev pub byte_for : ℕ → Op → Option ℕ

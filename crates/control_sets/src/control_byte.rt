@@ -1,4 +1,4 @@
-use field_tables::{Field, number_in_byte};
+use field_tables::{Field, LaneNumber, number_in_byte};
 
 /// What the control byte of a host lane says, but for ExplicitControl.
 #[derive(Clone, Copy, Debug, PartialEq, Eq)]
@@ -31,11 +31,11 @@ impl ControlByte {
     }
 
     /// The first host lane of the path.
-    pub fn first_lane(self) -> u8
+    pub fn first_lane(self) -> LaneNumber
         requires { self.data_path_id < 8 }
         ensures { result ≡ spec.first_lane self }
     {
-        self.data_path_id + 1
+        LaneNumber::at(self.data_path_id)
     }
 }
 

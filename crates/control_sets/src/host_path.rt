@@ -1,10 +1,11 @@
 ghost use Rattle.std.specs.Prelude.{◌≡◌, IsOk, IfOk, MatchOption, count_by};
 ghost use Rattle.std.specs.List.{range_with_len};
-ghost use Rattle.control_sets.specs.HostPaths.{IsLane, agree, all_agree, begins, control_at, host_paths, is_reached, is_right, path_from, wrong_lane};
+ghost use Rattle.control_sets.specs.HostPaths.{agree, all_agree, begins, control_at, host_paths, is_reached, is_right, path_from, wrong_lane};
 
 use crate::control_byte::ControlByte;
 use crate::fault::ControlFault;
 use arrayvec::ArrayVec;
+use field_tables::LaneNumber;
 
 /// A data path as host lanes tell it.
 #[derive(Clone, Copy, Debug, PartialEq, Eq, Default)]
@@ -23,57 +24,53 @@ pub fn paths_of(bytes: [u8; 8]) -> Result<ArrayVec<HostPath, 8>, ControlFault>
     ensures paths { IfOk result (λ paths. paths.items ≡ host_paths bytes) }
 {
     match wrong_lane(&bytes) {
-        Some(lane) => Err(ControlFault::NotPaths(lane)),
+        Some(lane) => Err(ControlFault::NotPaths(lane.number())),
         None => Ok(host_paths(&bytes)),
     }
 }
 
 #[tactic(auto, unfolding(crate::specs::HostPaths::wrong_lane))]
-fn wrong_lane(bytes: &[u8; 8]) -> Option<u8>
+fn wrong_lane(bytes: &[u8; 8]) -> Option<LaneNumber>
     ensures { result ≡ wrong_lane bytes.now }
 {
-    (1..9).find(|lane| !is_right(bytes, *lane))
+    LaneNumber::all()
+        .iter()
+        .copied()
+        .find(|lane| !is_right(bytes, *lane))
 }
 
 #[tactic(auto, unfolding(crate::specs::HostPaths::is_right))]
-fn is_right(bytes: &[u8; 8], lane: u8) -> bool
-    requires { IsLane lane }
+fn is_right(bytes: &[u8; 8], lane: LaneNumber) -> bool
     ensures { result ≡ is_right bytes.now lane }
 {
     !control_at(bytes, lane).is_used() || is_reached(bytes, lane)
 }
 
-fn is_reached(bytes: &[u8; 8], lane: u8) -> bool
-    requires { IsLane lane }
+fn is_reached(bytes: &[u8; 8], lane: LaneNumber) -> bool
     ensures { result ≡ is_reached bytes.now lane }
 {
     let first = control_at(bytes, lane).first_lane();
-    first <= lane && all_agree(bytes, first, lane)
+    first.number() <= lane.number() && all_agree(bytes, first, lane)
 }
 
-fn all_agree(bytes: &[u8; 8], first: u8, lane: u8) -> bool
-    requires first { IsLane first }
-    requires lane { IsLane lane }
+fn all_agree(bytes: &[u8; 8], first: LaneNumber, lane: LaneNumber) -> bool
     ensures { result ≡ all_agree bytes.now first lane }
 {
-    (first..lane + 1).all(|other| agree(bytes, lane, other))
+    (first.number()..lane.number() + 1).all(|other| agree(bytes, lane, LaneNumber::at(other - 1)))
 }
 
 /// Whether two lanes are told the same, but for ExplicitControl.
-pub fn agree(bytes: &[u8; 8], lane: u8, other: u8) -> bool
-    requires lane { IsLane lane }
-    requires other { IsLane other }
+pub fn agree(bytes: &[u8; 8], lane: LaneNumber, other: LaneNumber) -> bool
     ensures { result ≡ agree bytes.now lane other }
 {
     control_at(bytes, lane) == control_at(bytes, other)
 }
 
 /// What a lane is told.
-pub fn control_at(bytes: &[u8; 8], lane: u8) -> ControlByte
-    requires { IsLane lane }
+pub fn control_at(bytes: &[u8; 8], lane: LaneNumber) -> ControlByte
     ensures { result ≡ control_at bytes.now lane }
 {
-    ControlByte::from(bytes[usize::from(lane) - 1])
+    ControlByte::from(bytes[lane.index()])
 }
 
 #[tactic(auto, unfolding(crate::specs::HostPaths::host_paths))]
@@ -81,7 +78,8 @@ fn host_paths(bytes: &[u8; 8]) -> ArrayVec<HostPath, 8>
     ensures { result.items ≡ host_paths bytes.now }
 {
     let mut paths = ArrayVec::new();
-    for lane in 1..9 {
+    for place in 0..8 {
+        let lane = LaneNumber::at(place);
         if begins(bytes, lane) {
             paths.push(path_from(bytes, lane));
         }
@@ -89,8 +87,7 @@ fn host_paths(bytes: &[u8; 8]) -> ArrayVec<HostPath, 8>
     paths
 }
 
-fn begins(bytes: &[u8; 8], lane: u8) -> bool
-    requires { IsLane lane }
+fn begins(bytes: &[u8; 8], lane: LaneNumber) -> bool
     ensures { result ≡ begins bytes.now lane }
 {
     let control = control_at(bytes, lane);
@@ -98,20 +95,21 @@ fn begins(bytes: &[u8; 8], lane: u8) -> bool
 }
 
 #[tactic(auto, unfolding(crate::specs::HostPaths::path_from))]
-fn path_from(bytes: &[u8; 8], lane: u8) -> HostPath
-    requires { IsLane lane }
+fn path_from(bytes: &[u8; 8], lane: LaneNumber) -> HostPath
     ensures { result ≡ path_from bytes.now lane }
 {
     HostPath {
         app: control_at(bytes, lane).app_sel_code,
-        host: lane,
+        host: lane.number(),
         lanes: agreeing(bytes, lane),
     }
 }
 
-fn agreeing(bytes: &[u8; 8], lane: u8) -> u8
-    requires { IsLane lane }
+fn agreeing(bytes: &[u8; 8], lane: LaneNumber) -> u8
     ensures { result ≡ count_by (agree bytes.now lane) (range_with_len 1 8) }
 {
-    (1..9).filter(|other| agree(bytes, lane, *other)).count() as u8
+    LaneNumber::all()
+        .iter()
+        .filter(|other| agree(bytes, lane, **other))
+        .count() as u8
 }

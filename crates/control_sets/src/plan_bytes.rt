@@ -6,7 +6,7 @@ ghost use Rattle.control_sets.specs.PlanLanes.{lanes_outside, plan_lanes};
 
 use crate::control_byte::ControlByte;
 use applications::Advert;
-use field_tables::LaneSet;
+use field_tables::{LaneNumber, LaneSet};
 use plan_certificate::{Path, Plan};
 
 /// The control bytes of host lanes 1 to 8 that ask for a plan.
@@ -16,7 +16,7 @@ pub fn bytes_of(advert: &Advert, plan: &Plan) -> [u8; 8]
 {
     let mut bytes = [0; 8];
     for (index, byte) in bytes.iter_mut().enumerate() {
-        *byte = control_byte(advert, plan, index as u8 + 1);
+        *byte = control_byte(advert, plan, LaneNumber::at(index as u8));
     }
     bytes
 }
@@ -41,12 +41,12 @@ pub fn lanes_outside(advert: &Advert, plan: &Plan) -> LaneSet
     LaneSet::from(!lanes_of(advert, plan).byte())
 }
 
-fn control_byte(advert: &Advert, plan: &Plan, lane: u8) -> u8
+fn control_byte(advert: &Advert, plan: &Plan, lane: LaneNumber) -> u8
     requires { IsAdmissible advert.now plan.now }
     ensures { result ≡ control_byte advert.now plan.now lane }
 {
     for path in plan.paths.as_slice() {
-        if path.host_lanes(advert).contains(lane) {
+        if path.host_lanes(advert).contains(lane.number()) {
             return control_in(advert, *path).byte();
         }
     }

@@ -1,10 +1,14 @@
 -- Sets of lanes, numbered 1 to 8, and the byte that stands for one. (docs/fields.md, "Sets of lanes"; OIF-CMIS-05.0,
 -- chapter 8 "Module Management Memory Map", the lane assignment options of "Applications Advertising")
-use Rattle.std.specs.Prelude.{ℕ, ◌-◌, ◌^◌, Bool, ◌==◌, if◌then◌else◌, sum_by}
+use Rattle.std.specs.Prelude.{ℕ, ◌≤◌, ◌-◌, ◌^◌, Bool, ◌==◌, if◌then◌else◌, sum_by}
 use Rattle.std.specs.Int.{bit_at}
 use Rattle.std.specs.List.{range_with_len}
 use Rattle.std.specs.Ordering.{nat_cmp}
 use Rattle.std.specs.FinSet as set
+
+-- lanes are counted from 1
+abbrev pub IsLane : ℕ → Type 0
+IsLane lane = (1 ≤ lane) × (lane ≤ 8)
 
 abbrev pub Lanes : Type 0
 Lanes = set.FinSet nat_cmp

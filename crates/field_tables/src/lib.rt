@@ -5,6 +5,7 @@ mod bits;
 mod fault;
 mod field;
 mod halves;
+mod lane_number;
 mod lane_set;
 mod laws;
 mod layout;
@@ -20,6 +21,7 @@ mod values;
 
 pub use fault::FieldFault;
 pub use field::{Field, Register, Sum, TextField};
+pub use lane_number::LaneNumber;
 pub use lane_set::LaneSet;
 pub use laws::{each_entry_is_within_its_half, no_bit_means_two_things};
 pub use layout::{Layout, Part, Row, Sign};

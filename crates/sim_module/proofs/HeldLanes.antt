@@ -10,9 +10,8 @@ use Rattle.bus_model.specs.declared.device.Dev.TheVariants.{A0}
 use Rattle.bus_model.specs.declared.script.Directive.{Directive}
 use Rattle.bus_model.specs.Keeping.{IsKeptInTime}
 use Rattle.bus_model.specs.ScriptedBus.{script_rules}
-use Rattle.field_tables.specs.LaneSets.{Lanes, byte_of, is_empty, lanes_in}
+use Rattle.field_tables.specs.LaneSets.{IsLane, Lanes, byte_of, is_empty, lanes_in}
 use Rattle.paged_memory.specs.Selections.{shown_key}
-use Rattle.control_sets.specs.HostPaths.{IsLane}
 use Rattle.control_sets.specs.OutcomeCodes.{IsOf}
 use Rattle.control_sets.specs.OutcomeOfProvisioning.{IsProvisioningStep}
 use Rattle.control_sets.specs.Pages.{EachStep, History}

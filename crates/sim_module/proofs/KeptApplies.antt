@@ -10,13 +10,13 @@ use Rattle.std.proofs.lemmas.List.FromFn.{get_or-range_with_len, length-map-rang
 use Rattle.std.proofs.lemmas.List.Sums.{AllPass-from_list_all}
 use Rattle.field_tables.specs.FirstFault.{first_fault}
 use Rattle.field_tables.specs.LaneBytes.{contains-run_of}
-use Rattle.field_tables.specs.LaneSets.{Lanes, is_empty, run_of}
+use Rattle.field_tables.specs.LaneSets.{IsLane, Lanes, is_empty, run_of}
 use Rattle.applications.specs.declared.app.App.{App}
 use Rattle.datapath_states.specs.declared.status.ConfigStatus.{ConfigStatus}
 use Rattle.datapath_states.specs.declared.status.ConfigStatus.TheVariants.{Rejected, RejectedLanesInUse, RejectedInvalidAppSel, RejectedInvalidSi, RejectedInvalidDataPath, RejectedPartialDataPath}
 use Rattle.control_sets.specs.declared.control_byte.ControlByte.{ControlByte}
 use Rattle.control_sets.specs.ControlBytes.{control_of}
-use Rattle.control_sets.specs.HostPaths.{IsLane, are_same, control_at, first_lane, is_used}
+use Rattle.control_sets.specs.HostPaths.{are_same, control_at, first_lane, is_used}
 use Rattle.control_sets.proofs.LanesOfPaths.{implied, same_control}
 use Rattle.sim_module.specs.declared.lane.Lane.{Lane}
 use Rattle.sim_module.specs.declared.module.SimModule.{SimModule}

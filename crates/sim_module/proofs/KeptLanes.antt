@@ -9,7 +9,8 @@ use Rattle.module_states.specs.declared.state.ModuleState.TheVariants.{Ready}
 use Rattle.module_states.specs.Transitions as module_table
 use Rattle.datapath_states.specs.declared.state.PathState.TheVariants.{Activated}
 use Rattle.control_sets.specs.ControlBytes.{control_of}
-use Rattle.control_sets.specs.HostPaths.{IsLane, agree, are_same, control_at, first_lane, is_used}
+use Rattle.field_tables.specs.LaneSets.{IsLane}
+use Rattle.control_sets.specs.HostPaths.{agree, are_same, control_at, first_lane, is_used}
 use Rattle.control_sets.proofs.Begun.{are_lanes}
 use Rattle.sim_module.specs.declared.lane.Lane.{Lane}
 use Rattle.sim_module.specs.declared.module.SimModule.{SimModule}

@@ -6,13 +6,13 @@ use Rattle.std.proofs.lemmas.List.Elements.{All-contains}
 use Rattle.std.proofs.lemmas.List.Folds.{Any-from_list_any, list_any-from_Any}
 use Rattle.std.specs.FinSet as set
 use Rattle.field_tables.specs.LaneBytes.{contains-run_of}
-use Rattle.field_tables.specs.LaneSets.{byte_of, every_lane, lanes_in}
+use Rattle.field_tables.specs.LaneSets.{IsLane, byte_of, every_lane, lanes_in}
 use Rattle.applications.specs.Advertised.{Advertised}
 use Rattle.plan_certificate.specs.declared.path.Path.{Path}
 use Rattle.plan_certificate.specs.Paths.{app_of}
 use Rattle.control_sets.specs.declared.control_byte.ControlByte.{ControlByte}
 use Rattle.control_sets.specs.ControlBytes.{control_of}
-use Rattle.control_sets.specs.HostPaths.{IsLane, agree, are_same, begins, control_at, first_lane, host_paths, is_used}
+use Rattle.control_sets.specs.HostPaths.{agree, are_same, begins, control_at, first_lane, host_paths, is_used}
 use Rattle.control_sets.specs.LanesOfPaths.{TakesWhatAgrees}
 use Rattle.control_sets.specs.PlanLanes.{is_taken, lanes_outside}
 use Rattle.control_sets.specs.PlanPaths.{host_path_of}

@@ -8,13 +8,13 @@ use Rattle.bus_model.specs.Keeping.{AllowsPins, IsKeptBy, IsKeptInTime}
 use Rattle.bus_model.specs.Runs.{IsFull, Ran, Seen}
 use Rattle.bus_model.specs.ScriptedBus.{script_rules}
 use Rattle.bus_model.proofs.ScriptRuns.{steps_allow, steps_keep}
-use Rattle.field_tables.specs.LaneSets.{byte_of, lanes_in}
+use Rattle.field_tables.specs.LaneSets.{IsLane, byte_of, lanes_in}
 use Rattle.module_states.specs.declared.state.ModuleState.{ModuleState}
 use Rattle.module_states.specs.declared.state.ModuleState.TheVariants.{Fault, LowPwr, PwrDn, PwrUp, Ready}
 use Rattle.module_states.specs.Codes as module_codes
 use Rattle.applications.specs.Advertised.{Advertised}
 use Rattle.plan_certificate.specs.declared.path.Path.{Path}
-use Rattle.control_sets.specs.HostPaths.{IsLane, agree, control_at, is_used}
+use Rattle.control_sets.specs.HostPaths.{agree, control_at, is_used}
 use Rattle.control_sets.specs.OutcomeOfProvisioning.{IsProvisioning}
 use Rattle.control_sets.specs.PlanLanes.{is_taken, lanes_outside}
 use Rattle.sim_module.specs.declared.module.SimModule.{SimModule}

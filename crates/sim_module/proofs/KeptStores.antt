@@ -2,10 +2,10 @@
 use Rattle.std.proofs.Common.{◌≡◌, ℕ, ◌-◌, Bool, true, false, List, refl, sym, ◌∙◌}
 use Rattle.std.specs.FinSet as set
 use Rattle.std.proofs.Math.ListN.{length-set}
-use Rattle.field_tables.specs.LaneSets.{Lanes, lanes_in}
+use Rattle.field_tables.specs.LaneSets.{IsLane, Lanes, lanes_in}
 use Rattle.paged_memory.specs.declared.selection.Selection.{Selection}
 use Rattle.control_sets.specs.ControlBytes.{control_of}
-use Rattle.control_sets.specs.HostPaths.{IsLane, are_same}
+use Rattle.control_sets.specs.HostPaths.{are_same}
 use Rattle.sim_module.specs.declared.lane.Lane.{Lane}
 use Rattle.sim_module.specs.declared.module.SimModule.{SimModule}
 use Rattle.sim_module.specs.Down.{has_low_power}

@@ -5,7 +5,8 @@ use Rattle.std.proofs.lemmas.List.FromFn.{get_or-map-range_with_len}
 use Rattle.datapath_states.specs.declared.state.PathState.{PathState}
 use Rattle.datapath_states.specs.declared.state.PathState.TheVariants.{Activated, Deactivated, Init}
 use Rattle.datapath_states.specs.Transitions.{next_of}
-use Rattle.control_sets.specs.HostPaths.{IsLane, agree, control_at, is_used}
+use Rattle.field_tables.specs.LaneSets.{IsLane}
+use Rattle.control_sets.specs.HostPaths.{agree, control_at, is_used}
 use Rattle.sim_module.specs.declared.lane.Lane.{Lane}
 use Rattle.sim_module.specs.declared.module.SimModule.{SimModule}
 use Rattle.sim_module.specs.Lanes.{active_bytes, all_lanes, is_path_state, lane_at, no_lane}

@@ -8,9 +8,8 @@ use Rattle.bus_model.specs.declared.device.Dev.TheVariants.{A0}
 use Rattle.bus_model.specs.declared.operation.Op.{Op}
 use Rattle.bus_model.specs.declared.operation.Op.TheVariants.{Fetch}
 use Rattle.bus_model.specs.declared.operation.Step.{Step}
-use Rattle.field_tables.specs.LaneSets.{Lanes, byte_of, every_lane}
+use Rattle.field_tables.specs.LaneSets.{IsLane, Lanes, byte_of, every_lane}
 use Rattle.field_tables.specs.LaneBytes.{contains-run_of}
-use Rattle.control_sets.specs.HostPaths.{IsLane}
 use Rattle.control_sets.specs.Pages.{EachStep, History, selection}
 use Rattle.control_sets.specs.declared.fault.ProvisionFault.TheVariants.{Bus, GaveUp}
 use Rattle.bus_model.specs.declared.bus.BusFault.TheVariants.{TraceFull}

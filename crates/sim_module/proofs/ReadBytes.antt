@@ -7,8 +7,7 @@ use Rattle.std.proofs.lemmas.Bool.Decides.{nat_tests}
 use Rattle.std.proofs.lemmas.List.{get_or-map, length-map}
 use Rattle.bus_model.specs.declared.device.Dev.TheVariants.{A0}
 use Rattle.paged_memory.specs.Images.{place_in_half}
-use Rattle.field_tables.specs.LaneSets.{Lanes}
-use Rattle.control_sets.specs.HostPaths.{IsLane}
+use Rattle.field_tables.specs.LaneSets.{IsLane, Lanes}
 use Rattle.control_sets.specs.OutcomeCodes.{IsOf}
 use Rattle.datapath_states.specs.StatusCodes.{status_code_of}
 use Rattle.field_tables.specs.declared.field.Register.TheVariants.{CActiveControl, CConfigStatus}

@@ -8,8 +8,7 @@ use Rattle.bus_model.specs.declared.device.Dev.TheVariants.{A0, A2}
 use Rattle.bus_model.specs.declared.operation.Op.{Op}
 use Rattle.bus_model.specs.declared.operation.Op.TheVariants.{Fetch, Store}
 use Rattle.bus_model.specs.Keeping.{IsKeptBy, IsKeptInTime}
-use Rattle.field_tables.specs.LaneSets.{lanes_in}
-use Rattle.control_sets.specs.HostPaths.{IsLane}
+use Rattle.field_tables.specs.LaneSets.{IsLane, lanes_in}
 use Rattle.paged_memory.specs.Images.{Memory}
 use Rattle.sim_module.specs.declared.delays.Delays.{Delays}
 use Rattle.sim_module.specs.declared.lane.Lane.{Lane}

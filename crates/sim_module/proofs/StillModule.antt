@@ -7,7 +7,7 @@ use Rattle.module_states.specs.Codes as module_codes
 use Rattle.module_states.specs.declared.state.ModuleState.{ModuleState}
 use Rattle.datapath_states.specs.declared.state.PathState.{PathState}
 use Rattle.datapath_states.specs.StateCodes.{state_at}
-use Rattle.control_sets.specs.HostPaths.{IsLane}
+use Rattle.field_tables.specs.LaneSets.{IsLane}
 use Rattle.sim_module.specs.declared.fixed.Fixed.{Fixed}
 use Rattle.sim_module.specs.declared.lane.Lane.{Lane}
 use Rattle.sim_module.specs.declared.moving.Moving.{Moving}

@@ -4,8 +4,7 @@ use Rattle.std.specs.Prelude.{◌≡◌, ℕ, List, None, Ok, length, reverse}
 use Rattle.bus_model.specs.declared.script.Directive.{Directive}
 use Rattle.bus_model.specs.Runs.{IsFull, Ran, Seen}
 use Rattle.bus_model.specs.ScriptedBus.{script_rules}
-use Rattle.field_tables.specs.LaneSets.{Lanes, every_lane}
-use Rattle.control_sets.specs.HostPaths.{IsLane}
+use Rattle.field_tables.specs.LaneSets.{IsLane, Lanes, every_lane}
 use Rattle.control_sets.specs.OutcomeAnswers.{Answer}
 use Rattle.control_sets.specs.OutcomeOfActivation.{IsActivation}
 use Rattle.control_sets.specs.Pages.{History}

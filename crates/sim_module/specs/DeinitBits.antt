@@ -4,10 +4,9 @@ use Rattle.std.specs.FinSet as set
 use Rattle.bus_model.specs.declared.script.Directive.{Directive}
 use Rattle.bus_model.specs.Runs.{IsFull, Ran, Seen}
 use Rattle.bus_model.specs.ScriptedBus.{script_rules}
-use Rattle.field_tables.specs.LaneSets.{Lanes, byte_of}
+use Rattle.field_tables.specs.LaneSets.{IsLane, Lanes, byte_of}
 use Rattle.applications.specs.Advertised.{Advertised}
 use Rattle.plan_certificate.specs.declared.path.Path.{Path}
-use Rattle.control_sets.specs.HostPaths.{IsLane}
 use Rattle.control_sets.specs.OutcomeAnswers.{Answer}
 use Rattle.control_sets.specs.OutcomeOfProvisioning.{IsProvisioning}
 use Rattle.control_sets.specs.OutcomeOperations.{set_deinit}

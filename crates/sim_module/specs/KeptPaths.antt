@@ -8,7 +8,8 @@ use Rattle.bus_model.specs.ScriptedBus.{script_rules}
 use Rattle.datapath_states.specs.declared.state.PathState.TheVariants.{Activated}
 use Rattle.applications.specs.Advertised.{Advertised}
 use Rattle.plan_certificate.specs.declared.path.Path.{Path}
-use Rattle.control_sets.specs.HostPaths.{IsLane, host_paths, wrong_lane}
+use Rattle.field_tables.specs.LaneSets.{IsLane}
+use Rattle.control_sets.specs.HostPaths.{host_paths, wrong_lane}
 use Rattle.control_sets.specs.OutcomeAnswers.{Answer}
 use Rattle.control_sets.specs.OutcomeOfProvisioning.{IsProvisioning}
 use Rattle.control_sets.specs.Pages.{History}

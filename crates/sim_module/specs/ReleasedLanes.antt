@@ -6,7 +6,7 @@ use Rattle.bus_model.specs.Runs.{IsFull, Ran, Seen}
 use Rattle.bus_model.specs.ScriptedBus.{script_rules}
 use Rattle.applications.specs.Advertised.{Advertised}
 use Rattle.plan_certificate.specs.declared.path.Path.{Path}
-use Rattle.control_sets.specs.HostPaths.{IsLane}
+use Rattle.field_tables.specs.LaneSets.{IsLane}
 use Rattle.control_sets.specs.OutcomeAnswers.{Answer}
 use Rattle.control_sets.specs.OutcomeOfProvisioning.{IsProvisioning}
 use Rattle.control_sets.specs.Pages.{History}

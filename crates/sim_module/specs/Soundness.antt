@@ -8,7 +8,8 @@ use Rattle.bus_model.specs.Keeping.{IsKeptBy, IsKeptInTime}
 use Rattle.bus_model.specs.Runs.{Ran, Seen}
 use Rattle.bus_model.specs.ScriptedBus.{script_rules}
 use Rattle.datapath_states.specs.declared.state.PathState.TheVariants.{Activated, Deactivated, Init}
-use Rattle.control_sets.specs.HostPaths.{IsLane, agree}
+use Rattle.field_tables.specs.LaneSets.{IsLane}
+use Rattle.control_sets.specs.HostPaths.{agree}
 use Rattle.sim_module.specs.declared.lane.Lane.{Lane}
 use Rattle.sim_module.specs.declared.module.SimModule.{SimModule}
 use Rattle.sim_module.specs.Lanes.{active_bytes, is_in_progress, lane_at}

@@ -5,19 +5,17 @@ use crate::moving::Moving;
 use applications::{Advert, App, LaneSet};
 use control_sets::{agree, control_at};
 use datapath_states::ConfigStatus;
-use field_tables::{Field, is_set};
+use field_tables::{Field, LaneNumber, is_set};
 
 impl Moving {
     ghost use Rattle.std.specs.Prelude.{◌≡◌, map};
-    ghost use Rattle.control_sets.specs.HostPaths.{IsLane};
     ghost use Rattle.sim_module.specs.Lanes.{all_lanes};
     ghost use Rattle.sim_module.specs.Record.{bare, module_of};
     ghost use Rattle.sim_module.specs.Applies as spec;
 
     // Why a lane can't be applied together with the lanes of a mask.
     #[tactic(auto, unfolding(crate::specs::Applies::refusal))]
-    fn refusal(&self, fixed: &Fixed, mask: LaneSet, lane: u8) -> Option<ConfigStatus>
-        requires { IsLane lane }
+    fn refusal(&self, fixed: &Fixed, mask: LaneSet, lane: LaneNumber) -> Option<ConfigStatus>
         ensures { result ≡ spec.refusal (module_of fixed.now self.now) mask lane }
     {
         if !self.is_deactivated(lane) {
@@ -39,31 +37,27 @@ impl Moving {
         None
     }
 
-    fn is_staged(&self, lane: u8) -> bool
-        requires { IsLane lane }
+    fn is_staged(&self, lane: LaneNumber) -> bool
         ensures { result ≡ spec.is_staged (bare self.now) lane }
     {
         control_at(&self.staged(), lane).is_used()
     }
 
     // The Application that a staged lane asks for.
-    fn staged_app(&self, fixed: &Fixed, lane: u8) -> Option<App>
-        requires { IsLane lane }
+    fn staged_app(&self, fixed: &Fixed, lane: LaneNumber) -> Option<App>
         ensures { result ≡ spec.staged_app (module_of fixed.now self.now) lane }
     {
         let number = control_at(&self.staged(), lane).app_sel_code;
         app_numbered(&fixed.advert, number)
     }
 
-    fn is_explicit(&self, lane: u8) -> bool
-        requires { IsLane lane }
+    fn is_explicit(&self, lane: LaneNumber) -> bool
         ensures { result ≡ spec.is_explicit (bare self.now) lane }
     {
         is_set(Field::CStagedExplicit, self.lane(lane).staged)
     }
 
-    fn is_path_right(&self, fixed: &Fixed, lane: u8) -> bool
-        requires { IsLane lane }
+    fn is_path_right(&self, fixed: &Fixed, lane: LaneNumber) -> bool
         ensures { result ≡ spec.is_path_right (module_of fixed.now self.now) lane }
     {
         let first = control_at(&self.staged(), lane).first_lane();
@@ -74,53 +68,48 @@ impl Moving {
     }
 
     // Whether a path of an Application from a first lane on can be there, with this lane.
-    fn is_path_for(&self, lane: u8, first: u8, app: App) -> bool
-        requires lane { IsLane lane }
-        requires first { IsLane first }
+    fn is_path_for(&self, lane: LaneNumber, first: LaneNumber, app: App) -> bool
         ensures { result ≡ spec.is_path_for (bare self.now) lane first app }
     {
-        if app.host_lanes > 9 - first || !app.host_starts.contains(first) {
+        if app.host_lanes > 9 - first.number() || !app.host_starts.contains(first.number()) {
             return false;
         }
-        let lanes = LaneSet::run(first, app.host_lanes);
-        lanes.contains(lane) && self.are_staged_alike(lanes, lane)
+        let lanes = LaneSet::run(first.number(), app.host_lanes);
+        lanes.contains(lane.number()) && self.are_staged_alike(lanes, lane)
     }
 
-    fn are_staged_alike(&self, lanes: LaneSet, lane: u8) -> bool
-        requires { IsLane lane }
+    fn are_staged_alike(&self, lanes: LaneSet, lane: LaneNumber) -> bool
         ensures { result ≡ spec.are_staged_alike (bare self.now) lanes lane }
     {
         let staged = self.staged();
-        (1..9).all(|other| !lanes.contains(other) || agree(&staged, lane, other))
+        LaneNumber::all().iter().all(|other| !lanes.contains(other.number())
+            || agree(&staged, lane, *other))
     }
 
     // Whether the lanes of both paths of a lane are in a mask.
-    fn are_paths_within(&self, fixed: &Fixed, mask: LaneSet, lane: u8) -> bool
-        requires { IsLane lane }
+    fn are_paths_within(&self, fixed: &Fixed, mask: LaneSet, lane: LaneNumber) -> bool
         ensures { result ≡ spec.are_paths_within (module_of fixed.now self.now) mask lane }
     {
-        (1..9).all(|other| {
-            mask.contains(other)
-                || !(self.is_of_staged_path(fixed, lane, other)
-                    || self.is_of_active_path(lane, other))
+        LaneNumber::all().iter().all(|other| {
+            mask.contains(other.number())
+                || !(self.is_of_staged_path(fixed, lane, *other)
+                    || self.is_of_active_path(lane, *other))
         })
     }
 
-    fn is_of_staged_path(&self, fixed: &Fixed, lane: u8, other: u8) -> bool
-        requires lane { IsLane lane }
-        requires other { IsLane other }
+    fn is_of_staged_path(&self, fixed: &Fixed, lane: LaneNumber, other: LaneNumber) -> bool
         ensures { result ≡ spec.is_of_staged_path (module_of fixed.now self.now) lane other }
     {
         let first = control_at(&self.staged(), lane).first_lane();
         match self.staged_app(fixed, lane) {
-            Some(app) => first <= other && other - first < app.host_lanes,
+            Some(app) => {
+                first.number() <= other.number() && other.number() - first.number() < app.host_lanes
+            }
             None => false,
         }
     }
 
-    fn is_of_active_path(&self, lane: u8, other: u8) -> bool
-        requires lane { IsLane lane }
-        requires other { IsLane other }
+    fn is_of_active_path(&self, lane: LaneNumber, other: LaneNumber) -> bool
         ensures { result ≡ spec.is_of_active_path (bare self.now) lane other }
     {
         let active = self.active();
@@ -132,16 +121,17 @@ impl Moving {
     fn is_applicable(&self, fixed: &Fixed, mask: LaneSet) -> bool
         ensures { result ≡ spec.is_applicable (module_of fixed.now self.now) mask }
     {
-        (1..9).all(|lane| !mask.contains(lane) || self.refusal(fixed, mask, lane).is_none())
+        LaneNumber::all().iter().all(|lane| {
+            !mask.contains(lane.number()) || self.refusal(fixed, mask, *lane).is_none()
+        })
     }
 
     #[tactic(auto, unfolding(crate::specs::Applies::applied_to))]
-    fn applied_to(&self, fixed: &Fixed, mask: LaneSet, lane: u8) -> Lane
-        requires { IsLane lane }
+    fn applied_to(&self, fixed: &Fixed, mask: LaneSet, lane: LaneNumber) -> Lane
         ensures { result ≡ spec.applied_to (module_of fixed.now self.now) mask lane }
     {
         let before = self.lane(lane);
-        if !mask.contains(lane) {
+        if !mask.contains(lane.number()) {
             before.dropped()
         } else if self.is_applicable(fixed, mask) {
             before.begun()
@@ -158,7 +148,7 @@ impl Moving {
     {
         let mut lanes = self.lanes;
         for (index, lane) in lanes.iter_mut().enumerate() {
-            *lane = self.applied_to(fixed, mask, index as u8 + 1);
+            *lane = self.applied_to(fixed, mask, LaneNumber::at(index as u8));
         }
         lanes
     }

@@ -1,12 +1,11 @@
 //! Which lanes are to be deactivated, or kept so.
 use crate::moving::Moving;
 use control_sets::{agree, control_at};
-use field_tables::{Field, is_set};
+use field_tables::{Field, LaneNumber, is_set};
 use module_states::{ModuleState, low_power};
 
 impl Moving {
     ghost use Rattle.std.specs.Prelude.{◌≡◌};
-    ghost use Rattle.control_sets.specs.HostPaths.{IsLane};
     ghost use Rattle.sim_module.specs.Lanes.{active_bytes};
     ghost use Rattle.sim_module.specs.Record.{bare};
     ghost use Rattle.sim_module.specs.Down as spec;
@@ -23,23 +22,21 @@ impl Moving {
         self.state == ModuleState::Ready
     }
 
-    fn holds_down(&self, lane: u8) -> bool
-        requires { IsLane lane }
+    fn holds_down(&self, lane: LaneNumber) -> bool
         ensures { result ≡ spec.holds_down (bare self.now) lane }
     {
-        self.deinit.contains(lane) || self.lane(lane).is_in_progress()
+        self.deinit.contains(lane.number()) || self.lane(lane).is_in_progress()
     }
 
     // Whether some lane does.
     pub(crate) fn is_held(&self) -> bool
         ensures { result ≡ spec.is_held (bare self.now) }
     {
-        (1..9).any(|lane| self.holds_down(lane))
+        LaneNumber::all().iter().any(|lane| self.holds_down(*lane))
     }
 
     // Given the active bytes, and whether some lane holds down its path.
-    fn is_path_down(&self, active: &[u8; 8], held: bool, lane: u8) -> bool
-        requires lane { IsLane lane }
+    fn is_path_down(&self, active: &[u8; 8], held: bool, lane: LaneNumber) -> bool
         requires active { active.now ≡ active_bytes (bare self.now) }
         requires held { held ≡ spec.is_held (bare self.now) }
         ensures { result ≡ spec.is_path_down (bare self.now) lane }
@@ -47,13 +44,12 @@ impl Moving {
         if !held {
             return false;
         }
-        (1..9).any(|other| agree(active, lane, other) && self.holds_down(other))
+        LaneNumber::all().iter().any(|other| agree(active, lane, *other) && self.holds_down(*other))
     }
 
     // Given the same.
     #[tactic(auto, unfolding(crate::specs::Down::is_down))]
-    pub(crate) fn is_down(&self, active: &[u8; 8], held: bool, lane: u8) -> bool
-        requires lane { IsLane lane }
+    pub(crate) fn is_down(&self, active: &[u8; 8], held: bool, lane: LaneNumber) -> bool
         requires active { active.now ≡ active_bytes (bare self.now) }
         requires held { held ≡ spec.is_held (bare self.now) }
         ensures { result ≡ spec.is_down (bare self.now) lane }

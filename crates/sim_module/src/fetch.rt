@@ -4,7 +4,7 @@ use crate::moving::{LANE_FLAGS, Moving};
 use crate::registers::{control_page, index_in, is_at, is_field_at, is_from, status_page};
 use arrayvec::ArrayVec;
 use bus_model::Dev;
-use field_tables::{Field, Register, register};
+use field_tables::{Field, LaneNumber, Register, register};
 use paged_memory::PAGE_LEN;
 
 impl Moving {
@@ -27,8 +27,8 @@ impl Moving {
         requires { index < 4 }
         ensures { result ≡ spec.pair_byte (spec.path_code (bare self.now)) index }
     {
-        let odd = self.lane(2 * index + 1).path;
-        let even = self.lane(2 * index + 2).path;
+        let odd = self.lane(LaneNumber::at(2 * index)).path;
+        let even = self.lane(LaneNumber::at(2 * index + 1)).path;
         odd.code() + 16 * even.code()
     }
 
@@ -36,8 +36,8 @@ impl Moving {
         requires { index < 4 }
         ensures { result ≡ spec.pair_byte (spec.status_code (bare self.now)) index }
     {
-        let odd = self.lane(2 * index + 1).status;
-        let even = self.lane(2 * index + 2).status;
+        let odd = self.lane(LaneNumber::at(2 * index)).status;
+        let even = self.lane(LaneNumber::at(2 * index + 1)).status;
         odd.code() % 16 + 16 * (even.code() % 16)
     }
 
@@ -69,7 +69,7 @@ impl Moving {
         } else if is_at(Register::CApplyDPInit, address) {
             0
         } else if let Some(index) = index_in(Register::CStagedControl, address) {
-            self.lane(index + 1).staged
+            self.lane(LaneNumber::at(index)).staged
         } else {
             byte
         }
@@ -86,7 +86,7 @@ impl Moving {
         } else if let Some(index) = index_in(Register::CConfigStatus, address) {
             self.status_pair(index)
         } else if let Some(index) = index_in(Register::CActiveControl, address) {
-            self.lane(index + 1).active
+            self.lane(LaneNumber::at(index)).active
         } else {
             byte
         }

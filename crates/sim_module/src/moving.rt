@@ -3,6 +3,7 @@ use crate::delays::Delays;
 use crate::lane::Lane;
 use applications::LaneSet;
 use datapath_states::PathState;
+use field_tables::LaneNumber;
 use module_states::ModuleState;
 use paged_memory::Selection;
 use std::array;
@@ -35,7 +36,6 @@ pub struct Moving {
 
 impl Moving {
     ghost use Rattle.std.specs.Prelude.{◌≡◌};
-    ghost use Rattle.control_sets.specs.HostPaths.{IsLane};
     ghost use Rattle.sim_module.specs.Lanes as lanes;
     ghost use Rattle.sim_module.specs.Record.{bare, module_of};
     ghost use Rattle.sim_module.specs.Ticks.{pinned};
@@ -66,15 +66,13 @@ impl Moving {
         states
     }
 
-    pub(crate) fn lane(&self, lane: u8) -> Lane
-        requires { IsLane lane }
+    pub(crate) fn lane(&self, lane: LaneNumber) -> Lane
         ensures { result ≡ lanes.lane_at (bare self.now) lane }
     {
         lane_in(&self.lanes, lane)
     }
 
-    pub(crate) fn is_deactivated(&self, lane: u8) -> bool
-        requires { IsLane lane }
+    pub(crate) fn is_deactivated(&self, lane: LaneNumber) -> bool
         ensures { result ≡ lanes.is_deactivated (bare self.now) lane }
     {
         self.lane(lane).path == PathState::Deactivated
@@ -89,13 +87,11 @@ impl Moving {
 }
 
 ghost use Rattle.std.specs.Prelude.{◌≡◌, ◌-◌, get_or};
-ghost use Rattle.control_sets.specs.HostPaths.{IsLane};
 ghost use Rattle.sim_module.specs.Lanes.{no_lane};
 
 /// One of all lanes.
-pub fn lane_in(lanes: &[Lane; 8], lane: u8) -> Lane
-    requires { IsLane lane }
+pub fn lane_in(lanes: &[Lane; 8], lane: LaneNumber) -> Lane
     ensures { result ≡ get_or lanes.now (lane - 1) no_lane }
 {
-    lanes[usize::from(lane) - 1]
+    lanes[lane.index()]
 }

@@ -11,7 +11,7 @@ use applications::{Advert, LaneSet};
 use bus_model::Dev;
 use control_sets::{ControlFault, paths_of};
 use datapath_states::{ConfigStatus, PathState};
-use field_tables::{Register, register};
+use field_tables::{LaneNumber, Register, register};
 use module_states::ModuleState;
 use paged_memory::{Image, Key, Selection};
 use std::array;
@@ -45,7 +45,6 @@ impl SimModule {
 ghost use Rattle.std.specs.Prelude.{◌≡◌, ◌≤◌, ◌+◌, map};
 ghost use Rattle.std.specs.List.{range_with_len};
 ghost use Rattle.applications.specs.Advertised.{advertised_by};
-ghost use Rattle.control_sets.specs.HostPaths.{IsLane};
 ghost use Rattle.sim_module.specs.Lanes.{all_lanes};
 ghost use Rattle.field_tables.specs.Registers.{first_byte};
 ghost use Rattle.sim_module.specs.Registers.{lane_flag_bytes};
@@ -92,16 +91,15 @@ fn lane_flags(image: &Image) -> [u8; LANE_FLAGS]
     flags
 }
 
-fn start_lane(image: &Image, lane: u8) -> Lane
-    requires { IsLane lane }
+fn start_lane(image: &Image, lane: LaneNumber) -> Lane
     ensures { result ≡ spec.start_lane image.now lane }
 {
     Lane {
         path: PathState::Deactivated,
         left: 0,
         status: ConfigStatus::Undefined,
-        staged: byte_of_register(image, Register::CStagedControl, lane - 1),
-        active: byte_of_register(image, Register::CActiveControl, lane - 1),
+        staged: byte_of_register(image, Register::CStagedControl, lane.number() - 1),
+        active: byte_of_register(image, Register::CActiveControl, lane.number() - 1),
         kept: None,
     }
 }
@@ -109,9 +107,9 @@ fn start_lane(image: &Image, lane: u8) -> Lane
 fn start_lanes(image: &Image) -> [Lane; 8]
     ensures { result ≡ map (spec.start_lane image.now) all_lanes }
 {
-    let mut lanes = [start_lane(image, 1); 8];
+    let mut lanes = [start_lane(image, LaneNumber::at(0)); 8];
     for (index, lane) in lanes.iter_mut().enumerate() {
-        *lane = start_lane(image, index as u8 + 1);
+        *lane = start_lane(image, LaneNumber::at(index as u8));
     }
     lanes
 }

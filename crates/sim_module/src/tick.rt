@@ -3,11 +3,11 @@ use crate::lane::{Lane, next_left};
 use crate::moving::{Moving, lane_in};
 use applications::LaneSet;
 use datapath_states::PathState;
+use field_tables::LaneNumber;
 use module_states::ModuleState;
 
 impl Moving {
     ghost use Rattle.std.specs.Prelude.{◌≡◌, map, slice_set, true};
-    ghost use Rattle.control_sets.specs.HostPaths.{IsLane};
     ghost use Rattle.sim_module.specs.Lanes.{active_bytes, all_lanes};
     ghost use Rattle.sim_module.specs.Record.{bare, module_of};
     ghost use Rattle.sim_module.specs.declared.fixed.Fixed.{Fixed};
@@ -29,12 +29,13 @@ impl Moving {
     fn all_deactivated(&self) -> bool
         ensures { result ≡ spec.all_deactivated (bare self.now) }
     {
-        (1..9).all(|lane| self.is_deactivated(lane))
+        LaneNumber::all()
+            .iter()
+            .all(|lane| self.is_deactivated(*lane))
     }
 
     // Given the active bytes, and whether some lane holds down its path.
-    fn next_path_state(&self, active: &[u8; 8], held: bool, lane: u8) -> PathState
-        requires lane { IsLane lane }
+    fn next_path_state(&self, active: &[u8; 8], held: bool, lane: LaneNumber) -> PathState
         requires active { active.now ≡ active_bytes (bare self.now) }
         requires held { held ≡ is_held (bare self.now) }
         ensures { result ≡ spec.next_path_state (bare self.now) lane }
@@ -48,8 +49,7 @@ impl Moving {
     }
 
     #[tactic(auto, unfolding(crate::specs::Ticks::ticked_lane))]
-    fn ticked_lane(&self, active: &[u8; 8], held: bool, lane: u8) -> Lane
-        requires lane { IsLane lane }
+    fn ticked_lane(&self, active: &[u8; 8], held: bool, lane: LaneNumber) -> Lane
         requires active { active.now ≡ active_bytes (bare self.now) }
         requires held { held ≡ is_held (bare self.now) }
         ensures { result ≡ spec.ticked_lane (bare self.now) lane }
@@ -70,16 +70,15 @@ impl Moving {
         let held = self.is_held();
         let mut lanes = self.lanes;
         for (index, lane) in lanes.iter_mut().enumerate() {
-            *lane = self.ticked_lane(&active, held, index as u8 + 1);
+            *lane = self.ticked_lane(&active, held, LaneNumber::at(index as u8));
         }
         lanes
     }
 
     // Given the lane's next state.
     #[tactic(auto, unfolding(crate::specs::Ticks::arrives))]
-    fn arrives(&self, next: PathState, lane: u8) -> bool
-        requires lane { IsLane lane }
-        requires next { next ≡ spec.next_path_state (bare self.now) lane }
+    fn arrives(&self, next: PathState, lane: LaneNumber) -> bool
+        requires { next ≡ spec.next_path_state (bare self.now) lane }
         ensures { result ≡ spec.arrives (bare self.now) lane }
     {
         next != self.lane(lane).path && is_steady(next)
@@ -91,10 +90,11 @@ impl Moving {
         ensures { result ≡ spec.arriving (bare self.now) }
     {
         let mut lanes = LaneSet::empty();
-        for lane in 1..9 {
-            let next = after[usize::from(lane) - 1].path;
+        for place in 0..8 {
+            let lane = LaneNumber::at(place);
+            let next = lane_in(after, lane).path;
             if self.arrives(next, lane) {
-                lanes = lanes.union(LaneSet::run(lane, 1));
+                lanes = lanes.union(LaneSet::run(lane.number(), 1));
             }
         }
         lanes
@@ -104,7 +104,9 @@ impl Moving {
     fn all_stay(&self, after: &[Lane; 8]) -> bool
         ensures { result ≡ all_stay (bare self.now) after.now }
     {
-        (1..9).all(|lane| self.lane(lane).stays(lane_in(after, lane)))
+        LaneNumber::all()
+            .iter()
+            .all(|lane| self.lane(*lane).stays(lane_in(after, *lane)))
     }
 
     // If true, a tick leaves all as it is. Given are the module's next state, all lanes after the tick, and the flags of changed

@@ -1,6 +1,5 @@
-ghost use Rattle.std.specs.Prelude.{◌≡◌, ◌<◌, ◌≤◌, length, IfSome};
+ghost use Rattle.std.specs.Prelude.{◌≡◌, ◌<◌, ◌≤◌, length};
 ghost use Rattle.bus_model.specs.Operations.{Answers};
-ghost use Rattle.control_sets.specs.HostPaths.{IsLane};
 ghost use Rattle.control_sets.specs.Judgements.{HasCount, all_lanes_have, at_lane, differing_lane, is_rejection, is_reserved_state, is_reserved_status, judged, judged_module, judged_states, judged_statuses, judgement, lowest_lane, met_if, unless_rejected};
 ghost use Rattle.control_sets.specs.Tasks.{operation};
 
@@ -8,7 +7,7 @@ use crate::fault::ProvisionFault;
 use crate::procedures::task::Task;
 use bus_model::Reply;
 use datapath_states::{PathState, lanes, status_of};
-use field_tables::{Field, LaneSet, number_in_byte};
+use field_tables::{Field, LaneNumber, LaneSet, number_in_byte};
 use module_states::ModuleState;
 
 /// What a reply says of a task.
@@ -55,11 +54,11 @@ impl Task {
             }
             Task::AwaitApplied(waiting) => judge_statuses(lanes(bytes), *waiting),
             Task::CheckStaged(control) => match differing_lane(bytes, control) {
-                Some(lane) => Judgement::Fails(ProvisionFault::StagedDiffers(lane)),
+                Some(lane) => Judgement::Fails(ProvisionFault::StagedDiffers(lane.number())),
                 None => Judgement::Met,
             },
             Task::CheckActive(control) => match differing_lane(bytes, control) {
-                Some(lane) => Judgement::Fails(ProvisionFault::ActiveDiffers(lane)),
+                Some(lane) => Judgement::Fails(ProvisionFault::ActiveDiffers(lane.number())),
                 None => Judgement::Met,
             },
             Task::Deinitialize(_) | Task::Stage(_) | Task::Apply(_) => Judgement::NotYet,
@@ -100,7 +99,10 @@ fn judge_rejections(codes: [u8; 8], lanes: LaneSet) -> Judgement
     ensures { result ≡ unless_rejected codes (lowest_lane is_rejection lanes codes) (met_if (all_lanes_have 1 lanes codes)) }
 {
     match lowest_rejection(&codes, lanes) {
-        Some(lane) => Judgement::Fails(ProvisionFault::Rejected(lane, at_lane(&codes, lane))),
+        Some(lane) => Judgement::Fails(ProvisionFault::Rejected(
+            lane.number(),
+            at_lane(&codes, lane),
+        )),
         None => met_if(all_lanes_have(&codes, lanes, 1)),
     }
 }
@@ -115,47 +117,50 @@ fn met_if(holds: bool) -> Judgement
     }
 }
 
-fn lowest_reserved_state(codes: &[u8; 8], lanes: LaneSet) -> Option<u8>
-    ensures value { result ≡ lowest_lane is_reserved_state lanes codes.now }
-    ensures lane { IfSome result IsLane }
+fn lowest_reserved_state(codes: &[u8; 8], lanes: LaneSet) -> Option<LaneNumber>
+    ensures { result ≡ lowest_lane is_reserved_state lanes codes.now }
 {
-    (1..9).find(|lane| lanes.contains(*lane) && is_reserved_state(at_lane(codes, *lane)))
+    LaneNumber::all().iter().copied().find(|lane| lanes.contains(lane.number())
+        && is_reserved_state(at_lane(codes, *lane)))
 }
 
-fn lowest_reserved_status(codes: &[u8; 8], lanes: LaneSet) -> Option<u8>
-    ensures value { result ≡ lowest_lane is_reserved_status lanes codes.now }
-    ensures lane { IfSome result IsLane }
+fn lowest_reserved_status(codes: &[u8; 8], lanes: LaneSet) -> Option<LaneNumber>
+    ensures { result ≡ lowest_lane is_reserved_status lanes codes.now }
 {
-    (1..9).find(|lane| lanes.contains(*lane) && is_reserved_status(at_lane(codes, *lane)))
+    LaneNumber::all().iter().copied().find(|lane| lanes.contains(lane.number())
+        && is_reserved_status(at_lane(codes, *lane)))
 }
 
-fn lowest_rejection(codes: &[u8; 8], lanes: LaneSet) -> Option<u8>
-    ensures value { result ≡ lowest_lane is_rejection lanes codes.now }
-    ensures lane { IfSome result IsLane }
+fn lowest_rejection(codes: &[u8; 8], lanes: LaneSet) -> Option<LaneNumber>
+    ensures { result ≡ lowest_lane is_rejection lanes codes.now }
 {
-    (1..9).find(|lane| lanes.contains(*lane) && is_rejection(at_lane(codes, *lane)))
+    LaneNumber::all().iter().copied().find(|lane| lanes.contains(lane.number())
+        && is_rejection(at_lane(codes, *lane)))
 }
 
 fn all_lanes_have(codes: &[u8; 8], lanes: LaneSet, code: u8) -> bool
     ensures { result ≡ all_lanes_have code lanes codes.now }
 {
-    (1..9).all(|lane| !lanes.contains(lane) || at_lane(codes, lane) == code)
+    LaneNumber::all().iter().all(|lane| !lanes.contains(lane.number())
+        || at_lane(codes, *lane) == code)
 }
 
-fn differing_lane(bytes: &[u8], control: &[u8; 8]) -> Option<u8>
+fn differing_lane(bytes: &[u8], control: &[u8; 8]) -> Option<LaneNumber>
     requires { length bytes.now ≡ 8 }
     ensures { result ≡ differing_lane bytes.now control.now }
 {
-    (1..9).find(|lane| at_lane(bytes, *lane) != at_lane(control, *lane))
+    LaneNumber::all()
+        .iter()
+        .copied()
+        .find(|lane| at_lane(bytes, *lane) != at_lane(control, *lane))
 }
 
 // Of eight bytes or codes, lane 1 first, that of a lane.
-fn at_lane(values: &[u8], lane: u8) -> u8
-    requires eight { length values.now ≡ 8 }
-    requires lane { IsLane lane }
+fn at_lane(values: &[u8], lane: LaneNumber) -> u8
+    requires { length values.now ≡ 8 }
     ensures { result ≡ at_lane values.now lane }
 {
-    values[usize::from(lane) - 1]
+    values[lane.index()]
 }
 
 fn is_reserved_state(code: u8) -> bool
