@@ -68,7 +68,7 @@ byte_of_run first count byte from to is fits = ap byte_of (sym (lanes_in-mask fi
 
 -- so many tasks are met by so many steps
 abbrev come_to : Work → ℕ → ℕ → Selected → Procedure
-come_to work met steps selected = record { work = work; met = met; session = record { steps = steps; selection = selected }; fault = None }
+come_to work met steps selected = record { work = work; met = met; tracker = record { steps = steps; selection = selected }; fault = None }
 
 abbrev task_at : Work → ℕ → Task
 task_at work met = get_or (tasks_of work) met FindReady
@@ -76,7 +76,7 @@ task_at work met = get_or (tasks_of work) met FindReady
 turn : (work : Work) (met steps : ℕ) (selected after : Selected) (history : History) (op : Op) (reply : Reply) (judged : Judgement) → IsAt (tasks_of work) history (come_to work met steps selected) →
     next (come_to work met steps selected) ≡ Do op → IsReplyTo (next (come_to work met steps selected)) reply → judged ≡ judgement_by selected (task_at work met) reply →
     after ≡ selection_after selected (step_with (operation_by selected (task_at work met)) reply) →
-    IsAt (tasks_of work) (step_with op reply ∷ history) (record { work = work; met = met_after judged met; session = record { steps = steps + 1; selection = after }; fault = fault_told judged })
+    IsAt (tasks_of work) (step_with op reply ∷ history) (record { work = work; met = met_after judged met; tracker = record { steps = steps + 1; selection = after }; fault = fault_told judged })
 turn work met steps selected after history op reply judged at asked answers judgement selection =
     told (come_to work met steps selected) FindReady (record { steps = steps + 1; selection = after }) reply judged answers judgement refl selection (tasks_of work) history op at asked
 

@@ -21,6 +21,6 @@ fault_back (Some (Reserved code)) = refl
 
 pub saved_back : (saved : SavedProcedure) (work : Work) (selected : Selected) (fault : Option ProvisionFault) →
     work_numbered saved.work saved.control saved.lanes ≡ Some work → selected_numbered saved.selection saved.page ≡ Some selected → fault_in saved.fault ≡ Some fault →
-    restored saved ≡ Some (record { work = work; met = saved.met; session = record { steps = saved.steps; selection = selected }; fault = fault })
+    restored saved ≡ Some (record { work = work; met = saved.met; tracker = record { steps = saved.steps; selection = selected }; fault = fault })
 unfolding restored
 saved_back saved work selected fault has_work has_selected has_fault = rw (has_work, has_selected, has_fault) refl

@@ -23,7 +23,7 @@ same_with selected task history (Some page) told =
     ap (λ (b : Bool). if b then operation task else selection page) (told.known page)
     ∙ elim (is_known selected page) as (λ b. (if b then operation task else selection page) ≡ operation_with task (if b then None else Some page)) [ true ↦ refl | false ↦ refl ]
 
--- what the session does next is what comes next after its steps
+-- what the tracker does next is what comes next after its steps
 pub next_made : (selected : Selected) (task : Task) (history : History) → Tells BankAndPage selected history → next_operation history task ≡ operation_by selected task
 next_made selected task history told =
     (λ i. if told.awaited i then read_selection else same_with selected task history (page_of task) told i)

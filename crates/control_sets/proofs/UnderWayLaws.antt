@@ -5,7 +5,7 @@ use Rattle.std.specs.Option.{option_map}
 use Rattle.std.proofs.lemmas.List.Folds.{list_all-append}
 use Rattle.std.proofs.lemmas.Bool.{and_parts, and_from, or_left}
 use Rattle.bus_model.specs.declared.operation.Step.{Step}
-use Rattle.control_sets.specs.declared.procedures.session.Session.{Session}
+use Rattle.control_sets.specs.declared.procedures.page_tracker.PageTracker.{PageTracker}
 use Rattle.control_sets.specs.declared.procedures.task.Task.{Task}
 use Rattle.control_sets.specs.declared.procedures.judgement.Judgement.TheVariants.{Met, NotYet, Fails}
 use Rattle.control_sets.specs.declared.fault.ProvisionFault.{ProvisionFault}
@@ -24,14 +24,14 @@ none_met : (tasks : List Task) → list_all (λ task. not (was_met task [])) tas
 none_met [] = refl
 none_met (task ∷ tasks) = none_met tasks
 
-pub begun : (tasks : List Task) (session : Session) → session.steps ≡ 0 → Tells BankAndPage session.selection [] → UnderWay tasks [] tasks session []
-begun tasks session none told = record { split = refl; each = tt; answers = tt; count = sym none; few = omega arith; told = told; met = refl; unmet = none_met tasks; no_fault = refl; before = tt }
+pub begun : (tasks : List Task) (tracker : PageTracker) → tracker.steps ≡ 0 → Tells BankAndPage tracker.selection [] → UnderWay tasks [] tasks tracker []
+begun tasks tracker none told = record { split = refl; each = tt; answers = tt; count = sym none; few = omega arith; told = told; met = refl; unmet = none_met tasks; no_fault = refl; before = tt }
 
 each_goes_on : (tasks : List Task) (task : Task) (history : History) → in_hand tasks history ≡ Some task → fault_after tasks history ≡ None → BeforeGoesOn tasks history → EachGoesOn tasks history
 each_goes_on tasks task [] h e before = record { unmet = λ none. cc; no_fault = e }
 each_goes_on tasks task (step ∷ history) h e before = (record { unmet = λ none. cc; no_fault = e }, before)
 
-module _ (tasks earlier later : List Task) (task : Task) (session : Session) (history : History) (u : UnderWay tasks earlier (task ∷ later) session history) where
+module _ (tasks earlier later : List Task) (task : Task) (tracker : PageTracker) (history : History) (u : UnderWay tasks earlier (task ∷ later) tracker history) where
   pub hand : in_hand tasks history ≡ Some task
   hand = ap (λ tasks. in_hand tasks history) u.split ∙ in_hand_past earlier (task ∷ later) history u.met ∙ in_hand_first task later history (and_parts _ _ u.unmet).0
 
@@ -40,7 +40,7 @@ module _ (tasks earlier later : List Task) (task : Task) (session : Session) (hi
   goes_on = each_goes_on tasks task history hand u.no_fault u.before
 
 -- the step is the one that comes next, and says nothing of other tasks
-pub record IsNext (earlier later : List Task) (task : Task) (old new : Session) (step : Step) (before : History) : Type 0 where
+pub record IsNext (earlier later : List Task) (task : Task) (old new : PageTracker) (step : Step) (before : History) : Type 0 where
   pub done : step.op ≡ operation_by old.selection task
   pub selection : new.selection ≡ selection_after old.selection step
   pub count : new.steps ≡ old.steps + 1
@@ -49,7 +49,7 @@ pub record IsNext (earlier later : List Task) (task : Task) (old new : Session) 
   pub silent_before : Silent step before earlier
   pub silent_after : Silent step before later
 
-module _ (tasks earlier later : List Task) (task : Task) (old new : Session) (history : History) (step : Step)
+module _ (tasks earlier later : List Task) (task : Task) (old new : PageTracker) (history : History) (step : Step)
     (u : UnderWay tasks earlier (task ∷ later) old history) (next : IsNext earlier later task old new step history) where
   pub each_next : EachIsNext tasks (step ∷ history)
   each_next = (ap (option_map (next_operation history)) (hand tasks earlier later task old history u) ∙ ap (λ op. Some op) (next_made old.selection task history u.told ∙ sym next.done), u.each)
@@ -95,6 +95,6 @@ module _ (tasks earlier later : List Task) (task : Task) (old new : Session) (hi
   ends fault e = (fault_next ∙ ap fault_in e, goes_on tasks earlier later task old history u)
 
 -- each task was met
-pub all_met : (tasks earlier : List Task) (session : Session) (history : History) → UnderWay tasks earlier [] session history → EndsFirst tasks history (Ok session.steps)
-all_met tasks earlier session [] u = (ap (λ tasks. in_hand tasks []) u.split ∙ in_hand_past earlier [] [] u.met, sym u.count)
-all_met tasks earlier session (step ∷ history) u = ((ap (λ tasks. in_hand tasks (step ∷ history)) u.split ∙ in_hand_past earlier [] (step ∷ history) u.met, sym u.count), u.before)
+pub all_met : (tasks earlier : List Task) (tracker : PageTracker) (history : History) → UnderWay tasks earlier [] tracker history → EndsFirst tasks history (Ok tracker.steps)
+all_met tasks earlier tracker [] u = (ap (λ tasks. in_hand tasks []) u.split ∙ in_hand_past earlier [] [] u.met, sym u.count)
+all_met tasks earlier tracker (step ∷ history) u = ((ap (λ tasks. in_hand tasks (step ∷ history)) u.split ∙ in_hand_past earlier [] (step ∷ history) u.met, sym u.count), u.before)

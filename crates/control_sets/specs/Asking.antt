@@ -8,7 +8,7 @@ use Rattle.control_sets.specs.declared.fault.ProvisionFault.{ProvisionFault}
 use Rattle.control_sets.specs.declared.fault.ProvisionFault.TheVariants.{GaveUp}
 use Rattle.control_sets.specs.declared.procedures.next.Next.{Next}
 use Rattle.control_sets.specs.declared.procedures.next.Next.TheVariants.{Do, Done}
-use Rattle.control_sets.specs.declared.procedures.session.Session.{Session}
+use Rattle.control_sets.specs.declared.procedures.page_tracker.PageTracker.{PageTracker}
 use Rattle.control_sets.specs.declared.procedures.task.Task.{Task}
 use Rattle.control_sets.specs.OutcomeAnswers.{most_steps}
 use Rattle.control_sets.specs.Selections.{operation_by}
@@ -17,18 +17,18 @@ use Rattle.control_sets.specs.Selections.{operation_by}
 abbrev pub step_with : Op → Reply → Step
 step_with op reply = record { op = op; reply = reply }
 
-abbrev pub next_for : Session → Task → Next
-next_for session task = if nat_lt session.steps most_steps then Do (operation_by session.selection task) else Done (Err GaveUp)
+abbrev pub next_for : PageTracker → Task → Next
+next_for tracker task = if nat_lt tracker.steps most_steps then Do (operation_by tracker.selection task) else Done (Err GaveUp)
 
 -- for the task in hand, if there is one
-abbrev pub next_with : Session → Option Task → Next
-next_with session None = Done (Ok session.steps)
-next_with session (Some task) = next_for session task
+abbrev pub next_with : PageTracker → Option Task → Next
+next_with tracker None = Done (Ok tracker.steps)
+next_with tracker (Some task) = next_for tracker task
 
 -- after a fault there is nothing more
-abbrev pub next_after : Option ProvisionFault → Session → Option Task → Next
-next_after None session task = next_with session task
-next_after (Some fault) session task = Done (Err fault)
+abbrev pub next_after : Option ProvisionFault → PageTracker → Option Task → Next
+next_after None tracker task = next_with tracker task
+next_after (Some fault) tracker task = Done (Err fault)
 
 -- the reply is one that the operation can have
 abbrev pub IsReplyTo : Next → Reply → Type 0

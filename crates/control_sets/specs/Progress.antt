@@ -8,7 +8,7 @@ use Rattle.control_sets.specs.declared.fault.ProvisionFault.{ProvisionFault}
 use Rattle.control_sets.specs.declared.procedures.task.Task.{Task}
 use Rattle.paged_memory.specs.declared.paging.Paging.TheVariants.{BankAndPage}
 use Rattle.paged_memory.specs.KnownPages.{Tells}
-use Rattle.control_sets.specs.declared.procedures.session.Session.{Session}
+use Rattle.control_sets.specs.declared.procedures.page_tracker.PageTracker.{PageTracker}
 use Rattle.control_sets.specs.declared.procedures.next.Next.{Next}
 use Rattle.control_sets.specs.declared.procedures.next.Next.TheVariants.{Do, Done}
 use Rattle.control_sets.specs.declared.procedures.procedure.Work.{Work}
@@ -26,11 +26,11 @@ tasks_of (Activation control lanes) = activation control lanes
 
 -- the operation that the procedure asks for, or its end
 abbrev pub next : Procedure → Next
-next procedure = next_after procedure.fault procedure.session (slice_get (tasks_of procedure.work) procedure.met)
+next procedure = next_after procedure.fault procedure.tracker (slice_get (tasks_of procedure.work) procedure.met)
 
 -- the steps that a procedure may still make
 abbrev pub steps_left : Procedure → ℕ
-steps_left procedure = most_steps - procedure.session.steps
+steps_left procedure = most_steps - procedure.tracker.steps
 
 -- no fewer of the steps end in an answer
 abbrev pub BeforeGoesOn : List Task → History → Type 0
@@ -38,13 +38,13 @@ BeforeGoesOn tasks [] = Unit {0}
 BeforeGoesOn tasks (step ∷ before) = EachGoesOn tasks before
 
 -- the earlier tasks were met, and the later ones not
-pub record UnderWay (tasks earlier later : List Task) (session : Session) (history : History) : Type 0 where
+pub record UnderWay (tasks earlier later : List Task) (tracker : PageTracker) (history : History) : Type 0 where
   pub split : tasks ≡ earlier ++ later
   pub each : EachIsNext tasks history
   pub answers : EachAnswers history
-  pub count : length history ≡ session.steps
-  pub few : session.steps ≤ most_steps
-  pub told : Tells BankAndPage session.selection history
+  pub count : length history ≡ tracker.steps
+  pub few : tracker.steps ≤ most_steps
+  pub told : Tells BankAndPage tracker.selection history
   pub met : list_all (λ task. was_met task history) earlier ≡ true
   pub unmet : list_all (λ task. not (was_met task history)) later ≡ true
   pub no_fault : fault_after tasks history ≡ None
@@ -57,15 +57,15 @@ pub record HasFailed (tasks : List Task) (history : History) (fault : ProvisionF
   pub few : length history ≤ most_steps
   pub ends : EndsFirst tasks history (Err fault)
 
-abbrev pub HasCome : List Task → History → ℕ → Session → Option ProvisionFault → Type 0
-HasCome tasks history met session None = UnderWay tasks (take met tasks) (drop met tasks) session history
-HasCome tasks history met session (Some fault) = HasFailed tasks history fault
+abbrev pub HasCome : List Task → History → ℕ → PageTracker → Option ProvisionFault → Type 0
+HasCome tasks history met tracker None = UnderWay tasks (take met tasks) (drop met tasks) tracker history
+HasCome tasks history met tracker (Some fault) = HasFailed tasks history fault
 
 -- the procedure is one of these tasks, and was told these steps, the newest first
 pub record IsAt (tasks : List Task) (history : History) (procedure : Procedure) : Type 0 where
   pub has : tasks_of procedure.work ≡ tasks
   pub apart : all_apart tasks ≡ true
-  pub come : HasCome tasks history procedure.met procedure.session procedure.fault
+  pub come : HasCome tasks history procedure.met procedure.tracker procedure.fault
 
 -- after these steps comes the operation
 pub record GoesOnBy (tasks : List Task) (history : History) (op : Op) : Type 0 where

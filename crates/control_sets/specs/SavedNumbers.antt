@@ -82,7 +82,7 @@ saved_fault (Some fault) = numbers_of fault
 
 abbrev pub procedure_of : SavedProcedure → Option Work → Option Selected → Option (Option ProvisionFault) → Option Procedure
 procedure_of saved (Some work) (Some selected) (Some fault) =
-    Some (record { work = work; met = saved.met; session = record { steps = saved.steps; selection = selected }; fault = fault })
+    Some (record { work = work; met = saved.met; tracker = record { steps = saved.steps; selection = selected }; fault = fault })
 procedure_of saved work selected fault = None
 
 -- the procedure that has these numbers; none if those of its work, its selection or its fault stand for nothing

@@ -2,14 +2,14 @@
 
 mod judgement;
 mod next;
+mod page_tracker;
 mod procedure;
 mod runner;
 mod saved_fault;
-mod session;
 mod task;
 
 pub use next::Next;
+pub use page_tracker::MAX_STEPS;
 pub use procedure::{Procedure, SavedProcedure, can_have};
 pub use runner::{Activated, Provisioned, activate, provision, provision_keeping};
 pub use saved_fault::SavedFault;
-pub use session::MAX_STEPS;

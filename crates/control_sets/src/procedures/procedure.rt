@@ -7,7 +7,7 @@ mod saved;
 use crate::fault::ProvisionFault;
 use crate::procedures::judgement::Judgement;
 use crate::procedures::next::Next;
-use crate::procedures::session::Session;
+use crate::procedures::page_tracker::PageTracker;
 use crate::procedures::task::Task;
 use bus_model::{Op, Reply};
 use field_tables::LaneSet;
@@ -70,7 +70,7 @@ fn activation(control: [u8; 8], lanes: LaneSet) -> [Task; 4]
 pub struct Procedure {
     work: Work,
     met: usize,
-    session: Session,
+    tracker: PageTracker,
     fault: Option<ProvisionFault>,
 }
 
@@ -91,7 +91,7 @@ impl Procedure {
         Procedure {
             work,
             met: 0,
-            session: Session {
+            tracker: PageTracker {
                 steps: 0,
                 selection: Selected::Unknown,
             },
@@ -130,7 +130,7 @@ impl Procedure {
     {
         match self.fault {
             Some(fault) => Next::Done(Err(fault)),
-            None => self.session.next(self.work.task(self.met)),
+            None => self.tracker.next(self.work.task(self.met)),
         }
     }
 
@@ -143,7 +143,7 @@ impl Procedure {
         ensures fewer { steps_left self.new < steps_left self.old }
     {
         if let Some(task) = self.work.task(self.met) {
-            match self.session.take(&task, reply) {
+            match self.tracker.take(&task, reply) {
                 Judgement::Met => self.met += 1,
                 Judgement::NotYet => {}
                 Judgement::Fails(fault) => self.fault = Some(fault),

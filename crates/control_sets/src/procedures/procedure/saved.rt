@@ -2,8 +2,8 @@ ghost use Rattle.std.specs.Prelude.{◌≡◌, Some};
 ghost use Rattle.control_sets.specs.SavedNumbers.{page_read_back, restored, saved_fault, selected_numbered, work_numbered};
 
 use super::{Procedure, Work};
+use crate::procedures::page_tracker::PageTracker;
 use crate::procedures::saved_fault::SavedFault;
-use crate::procedures::session::Session;
 use field_tables::LaneSet;
 use paged_memory::Selected;
 
@@ -56,14 +56,14 @@ impl Procedure {
     /// Its numbers.
     pub fn save(&self) -> SavedProcedure
         ensures same { restored result ≡ Some self.now }
-        ensures page { result.page ≡ page_read_back self.now.session.selection }
+        ensures page { result.page ≡ page_read_back self.now.tracker.selection }
         ensures fault { result.fault ≡ saved_fault self.now.fault }
     {
         let (work, control, lanes) = numbers_of_work(&self.work);
-        let (selection, page) = numbers_of_selected(self.session.selection);
+        let (selection, page) = numbers_of_selected(self.tracker.selection);
         SavedProcedure {
             met: self.met,
-            steps: self.session.steps,
+            steps: self.tracker.steps,
             work,
             lanes,
             control,
@@ -81,7 +81,7 @@ impl Procedure {
         Some(Procedure {
             work: saved.work()?,
             met: saved.met,
-            session: Session {
+            tracker: PageTracker {
                 steps: saved.steps,
                 selection: saved.selected()?,
             },

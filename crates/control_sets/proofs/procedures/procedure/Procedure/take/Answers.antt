@@ -11,7 +11,7 @@ returns-in-Met-clause-told c tasks history op at asked =
     let old = c.args.self.now in
     let reply = c.args.reply.now in
     let found = sym c.in-Some.is ∙ c.task.ensures in
-    subst (λ (fault : Option ProvisionFault). IsAt tasks (step_with op reply ∷ history) (record { work = old.work; met = old.met + 1; session = c.take.new.self; fault = fault })) (sym (awaits_by old c.in-Some.task reply found c.requires).working)
+    subst (λ (fault : Option ProvisionFault). IsAt tasks (step_with op reply ∷ history) (record { work = old.work; met = old.met + 1; tracker = c.take.new.self; fault = fault })) (sym (awaits_by old c.in-Some.task reply found c.requires).working)
     (told_by old c.in-Some.task c.take.new.self reply Met found c.requires (sym c.in-Met.is ∙ c.take.ensures.judgement) c.take.ensures.steps c.take.ensures.selection tasks history op at asked)
 
 pub returns-in-NotYet-clause-told : goal.returns-in-NotYet-clause-told
@@ -19,7 +19,7 @@ returns-in-NotYet-clause-told c tasks history op at asked =
     let old = c.args.self.now in
     let reply = c.args.reply.now in
     let found = sym c.in-Some.is ∙ c.task.ensures in
-    subst (λ (fault : Option ProvisionFault). IsAt tasks (step_with op reply ∷ history) (record { work = old.work; met = old.met; session = c.take.new.self; fault = fault })) (sym (awaits_by old c.in-Some.task reply found c.requires).working)
+    subst (λ (fault : Option ProvisionFault). IsAt tasks (step_with op reply ∷ history) (record { work = old.work; met = old.met; tracker = c.take.new.self; fault = fault })) (sym (awaits_by old c.in-Some.task reply found c.requires).working)
     (told_by old c.in-Some.task c.take.new.self reply NotYet found c.requires (sym c.in-NotYet.is ∙ c.take.ensures.judgement) c.take.ensures.steps c.take.ensures.selection tasks history op at asked)
 
 pub returns-in-Fails-clause-told : goal.returns-in-Fails-clause-told

@@ -13,14 +13,14 @@ pub const MAX_STEPS: u16 = 4096;
 
 /// What a procedure keeps of the steps that it was told.
 #[derive(Clone, Copy, Debug, PartialEq, Eq)]
-pub struct Session {
+pub struct PageTracker {
     /// How many there were.
     pub steps: u16,
     /// What they say of the page selection.
     pub selection: Selected,
 }
 
-impl Session {
+impl PageTracker {
     ghost use Rattle.control_sets.specs.Selections.{judgement_by, operation_by, selection_after};
     ghost use Rattle.control_sets.specs.Asking.{IfDo, next_with, step_with};
     ghost use Rattle.control_sets.specs.OutcomeAnswers.{most_steps};
