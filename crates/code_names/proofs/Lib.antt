@@ -1,0 +1,2 @@
+mod OneRow
+mod Searches

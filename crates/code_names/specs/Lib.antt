@@ -1,0 +1,15 @@
+pub mod Rows
+pub mod Identifiers
+pub mod Connectors
+pub mod Sff8472Encodings
+pub mod Sff8636Encodings
+pub mod ExtendedCompliance
+pub mod HostInterfaces
+pub mod MultiModeMedia
+pub mod SingleModeMedia
+pub mod PassiveCopper
+pub mod ActiveCables
+pub mod BaseTMedia
+pub mod MediaTypes
+pub mod MediaTechnologies
+pub mod Names

@@ -1,0 +1,40 @@
+-- What the media lanes are, on multi-mode fibre at 850 nm. (SFF-8024, Table 4-6 MM Media Interface IDs)
+use Rattle.std.specs.Prelude.{List, [], ◌∷◌, codes}
+use Rattle.code_names.specs.Rows.{Row, name, vendor_specific_from}
+
+unfoldable pub multi_mode_media_names : List Row
+multi_mode_media_names =
+    name 0x00 (codes "Undefined")
+    ∷ name 0x01 (codes "10GBASE-SW")
+    ∷ name 0x02 (codes "10GBASE-SR")
+    ∷ name 0x03 (codes "25GBASE-SR")
+    ∷ name 0x04 (codes "40GBASE-SR4")
+    ∷ name 0x05 (codes "40GE SWDM4")
+    ∷ name 0x06 (codes "40GE BiDi")
+    ∷ name 0x07 (codes "50GBASE-SR")
+    ∷ name 0x08 (codes "100GBASE-SR10")
+    ∷ name 0x09 (codes "100GBASE-SR4")
+    ∷ name 0x0A (codes "100GE SWDM4")
+    ∷ name 0x0B (codes "100GE BiDi")
+    ∷ name 0x0C (codes "100GBASE-SR2")
+    ∷ name 0x0D (codes "100GBASE-SR1")
+    ∷ name 0x0E (codes "200GBASE-SR4")
+    ∷ name 0x0F (codes "400GBASE-SR16")
+    ∷ name 0x10 (codes "400GBASE-SR8")
+    ∷ name 0x11 (codes "400GBASE-SR4")
+    ∷ name 0x12 (codes "800GBASE-SR8")
+    ∷ name 0x13 (codes "8GFC-MM")
+    ∷ name 0x14 (codes "10GFC-MM")
+    ∷ name 0x15 (codes "16GFC-MM")
+    ∷ name 0x16 (codes "32GFC-MM")
+    ∷ name 0x17 (codes "64GFC-MM")
+    ∷ name 0x18 (codes "128GFC-MM4")
+    ∷ name 0x19 (codes "256GFC-MM4")
+    ∷ name 0x1A (codes "400GBASE-SR4.2")
+    ∷ name 0x1B (codes "200GBASE-SR2")
+    ∷ name 0x1D (codes "100GBASE-VR1")
+    ∷ name 0x1E (codes "200GBASE-VR2")
+    ∷ name 0x1F (codes "400GBASE-VR4")
+    ∷ name 0x20 (codes "800GBASE-VR8")
+    ∷ vendor_specific_from 0xC0 0xFF
+    ∷ []

@@ -1,0 +1,14 @@
+//! The names of the codes by which a module says what it is: the tables of SFF-8024, and two of CMIS.
+//! Facts alone; what isn't known for sure is left out, and `Name::Unlisted` says so.
+#![tactic(auto)]
+
+mod laws;
+mod names;
+mod row;
+mod table;
+mod tables;
+
+pub use laws::each_code_has_one_row;
+pub use names::name_of;
+pub use row::Name;
+pub use table::Table;
