@@ -28,7 +28,7 @@ of_members (m ∷ more) =
 -- ---- how deep they nest
 
 -- the members of two lists, no deeper than both
-deep : (ms ns : List Member) (d : ℕ) → members_depth (members_of ms) ≤ d → members_depth (members_of ns) ≤ d → members_depth (members_of (ms ++ ns)) ≤ d
+pub deep : (ms ns : List Member) (d : ℕ) → members_depth (members_of ms) ≤ d → members_depth (members_of ns) ≤ d → members_depth (members_of (ms ++ ns)) ≤ d
 deep [] ns d first second = second
 deep (m ∷ ms) ns d first second = omega (arith, deep ms ns d (omega arith) second)
 
@@ -37,7 +37,7 @@ unfolding string_members
 name_depth k None = omega arith
 name_depth k (Some n) = omega arith
 
-count_depth : (k : List ℕ) (n : ℕ) → members_depth (members_of (count_members k n)) ≤ 0
+pub count_depth : (k : List ℕ) (n : ℕ) → members_depth (members_of (count_members k n)) ≤ 0
 unfolding count_members
 count_depth k n = omega arith
 
@@ -71,7 +71,7 @@ unfolding app_json kind_members lanes_members starts_members usable_members coun
 app_depth app = omega arith
 
 -- an array of what nests no deeper
-all_deep : {A : Type 0} (f : A → Json) (d : ℕ) (one : (x : A) → depth (f x) ≤ d) (xs : List A) → items_depth (items_of (map f xs)) ≤ d
+pub all_deep : {A : Type 0} (f : A → Json) (d : ℕ) (one : (x : A) → depth (f x) ≤ d) (xs : List A) → items_depth (items_of (map f xs)) ≤ d
 all_deep f d one [] = omega arith
 all_deep f d one (x ∷ xs) = omega (arith, one x, all_deep f d one xs)
 
@@ -104,7 +104,7 @@ entries_depth : (entries : List Entry) → members_depth (members_of (entries_me
 entries_depth [] = omega arith
 entries_depth (e ∷ more) = deep (said_members e.name e.said) (entries_members more) 2 (said_depth e.name e.said) (entries_depth more)
 
-form_depth : members_depth (members_of form_members) ≤ 2
+pub form_depth : members_depth (members_of form_members) ≤ 2
 unfolding form_members count_members
 form_depth = omega arith
 
@@ -113,9 +113,12 @@ report_depth entries = omega (arith, deep form_members (entries_members entries)
 
 -- ---- reading back
 
--- a text of these tokens is read back as what was said
-pub read_back : (entries : List Entry) (written : List ℕ) → tokens written ≡ json_tokens (report_json entries) → document written ≡ Some (report_json entries)
-read_back entries written is =
-    let j = report_json entries in
+-- a text of the tokens of a value that nests no deeper than the grammar reads is read back as it
+pub reads_as : (j : Json) (written : List ℕ) → depth j ≤ max_depth → tokens written ≡ json_tokens j → document written ≡ Some j
+reads_as j written shallow is =
     ap (option_and_then (λ p. if_last p.0 p.1))
-    (ap (value max_depth) (is ∙ sym (append-nil (json_tokens j))) ∙ value-json_tokens j max_depth [] (report_depth entries))
+    (ap (value max_depth) (is ∙ sym (append-nil (json_tokens j))) ∙ value-json_tokens j max_depth [] shallow)
+
+-- so is a report
+pub read_back : (entries : List Entry) (written : List ℕ) → tokens written ≡ json_tokens (report_json entries) → document written ≡ Some (report_json entries)
+read_back entries written is = reads_as (report_json entries) written (report_depth entries) is

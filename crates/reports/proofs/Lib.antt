@@ -12,3 +12,5 @@ pub mod SameRows
 pub mod SameFlagRows
 pub mod JsonNumbers
 pub mod JsonTokens
+pub mod JsonDepths
+pub mod JsonKeys

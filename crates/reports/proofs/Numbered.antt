@@ -1,8 +1,8 @@
 -- Lists whose elements are numbered from 1.
-use Rattle.std.proofs.Common.{◌≡◌, ℕ, suc, ◌+◌, ◌<◌, ◌≤◌, List, [], ◌∷◌, ◌++◌, length, map, take, get_or, ap, ◌∙◌, arith}
+use Rattle.std.proofs.Common.{◌≡◌, ℕ, zero, suc, ◌+◌, ◌<◌, ◌≤◌, List, [], ◌∷◌, ◌++◌, length, map, take, get_or, ap, ◌∙◌, arith}
 use Rattle.std.proofs.Math.Seq.{take-suc}
 use Rattle.std.proofs.lemmas.List.{length-take-le, map-append}
-use Rattle.std.specs.List.{enumerate_from}
+use Rattle.std.specs.List.{enumerate_from, range_with_len}
 
 -- an element more takes the next number
 enumerate_more : {X : Type 0} (n : ℕ) (xs : List X) (x : X) → enumerate_from n (xs ++ x ∷ []) ≡ enumerate_from n xs ++ (n + length xs, x) ∷ []
@@ -28,3 +28,12 @@ numbered_more {X} {Y} f xs k d below =
     ∙ ap (map f) (enumerate_more 1 before x)
     ∙ map-append f (enumerate_from 1 before) ((1 + length before, x) ∷ [])
     ∙ ap (λ (n : ℕ). map f (enumerate_from 1 before) ++ f (n, x) ∷ []) number
+
+-- numbers in a row, and the next
+pub range_more : (first n : ℕ) → range_with_len first (suc n) ≡ range_with_len first n ++ (first + n) ∷ []
+range_more first zero =
+    let same : first ≡ first + 0 = omega arith in
+    ap (λ (k : ℕ). k ∷ []) same
+range_more first (suc n) =
+    let same : first + 1 + n ≡ first + suc n = omega arith in
+    ap (λ ks. first ∷ ks) (range_more (first + 1) n ∙ ap (λ (k : ℕ). range_with_len (first + 1) n ++ k ∷ []) same)

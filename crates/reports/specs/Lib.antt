@@ -30,3 +30,8 @@ pub mod EntryJson
 pub mod Rows
 pub mod RowTables
 pub mod FlagRows
+pub mod PlanJson
+pub mod FaultJson
+pub mod VerdictJson
+pub mod ProcedureJson
+pub mod UniqueKeys

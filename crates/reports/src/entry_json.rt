@@ -42,7 +42,7 @@ fn json_lines(alloc: Global, entries: &[Entry]) -> Result<Vec<u8>, AllocError>
 }
 
 #[tactic(auto, unfolding(crate::specs::EntryJson::form_members))]
-fn put_form(out: &mut JsonWriter) -> Result<(), AllocError>
+pub fn put_form(out: &mut JsonWriter) -> Result<(), AllocError>
     ensures { OnOk result (out.new ≡ out.old ++ all_member_tokens form_members) }
 {
     put_count(out, "dovecounter", 1)
@@ -87,11 +87,11 @@ fn put_said(out: &mut JsonWriter, name: &'static str, said: &Said) -> Result<(),
         }
         Said::Number(number) => {
             out.key_of(name)?;
-            out.number(*number)
+            out.number(u64::from(*number))
         }
         Said::Code(byte) => {
             out.key_of(name)?;
-            out.number(u16::from(*byte))
+            out.number(u64::from(*byte))
         }
         Said::Revision(byte) => {
             out.key_of(name)?;
@@ -107,7 +107,7 @@ fn put_said(out: &mut JsonWriter, name: &'static str, said: &Said) -> Result<(),
         }
         Said::LaneSet(lanes) => {
             out.key_of(name)?;
-            out.number(u16::from(lanes.byte()))
+            out.number(u64::from(lanes.byte()))
         }
         Said::LaneStates(states) => {
             out.key_of(name)?;
@@ -126,11 +126,11 @@ fn put_said(out: &mut JsonWriter, name: &'static str, said: &Said) -> Result<(),
 
 // A count under a key.
 #[tactic(auto, unfolding(crate::specs::EntryJson::count_members))]
-fn put_count(out: &mut JsonWriter, key: &str, count: u8) -> Result<(), AllocError>
+pub fn put_count(out: &mut JsonWriter, key: &str, count: u8) -> Result<(), AllocError>
     ensures { OnOk result (out.new ≡ out.old ++ all_member_tokens (count_members key.now count)) }
 {
     out.key(key)?;
-    out.number(u16::from(count))
+    out.number(u64::from(count))
 }
 
 #[tactic(auto, unfolding(crate::specs::EntryJson::amount_members))]
@@ -143,7 +143,11 @@ fn put_amount(out: &mut JsonWriter, key: &str, millis: i64) -> Result<(), AllocE
 
 // A value under a key, as a string.
 #[tactic(auto, unfolding(crate::specs::EntryJson::string_members))]
-fn put_shown<V: Display + Drop>(out: &mut JsonWriter, key: &str, value: V) -> Result<(), AllocError>
+pub fn put_shown<V: Display + Drop>(
+    out: &mut JsonWriter,
+    key: &str,
+    value: V,
+) -> Result<(), AllocError>
     ensures { IfSome (V.output value) (λ shown.
         OnOk result (out.new ≡ out.old ++ all_member_tokens (string_members key.now shown))) }
 {
@@ -181,7 +185,7 @@ fn put_state(out: &mut JsonWriter, name: &str, code: u8) -> Result<(), AllocErro
     ensures { OnOk result (out.new ≡ out.old ++ all_member_tokens (state_members name.now code)) }
 {
     out.key_of(name)?;
-    out.number(u16::from(code))?;
+    out.number(u64::from(code))?;
     if let Ok(state) = module_states::state_of(code) {
         out.key_in(name, "name")?;
         out.shown(state)?;

@@ -1,6 +1,6 @@
 // A text of JSON, which grows token by token. A clause sees its tokens.
 use crate::shown::{Thousandths, shown_byte};
-use json::{Pretty, Token};
+use json::{Pretty, Token, is_number};
 use std::alloc::{AllocError, Global};
 use std::fmt::{Display, Write};
 use std::marker::Model;
@@ -28,7 +28,9 @@ impl JsonWriter {
     ghost use Rattle.json.specs.Layout.{pretty};
     ghost use Rattle.json.specs.Lex.{tokens};
     ghost use Rattle.json.specs.Token.{begin_array, begin_object, boolean, end_array, end_object, key, number, string};
+    ghost use Rattle.json.specs.Tree.{json_tokens};
     ghost use Rattle.reports.specs.EntryJson.{key_in, snake};
+    ghost use Rattle.reports.specs.FaultJson.{scalar_json};
     ghost use Rattle.reports.specs.Shown.{thousandths};
 
     /// No text yet.
@@ -109,13 +111,29 @@ impl JsonWriter {
         self.text.token(Token::String(self.piece.as_str()))
     }
 
+    /// A value as a number if its text is one, and else as a string.
+    #[tactic(auto, unfolding(crate::specs::FaultJson::scalar_json))]
+    pub fn scalar<V: Display + Drop>(&mut self, value: V) -> Result<(), AllocError>
+        ensures { IfSome (V.output value) (λ shown.
+            OnOk result (self.new ≡ self.old ++ json_tokens (scalar_json shown))) }
+    {
+        self.piece.clear();
+        write!(self.piece, "{value}")?;
+        let text = self.piece.as_str();
+        if is_number(text) {
+            self.text.token(Token::Number(text))
+        } else {
+            self.text.token(Token::String(text))
+        }
+    }
+
     pub fn boolean(&mut self, value: bool) -> Result<(), AllocError>
         ensures { OnOk result (self.new ≡ self.old ++ boolean value ∷ []) }
     {
         self.text.token(Token::Bool(value))
     }
 
-    pub fn number(&mut self, value: u16) -> Result<(), AllocError>
+    pub fn number(&mut self, value: u64) -> Result<(), AllocError>
         ensures { OnOk result (self.new ≡ self.old ++ number (decimal value) ∷ []) }
     {
         let mut digits = itoa::Buffer::new();
