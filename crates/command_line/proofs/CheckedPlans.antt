@@ -21,14 +21,16 @@ use Rattle.plan_certificate.specs.declared.verdict.Verdict.{Verdict}
 use Rattle.plan_certificate.specs.declared.verdict.Verdict.TheVariants.{Good, Bad}
 use Rattle.plan_certificate.proofs.OneAnswer.{same_answer}
 use Rattle.reports.specs.PlanText.{plan_lines}
-use Rattle.command_line.specs.declared.commands.check_command.CheckCommand.{CheckCommand}
 use Rattle.command_line.specs.CheckCommand.{IsCheckAnswer, IsGoodAnswer, IsJudged, SaysFirst, first_line, good_line, kept_lines}
 use Rattle.command_line.specs.Limits.{input_limit}
 use Rattle.command_line.specs.Parts.{is_separator_line, parts_of}
-use Rattle.command_line.specs.PlanCommand.{IsPlanAnswer, IsPlanned}
+use Rattle.command_line.specs.PartsRead.{parts_read, text_in}
+use Rattle.command_line.specs.PlanCommand.{IsPlanned}
 use Rattle.command_line.specs.PlanningInputs.{IsAdvertText}
 use Rattle.command_line.specs.PlanThenCheck.{first_lines, good_text, input_with, IsCalledGood, IsEnded, IsGoodBehind, IsGoodBehindInput, IsGoodInPlace}
-use Rattle.command_line.specs.Runs.{Answer, IsAnswerTo}
+use Rattle.command_line.specs.Commands.{IsAnswerOf, IsAnswerToTexts}
+use Rattle.command_line.specs.Runs.{Answer}
+use Rattle.command_line.specs.declared.choice.commands.Choice.TheVariants.{Check, Plan}
 use Rattle.command_line.specs.declared.fault.Fault.TheVariants as fault
 use Rattle.command_line.proofs.TextBehind.{is_one_part, is_plain, parts_behind}
 
@@ -83,13 +85,20 @@ same_claim text a b p q = let same = same_answer most_states (lines_of text) (Ok
 
 -- ---- what `check` answers to the parts
 
+-- what each command answers to an input that is cut so
+abbrev IsCheckTo : Bool → List (List ℕ) → Answer → Type 0
+IsCheckTo first parts = IsAnswerToTexts (Check first) (text_in (parts_read (Check first)) parts)
+
+abbrev IsPlanTo : Bool → List (List ℕ) → Answer → Type 0
+IsPlanTo keep parts = IsAnswerToTexts (Plan keep) (text_in (parts_read (Plan keep)) parts)
+
 module _ (image_text weights_text kept_text text : List ℕ) (planned : IsPlanned image_text weights_text kept_text text) where
   says : (first : Bool) → SaysFirst first planned.given.advert planned.given.weights planned.certificate (first_lines first)
   says true = (true, ((λ _. planned.given.is_first), (λ _. refl)), refl)
   says false = refl
 
-  good_answer : (command : CheckCommand) → IsGoodAnswer command image_text weights_text text (good_text command planned)
-  good_answer command = record {
+  good_answer : (first : Bool) → IsGoodAnswer first image_text weights_text text (good_text first planned)
+  good_answer first = record {
     judged = record {
       advert = planned.given.advert;
       weights = planned.given.weights;
@@ -100,7 +109,7 @@ module _ (image_text weights_text kept_text text : List ℕ) (planned : IsPlanne
       is_verdict = planned.given.judged_again;
     };
     is_best = planned.given.is_best;
-    told = record { first_lines = first_lines command.tells_first; says_first = says command.tells_first; told = refl };
+    told = record { first_lines = first_lines first; says_first = says first; told = refl };
   }
 
   module _ (judged : Verdict) (is : IsJudged image_text weights_text text judged) where
@@ -121,50 +130,50 @@ module _ (image_text weights_text kept_text text : List ℕ) (planned : IsPlanne
   says_so true lines (is_first, same, said) = said ∙ ap (λ (b : Bool). first_line b ∷ []) (same.1 planned.given.is_first)
   says_so false lines none = none
 
-  told_good : (command : CheckCommand) (told : List ℕ) → IsGoodAnswer command image_text weights_text text told → told ≡ good_text command planned
-  told_good command told is =
+  told_good : (first : Bool) (told : List ℕ) → IsGoodAnswer first image_text weights_text text told → told ≡ good_text first planned
+  told_good first told is =
       let advert = the_advert Good is.judged in
       let listed = the_weights Good is.judged in
       let certificate = the_certificate Good is.judged in
-      let lines = says_so command.tells_first is.told.first_lines (subst (λ (c : Claim). SaysFirst command.tells_first planned.given.advert planned.given.weights c is.told.first_lines) certificate
-      (subst (λ (w : HostWeights). SaysFirst command.tells_first planned.given.advert w is.judged.certificate is.told.first_lines) listed
-      (subst (λ (a : Advertised). SaysFirst command.tells_first a is.judged.weights is.judged.certificate is.told.first_lines) advert is.told.says_first))) in
+      let lines = says_so first is.told.first_lines (subst (λ (c : Claim). SaysFirst first planned.given.advert planned.given.weights c is.told.first_lines) certificate
+      (subst (λ (w : HostWeights). SaysFirst first planned.given.advert w is.judged.certificate is.told.first_lines) listed
+      (subst (λ (a : Advertised). SaysFirst first a is.judged.weights is.judged.certificate is.told.first_lines) advert is.told.says_first))) in
       is.told.told ∙ (λ i. text_of (good_line ∷ kept_lines (length (certificate i).kept) ++ plan_lines (advert i) (listed i) (certificate i).paths ++ lines i))
 
-  alone : (command : CheckCommand) (answer : Answer) → IsCheckAnswer command (image_text ∷ weights_text ∷ text ∷ []) answer → answer ≡ Ok (good_text command planned, None)
-  alone command (Ok (told, None)) is = let same = told_good command told is in λ i. Ok (same i, None)
-  alone command (Ok (told, Some f)) is = absurd is
-  alone command (Err (fault.Bad reason number)) is = let good = judged_good (Bad reason number) is in absurd cc
-  alone command (Err (fault.Certificate f)) is =
+  alone : (first : Bool) (answer : Answer) → IsCheckAnswer first image_text weights_text text answer → answer ≡ Ok (good_text first planned, None)
+  alone first (Ok (told, None)) is = let same = told_good first told is in λ i. Ok (same i, None)
+  alone first (Ok (told, Some f)) is = absurd is
+  alone first (Err (fault.Bad reason number)) is = let good = judged_good (Bad reason number) is in absurd cc
+  alone first (Err (fault.Certificate f)) is =
       let same = same_answer most_states (lines_of text) (Ok planned.certificate) (Err f) planned.read_again is.2 in
       absurd cc
-  alone command (Err (fault.Weights f)) is = absurd (not_refused weights_text planned.given.weights f is.1.0 planned.given.are_weights is.1.1)
-  alone command (Err (fault.Image f)) is =
+  alone first (Err (fault.Weights f)) is = absurd (not_refused weights_text planned.given.weights f is.1.0 planned.given.are_weights is.1.1)
+  alone first (Err (fault.Image f)) is =
       let read = planned.given.is_advert in
       let same = same_image_answer (lines_of image_text) (Ok read.memory) (Err f) read.is_module.is_text is in
       absurd cc
-  alone command (Err (fault.Advert f)) is =
+  alone first (Err (fault.Advert f)) is =
       let read = planned.given.is_advert in
       let same = same_image image_text read.memory is.0 read.is_module.is_text is.1 in
       let accepted = read.is_module.accepted in
       absurd (cc is.2)
-  alone command (Err f) is = absurd is
+  alone first (Err f) is = absurd is
 
   module _ (input : List ℕ) (cut : parts_of input ≡ image_text ∷ weights_text ∷ text ∷ []) (within : length input ≤ input_limit) where
     counted : length (parts_of input) ≡ 3
     counted = ap (λ (l : List (List ℕ)). length l) cut
 
-    good_to : (command : CheckCommand) → IsAnswerTo 3 (IsCheckAnswer command) input (Ok (good_text command planned, None))
-    good_to command = (within, counted, subst (λ l. IsCheckAnswer command l (Ok (good_text command planned, None))) (sym cut) (good_answer command))
+    good_to : (first : Bool) → IsAnswerOf (Check first) input (Ok (good_text first planned, None))
+    good_to first = (within, counted, subst (λ l. IsCheckTo first l (Ok (good_text first planned, None))) (sym cut) (good_answer first))
 
-    alone_to : (command : CheckCommand) (answer : Answer) → IsAnswerTo 3 (IsCheckAnswer command) input answer → answer ≢ Err fault.Memory → answer ≢ Err fault.Io
-        → answer ≡ Ok (good_text command planned, None)
-    alone_to command (Ok told) is memory read = alone command (Ok told) (subst (λ l. IsCheckAnswer command l (Ok told)) cut is.2)
-    alone_to command (Err fault.Memory) is memory read = absurd (memory refl)
-    alone_to command (Err fault.Io) is memory read = absurd (read refl)
-    alone_to command (Err fault.TooLong) is memory read = absurd (omega arith)
-    alone_to command (Err (fault.Parts number)) is memory read = absurd (is.2 (is.1 ∙ counted))
-    alone_to command (Err f) is memory read = alone command (Err f) (subst (λ l. IsCheckAnswer command l (Err f)) cut is.2)
+    alone_to : (first : Bool) (answer : Answer) → IsAnswerOf (Check first) input answer → answer ≢ Err fault.Memory → answer ≢ Err fault.Io
+        → answer ≡ Ok (good_text first planned, None)
+    alone_to first (Ok told) is memory read = alone first (Ok told) (subst (λ l. IsCheckTo first l (Ok told)) cut is.2)
+    alone_to first (Err fault.Memory) is memory read = absurd (memory refl)
+    alone_to first (Err fault.Io) is memory read = absurd (read refl)
+    alone_to first (Err fault.TooLong) is memory read = absurd (omega arith)
+    alone_to first (Err (fault.Parts number)) is memory read = absurd (is.2 (is.1 ∙ counted))
+    alone_to first (Err f) is memory read = alone first (Err f) (subst (λ l. IsCheckTo first l (Err f)) cut is.2)
 
     called_good : IsCalledGood planned input
     called_good = record { good = good_to; alone = alone_to }
@@ -177,17 +186,17 @@ record Planned (input text : List ℕ) : Type 0 where
   parts : parts_of input ≡ image_text ∷ weights_text ∷ []
   planned : IsPlanned image_text weights_text [] text
 
-planned_from : (input text : List ℕ) (parts : List (List ℕ)) → parts_of input ≡ parts → IsPlanAnswer false parts (Ok (text, None))
+planned_from : (input text : List ℕ) (parts : List (List ℕ)) → parts_of input ≡ parts → length parts ≡ 2 → IsPlanTo false parts (Ok (text, None))
     → Planned input text
-planned_from input text [] cut is = absurd is
-planned_from input text (image ∷ []) cut is = absurd is
-planned_from input text (image ∷ listed ∷ []) cut is = record { image_text = image; weights_text = listed; parts = cut; planned = is }
-planned_from input text (image ∷ listed ∷ more ∷ rest) cut is = absurd is
+planned_from input text [] cut two is = absurd (omega (arith, two))
+planned_from input text (image ∷ []) cut two is = absurd (omega (arith, two))
+planned_from input text (image ∷ listed ∷ []) cut two is = record { image_text = image; weights_text = listed; parts = cut; planned = is }
+planned_from input text (image ∷ listed ∷ more ∷ rest) cut two is = absurd (omega (arith, two))
 
-pub good_behind_input : (input text : List ℕ) → IsEnded input → IsAnswerTo 2 (IsPlanAnswer false) input (Ok (text, None))
+pub good_behind_input : (input text : List ℕ) → IsEnded input → IsAnswerOf (Plan false) input (Ok (text, None))
     → length (input_with input text) ≤ input_limit → IsGoodBehindInput input text
 good_behind_input input text (before, ends) is within =
-    let from = planned_from input text (parts_of input) refl is.2 in
+    let from = planned_from input text (parts_of input) refl is.1 is.2 in
     let cut : parts_of (input_with input text) ≡ from.image_text ∷ from.weights_text ∷ text ∷ [] =
     rw ends (parts_behind before text)
     ∙ ap (λ l. l ++ parts_of text) (ap parts_of (sym ends) ∙ from.parts)
@@ -201,9 +210,9 @@ good_behind_input input text (before, ends) is within =
     }
 
 pub good_behind : (image listed kept text input : List ℕ) → parts_of input ≡ image ∷ listed ∷ kept ∷ []
-    → IsAnswerTo 3 (IsPlanAnswer true) input (Ok (text, None)) → IsGoodBehind image listed kept text
+    → IsAnswerOf (Plan true) input (Ok (text, None)) → IsGoodBehind image listed kept text
 good_behind image listed kept text input cut is =
-    let planned : IsPlanned image listed kept text = subst (λ l. IsPlanAnswer true l (Ok (text, None))) cut is.2 in
+    let planned : IsPlanned image listed kept text = subst (λ l. IsPlanTo true l (Ok (text, None))) cut is.2 in
     record { planned = planned; good = λ other within parts. called_good image listed kept text planned other parts within }
 
 -- ---- kept paths, and the certificate in their place
@@ -216,25 +225,26 @@ record Kept (input kept text : List ℕ) : Type 0 where
   last : parts_of kept ≡ kept_text ∷ []
   planned : IsPlanned image_text weights_text kept_text text
 
-kept_from : (input kept text : List ℕ) (own last : List (List ℕ)) → parts_of input ≡ own → parts_of kept ≡ last → length own ≡ 2
-    → IsPlanAnswer true (own ++ last) (Ok (text, None)) → Kept input kept text
-kept_from input kept text [] last cut behind two is = absurd (omega (arith, two))
-kept_from input kept text (image ∷ []) last cut behind two is = absurd (omega (arith, two))
-kept_from input kept text (image ∷ listed ∷ []) [] cut behind two is = absurd is
-kept_from input kept text (image ∷ listed ∷ []) (own ∷ []) cut behind two is =
+kept_from : (input kept text : List ℕ) (own last : List (List ℕ)) → parts_of input ≡ own → parts_of kept ≡ last → length own ≡ 2 → length (own ++ last) ≡ 3
+    → IsPlanTo true (own ++ last) (Ok (text, None)) → Kept input kept text
+kept_from input kept text [] last cut behind two three is = absurd (omega (arith, two))
+kept_from input kept text (image ∷ []) last cut behind two three is = absurd (omega (arith, two))
+kept_from input kept text (image ∷ listed ∷ []) [] cut behind two three is = absurd (omega (arith, three))
+kept_from input kept text (image ∷ listed ∷ []) (own ∷ []) cut behind two three is =
     record { image_text = image; weights_text = listed; kept_text = own; own = cut; last = behind; planned = is }
-kept_from input kept text (image ∷ listed ∷ []) (own ∷ more ∷ rest) cut behind two is = absurd is
-kept_from input kept text (image ∷ listed ∷ more ∷ rest) last cut behind two is = absurd (omega (arith, two))
+kept_from input kept text (image ∷ listed ∷ []) (own ∷ more ∷ rest) cut behind two three is = absurd (omega (arith, three))
+kept_from input kept text (image ∷ listed ∷ more ∷ rest) last cut behind two three is = absurd (omega (arith, two))
 
 parts_with : (input text : List ℕ) → IsEnded input → parts_of (input_with input text) ≡ parts_of input ++ parts_of text
 parts_with input text (before, ends) = rw ends (parts_behind before text)
 
 pub good_in_place : (input kept text : List ℕ) → IsEnded input → length (parts_of input) ≡ 2
-    → IsAnswerTo 3 (IsPlanAnswer true) (input_with input kept) (Ok (text, None))
+    → IsAnswerOf (Plan true) (input_with input kept) (Ok (text, None))
     → length (input_with input text) ≤ input_limit → IsGoodInPlace input kept text
 good_in_place input kept text ended two is within =
-    let from = kept_from input kept text (parts_of input) (parts_of kept) refl refl two
-    (subst (λ l. IsPlanAnswer true l (Ok (text, None))) (parts_with input kept ended) is.2) in
+    let three = ap (λ (l : List (List ℕ)). length l) (sym (parts_with input kept ended)) ∙ is.1 in
+    let from = kept_from input kept text (parts_of input) (parts_of kept) refl refl two three
+    (subst (λ l. IsPlanTo true l (Ok (text, None))) (parts_with input kept ended) is.2) in
     let cut : parts_of (input_with input text) ≡ from.image_text ∷ from.weights_text ∷ text ∷ [] =
     parts_with input text ended
     ∙ ap (λ l. l ++ parts_of text) from.own

@@ -3,7 +3,6 @@ mod BusReadings
 mod CommandLineLemmas
 mod FoldLemmas
 mod GoodTexts
-mod KnownParts
 mod OwnAnswers
 mod PartCuts
 mod PlainChoices

@@ -1,25 +1,39 @@
--- What a command answers to its parts is among its answers to the input.
-use Rattle.std.proofs.Common.{◌≡◌, ℕ, ◌≤◌, List, [], ◌∷◌, length, Option, Some, None, IfSome, Ok, Err}
+-- What a command answers to the texts of its parts is among its answers to the input.
+use Rattle.std.proofs.Common.{◌≡◌, ℕ, ◌≤◌, Bool, true, false, List, length, Option, Some, None, IfSome, Ok, Err, arith}
 use Rattle.applications.specs.WeightFaults.{IsAnswer}
 use Rattle.applications.specs.declared.weights.fault.WeightsFault.{WeightsFault}
 use Rattle.applications.specs.declared.weights.fault.WeightsFault.TheVariants as weights
 use Rattle.command_line.specs.CheckCommand.{IsCheckAnswer}
-use Rattle.command_line.specs.declared.commands.check_command.CheckCommand.{CheckCommand}
 use Rattle.command_line.specs.Faults.{fault_of_weights}
 use Rattle.command_line.specs.Limits.{input_limit}
-use Rattle.command_line.specs.Parts.{parts_of}
+use Rattle.command_line.specs.Parts.{most_parts, parts_of}
+use Rattle.command_line.specs.PartsRead.{Texts, parts_read, text_in}
 use Rattle.command_line.specs.PlanningInputs.{Advertises}
 use Rattle.command_line.specs.Runs.{Answer, IsAnswerTo, IsOwnAnswer}
+use Rattle.command_line.specs.declared.choice.commands.Choice.{Choice}
+use Rattle.command_line.specs.declared.choice.commands.Choice.TheVariants.{Report, Plan, Check, Provision, Trace}
+use Rattle.command_line.specs.declared.choice.part.Part.{Part}
 use Rattle.command_line.specs.declared.fault.Fault.TheVariants as fault
 
-pub own_answer : (count : ℕ) (IsMine : List (List ℕ) → Answer → Type 0) (input : List ℕ) (a : Answer) → length input ≤ input_limit → length (parts_of input) ≡ count
-    → IsOwnAnswer IsMine (parts_of input) a → IsAnswerTo count IsMine input a
-own_answer count IsMine input (Ok text) within is own = (within, is, own)
-own_answer count IsMine input (Err fault.Memory) within is own = tt
-own_answer count IsMine input (Err fault.Io) within is own = absurd own
-own_answer count IsMine input (Err fault.TooLong) within is own = absurd own
-own_answer count IsMine input (Err (fault.Parts n)) within is own = absurd own
-own_answer count IsMine input (Err f) within is own = (within, is, own)
+pub own_answer : (parts : List Part) (IsMine : Texts → Answer → Type 0) (input : List ℕ) (a : Answer) → length input ≤ input_limit → length (parts_of input) ≡ length parts
+    → IsOwnAnswer (IsMine (text_in parts (parts_of input))) a → IsAnswerTo parts IsMine input a
+own_answer parts IsMine input (Ok text) within is own = (within, is, own)
+own_answer parts IsMine input (Err fault.Memory) within is own = tt
+own_answer parts IsMine input (Err fault.Io) within is own = absurd own
+own_answer parts IsMine input (Err fault.TooLong) within is own = absurd own
+own_answer parts IsMine input (Err (fault.Parts n)) within is own = absurd own
+own_answer parts IsMine input (Err f) within is own = (within, is, own)
+
+-- no command reads more parts than are cut
+pub few_parts : (choice : Choice) → length (parts_read choice) ≤ most_parts
+few_parts (Report report bus json) = omega arith
+few_parts (Plan true) = omega arith
+few_parts (Plan false) = omega arith
+few_parts (Check first) = omega arith
+few_parts (Provision activate true) = omega arith
+few_parts (Provision activate false) = omega arith
+few_parts (Trace activate true) = omega arith
+few_parts (Trace activate false) = omega arith
 
 -- what holds of the bytes that were read holds of the input, where that is known
 pub of_input : (o : Option (List ℕ)) (bytes : List ℕ) (P : List ℕ → Type 0) → IfSome o (λ input. (bytes ≡ input) × (length input ≤ input_limit))
@@ -32,7 +46,7 @@ pub if_known : {T : Type 0} (o : Option T) (P Q : T → Type 0) → ((x : T) →
 if_known None P Q k h = tt
 if_known (Some x) P Q k h = k x h
 
-pub check_weights_refused : (command : CheckCommand) (image text certificate : List ℕ) (f : WeightsFault) → Advertises image → IsAnswer text (Err f)
-    → IsOwnAnswer (IsCheckAnswer command) (image ∷ text ∷ certificate ∷ []) (Err (fault_of_weights f))
-check_weights_refused command image text certificate weights.Memory told is = tt
-check_weights_refused command image text certificate f told is = (told, (λ same. absurd cc, is))
+pub check_weights_refused : (first : Bool) (image text certificate : List ℕ) (f : WeightsFault) → Advertises image → IsAnswer text (Err f)
+    → IsOwnAnswer (IsCheckAnswer first image text certificate) (Err (fault_of_weights f))
+check_weights_refused first image text certificate weights.Memory told is = tt
+check_weights_refused first image text certificate f told is = (told, (λ same. absurd cc, is))

@@ -1,10 +1,12 @@
 -- A command's name alone is taken by `clap`, and chooses that command without a flag.
-use Rattle.std.proofs.Common.{◌≡◌, ◌∙◌, ◌<◌, ◌≤◌, Bool, true, false, List, [], ◌∷◌, Option, Some, map, find, length, slice_index_or, arith, ap, sym, refl, cond}
+use Rattle.std.proofs.Common.{◌≡◌, ◌∙◌, ◌<◌, ◌≤◌, Bool, true, false, List, [], ◌∷◌, Some, map, find, length, slice_index_or, arith, ap, sym, refl, cond}
 use Rattle.std.specs.Str.{bytes_eq}
 use Rattle.std.proofs.lemmas.Slice.Eq.{bytes_eq-Decides}
-use Rattle.clap.specs.Words.{Kinds, Text}
+use Rattle.clap.specs.Words.{Text}
 use Rattle.clap.proofs.OnLiterals.{clap_on_literals}
-use Rattle.command_line.specs.Choice.{Entry, choice_of, commands, entry_named, faults_of, plain_choice, program}
+use Rattle.command_line.specs.Choice.{Entry, choice_of, choice_with, commands, entry_named, faults_of, plain_choice, program}
+use Rattle.command_line.specs.declared.choice.commands.CommandName.{CommandName}
+use Rattle.command_line.specs.declared.choice.commands.CommandName.TheVariants.{Report, Plan, Check, Provision, Trace}
 
 -- what is found passes the test
 found_passes : {X : Type 0} (p : X → Bool) (xs : List X) (x : X) → find p xs ≡ Some x → p x ≡ true
@@ -36,6 +38,13 @@ its_name name entry met = sym ((bytes_eq-Decides entry.name name).0 (found_passe
 pub chosen_alone : (first name : Text) (entry : Entry) → entry_named name ≡ Some entry → choice_of (first ∷ name ∷ []) ≡ Some (plain_choice entry.command)
 chosen_alone first name entry met = ap (λ n. choice_of (first ∷ n ∷ [])) (its_name name entry met)
     ∙ same_at_found (λ (e : Entry). choice_of (first ∷ e.name ∷ [])) (λ (e : Entry). Some (plain_choice e.command)) _ commands entry (choices first) met
+
+pub without_flags : (command : CommandName) → choice_with command [] ≡ plain_choice command
+without_flags (Report report) = refl
+without_flags Plan = refl
+without_flags Check = refl
+without_flags Provision = refl
+without_flags Trace = refl
 
 pub taken_alone : (first name : Text) (entry : Entry) → entry_named name ≡ Some entry → faults_of (first ∷ name ∷ []) ≡ []
 taken_alone first name entry met = ap (λ n. faults_of (first ∷ n ∷ [])) (its_name name entry met)

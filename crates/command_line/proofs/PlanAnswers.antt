@@ -1,5 +1,5 @@
 -- The plan that is given, and the answer of the command `plan`, by what its texts answer.
-use Rattle.std.proofs.Common.{◌≡◌, ◌↔◌, ◌<◌, ℕ, Bool, All, AllPairs, Contains, List, [], ◌∷◌, None, Ok, Err, map, sym, subst}
+use Rattle.std.proofs.Common.{◌≡◌, ◌↔◌, ◌<◌, ℕ, All, AllPairs, Contains, List, Ok, Err, map, sym, subst}
 use Rattle.applications.specs.Advertised.{Advertised}
 use Rattle.applications.specs.Weights.{HostWeights}
 use Rattle.applications.specs.WeightFaults.{IsAnswer}
@@ -11,16 +11,14 @@ use Rattle.plan_certificate.specs.Certificates.{Claim, IsGood, state_of}
 use Rattle.plan_certificate.specs.Plans.{IsBest}
 use Rattle.plan_certificate.specs.ReachedStates.{IsReached}
 use Rattle.plan_certificate.specs.Verdicts.{verdict}
-use Rattle.plan_certificate.specs.declared.fault.KeptFault.{KeptFault}
 use Rattle.plan_certificate.specs.declared.path.Path.{Path}
 use Rattle.plan_certificate.specs.declared.state.State.{State}
 use Rattle.plan_certificate.specs.declared.verdict.Verdict.TheVariants.{Good}
 use Rattle.command_line.specs.Faults.{fault_of_weights}
 use Rattle.command_line.specs.GivenPlan.{IsGiven}
-use Rattle.command_line.specs.KeptParts.{with_kept}
-use Rattle.command_line.specs.PlanCommand.{IsPlanAnswer, IsPlanAnswerTo, IsPlanned}
-use Rattle.command_line.specs.PlanningInputs.{Advertises, AreKept, IsAdvertRefusal, IsAdvertText, IsKeptRefusal}
-use Rattle.command_line.specs.Runs.{Answer, IsOwnAnswer}
+use Rattle.command_line.specs.PlanCommand.{IsPlanAnswer}
+use Rattle.command_line.specs.PlanningInputs.{Advertises, AreKept, IsAdvertRefusal, IsAdvertText}
+use Rattle.command_line.specs.Runs.{IsOwnAnswer}
 use Rattle.command_line.specs.declared.fault.Fault.{Fault}
 use Rattle.command_line.specs.declared.fault.Fault.TheVariants as fault
 
@@ -47,21 +45,12 @@ module _ (image_text weights_text kept_text : List ℕ) (advert : Advertised) (l
     judged_again = judged;
   }
 
-module _ (keep : Bool) (parts : List (List ℕ)) (image listed kept : List ℕ) (texts : with_kept keep parts ≡ image ∷ listed ∷ kept ∷ []) where
-  as_texts : (a : Answer) → IsPlanAnswerTo (image ∷ listed ∷ kept ∷ []) a → IsPlanAnswer keep parts a
-  as_texts a is = subst (λ l. IsPlanAnswerTo l a) (sym texts) is
-
-  pub planned_answer : (text : List ℕ) → IsPlanned image listed kept text → IsOwnAnswer (IsPlanAnswer keep) parts (Ok (text, None))
-  planned_answer text is = as_texts (Ok (text, None)) is
-
-  pub advert_refused : (f : Fault) → IsAdvertRefusal image f → IsOwnAnswer (IsPlanAnswer keep) parts (Err f)
-  advert_refused (fault.Image f) is = as_texts (Err (fault.Image f)) is
-  advert_refused (fault.Advert f) is = as_texts (Err (fault.Advert f)) is
+module _ (image listed kept : List ℕ) where
+  pub advert_refused : (f : Fault) → IsAdvertRefusal image f → IsOwnAnswer (IsPlanAnswer image listed kept) (Err f)
+  advert_refused (fault.Image f) is = is
+  advert_refused (fault.Advert f) is = is
   advert_refused f is = absurd is
 
-  pub weights_refused : (f : WeightsFault) → Advertises image → IsAnswer listed (Err f) → IsOwnAnswer (IsPlanAnswer keep) parts (Err (fault_of_weights f))
+  pub weights_refused : (f : WeightsFault) → Advertises image → IsAnswer listed (Err f) → IsOwnAnswer (IsPlanAnswer image listed kept) (Err (fault_of_weights f))
   weights_refused weights.Memory told is = tt
-  weights_refused f told is = as_texts (Err (fault.Weights f)) (told, (λ same. absurd cc, is))
-
-  pub kept_refused : (f : KeptFault) → IsKeptRefusal image listed kept f → IsOwnAnswer (IsPlanAnswer keep) parts (Err (fault.Kept f))
-  kept_refused f is = as_texts (Err (fault.Kept f)) is
+  weights_refused f told is = (told, (λ same. absurd cc, is))

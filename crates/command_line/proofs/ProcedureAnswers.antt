@@ -31,30 +31,21 @@ use Rattle.sim_module.proofs.Provisioned.{active_if_none}
 use Rattle.sim_module.proofs.SoundModule.{made_keeps, sound_start}
 use Rattle.command_line.specs.Faults.{fault_of_weights}
 use Rattle.command_line.specs.PlanningInputs.{Advertises, IsAdvertRefusal}
-use Rattle.command_line.specs.ProvisionCommand.{Activates, CarriesOut, Ended, GoesOn, IsCarriedOut, IsProcedureAnswer, IsProcedureAnswerTo, IsSetUpRefusal, ModuleBus, Provisions, control_words, delays, outcome_fault, outcome_lines, steps_lines, told_text}
-use Rattle.command_line.specs.KeptParts.{with_kept}
-use Rattle.command_line.specs.Runs.{Answer, IsOwnAnswer}
+use Rattle.command_line.specs.ProvisionCommand.{Activates, CarriesOut, Ended, GoesOn, IsCarriedOut, IsProcedureAnswer, IsSetUpRefusal, ModuleBus, Provisions, control_words, delays, outcome_fault, outcome_lines, steps_lines, told_text}
+use Rattle.command_line.specs.Runs.{IsOwnAnswer}
 use Rattle.command_line.specs.Sessions.{IsSessionOf}
 use Rattle.command_line.specs.declared.commands.session.Session.{Session}
 use Rattle.command_line.specs.declared.fault.Fault.{Fault}
 use Rattle.command_line.specs.declared.fault.Fault.TheVariants as fault
 
--- the texts, as a command finds them among its parts
-module _ (traced activate keep : Bool) (parts : List (List ℕ)) (image listed kept script : List ℕ) (texts : with_kept keep parts ≡ image ∷ listed ∷ kept ∷ script ∷ []) where
-  as_texts : (a : Answer) → IsProcedureAnswerTo traced activate (image ∷ listed ∷ kept ∷ script ∷ []) a → IsProcedureAnswer traced activate keep parts a
-  as_texts a is = subst (λ l. IsProcedureAnswerTo traced activate l a) (sym texts) is
-
-  -- a refusal of the texts is the command's own
-  pub refused_answer : (f : Fault) → IsSetUpRefusal image listed kept script f → IsOwnAnswer (IsProcedureAnswer traced activate keep) parts (Err f)
-  refused_answer fault.Memory is = tt
-  refused_answer fault.Io is = absurd is
-  refused_answer fault.TooLong is = absurd is
-  refused_answer (fault.Parts n) is = absurd is
-  refused_answer f is = as_texts (Err f) is
-
-  pub told_answer : (text : List ℕ) (ended : Option ProvisionFault) → IsCarriedOut traced activate image listed kept script text ended
-      → IsOwnAnswer (IsProcedureAnswer traced activate keep) parts (Ok (text, ended))
-  told_answer text ended is = as_texts (Ok (text, ended)) is
+-- a refusal of the texts is the command's own
+pub refused_answer : (traced activate : Bool) (image listed kept script : List ℕ) (f : Fault) → IsSetUpRefusal image listed kept script f
+    → IsOwnAnswer (IsProcedureAnswer traced activate image listed kept script) (Err f)
+refused_answer traced activate image listed kept script fault.Memory is = tt
+refused_answer traced activate image listed kept script fault.Io is = absurd is
+refused_answer traced activate image listed kept script fault.TooLong is = absurd is
+refused_answer traced activate image listed kept script (fault.Parts n) is = absurd is
+refused_answer traced activate image listed kept script f is = is
 
 module _ (image listed kept script : List ℕ) where
   pub weights_refused : (f : WeightsFault) → Advertises image → IsAnswer listed (Err f) → IsSetUpRefusal image listed kept script (fault_of_weights f)

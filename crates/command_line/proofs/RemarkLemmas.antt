@@ -1,5 +1,5 @@
 -- What is said beside an answer is what its input gives cause for.
-use Rattle.std.proofs.Common.{◌≡◌, ◌∙◌, ℕ, Bool, true, false, List, Option, Some, None, IfSome, Result, Ok, Err, ap, sym, refl}
+use Rattle.std.proofs.Common.{◌≡◌, ◌∙◌, ℕ, Bool, true, false, List, Option, Some, None, IfSome, Ok, Err, ap, sym, refl}
 use Rattle.command_line.specs.Input.{IsReadOf}
 use Rattle.command_line.specs.Remarks.{opening_for}
 use Rattle.command_line.specs.RemarksBeside.{IsRemarkBeside, opening_beside}

@@ -1,5 +1,5 @@
 -- The answer of a command that reports, by what reporting the image answers.
-use Rattle.std.proofs.Common.{◌≡◌, ℕ, Bool, List, [], ◌∷◌, Option, Some, None, Result, Ok, Err, refl, ap, ◌∙◌, ◌⊎◌, inl, inr}
+use Rattle.std.proofs.Common.{◌≡◌, ℕ, Bool, List, Option, Some, None, Result, Ok, Err, refl, ap, ◌∙◌, ◌⊎◌, inl, inr}
 use Rattle.std.specs.Prelude.{MatchOption, Vec}
 use Rattle.std.specs.Result.{result_map_both}
 use Rattle.std.specs.declared.alloc.Global.{Global}
@@ -8,7 +8,7 @@ use Rattle.reports.specs.declared.fault.ReportFault.{ReportFault}
 use Rattle.reports.specs.declared.fault.ReportFault.TheVariants as report
 use Rattle.command_line.specs.Faults.{fault_of_report}
 use Rattle.command_line.specs.OverBus.{IsInputRefusal, IsToReport}
-use Rattle.command_line.specs.ReportCommands.{IsPrinted, IsReportAnswer, Prints, printed}
+use Rattle.command_line.specs.ReportCommands.{IsPrinted, IsReported, Prints, printed}
 use Rattle.command_line.specs.Runs.{IsOwnAnswer}
 use Rattle.command_line.specs.declared.fault.Fault.{Fault}
 use Rattle.command_line.specs.declared.fault.Fault.TheVariants as fault
@@ -21,7 +21,7 @@ refused fault = Err fault
 
 module _ (bus : Bool) (refusal : Memory → Option ReportFault) (text_of : Memory → List ℕ) (text : List ℕ) (memory : Memory) (read : IsToReport bus text memory) where
   is_told : (told : List ℕ) (o : Option ReportFault) → refusal memory ≡ o → MatchOption o (IsPrinted (text_of memory) (Ok told)) (λ f. reported told ≡ Err f)
-      → IsReportAnswer bus refusal text_of (text ∷ []) (Ok (told, None))
+      → IsReported bus refusal text_of text (Ok (told, None))
   is_told told None is h = (memory, read, is, h)
   is_told told (Some f) is h = absurd cc
 
@@ -30,22 +30,22 @@ module _ (bus : Bool) (refusal : Memory → Option ReportFault) (text_of : Memor
   fault_is f None is h = inl h
   fault_is f (Some g) is h = inr (is ∙ cc)
 
-  refused_as : (f : ReportFault) → (f ≡ report.Memory) ⊎ (refusal memory ≡ Some f) → IsOwnAnswer (IsReportAnswer bus refusal text_of) (text ∷ []) (Err (fault_of_report f))
+  refused_as : (f : ReportFault) → (f ≡ report.Memory) ⊎ (refusal memory ≡ Some f) → IsOwnAnswer (IsReported bus refusal text_of text) (Err (fault_of_report f))
   refused_as report.Memory h = tt
   refused_as f (inl same) = absurd cc
   refused_as f (inr is) = inr (memory, read, is)
 
   pub told_answer : (told : List ℕ) → MatchOption (refusal memory) (IsPrinted (text_of memory) (Ok told)) (λ f. reported told ≡ Err f)
-      → IsOwnAnswer (IsReportAnswer bus refusal text_of) (text ∷ []) (Ok (told, None))
+      → IsOwnAnswer (IsReported bus refusal text_of text) (Ok (told, None))
   told_answer told h = is_told told (refusal memory) refl h
 
   pub refused_answer : (f : ReportFault) → MatchOption (refusal memory) (IsPrinted (text_of memory) (Err f)) (λ g. refused f ≡ Err g)
-      → IsOwnAnswer (IsReportAnswer bus refusal text_of) (text ∷ []) (Err (fault_of_report f))
+      → IsOwnAnswer (IsReported bus refusal text_of text) (Err (fault_of_report f))
   refused_answer f h = refused_as f (fault_is f (refusal memory) refl h)
 
 -- a refusal of what there is to report of is the command's own
 pub input_refused : (bus : Bool) (refusal : Memory → Option ReportFault) (text_of : Memory → List ℕ) (text : List ℕ) (f : Fault) → IsInputRefusal bus text f
-    → IsOwnAnswer (IsReportAnswer bus refusal text_of) (text ∷ []) (Err f)
+    → IsOwnAnswer (IsReported bus refusal text_of text) (Err f)
 input_refused bus refusal text_of text fault.Memory is = tt
 input_refused bus refusal text_of text (fault.Image f) is = is
 input_refused bus refusal text_of text (fault.Report f) is = inl is

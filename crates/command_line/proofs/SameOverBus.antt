@@ -9,16 +9,21 @@ use Rattle.paged_memory.specs.ImageText.{IsImage}
 use Rattle.paged_memory.specs.declared.fault.ImageFault.{ImageFault}
 use Rattle.paged_memory.specs.Paging.{History}
 use Rattle.paged_memory.proofs.OneAnswer.{same_answer}
-use Rattle.reports.specs.Entries.{Entry}
+use Rattle.reports.proofs.FetchedReports.{fetched_reports}
 use Rattle.reports.specs.SameReports.{FetchedReportsSame, IsSame, ReportsSame}
 use Rattle.reports.specs.declared.fault.ReportFault.{ReportFault}
 use Rattle.reports.specs.declared.fault.ReportFault.TheVariants as report
 use Rattle.command_line.specs.Limits.{input_limit}
 use Rattle.command_line.specs.OverBus.{IsFetchedFrom, window_at_start}
-use Rattle.command_line.specs.ReportCommands.{IsReportAnswer, printed}
+use Rattle.command_line.specs.PartsRead.{text_in}
+use Rattle.command_line.specs.ReportCommands.{IsReported, entries_of, printed, refusal_of}
 use Rattle.command_line.specs.Parts.{parts_of}
 use Rattle.command_line.specs.Runs.{Answer, IsAnswerTo}
 use Rattle.command_line.specs.SameOverBus.{IsToldAlike}
+use Rattle.command_line.specs.declared.choice.commands.Choice.TheVariants.{Report}
+use Rattle.command_line.specs.declared.choice.commands.ReportName.{ReportName}
+use Rattle.command_line.specs.declared.choice.commands.ReportName.TheVariants.{Inventory, Apps, Monitors, Flags}
+use Rattle.command_line.specs.declared.choice.part.Part.TheVariants.{Image}
 use Rattle.command_line.specs.declared.fault.Fault.TheVariants as fault
 
 -- the bus has room for all steps of a reading
@@ -51,7 +56,7 @@ module _ (refusal : Memory → Option ReportFault) (text_of : Memory → List �
     is_read : IsAnswer (lines_of text) read
     is_told : answer ≡ told_by read
 
-  is_told : (text : List ℕ) (a : Answer) → IsReportAnswer false refusal text_of (text ∷ []) a → IsTold text a
+  is_told : (text : List ℕ) (a : Answer) → IsReported false refusal text_of text a → IsTold text a
   is_told text (Ok (t, None)) (memory, is, none, said) =
       record { read = Ok memory; is_read = is; is_told = (λ i. Ok (said i, None)) ∙ ap (told_of memory) (sym none) }
   is_told text (Ok (t, Some f)) never = absurd never
@@ -60,18 +65,23 @@ module _ (refusal : Memory → Option ReportFault) (text_of : Memory → List �
   is_told text (Err (fault.Image f)) first = record { read = Err f; is_read = first; is_told = refl }
   is_told text (Err f) never = absurd never
 
-  one_answer : (parts : List (List ℕ)) (a b : Answer) → IsReportAnswer false refusal text_of parts a → IsReportAnswer false refusal text_of parts b → a ≡ b
-  one_answer (text ∷ []) a b p q =
+  one_answer : (text : List ℕ) (a b : Answer) → IsReported false refusal text_of text a → IsReported false refusal text_of text b → a ≡ b
+  one_answer text a b p q =
       let first = is_told text a p in
       let other = is_told text b q in
       first.is_told ∙ (ap told_by (same_answer (lines_of text) first.read other.read first.is_read other.is_read) ∙ sym other.is_told)
-  one_answer parts a b p q = absurd p
 
   -- ---- so an input has one, where no allocation and no read is refused
 
   -- by what is the first to be judged of an input
+  abbrev image_in : List ℕ → List ℕ
+  image_in input = text_in (Image ∷ []) (parts_of input) Image
+
+  abbrev IsAnswerOver : Bool → List ℕ → Answer → Type 0
+  IsAnswerOver over = IsAnswerTo (Image ∷ []) (λ texts. IsReported over refusal text_of (texts Image))
+
   abbrev IsCut : List ℕ → Answer → Type 0
-  IsCut input a = ((length input ≤ input_limit) × (length (parts_of input) ≡ 1)) × IsReportAnswer false refusal text_of (parts_of input) a
+  IsCut input a = ((length input ≤ input_limit) × (length (parts_of input) ≡ 1)) × IsReported false refusal text_of (image_in input) a
 
   abbrev IsMiscounted : List ℕ → Answer → Type 0
   IsMiscounted input a = ((length input ≤ input_limit) × (length (parts_of input) ≢ 1)) × (a ≡ Err (fault.Parts (length (parts_of input))))
@@ -79,7 +89,7 @@ module _ (refusal : Memory → Option ReportFault) (text_of : Memory → List �
   abbrev IsJudged : List ℕ → Answer → Type 0
   IsJudged input a = ((input_limit < length input) × (a ≡ Err fault.TooLong)) ⊎ (IsMiscounted input a ⊎ IsCut input a)
 
-  judged : (input : List ℕ) (a : Answer) → IsAnswerTo 1 (IsReportAnswer false refusal text_of) input a → a ≢ Err fault.Memory → a ≢ Err fault.Io → IsJudged input a
+  judged : (input : List ℕ) (a : Answer) → IsAnswerOver false input a → a ≢ Err fault.Memory → a ≢ Err fault.Io → IsJudged input a
   judged input (Ok told) is memory read = inr (inr ((is.0, is.1), is.2))
   judged input (Err fault.Memory) is memory read = absurd (memory refl)
   judged input (Err fault.Io) is memory read = absurd (read refl)
@@ -97,7 +107,7 @@ module _ (refusal : Memory → Option ReportFault) (text_of : Memory → List �
   agree input a b (inr (inl p)) (inr (inl q)) = p.1 ∙ sym q.1
   agree input a b (inr (inl p)) (inr (inr q)) = absurd (p.0.1 q.0.1)
   agree input a b (inr (inr p)) (inr (inl q)) = absurd (q.0.1 p.0.1)
-  agree input a b (inr (inr p)) (inr (inr q)) = one_answer (parts_of input) a b p.1 q.1
+  agree input a b (inr (inr p)) (inr (inr q)) = one_answer (image_in input) a b p.1 q.1
 
   -- ---- with it, it has the same
 
@@ -105,40 +115,47 @@ module _ (refusal : Memory → Option ReportFault) (text_of : Memory → List �
     same : (memory fetched : Memory) → IsImage memory → IsFetchedFrom memory (Ok fetched) → IsSame refusal text_of fetched memory
     same memory fetched image (after, (history, ran, is)) = pick fetched memory (law (window_at_start memory) after history memory fetched image refl ran is)
 
-    plain : (parts : List (List ℕ)) (a : Answer) → IsReportAnswer true refusal text_of parts a → a ≢ Err (fault.Report report.GaveUp) → IsReportAnswer false refusal text_of parts a
-    plain (text ∷ []) (Ok (t, None)) (fetched, read, none, said) ended =
+    plain : (text : List ℕ) (a : Answer) → IsReported true refusal text_of text a → a ≢ Err (fault.Report report.GaveUp) → IsReported false refusal text_of text a
+    plain text (Ok (t, None)) (fetched, read, none, said) ended =
         let alike = same read.memory fetched read.is_text.image read.fetched in
         (read.memory, read.is_text, sym alike.fault ∙ none, said ∙ alike.said none)
-    plain (text ∷ []) (Ok (t, Some f)) never ended = absurd never
-    plain (text ∷ []) (Err (fault.Report f)) (inl unread) ended =
+    plain text (Ok (t, Some f)) never ended = absurd never
+    plain text (Err (fault.Report f)) (inl unread) ended =
         absurd (ended (ap (λ (g : ReportFault). Err (fault.Report g)) (reading_fault unread.memory f unread.fetched)))
-    plain (text ∷ []) (Err (fault.Report f)) (inr (fetched, read, some)) ended =
+    plain text (Err (fault.Report f)) (inr (fetched, read, some)) ended =
         let alike = same read.memory fetched read.is_text.image read.fetched in
         inr (read.memory, read.is_text, sym alike.fault ∙ some)
-    plain (text ∷ []) (Err (fault.Image f)) first ended = first
-    plain parts a is ended = absurd is
+    plain text (Err (fault.Image f)) first ended = first
+    plain text (Err f) never ended = absurd never
 
-    plain_to : (input : List ℕ) (a : Answer) → IsAnswerTo 1 (IsReportAnswer true refusal text_of) input a → a ≢ Err (fault.Report report.GaveUp)
-        → IsAnswerTo 1 (IsReportAnswer false refusal text_of) input a
-    plain_to input (Ok told) is ended = (is.0, is.1, plain (parts_of input) (Ok told) is.2 ended)
+    plain_to : (input : List ℕ) (a : Answer) → IsAnswerOver true input a → a ≢ Err (fault.Report report.GaveUp)
+        → IsAnswerOver false input a
+    plain_to input (Ok told) is ended = (is.0, is.1, plain (image_in input) (Ok told) is.2 ended)
     plain_to input (Err fault.Memory) is ended = tt
     plain_to input (Err fault.Io) is ended = tt
     plain_to input (Err fault.TooLong) is ended = is
     plain_to input (Err (fault.Parts n)) is ended = is
-    plain_to input (Err f) is ended = (is.0, is.1, plain (parts_of input) (Err f) is.2 ended)
+    plain_to input (Err f) is ended = (is.0, is.1, plain (image_in input) (Err f) is.2 ended)
 
-    told_alike : IsToldAlike (λ over. IsReportAnswer over refusal text_of)
+    pub told_alike : (input : List ℕ) (a : Answer) → IsAnswerOver true input a → a ≢ Err (fault.Report report.GaveUp) → a ≢ Err fault.Memory → a ≢ Err fault.Io
+        → IsAnswerOver false input a × ((other : Answer) → IsAnswerOver false input other → other ≢ Err fault.Memory → other ≢ Err fault.Io → other ≡ a)
     told_alike input a is ended memory read =
-        let plain = plain_to input a is ended in record {
-          plain = plain;
-          alone = λ other is_too memory_too read_too. agree input other a (judged input other is_too memory_too read_too) (judged input a plain memory read);
-        }
+        let plain = plain_to input a is ended in (
+          plain,
+          λ other is_too memory_too read_too. agree input other a (judged input other is_too memory_too read_too) (judged input a plain memory read),
+        )
 
 -- what is printed of the same entries is the same, in each form
-pub printed_told_alike : (json : Bool) (refusal : Memory → Option ReportFault) (entries : Memory → List Entry) (law : FetchedReportsSame)
-    → ((fetched memory : Memory) → ReportsSame fetched memory → IsSame refusal entries fetched memory)
-    → IsToldAlike (λ over. IsReportAnswer over refusal (λ (m : Memory). printed json (entries m)))
-printed_told_alike json refusal entries law pick =
-    told_alike refusal (λ (m : Memory). printed json (entries m)) law (λ fetched memory all.
-    let same = pick fetched memory all in
-    record { fault = same.fault; said = λ none. ap (printed json) (same.said none) })
+printed_told_alike : (name : ReportName) (json : Bool) → ((fetched memory : Memory) → ReportsSame fetched memory → IsSame (refusal_of name) (entries_of name) fetched memory)
+    → IsToldAlike (λ over. Report name over json)
+printed_told_alike name json pick input a is ended memory read =
+    let alike = told_alike (refusal_of name) (λ (m : Memory). printed json (entries_of name m)) fetched_reports (λ fetched image all.
+    let same = pick fetched image all in
+    record { fault = same.fault; said = λ none. ap (printed json) (same.said none) }) input a is ended memory read in
+    record { plain = alike.0; alone = alike.1 }
+
+pub each_told_alike : (name : ReportName) (json : Bool) → IsToldAlike (λ over. Report name over json)
+each_told_alike Inventory json = printed_told_alike Inventory json (λ fetched memory all. all.inventory)
+each_told_alike Apps json = printed_told_alike Apps json (λ fetched memory all. all.apps)
+each_told_alike Monitors json = printed_told_alike Monitors json (λ fetched memory all. all.monitors)
+each_told_alike Flags json = printed_told_alike Flags json (λ fetched memory all. all.flags)

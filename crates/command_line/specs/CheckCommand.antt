@@ -1,4 +1,4 @@
--- What the command `check` answers to its parts, with the flags that are given. (docs/formats.md, "Input" and "check"; this
+-- What the command `check` answers to the texts of its parts, with the flag `--first` or without it. (docs/formats.md, "Input" and "check"; this
 -- project's own)
 use Rattle.std.specs.Prelude.{◌≡◌, ◌↔◌, ℕ, Bool, true, false, IsTrue, List, [], ◌∷◌, ◌++◌, ◌==◌, if◌then◌else◌, length, codes, None, Ok, Err}
 use Rattle.std.specs.Fmt.{decimal}
@@ -17,7 +17,6 @@ use Rattle.plan_certificate.specs.declared.verdict.Verdict.TheVariants.{Good, Ba
 use Rattle.lane_planner.specs.FirstBest.{IsFirstBest}
 use Rattle.reports.specs.PlanText.{plan_lines}
 use Rattle.plan_certificate.specs.Limits.{most_states}
-use Rattle.command_line.specs.declared.commands.check_command.CheckCommand.{CheckCommand}
 use Rattle.command_line.specs.declared.fault.Fault.TheVariants as fault
 use Rattle.command_line.specs.PlanningInputs.{Advertises, IsAdvertText, IsAdvertRefusal, IsWeightsRefusal}
 use Rattle.command_line.specs.Runs.{Answer}
@@ -43,9 +42,9 @@ SaysFirst true advert weights certificate lines =
 SaysFirst false advert weights certificate lines = lines ≡ []
 
 -- what is told of a good certificate: how many paths it keeps, its plan, and whether that is the first
-pub record TellsGood (command : CheckCommand) (advert : Advertised) (weights : HostWeights) (certificate : Claim) (text : List ℕ) : Type 0 where
+pub record TellsGood (first : Bool) (advert : Advertised) (weights : HostWeights) (certificate : Claim) (text : List ℕ) : Type 0 where
   pub first_lines : List (List ℕ)
-  pub says_first : SaysFirst command.tells_first advert weights certificate first_lines
+  pub says_first : SaysFirst first advert weights certificate first_lines
   pub told : text ≡ text_of (good_line ∷ kept_lines (length certificate.kept) ++ plan_lines advert weights certificate.paths ++ first_lines)
 
 -- the texts are those of an image, of weights and of a certificate, of which this is the verdict
@@ -59,16 +58,17 @@ pub record IsJudged (image_text weights_text certificate_text : List ℕ) (judge
   pub is_verdict : verdict advert weights certificate ≡ judged
 
 -- the certificate is good, so its plan is best among those that hold the kept paths, and the plan is told
-pub record IsGoodAnswer (command : CheckCommand) (image_text weights_text certificate_text text : List ℕ) : Type 0 where
+pub record IsGoodAnswer (first : Bool) (image_text weights_text certificate_text text : List ℕ) : Type 0 where
   pub judged : IsJudged image_text weights_text certificate_text Good
   pub is_best : IsBest judged.advert judged.weights judged.certificate.kept judged.certificate.paths
-  pub told : TellsGood command judged.advert judged.weights judged.certificate text
+  pub told : TellsGood first judged.advert judged.weights judged.certificate text
 
-abbrev pub IsCheckAnswer : CheckCommand → List (List ℕ) → Answer → Type 0
-IsCheckAnswer command (image ∷ weights ∷ certificate ∷ []) (Ok (text, None)) = IsGoodAnswer command image weights certificate text
-IsCheckAnswer command (image ∷ weights ∷ certificate ∷ []) (Err (fault.Bad reason number)) = IsJudged image weights certificate (Bad reason number)
-IsCheckAnswer command (image ∷ weights ∷ certificate ∷ []) (Err (fault.Certificate f)) =
+-- the answer to the texts of an image, of weights and of a certificate
+abbrev pub IsCheckAnswer : Bool → List ℕ → List ℕ → List ℕ → Answer → Type 0
+IsCheckAnswer first image weights certificate (Ok (text, None)) = IsGoodAnswer first image weights certificate text
+IsCheckAnswer first image weights certificate (Ok (text, ended)) = ⊥
+IsCheckAnswer first image weights certificate (Err (fault.Bad reason number)) = IsJudged image weights certificate (Bad reason number)
+IsCheckAnswer first image weights certificate (Err (fault.Certificate f)) =
     Advertises image × ((listed : HostWeights) × IsAnswer weights (Ok listed)) × IsFirstFault most_states (lines_of certificate) f
-IsCheckAnswer command (image ∷ weights ∷ certificate ∷ []) (Err (fault.Weights f)) = Advertises image × IsWeightsRefusal weights f
-IsCheckAnswer command (image ∷ weights ∷ certificate ∷ []) (Err f) = IsAdvertRefusal image f
-IsCheckAnswer command parts answer = ⊥
+IsCheckAnswer first image weights certificate (Err (fault.Weights f)) = Advertises image × IsWeightsRefusal weights f
+IsCheckAnswer first image weights certificate (Err f) = IsAdvertRefusal image f

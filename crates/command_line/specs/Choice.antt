@@ -9,8 +9,10 @@ use Rattle.clap.specs.Words.{fault_of, with_rule, with_subcommand, Kinds}
 use Rattle.clap.specs.Simple.{on_top}
 use Rattle.clap.specs.declared.builder.action.ArgAction.TheVariants.{SetTrue}
 use Rattle.command_line.specs.declared.choice.commands.CommandName.{CommandName}
-use Rattle.command_line.specs.declared.choice.commands.CommandName.TheVariants.{Inventory, Apps, Monitors, Flags, Plan, Check, Provision, Trace}
+use Rattle.command_line.specs.declared.choice.commands.CommandName.TheVariants.{Report, Plan, Check, Provision, Trace}
+use Rattle.command_line.specs.declared.choice.commands.ReportName.TheVariants.{Inventory, Apps, Monitors, Flags}
 use Rattle.command_line.specs.declared.choice.commands.Choice.{Choice}
+use Rattle.command_line.specs.declared.choice.commands.Choice.TheVariants as choice
 
 -- a command, by its name among the words, and the names of its flags
 pub record Entry : Type 0 where
@@ -35,10 +37,10 @@ first = codes "first"
 
 unfoldable pub commands : List Entry
 commands =
-    record { name = codes "inventory"; command = Inventory; flags = bus ∷ json ∷ [] }
-    ∷ record { name = codes "apps"; command = Apps; flags = bus ∷ json ∷ [] }
-    ∷ record { name = codes "monitors"; command = Monitors; flags = bus ∷ json ∷ [] }
-    ∷ record { name = codes "flags"; command = Flags; flags = bus ∷ json ∷ [] }
+    record { name = codes "inventory"; command = Report Inventory; flags = bus ∷ json ∷ [] }
+    ∷ record { name = codes "apps"; command = Report Apps; flags = bus ∷ json ∷ [] }
+    ∷ record { name = codes "monitors"; command = Report Monitors; flags = bus ∷ json ∷ [] }
+    ∷ record { name = codes "flags"; command = Report Flags; flags = bus ∷ json ∷ [] }
     ∷ record { name = codes "plan"; command = Plan; flags = keep ∷ [] }
     ∷ record { name = codes "check"; command = Check; flags = first ∷ [] }
     ∷ record { name = codes "provision"; command = Provision; flags = activate ∷ keep ∷ [] }
@@ -79,27 +81,25 @@ entry_named name = find (λ entry. bytes_eq entry.name name) commands
 abbrev pub is_given : Text → List Row → Bool
 is_given flag rows = option_map_or (λ value. bytes_eq value (codes "true")) (first_of flag rows) false
 
--- the choice that a subcommand and its matches make, where there is one
+-- what a command asks for, by its matches
+abbrev pub choice_with : CommandName → List Row → Choice
+choice_with (Report report) rows = choice.Report report (is_given bus rows) (is_given json rows)
+choice_with Plan rows = choice.Plan (is_given keep rows)
+choice_with Check rows = choice.Check (is_given first rows)
+choice_with Provision rows = choice.Provision (is_given activate rows) (is_given keep rows)
+choice_with Trace rows = choice.Trace (is_given activate rows) (is_given keep rows)
+
+-- the choice that a subcommand and its matches make, if there is one
 abbrev pub choice_in : Option (Text × List Row) → Option Choice
-choice_in = option_and_then (λ found. option_map (λ entry. record {
-  name = entry.command;
-  bus = is_given bus found.1;
-  json = is_given json found.1;
-  activate = is_given activate found.1;
-  keep = is_given keep found.1;
-  first = is_given first found.1;
-}) (entry_named found.0))
+choice_in = option_and_then (λ found. option_map (λ entry. choice_with entry.command found.1) (entry_named found.0))
 
 -- what a command's name alone asks for: the command, with none of its flags
 abbrev pub plain_choice : CommandName → Choice
-plain_choice command = record {
-  name = command;
-  bus = false;
-  json = false;
-  activate = false;
-  keep = false;
-  first = false;
-}
+plain_choice (Report report) = choice.Report report false false
+plain_choice Plan = choice.Plan false
+plain_choice Check = choice.Check false
+plain_choice Provision = choice.Provision false false
+plain_choice Trace = choice.Trace false false
 
 -- the choice that the words make
 abbrev pub choice_of : List Text → Option Choice

@@ -9,6 +9,7 @@ pub mod RememberingReader
 pub mod StoppingWriter
 pub mod Input
 pub mod Parts
+pub mod PartsRead
 pub mod PartsLeft
 pub mod Faults
 pub mod Places
@@ -18,13 +19,13 @@ pub mod RemarksBeside
 pub mod PartFaults
 pub mod OverBus
 pub mod ReportCommands
-pub mod KeptParts
 pub mod PlanningInputs
 pub mod GivenPlan
 pub mod PlanCommand
 pub mod CheckCommand
 pub mod ProvisionCommand
 pub mod Sessions
+pub mod Commands
 pub mod Program
 pub mod PlanThenCheck
 pub mod SameOverBus

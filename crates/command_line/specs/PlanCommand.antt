@@ -1,12 +1,11 @@
--- What the command `plan` answers to its parts. (docs/formats.md, "Input" and "plan"; this project's own)
-use Rattle.std.specs.Prelude.{◌≡◌, ℕ, Bool, List, [], ◌∷◌, None, Ok, Err}
+-- What the command `plan` answers to the texts of its parts. (docs/formats.md, "Input" and "plan"; this project's own)
+use Rattle.std.specs.Prelude.{◌≡◌, ℕ, List, None, Ok, Err}
 use Rattle.text_lines.specs.Lines.{lines_of, text_of}
 use Rattle.plan_certificate.specs.Certificates.{Claim}
 use Rattle.plan_certificate.specs.CertificateText.{IsTextOf, certificate_lines}
 use Rattle.plan_certificate.specs.Limits.{most_states}
 use Rattle.command_line.specs.declared.fault.Fault.TheVariants as fault
 use Rattle.command_line.specs.GivenPlan.{IsGiven}
-use Rattle.command_line.specs.KeptParts.{with_kept}
 use Rattle.command_line.specs.PlanningInputs.{Advertises, IsAdvertRefusal, IsKeptRefusal, IsWeightsRefusal}
 use Rattle.command_line.specs.Runs.{Answer}
 
@@ -18,13 +17,9 @@ pub record IsPlanned (image_text weights_text kept_text text : List ℕ) : Type 
   pub read_again : IsTextOf most_states (lines_of text) certificate
 
 -- the answer to the texts of an image, of weights and of kept paths
-abbrev pub IsPlanAnswerTo : List (List ℕ) → Answer → Type 0
-IsPlanAnswerTo (image ∷ weights ∷ kept ∷ []) (Ok (text, None)) = IsPlanned image weights kept text
-IsPlanAnswerTo (image ∷ weights ∷ kept ∷ []) (Err (fault.Kept f)) = IsKeptRefusal image weights kept f
-IsPlanAnswerTo (image ∷ weights ∷ kept ∷ []) (Err (fault.Weights f)) = Advertises image × IsWeightsRefusal weights f
-IsPlanAnswerTo (image ∷ weights ∷ kept ∷ []) (Err f) = IsAdvertRefusal image f
-IsPlanAnswerTo texts answer = ⊥
-
--- the answer to its parts, with the flag `--keep` or without it
-abbrev pub IsPlanAnswer : Bool → List (List ℕ) → Answer → Type 0
-IsPlanAnswer keep parts = IsPlanAnswerTo (with_kept keep parts)
+abbrev pub IsPlanAnswer : List ℕ → List ℕ → List ℕ → Answer → Type 0
+IsPlanAnswer image weights kept (Ok (text, None)) = IsPlanned image weights kept text
+IsPlanAnswer image weights kept (Ok (text, ended)) = ⊥
+IsPlanAnswer image weights kept (Err (fault.Kept f)) = IsKeptRefusal image weights kept f
+IsPlanAnswer image weights kept (Err (fault.Weights f)) = Advertises image × IsWeightsRefusal weights f
+IsPlanAnswer image weights kept (Err f) = IsAdvertRefusal image f

@@ -3,12 +3,13 @@
 use Rattle.std.specs.Prelude.{◌≡◌, ◌≢◌, ℕ, ◌≤◌, Bool, true, false, List, [], ◌∷◌, ◌++◌, length, codes, None, Ok, Err}
 use Rattle.text_lines.specs.Lines.{text_of}
 use Rattle.reports.specs.PlanText.{plan_lines}
-use Rattle.command_line.specs.CheckCommand.{IsCheckAnswer, first_line, good_line, kept_lines}
-use Rattle.command_line.specs.declared.commands.check_command.CheckCommand.{CheckCommand}
+use Rattle.command_line.specs.CheckCommand.{first_line, good_line, kept_lines}
+use Rattle.command_line.specs.Commands.{IsAnswerOf}
+use Rattle.command_line.specs.declared.choice.commands.Choice.TheVariants.{Check}
 use Rattle.command_line.specs.Limits.{input_limit}
 use Rattle.command_line.specs.Parts.{parts_of}
 use Rattle.command_line.specs.PlanCommand.{IsPlanned}
-use Rattle.command_line.specs.Runs.{Answer, IsAnswerTo}
+use Rattle.command_line.specs.Runs.{Answer}
 use Rattle.command_line.specs.declared.fault.Fault.TheVariants.{Memory, Io}
 
 -- an LF ends the last line
@@ -25,16 +26,16 @@ first_lines true = first_line true ∷ []
 first_lines false = []
 
 -- `good`, and the plan that was given
-abbrev pub good_text : {image_text weights_text kept_text text : List ℕ} → CheckCommand → IsPlanned image_text weights_text kept_text text → List ℕ
-good_text command planned = text_of (good_line ∷ kept_lines (length planned.certificate.kept)
-    ++ plan_lines planned.given.advert planned.given.weights planned.certificate.paths ++ first_lines command.tells_first)
+abbrev pub good_text : {image_text weights_text kept_text text : List ℕ} → Bool → IsPlanned image_text weights_text kept_text text → List ℕ
+good_text first planned = text_of (good_line ∷ kept_lines (length planned.certificate.kept)
+    ++ plan_lines planned.given.advert planned.given.weights planned.certificate.paths ++ first_lines first)
 
 -- whatever flags are given, `check` answers `good` and the plan to this input, and, if no allocation and no read is refused,
 -- nothing else
 pub record IsCalledGood {image_text weights_text kept_text text : List ℕ} (planned : IsPlanned image_text weights_text kept_text text) (input : List ℕ) : Type 0 where
-  pub good : (command : CheckCommand) → IsAnswerTo 3 (IsCheckAnswer command) input (Ok (good_text command planned, None))
-  pub alone : (command : CheckCommand) (answer : Answer) → IsAnswerTo 3 (IsCheckAnswer command) input answer → answer ≢ Err Memory → answer ≢ Err Io
-      → answer ≡ Ok (good_text command planned, None)
+  pub good : (first : Bool) → IsAnswerOf (Check first) input (Ok (good_text first planned, None))
+  pub alone : (first : Bool) (answer : Answer) → IsAnswerOf (Check first) input answer → answer ≢ Err Memory → answer ≢ Err Io
+      → answer ≡ Ok (good_text first planned, None)
 
 -- the text is of the plan of these texts, and after the image and the weights `check` calls it good
 pub record IsGoodBehind (image_text weights_text kept_text text : List ℕ) : Type 0 where

@@ -11,17 +11,11 @@ use Rattle.std.specs.declared.io.ErrorKind.TheVariants.{OutOfMemory}
 use Rattle.clap.specs.Words.{Text, takes}
 use Rattle.command_line.specs.Choice.{choice_of, faults_of, program}
 use Rattle.command_line.specs.ChoiceFault.{IsFaultAmong, status_of_fault}
-use Rattle.command_line.specs.CheckCommand.{IsCheckAnswer}
+use Rattle.command_line.specs.Commands.{IsAnswerOf}
 use Rattle.command_line.specs.Faults.{fault_line}
-use Rattle.command_line.specs.KeptParts.{count_with}
-use Rattle.command_line.specs.PlanCommand.{IsPlanAnswer}
-use Rattle.command_line.specs.ProvisionCommand.{IsProvisionAnswer, IsTraceAnswer}
-use Rattle.command_line.specs.ReportCommands.{IsInventoryAnswer, IsAppsAnswer, IsMonitorsAnswer, IsFlagsAnswer}
-use Rattle.command_line.specs.Runs.{Answer, IsAnswerTo, IsCommandRun, ended, ending_after}
+use Rattle.command_line.specs.Runs.{IsCommandRun, ended, ending_after}
 use Rattle.command_line.specs.StoppingWriter.{contents_of, writing_failed}
 use Rattle.command_line.specs.declared.choice.commands.Choice.{Choice}
-use Rattle.command_line.specs.declared.choice.commands.CommandName.{CommandName}
-use Rattle.command_line.specs.declared.choice.commands.CommandName.TheVariants.{Inventory, Apps, Monitors, Flags, Plan, Check, Provision, Trace}
 use Rattle.command_line.specs.declared.choice.fault.ChoiceFault.{ChoiceFault}
 use Rattle.command_line.specs.declared.choice.fault.ChoiceFault.TheVariants.{Memory}
 use Rattle.command_line.specs.declared.fault.Fault.TheVariants as fault
@@ -33,20 +27,6 @@ use Rattle.command_line.specs.declared.remark.Remark.{Remark}
 use Rattle.command_line.specs.declared.remark.Remark.TheVariants.{Nothing, NoMemory}
 use Rattle.command_line.specs.declared.status.Status.{Status}
 use Rattle.command_line.specs.declared.status.Status.TheVariants as status
-
--- what each command answers to an input, with the flags that are given
-abbrev pub IsAnswerBy : CommandName → Choice → List ℕ → Answer → Type 0
-IsAnswerBy Inventory given = IsAnswerTo 1 (IsInventoryAnswer given.bus given.json)
-IsAnswerBy Apps given = IsAnswerTo 1 (IsAppsAnswer given.bus given.json)
-IsAnswerBy Monitors given = IsAnswerTo 1 (IsMonitorsAnswer given.bus given.json)
-IsAnswerBy Flags given = IsAnswerTo 1 (IsFlagsAnswer given.bus given.json)
-IsAnswerBy Plan given = IsAnswerTo (count_with given.keep 2) (IsPlanAnswer given.keep)
-IsAnswerBy Check given = IsAnswerTo 3 (IsCheckAnswer record { tells_first = given.first })
-IsAnswerBy Provision given = IsAnswerTo (count_with given.keep 3) (IsProvisionAnswer given.activate given.keep)
-IsAnswerBy Trace given = IsAnswerTo (count_with given.keep 3) (IsTraceAnswer given.activate given.keep)
-
-abbrev pub IsAnswerOf : Choice → List ℕ → Answer → Type 0
-IsAnswerOf choice = IsAnswerBy choice.name choice
 
 -- the words give no choice: `clap` refuses them, or an allocation was refused
 abbrev pub IsRefusalOf : List Text → ChoiceFault → Type 0

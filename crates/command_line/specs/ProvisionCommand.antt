@@ -1,4 +1,4 @@
--- What the commands `provision` and `trace` answer to their parts: the plan that is given is provisioned on a simulated
+-- What the commands `provision` and `trace` answer to the texts of their parts: the plan that is given is provisioned on a simulated
 -- module of the image, but for its kept paths, over a bus that does as the script says, and activated if that is asked
 -- for. (docs/formats.md, "Input", "provision" and "trace"; this project's own)
 use Rattle.std.specs.Prelude.{◌≡◌, ℕ, Bool, true, false, List, [], ◌∷◌, ◌++◌, codes, map, Option, Some, None, Result, Ok, Err, IfOk}
@@ -30,7 +30,6 @@ use Rattle.sim_module.specs.declared.fault.SimFault.{SimFault}
 use Rattle.sim_module.specs.declared.module.SimModule.{SimModule}
 use Rattle.reports.specs.Trace.{trace_lines}
 use Rattle.command_line.specs.GivenPlan.{IsGiven}
-use Rattle.command_line.specs.KeptParts.{with_kept}
 use Rattle.command_line.specs.PlanningInputs.{Advertises, ArePlanningInputs, IsAdvertRefusal, IsKeptRefusal, IsWeightsRefusal}
 use Rattle.command_line.specs.Runs.{Answer}
 use Rattle.command_line.specs.declared.fault.Fault.{Fault}
@@ -150,17 +149,6 @@ pub record IsCarriedOut (traced activate : Bool) (image_text weights_text kept_t
 
 -- the answer to the texts of an image, of weights, of kept paths and of a script, by whether the steps are shown and
 -- activation is asked for
-abbrev pub IsProcedureAnswerTo : Bool → Bool → List (List ℕ) → Answer → Type 0
-IsProcedureAnswerTo traced activate (image ∷ weights ∷ kept ∷ script ∷ []) (Ok (text, ended)) = IsCarriedOut traced activate image weights kept script text ended
-IsProcedureAnswerTo traced activate (image ∷ weights ∷ kept ∷ script ∷ []) (Err f) = IsSetUpRefusal image weights kept script f
-IsProcedureAnswerTo traced activate texts answer = ⊥
-
--- the answer to the parts, with the flag `--keep` or without it
-abbrev pub IsProcedureAnswer : Bool → Bool → Bool → List (List ℕ) → Answer → Type 0
-IsProcedureAnswer traced activate keep parts = IsProcedureAnswerTo traced activate (with_kept keep parts)
-
-abbrev pub IsProvisionAnswer : Bool → Bool → List (List ℕ) → Answer → Type 0
-IsProvisionAnswer activate keep = IsProcedureAnswer false activate keep
-
-abbrev pub IsTraceAnswer : Bool → Bool → List (List ℕ) → Answer → Type 0
-IsTraceAnswer activate keep = IsProcedureAnswer true activate keep
+abbrev pub IsProcedureAnswer : Bool → Bool → List ℕ → List ℕ → List ℕ → List ℕ → Answer → Type 0
+IsProcedureAnswer traced activate image weights kept script (Ok (text, ended)) = IsCarriedOut traced activate image weights kept script text ended
+IsProcedureAnswer traced activate image weights kept script (Err f) = IsSetUpRefusal image weights kept script f

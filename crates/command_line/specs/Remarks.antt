@@ -1,6 +1,6 @@
 -- What standard error says beside an answer: of a fault its code, where it is, and a sentence on what is wrong and what to do.
 -- (docs/formats.md, "Standard error"; this project's own)
-use Rattle.std.specs.Prelude.{ℕ, Bool, true, false, not, List, [], ◌∷◌, ◌++◌, ◌==◌, ◌||◌, ◌&&◌, nat_le, if◌then◌else◌, length, take, Option, Some, None, codes}
+use Rattle.std.specs.Prelude.{ℕ, Bool, not, List, [], ◌∷◌, ◌++◌, ◌==◌, ◌||◌, ◌&&◌, nat_le, if◌then◌else◌, length, take, Option, Some, None, codes}
 use Rattle.std.specs.List.{list_any, starts_with}
 use Rattle.std.specs.Option.{option_map_or}
 use Rattle.notices.specs.Sentences.{row_by_code}

@@ -1,6 +1,6 @@
--- What a command that reports of an image answers to its part, with the flags `--bus` and `--json` or without them.
+-- What a command that reports of an image answers to its text, with the flags `--bus` and `--json` or without them.
 -- (docs/formats.md, "Input", "Reports", "JSON" and "Reports over a bus"; this project's own)
-use Rattle.std.specs.Prelude.{◌≡◌, ◌⊎◌, ℕ, Bool, true, false, List, [], ◌∷◌, Option, Some, None, MatchOption, Result, Ok, Err, Vec}
+use Rattle.std.specs.Prelude.{◌≡◌, ◌⊎◌, ℕ, Bool, true, false, List, Option, Some, None, MatchOption, Result, Ok, Err, Vec}
 use Rattle.std.specs.Result.{result_map_both}
 use Rattle.std.specs.declared.alloc.Global.{Global}
 use Rattle.text_lines.specs.Lines.{lines_of}
@@ -16,6 +16,8 @@ use Rattle.reports.specs.Measured.{monitors_entries, monitors_fault}
 use Rattle.reports.specs.Warned.{flags_entries, flags_fault}
 use Rattle.reports.specs.declared.fault.ReportFault.{ReportFault}
 use Rattle.reports.specs.declared.fault.ReportFault.TheVariants.{Memory as NoMemory}
+use Rattle.command_line.specs.declared.choice.commands.ReportName.{ReportName}
+use Rattle.command_line.specs.declared.choice.commands.ReportName.TheVariants.{Inventory, Apps, Monitors, Flags}
 use Rattle.command_line.specs.declared.fault.Fault.TheVariants as fault
 use Rattle.command_line.specs.OverBus.{IsToReport, IsUnread}
 use Rattle.command_line.specs.Runs.{Answer}
@@ -35,24 +37,30 @@ abbrev pub Prints : Option ReportFault → List ℕ → Result (Vec ℕ Global) 
 Prints refused text result =
     MatchOption refused (IsPrinted text (result_map_both (λ written. written.items) (λ f. f) result)) (λ f. result ≡ Err f)
 
--- the answer of a report, over a bus or not, by why there is none of a memory and what its text is
-abbrev pub IsReportAnswer : Bool → (Memory → Option ReportFault) → (Memory → List ℕ) → List (List ℕ) → Answer → Type 0
-IsReportAnswer bus refusal text_of (image ∷ []) (Ok (text, None)) =
+-- over a bus or not, by why there is none of a memory and what its text is
+abbrev pub IsReported : Bool → (Memory → Option ReportFault) → (Memory → List ℕ) → List ℕ → Answer → Type 0
+IsReported bus refusal text_of image (Ok (text, None)) =
     (memory : Memory) × IsToReport bus image memory × (refusal memory ≡ None) × (text ≡ text_of memory)
-IsReportAnswer bus refusal text_of (image ∷ []) (Err (fault.Report f)) =
+IsReported bus refusal text_of image (Err (fault.Report f)) =
     IsUnread bus image f ⊎ ((memory : Memory) × IsToReport bus image memory × (refusal memory ≡ Some f))
-IsReportAnswer bus refusal text_of (image ∷ []) (Err (fault.Image f)) = IsFirstFault (lines_of image) f
+IsReported bus refusal text_of image (Err (fault.Image f)) = IsFirstFault (lines_of image) f
 -- the faults of other commands don't come
-IsReportAnswer bus refusal text_of parts answer = ⊥
+IsReported bus refusal text_of image answer = ⊥
 
-abbrev pub IsInventoryAnswer : Bool → Bool → List (List ℕ) → Answer → Type 0
-IsInventoryAnswer bus json = IsReportAnswer bus inventory_fault (λ memory. printed json (inventory_entries memory))
+-- why there is no such report of a memory
+abbrev pub refusal_of : ReportName → Memory → Option ReportFault
+refusal_of Inventory = inventory_fault
+refusal_of Apps = apps_fault
+refusal_of Monitors = monitors_fault
+refusal_of Flags = flags_fault
 
-abbrev pub IsAppsAnswer : Bool → Bool → List (List ℕ) → Answer → Type 0
-IsAppsAnswer bus json = IsReportAnswer bus apps_fault (λ memory. printed json (apps_entries (advertised_by memory)))
+-- what it says of one
+abbrev pub entries_of : ReportName → Memory → List Entry
+entries_of Inventory memory = inventory_entries memory
+entries_of Apps memory = apps_entries (advertised_by memory)
+entries_of Monitors memory = monitors_entries memory
+entries_of Flags memory = flags_entries memory
 
-abbrev pub IsMonitorsAnswer : Bool → Bool → List (List ℕ) → Answer → Type 0
-IsMonitorsAnswer bus json = IsReportAnswer bus monitors_fault (λ memory. printed json (monitors_entries memory))
-
-abbrev pub IsFlagsAnswer : Bool → Bool → List (List ℕ) → Answer → Type 0
-IsFlagsAnswer bus json = IsReportAnswer bus flags_fault (λ memory. printed json (flags_entries memory))
+-- the answer of a report to the text of an image, with the flags `--bus` and `--json` or without them
+abbrev pub IsReportAnswer : ReportName → Bool → Bool → List ℕ → Answer → Type 0
+IsReportAnswer report bus json = IsReported bus (refusal_of report) (λ memory. printed json (entries_of report memory))

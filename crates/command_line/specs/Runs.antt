@@ -19,6 +19,8 @@ use Rattle.command_line.specs.Faults.{fault_line, status_of}
 use Rattle.command_line.specs.Input.{TakesWithinLimit}
 use Rattle.command_line.specs.Limits.{input_limit, read_limit}
 use Rattle.command_line.specs.Parts.{parts_of}
+use Rattle.command_line.specs.PartsRead.{Texts, text_in}
+use Rattle.command_line.specs.declared.choice.part.Part.{Part}
 use Rattle.command_line.specs.StoppingWriter.{contents_of, writing_failed}
 use Rattle.command_line.specs.declared.input.counted_reader.CountedReader.{CountedReader}
 use Rattle.command_line.specs.declared.output.stopping_writer.StoppingWriter.{StoppingWriter}
@@ -41,23 +43,24 @@ status_after (Ok (text, None)) = Done
 status_after (Ok (text, Some fault)) = NotProvisioned
 status_after (Err fault) = status_of fault
 
--- what a command itself answers to its parts, if no allocation was refused
-abbrev pub IsOwnAnswer : (List (List ℕ) → Answer → Type 0) → List (List ℕ) → Answer → Type 0
-IsOwnAnswer IsAnswer parts (Err Memory) = Unit {0}
+-- what a command itself answers to the texts of its parts, if no allocation was refused
+abbrev pub IsOwnAnswer : (Answer → Type 0) → Answer → Type 0
+IsOwnAnswer IsAnswer (Err Memory) = Unit {0}
 -- reading and cutting the input are no business of its own
-IsOwnAnswer IsAnswer parts (Err Io) = ⊥
-IsOwnAnswer IsAnswer parts (Err TooLong) = ⊥
-IsOwnAnswer IsAnswer parts (Err (Parts n)) = ⊥
-IsOwnAnswer IsAnswer parts answer = IsAnswer parts answer
+IsOwnAnswer IsAnswer (Err Io) = ⊥
+IsOwnAnswer IsAnswer (Err TooLong) = ⊥
+IsOwnAnswer IsAnswer (Err (Parts n)) = ⊥
+IsOwnAnswer IsAnswer answer = IsAnswer answer
 
--- the answer of a command that takes so many parts: its own to those parts, or that there are other than so many, or that
--- the input is too long; an allocation or a read may fail on any input
-abbrev pub IsAnswerTo : ℕ → (List (List ℕ) → Answer → Type 0) → List ℕ → Answer → Type 0
-IsAnswerTo count IsAnswer input (Err Memory) = Unit {0}
-IsAnswerTo count IsAnswer input (Err Io) = Unit {0}
-IsAnswerTo count IsAnswer input (Err TooLong) = input_limit < length input
-IsAnswerTo count IsAnswer input (Err (Parts n)) = (length input ≤ input_limit) × (n ≡ length (parts_of input)) × (n ≢ count)
-IsAnswerTo count IsAnswer input answer = (length input ≤ input_limit) × (length (parts_of input) ≡ count) × IsAnswer (parts_of input) answer
+-- the answer of a command that reads these parts: its own to their texts, or that there are other than so many, or that the
+-- input is too long; an allocation or a read may fail on any input
+abbrev pub IsAnswerTo : List Part → (Texts → Answer → Type 0) → List ℕ → Answer → Type 0
+IsAnswerTo parts IsAnswer input (Err Memory) = Unit {0}
+IsAnswerTo parts IsAnswer input (Err Io) = Unit {0}
+IsAnswerTo parts IsAnswer input (Err TooLong) = input_limit < length input
+IsAnswerTo parts IsAnswer input (Err (Parts n)) = (length input ≤ input_limit) × (n ≡ length (parts_of input)) × (n ≢ length parts)
+IsAnswerTo parts IsAnswer input answer =
+    (length input ≤ input_limit) × (length (parts_of input) ≡ length parts) × IsAnswer (text_in parts (parts_of input)) answer
 
 -- how the run ends if it was to end so: a failed write is said before all else
 abbrev pub ended : Bool → Status → Status

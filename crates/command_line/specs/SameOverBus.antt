@@ -2,16 +2,18 @@
 use Rattle.std.specs.Prelude.{◌≡◌, ◌≢◌, ℕ, Bool, true, false, List, Err}
 use Rattle.reports.specs.declared.fault.ReportFault.TheVariants.{GaveUp}
 use Rattle.command_line.specs.declared.fault.Fault.TheVariants.{Memory, Io, Report}
-use Rattle.command_line.specs.Runs.{Answer, IsAnswerTo}
+use Rattle.command_line.specs.Commands.{IsAnswerOf}
+use Rattle.command_line.specs.Runs.{Answer}
+use Rattle.command_line.specs.declared.choice.commands.Choice.{Choice}
 
 -- with `--bus` or without, it is an answer to the input, and, if no allocation and no read is refused, without it there is
 -- no other
-pub record IsPlainAnswer (IsAnswer : Bool → List (List ℕ) → Answer → Type 0) (input : List ℕ) (answer : Answer) : Type 0 where
-  pub plain : IsAnswerTo 1 (IsAnswer false) input answer
-  pub alone : (other : Answer) → IsAnswerTo 1 (IsAnswer false) input other → other ≢ Err Memory → other ≢ Err Io → other ≡ answer
+pub record IsPlainAnswer (choice : Bool → Choice) (input : List ℕ) (answer : Answer) : Type 0 where
+  pub plain : IsAnswerOf (choice false) input answer
+  pub alone : (other : Answer) → IsAnswerOf (choice false) input other → other ≢ Err Memory → other ≢ Err Io → other ≡ answer
 
 -- so is each answer with `--bus`, but for a reading that came to no end, a refused allocation and failed reads
-abbrev pub IsToldAlike : (Bool → List (List ℕ) → Answer → Type 0) → Type 0
-IsToldAlike IsAnswer =
-    (input : List ℕ) (answer : Answer) → IsAnswerTo 1 (IsAnswer true) input answer → answer ≢ Err (Report GaveUp) → answer ≢ Err Memory → answer ≢ Err Io
-    → IsPlainAnswer IsAnswer input answer
+abbrev pub IsToldAlike : (Bool → Choice) → Type 0
+IsToldAlike choice =
+    (input : List ℕ) (answer : Answer) → IsAnswerOf (choice true) input answer → answer ≢ Err (Report GaveUp) → answer ≢ Err Memory → answer ≢ Err Io
+    → IsPlainAnswer choice input answer

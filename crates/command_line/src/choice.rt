@@ -1,10 +1,11 @@
 //! The command line: which command the words name, and which flags they give it.
 ghost use Rattle.std.specs.Prelude.{◌≡◌, ◌∷◌, map, codes, false, true, IfOk, IfErr, IfSome, IsSome, Some};
+ghost use Rattle.std.specs.Option.{option_map_or};
 ghost use Rattle.std.specs.Prelude.{[], string_bytes, option_map, MatchResult};
 ghost use Rattle.std.specs.List.{list_all};
 ghost use Rattle.clap.specs.declared.builder.command.Command.TheViews.{out-Command as fields_of};
 ghost use Rattle.clap.specs.Words.{Text, app_of, found_of, rows_of, rule_of, subcommand_rows_of, takes};
-ghost use Rattle.command_line.specs.Choice.{program, choice_of, choice_in, flag_rule, command_app};
+ghost use Rattle.command_line.specs.Choice.{program, choice_of, choice_in, choice_with, flag_rule, command_app};
 ghost use Rattle.command_line.specs.Choice.{commands, faults_of, is_given, plain_choice};
 ghost use Rattle.command_line.specs.Program.{IsRefusalOf};
 ghost use Rattle.command_line.specs.Entries.{entry_of};
@@ -12,10 +13,11 @@ ghost use Rattle.command_line.specs.Entries.{entry_of};
 pub mod commands;
 pub mod fault;
 mod help;
+pub mod part;
 
 use clap::error::ErrorKind;
 use clap::{Arg, ArgAction, ArgMatches, Command};
-use commands::{Choice, CommandEntry, Flag, command_named};
+use commands::{Choice, CommandEntry, CommandName, Flag, command_named};
 use fault::ChoiceFault;
 use notices::VERSION_WITH_TEXTS;
 use std::alloc::{AllocError, Global};
@@ -73,6 +75,43 @@ fn is_given(matches: &ArgMatches<'_>, flag: &str) -> bool
     }
 }
 
+// The same; without matches no flag does.
+fn has_flag(given: Option<&ArgMatches<'_>>, flag: &str) -> bool
+    ensures { result ≡ is_given flag.now (option_map_or (λ matches. rows_of (found_of matches.now)) given.entry []) }
+{
+    match given {
+        Some(matches) => is_given(matches, flag),
+        None => false,
+    }
+}
+
+/// What a command asks for, by its matches; without any, no flag is given.
+fn choice_with(command: CommandName, given: Option<&ArgMatches<'_>>) -> Choice
+    ensures { result ≡ choice_with command (option_map_or (λ matches. rows_of (found_of matches.now)) given.entry []) }
+{
+    match command {
+        CommandName::Report(report) => Choice::Report {
+            report,
+            bus: has_flag(given, "bus"),
+            json: has_flag(given, "json"),
+        },
+        CommandName::Plan => Choice::Plan {
+            keep: has_flag(given, "keep"),
+        },
+        CommandName::Check => Choice::Check {
+            first: has_flag(given, "first"),
+        },
+        CommandName::Provision => Choice::Provision {
+            activate: has_flag(given, "activate"),
+            keep: has_flag(given, "keep"),
+        },
+        CommandName::Trace => Choice::Trace {
+            activate: has_flag(given, "activate"),
+            keep: has_flag(given, "keep"),
+        },
+    }
+}
+
 /// What the matches of the program ask for.
 fn chosen(matches: &ArgMatches<'_>) -> Choice
     requires { IsSome (choice_in (subcommand_rows_of matches.now)) }
@@ -80,14 +119,7 @@ fn chosen(matches: &ArgMatches<'_>) -> Choice
 {
     let (name, given) = matches.subcommand().unwrap();
     let entry = command_named(name).unwrap();
-    Choice {
-        name: entry.command,
-        bus: is_given(given, "bus"),
-        json: is_given(given, "json"),
-        activate: is_given(given, "activate"),
-        keep: is_given(given, "keep"),
-        first: is_given(given, "first"),
-    }
+    choice_with(entry.command, Some(given))
 }
 
 // The choice of a command's name alone, for which `clap` need not be asked.
@@ -99,7 +131,7 @@ fn plain_choice(words: &[String]) -> Option<Choice>
         return None;
     };
     let entry = command_named(name)?;
-    Some(Choice::plain(entry.command))
+    Some(choice_with(entry.command, None))
 }
 
 // What the words ask for, as `clap` reads them.

@@ -1,11 +1,9 @@
 //! One run of the whole program.
 ghost use Rattle.std.specs.Prelude.{◌≡◌, true};
-ghost use Rattle.command_line.specs.Program.{IsAnswerOf, IsProgramRun, IsRemarkSaid, refusal_ending, refusal_remark, IsWordsRefusalSaid, words_of};
-ghost use Rattle.command_line.specs.Runs.{IsCommandRun};
+ghost use Rattle.command_line.specs.Program.{IsProgramRun, IsRemarkSaid, refusal_ending, refusal_remark, IsWordsRefusalSaid, words_of};
 ghost use Rattle.command_line.specs.StoppingWriter.{contents_of, writing_failed};
 
 use crate::choice::choice;
-use crate::choice::commands::{Choice, CommandName};
 use crate::choice::fault::choice_refused;
 use crate::commands;
 use crate::ending::Ending;
@@ -58,7 +56,7 @@ fn ending<R: Read, W: Write>(
         Err(error) => return refused(words_refused(&error, writer), writer),
     };
     match choice(alloc, words.as_slice()) {
-        Ok(choice) => command(alloc, choice, reader, writer),
+        Ok(choice) => commands::run(alloc, choice, reader, writer),
         Err(fault) => refused(choice_refused(&fault, writer), writer),
     }
 }
@@ -77,40 +75,6 @@ fn refusal_remark(status: Status) -> Remark
     match status {
         Status::Memory => Remark::NoMemory,
         _ => Remark::Nothing,
-    }
-}
-
-/// Runs the command that was chosen.
-fn command<R: Read, W: Write>(
-    alloc: Global,
-    choice: Choice,
-    reader: &mut CountedReader<R>,
-    writer: &mut StoppingWriter<W>,
-) -> Ending
-    ensures { IsCommandRun R.remaining W.contents (IsAnswerOf choice)
-        reader.old reader.new writer.old writer.new result }
-{
-    match choice.name {
-        CommandName::Inventory => commands::inventory(
-            alloc,
-            choice.bus,
-            choice.json,
-            reader,
-            writer,
-        ),
-        CommandName::Apps => commands::apps(alloc, choice.bus, choice.json, reader, writer),
-        CommandName::Monitors => commands::monitors(alloc, choice.bus, choice.json, reader, writer),
-        CommandName::Flags => commands::flags(alloc, choice.bus, choice.json, reader, writer),
-        CommandName::Plan => commands::plan(alloc, choice.keep, reader, writer),
-        CommandName::Check => commands::check(alloc, choice.first, reader, writer),
-        CommandName::Provision => commands::provision(
-            alloc,
-            choice.activate,
-            choice.keep,
-            reader,
-            writer,
-        ),
-        CommandName::Trace => commands::trace(alloc, choice.activate, choice.keep, reader, writer),
     }
 }
 

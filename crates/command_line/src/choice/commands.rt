@@ -1,51 +1,56 @@
 //! The commands of the program and their flags, one line each.
 ghost use Rattle.std.specs.Prelude.{◌≡◌, map, option_copied, option_map};
-ghost use Rattle.command_line.specs.Choice.{commands, entry_named, plain_choice};
+ghost use Rattle.command_line.specs.Choice.{commands, entry_named};
 ghost use Rattle.command_line.specs.Entries.{entry_of};
 
-/// What the program is asked to do.
-#[derive(Clone, Copy, PartialEq)]
-pub enum CommandName {
+/// A report of a module.
+#[derive(Clone, Copy)]
+pub enum ReportName {
     Inventory,
     Apps,
     Monitors,
     Flags,
+}
+
+/// What the program is asked to do.
+#[derive(Clone, Copy)]
+pub enum CommandName {
+    Report(ReportName),
     Plan,
     Check,
     Provision,
     Trace,
 }
 
-/// What the command line asks for.
+/// What the command line asks for: a command, with its flags.
 #[derive(Clone, Copy)]
-pub struct Choice {
-    pub name: CommandName,
-    /// Whether the module is to be read over a bus.
-    pub bus: bool,
-    /// Whether the report is to be JSON.
-    pub json: bool,
-    /// Whether the plan is to be activated too.
-    pub activate: bool,
-    /// Whether the plan is to keep data paths that the input names.
-    pub keep: bool,
-    /// Whether the plan of a certificate is to be compared with the one that `plan` gives.
-    pub first: bool,
-}
-
-impl Choice {
-    /// What a command's name alone asks for.
-    pub fn plain(command: CommandName) -> Choice
-        ensures { result ≡ plain_choice command }
-    {
-        Choice {
-            name: command,
-            bus: false,
-            json: false,
-            activate: false,
-            keep: false,
-            first: false,
-        }
-    }
+pub enum Choice {
+    Report {
+        report: ReportName,
+        /// Whether the module is to be read over a bus.
+        bus: bool,
+        /// Whether the report is to be JSON.
+        json: bool,
+    },
+    Plan {
+        /// Whether the plan is to keep data paths that the input names.
+        keep: bool,
+    },
+    Check {
+        /// Whether the plan of the certificate is to be compared with the one that `plan` gives.
+        first: bool,
+    },
+    Provision {
+        /// Whether the plan is to be activated too.
+        activate: bool,
+        /// As for `Plan`.
+        keep: bool,
+    },
+    /// The same, with each transaction.
+    Trace {
+        activate: bool,
+        keep: bool,
+    },
 }
 
 /// A flag, given as `--name`.
@@ -100,10 +105,10 @@ const FIRST: Flag = Flag {
 
 // The table: a command's name, its variant, its flags and what help says of it.
 macro_rules! table {
-    ($($name:literal $command:ident [$($flag:ident)*] $about:literal;)*) => {
+    ($($name:literal $command:ident $(($report:ident))? [$($flag:ident)*] $about:literal;)*) => {
         &[$(CommandEntry {
             name: $name,
-            command: CommandName::$command,
+            command: CommandName::$command $((ReportName::$report))?,
             flags: &[$($flag),*],
             usage: concat!("cmisctl ", $name, " [OPTIONS] < INPUT"),
             about: $about,
@@ -116,10 +121,10 @@ pub fn commands() -> &'static [CommandEntry]
     ensures { map entry_of result.now ≡ commands }
 {
     table! {
-        "inventory" Inventory [BUS JSON] "Print what the module is";
-        "apps" Apps [BUS JSON] "Print the Applications that the module advertises";
-        "monitors" Monitors [BUS JSON] "Print what the module measures";
-        "flags" Flags [BUS JSON] "Print the states of the module and its lanes, and the flags that are raised";
+        "inventory" Report(Inventory) [BUS JSON] "Print what the module is";
+        "apps" Report(Apps) [BUS JSON] "Print the Applications that the module advertises";
+        "monitors" Report(Monitors) [BUS JSON] "Print what the module measures";
+        "flags" Report(Flags) [BUS JSON] "Print the states of the module and its lanes, and the flags that are raised";
         "plan" Plan [KEEP] "Print the plan that weighs most for an image and weights, with its certificate";
         "check" Check [FIRST] "Judge a certificate for an image and weights, and print its plan if it is good";
         "provision" Provision [ACTIVATE KEEP] "Put the plan into the Active Control Set of a simulated module, over a bus that does as a script says";

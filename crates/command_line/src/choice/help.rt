@@ -1,6 +1,6 @@
 //! What help says beside the commands and flags: what a command reads, examples, and how it may end.
 
-use super::commands::CommandName;
+use super::commands::{CommandName, ReportName};
 
 /// The end of the program's own help.
 pub const OF_PROGRAM: &str = "An image text has a module's memory, in lines of hexadecimal digits.
@@ -49,14 +49,14 @@ macro_rules! end {
 /// The end of the command's help.
 pub fn of_command(command: CommandName) -> &'static str {
     match command {
-        CommandName::Inventory => end!([image] []
+        CommandName::Report(ReportName::Inventory) => end!([image] []
             ["inventory < examples/qsfp_dd_400g_dr4.txt" "inventory --bus < examples/qsfp28_100g_sr4.txt"
                 "inventory --json < examples/qsfp_dd_400g_dr4.txt"]),
-        CommandName::Apps => end!([image] []
+        CommandName::Report(ReportName::Apps) => end!([image] []
             ["apps < examples/osfp_800g_many_apps.txt" "apps --bus < examples/osfp_800g_many_apps.txt"]),
-        CommandName::Monitors => end!([image] []
+        CommandName::Report(ReportName::Monitors) => end!([image] []
             ["monitors < examples/osfp_800g_dr8.txt" "monitors --bus < examples/osfp_800g_dr8.txt"]),
-        CommandName::Flags => end!([image] []
+        CommandName::Report(ReportName::Flags) => end!([image] []
             ["flags < examples/osfp_800g_overheated.txt" "flags --bus < examples/sfp_10g_lr_dim.txt"]),
         CommandName::Plan => end!([image weights kept] []
             ["plan < examples/breakouts_400g_dr4.txt" "plan --keep < examples/keep_800g_dr8.txt"]),

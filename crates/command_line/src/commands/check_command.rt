@@ -4,14 +4,10 @@ ghost use Rattle.text_lines.specs.Lines.{text_of};
 ghost use Rattle.plan_certificate.specs.Certificates.{IsGood};
 ghost use Rattle.command_line.specs.CheckCommand.{IsCheckAnswer, SaysFirst, TellsGood, first_line, kept_lines};
 ghost use Rattle.command_line.specs.PlanningInputs.{IsAdvertText};
-ghost use Rattle.command_line.specs.Runs.{IsAnswerTo, IsCommandRun, IsOwnAnswer, answer_of};
+ghost use Rattle.command_line.specs.Runs.{IsOwnAnswer, answer_of};
 
-use super::command::{Command, run};
 use super::planning_inputs::read_advert;
-use crate::ending::Ending;
 use crate::fault::Fault;
-use crate::input::CountedReader;
-use crate::output::StoppingWriter;
 use crate::remark::Warnings;
 use crate::told::Told;
 use applications::{Advert, Weights};
@@ -19,78 +15,69 @@ use lane_planner::first_best;
 use plan_certificate::{Certificate, STATES, Verdict};
 use reports::plan_text;
 use std::alloc::{AllocError, Global};
-use std::io::{Read, Write};
 use text_lines::Spelled;
 
-/// Judges a certificate, and says whether its plan is the first of the best, or not.
-#[derive(Clone, Copy)]
-struct CheckCommand {
+/// Whether the certificate is good, and if it is, its plan, and whether that is the first of the best, if that is asked for.
+pub fn check(
+    alloc: Global,
     tells_first: bool,
+    image: &[u8],
+    weights: &[u8],
+    certificate: &[u8],
+) -> Result<Told, Fault>
+    ensures answer { IsOwnAnswer (IsCheckAnswer tells_first image.now weights.now certificate.now) (answer_of result) }
+    ensures read { IfErr result (λ fault. fault ≢ Fault.Io) }
+{
+    let advert = read_advert(image)?;
+    let weights = Weights::read(alloc, weights)?;
+    judged(alloc, tells_first, &advert, &weights, certificate)
 }
 
-impl Command for CheckCommand {
-    ghost count = { λ _. 3 };
-
-    ghost answers = { IsCheckAnswer };
-
-    fn parts(&self) -> usize {
-        3
-    }
-
-    fn answer(&self, alloc: Global, parts: &[&[u8]]) -> Result<Told, Fault> {
-        let advert = read_advert(parts[0])?;
-        let weights = Weights::read(alloc, parts[1])?;
-        self.judged(alloc, &advert, &weights, parts[2])
+// What is told of the certificate. A function of its own, since a certificate has room for all states, which is blanked
+// when the function begins.
+#[inline(never)]
+fn judged(
+    alloc: Global,
+    tells_first: bool,
+    advert: &Advert,
+    weights: &Weights,
+    text: &[u8],
+) -> Result<Told, Fault>
+    ensures answer { (image listed : List ℕ) → IsAdvertText image advert.now → IsAnswer listed (Ok weights.now)
+        → IsOwnAnswer (IsCheckAnswer tells_first image listed text.now) (answer_of result) }
+    ensures read { IfErr result (λ fault. fault ≢ Fault.Io) }
+{
+    let mut read = Certificate::<STATES>::blank();
+    match read.take(text) {
+        Ok(()) => match plan_certificate::check(advert, weights, &read) {
+            Verdict::Good => Ok(Told {
+                text: good_text(alloc, tells_first, advert, weights, &read)?,
+                fault: None,
+                warnings: Warnings::of(advert, weights, !read.plan.paths.is_empty()),
+            }),
+            Verdict::Bad(reason, number) => Err(Fault::Bad(reason, number)),
+        },
+        Err(fault) => Err(Fault::Certificate(fault)),
     }
 }
 
-impl CheckCommand {
-    // What is told of the certificate. A function of its own, since a certificate has room for all states, which is blanked
-    // when the function begins.
-    #[inline(never)]
-    fn judged(
-        self,
-        alloc: Global,
-        advert: &Advert,
-        weights: &Weights,
-        text: &[u8],
-    ) -> Result<Told, Fault>
-        ensures answer { (image listed : List ℕ) → IsAdvertText image advert.now → IsAnswer listed (Ok weights.now)
-            → IsOwnAnswer (IsCheckAnswer self) (image ∷ listed ∷ text.now ∷ []) (answer_of result) }
-        ensures read { IfErr result (λ fault. fault ≢ Fault.Io) }
-    {
-        let mut read = Certificate::<STATES>::blank();
-        match read.take(text) {
-            Ok(()) => match plan_certificate::check(advert, weights, &read) {
-                Verdict::Good => Ok(Told {
-                    text: self.good_text(alloc, advert, weights, &read)?,
-                    fault: None,
-                    warnings: Warnings::of(advert, weights, !read.plan.paths.is_empty()),
-                }),
-                Verdict::Bad(reason, number) => Err(Fault::Bad(reason, number)),
-            },
-            Err(fault) => Err(Fault::Certificate(fault)),
-        }
-    }
-
-    // What is told of a good certificate.
-    fn good_text(
-        self,
-        alloc: Global,
-        advert: &Advert,
-        weights: &Weights,
-        certificate: &Certificate<STATES>,
-    ) -> Result<Vec<u8>, AllocError>
-        requires { IsGood advert.now weights.now certificate.now }
-        ensures { IfOk result (λ text. TellsGood self advert.now weights.now certificate.now text.items) }
-    {
-        let plan = plan_text(alloc, advert, weights, &certificate.plan)?;
-        let mut text = b"good\n".to_vec(alloc)?;
-        push_kept(&mut text, certificate.kept.paths.len())?;
-        text.extend_from_slice(&plan)?;
-        push_first(&mut text, advert, weights, certificate, self.tells_first)?;
-        Ok(text)
-    }
+// What is told of a good certificate.
+fn good_text(
+    alloc: Global,
+    tells_first: bool,
+    advert: &Advert,
+    weights: &Weights,
+    certificate: &Certificate<STATES>,
+) -> Result<Vec<u8>, AllocError>
+    requires { IsGood advert.now weights.now certificate.now }
+    ensures { IfOk result (λ text. TellsGood tells_first advert.now weights.now certificate.now text.items) }
+{
+    let plan = plan_text(alloc, advert, weights, &certificate.plan)?;
+    let mut text = b"good\n".to_vec(alloc)?;
+    push_kept(&mut text, certificate.kept.paths.len())?;
+    text.extend_from_slice(&plan)?;
+    push_first(&mut text, advert, weights, certificate, tells_first)?;
+    Ok(text)
 }
 
 #[tactic(auto, unfolding(crate::specs::CheckCommand::kept_line))]
@@ -133,18 +120,4 @@ fn push_first_line(text: &mut Vec<u8>, is_first: bool) -> Result<(), AllocError>
         "first no\n"
     };
     text.extend_from_slice(line.as_bytes())
-}
-
-/// Reads the texts of an image, of weights and of a certificate, and writes whether the certificate is good, and if it is,
-/// its plan, and whether that is the first of the best, if that is asked for.
-pub fn check<R: Read, W: Write>(
-    alloc: Global,
-    first: bool,
-    reader: &mut CountedReader<R>,
-    writer: &mut StoppingWriter<W>,
-) -> Ending
-    ensures { IsCommandRun R.remaining W.contents (IsAnswerTo 3 (IsCheckAnswer record { tells_first = first }))
-        reader.old reader.new writer.old writer.new result }
-{
-    run(alloc, &CheckCommand { tells_first: first }, reader, writer)
 }

@@ -1,7 +1,6 @@
 use Rattle.std.proofs.Common.{refl, ap, sym, ◌∙◌}
 use Rattle.std.proofs.lemmas.Result.{err_from_is_err_and}
 use Rattle.bus_model.specs.ScriptBuses.{seen_at}
-use Rattle.plan_certificate.specs.Certificates.{Claim}
 use Rattle.sim_module.specs.Starts.{start, start_fault}
 use Rattle.sim_module.specs.declared.delays.Delays.{Delays}
 use Rattle.sim_module.specs.declared.module.SimModule.{SimModule}

@@ -5,7 +5,7 @@ use Rattle.plan_certificate.specs.declared.path.Path.{Path}
 use Rattle.reports.specs.PlanText.{plan_lines}
 use Rattle.command_line.specs.CheckCommand.{kept_lines}
 use Rattle.command_line.proofs.GoodTexts.{good_told}
-use Rattle.command_line.proofs.commands.check_command.CheckCommand.good_text.Goals as goal
+use Rattle.command_line.proofs.commands.check_command.good_text.Goals as goal
 
 pub returns : goal.returns
 returns c =

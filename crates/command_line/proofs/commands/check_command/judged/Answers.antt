@@ -1,4 +1,4 @@
-use Rattle.std.proofs.Common.{refl, sym, subst, ◌∷◌, [], Err, IfErr, OnOk}
+use Rattle.std.proofs.Common.{refl, sym, subst, Err, IfErr, OnOk}
 use Rattle.text_lines.specs.Lines.{lines_of}
 use Rattle.plan_certificate.specs.Limits.{most_states}
 use Rattle.plan_certificate.specs.CertificateFaults.{IsFirstFault}
@@ -6,19 +6,19 @@ use Rattle.plan_certificate.specs.CertificateText.{IsTextOf}
 use Rattle.plan_certificate.specs.declared.verdict.Verdict.TheVariants.{Bad}
 use Rattle.command_line.specs.CheckCommand.{IsCheckAnswer, IsGoodAnswer, IsJudged}
 use Rattle.command_line.specs.declared.fault.Fault.TheVariants.{Certificate}
-use Rattle.command_line.proofs.commands.check_command.CheckCommand.judged.Goals as goal
+use Rattle.command_line.proofs.commands.check_command.judged.Goals as goal
 
 pub returns-in-Err-clause-answer : goal.returns-in-Err-clause-answer
 returns-in-Err-clause-answer c = λ image listed is_advert are_weights.
     let text = c.args.text.now in
     let first : IsFirstFault most_states (lines_of text) c.in-Err.fault = subst (λ r. IfErr r (IsFirstFault most_states (lines_of text))) c.in-Err.is c.take.ensures.err in
-    let is : IsCheckAnswer c.args.self (image ∷ listed ∷ text ∷ []) (Err (Certificate c.in-Err.fault)) = ((c.args.advert.now, is_advert), (c.args.weights.now, are_weights), first) in
+    let is : IsCheckAnswer c.args.tells_first image listed text (Err (Certificate c.in-Err.fault)) = ((c.args.advert.now, is_advert), (c.args.weights.now, are_weights), first) in
     is
 
 pub returns-in_ok-good_text-in-Good-clause-answer : goal.returns-in_ok-good_text-in-Good-clause-answer
 returns-in_ok-good_text-in-Good-clause-answer c = λ image listed is_advert are_weights.
     let text = c.args.text.now in
-    let good : IsGoodAnswer c.args.self image listed text c.in_ok-good_text-in-Good.field-0.items = record {
+    let good : IsGoodAnswer c.args.tells_first image listed text c.in_ok-good_text-in-Good.field-0.items = record {
       judged = record {
         advert = c.args.advert.now;
         weights = c.args.weights.now;

@@ -1,0 +1,18 @@
+use Rattle.command_line.proofs.commands.command.answer_to.Goals as goal
+
+pub returns-in-Report-clause-answer : goal.returns-in-Report-clause-answer
+returns-in-Report-clause-answer c = rw c.in-Report.is (rw c.of-image.ensures at c.report.ensures.answer)
+
+pub returns-in-Plan-clause-answer : goal.returns-in-Plan-clause-answer
+returns-in-Plan-clause-answer c = rw c.in-Plan.is (rw (c.of-image.ensures, c.of-weights.ensures, c.of-kept.ensures) at c.plan.ensures.answer)
+
+pub returns-in-Check-clause-answer : goal.returns-in-Check-clause-answer
+returns-in-Check-clause-answer c = rw c.in-Check.is (rw (c.of-image.ensures, c.of-weights.ensures, c.of.ensures) at c.check.ensures.answer)
+
+pub returns-in-Provision-clause-answer : goal.returns-in-Provision-clause-answer
+returns-in-Provision-clause-answer c =
+    rw c.in-Provision.is (rw (c.of-image.ensures, c.of-weights.ensures, c.of-kept.ensures, c.of-script.ensures) at c.provision.ensures.answer)
+
+pub returns-in-Trace-clause-answer : goal.returns-in-Trace-clause-answer
+returns-in-Trace-clause-answer c =
+    rw c.in-Trace.is (rw (c.of-image.ensures, c.of-weights.ensures, c.of-kept.ensures, c.of-script.ensures) at c.provision-in-Trace.ensures.answer)

@@ -1,0 +1,33 @@
+use Rattle.std.proofs.Common.{ap, ◌∙◌}
+use Rattle.std.proofs.lemmas.Result.{err_from_is_err_and}
+use Rattle.std.specs.Option.{option_map}
+use Rattle.bus_model.specs.ScriptBuses.{seen_at}
+use Rattle.control_sets.specs.Answers.{activated_steps, provisioned_steps}
+use Rattle.sim_module.specs.Lanes.{active_bytes}
+use Rattle.command_line.proofs.ProcedureAnswers.{carried, refused_answer, session_at_rest, session_sound, told_as}
+use Rattle.command_line.proofs.commands.provision_command.provision.Goals as goal
+
+pub returns-in_err-advert-clause-answer : goal.returns-in_err-advert-clause-answer
+returns-in_err-advert-clause-answer c =
+    let p = err_from_is_err_and c.from_residual.result c.from_residual.ensures.1 in
+    rw (p.1, p.2) (refused_answer c.args.is_traced c.args.is_activated c.args.image.now c.args.weights.now c.args.kept.now c.args.script.now
+    c.in_err-advert.field-0.0 c.in_err-advert.ensures.answer)
+
+pub carry_out-ended-requires-clause-sound : goal.carry_out-ended-requires-clause-sound
+carry_out-ended-requires-clause-sound c = session_sound _ _ _ _ c.in_ok-advert.field-0 c.in_ok-advert.ensures.answer
+
+pub carry_out-ended-requires-clause-at_rest : goal.carry_out-ended-requires-clause-at_rest
+carry_out-ended-requires-clause-at_rest c = session_at_rest _ _ _ _ c.in_ok-advert.field-0 c.in_ok-advert.ensures.answer
+
+pub returns-clause-answer : goal.returns-clause-answer
+returns-clause-answer c =
+    let ended = c.carry_out-ended.result in
+    let after = seen_at c.carry_out-ended.new.bus in
+    let provisioned = provisioned_steps ended.0 in
+    let activated = option_map activated_steps ended.1 in
+    let text = c.push_outcome.new.text.items in
+    let told = told_as c.args.is_traced after provisioned activated text c.in_ok-text.text.items c.active.result c.steps.result.now
+    c.in_ok-fault.ensures.lines c.in_ok-text.ensures c.steps.ensures (c.active.ensures ∙ ap active_bytes c.device.ensures) in
+    carried c.args.image.now c.args.weights.now c.args.kept.now c.args.script.now c.in_ok-advert.field-0 c.in_ok-advert.ensures.answer
+    c.args.is_traced c.args.is_activated text after provisioned activated c.in_ok-fault.fault
+    c.carry_out-ended.ensures told c.in_ok-fault.ensures.fault
