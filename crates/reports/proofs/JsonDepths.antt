@@ -5,7 +5,6 @@ use Rattle.json.specs.Json as json
 use Rattle.json.specs.Json.{max_depth}
 use Rattle.json.specs.Tree.{depth, items_depth, members_depth}
 use Rattle.json.specs.Word.{after_number}
-use Rattle.bus_model.specs.declared.device.Dev.{Dev}
 use Rattle.bus_model.specs.declared.operation.Op.{Op}
 use Rattle.bus_model.specs.declared.operation.Op.TheVariants.{Fetch, Store}
 use Rattle.bus_model.specs.declared.operation.Reply.{Reply}
