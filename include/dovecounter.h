@@ -22,8 +22,9 @@ extern "C" {
 
 #define DOVECOUNTER_VERSION 2
 
-/* What a function answers. On any status but DOVECOUNTER_DONE it has written nothing. The comments name the faults that the
-   program cmisctl prints for the same reason. Each function below has a table of the statuses besides 0 that it answers; if more
+/* What a function answers. On any status but DOVECOUNTER_DONE it has written nothing, but for the length that
+   dovecounter_certificate also writes if a buffer is too small. The comments name the faults that the program cmisctl prints for
+   the same reason. Each function below has a table of the statuses besides 0 that it answers; if more
    than one applies, it answers the one that stands first. */
 enum dovecounter_status {
     DOVECOUNTER_DONE = 0,
@@ -369,6 +370,23 @@ struct dovecounter_judgement {
    21 to 24   the text is no certificate: the first of its faults */
 uint32_t dovecounter_check(const struct dovecounter_half *halves, size_t half_count, const uint32_t weights[256],
                            const uint8_t *text, size_t text_length, struct dovecounter_judgement *judgement);
+
+/* No certificate's text is longer. */
+#define DOVECOUNTER_CERTIFICATE_SIZE 74046
+
+/* Writes to the buffer the text of the certificate of the plan that dovecounter_plan gives for the same halves, weights and kept paths:
+   what the command plan of cmisctl prints, or plan --keep if paths are kept, byte for byte, with the end of its last line and without a
+   NUL. Writes to *text_length how many bytes the text has, also if the buffer is too small; the buffer stays as it is then. The bytes of
+   the buffer after the text stay, too. dovecounter_check judges the certificate good.
+
+   status   if
+   1, 2     there are more than 16 halves, or one has no place
+   11 to 16 the halves do not say what the module advertises
+   42, 43   the kept paths are too many, or not admissible
+   4        buffer_size is below *text_length */
+uint32_t dovecounter_certificate(const struct dovecounter_half *halves, size_t half_count, const uint32_t weights[256],
+                                 const struct dovecounter_path *kept, size_t kept_count, uint8_t *buffer,
+                                 size_t buffer_size, size_t *text_length);
 
 /* Why a procedure ended without success. The comments say what `first` and `second` of a dovecounter_fault are then; else they
    are 0. */

@@ -195,10 +195,11 @@ static void check_text(const char *what, const char *text, uint32_t status, uint
     expect(what, (unsigned long)number, (unsigned long)judgement.number);
 }
 
+static const char good[] = "certificate 1\nweight 400\npath 1 1 1\nstate 0 00 400\n" REST;
+
 static void try_check(void) {
     struct dovecounter_judgement judgement;
-    check_text("a good certificate", "certificate 1\nweight 400\npath 1 1 1\nstate 0 00 400\n" REST, DOVECOUNTER_DONE,
-               0, 0);
+    check_text("a good certificate", good, DOVECOUNTER_DONE, 0, 0);
     check_text("CT1", "certificate 3\n", DOVECOUNTER_BAD_LINE, 0, 0);
     check_text("CT2", "certificate 1\nweight 0\nstate 1 00 0\nstate 0 00 0\nend\n", DOVECOUNTER_OUT_OF_ORDER, 0, 0);
     check_text("CT3",
@@ -221,6 +222,83 @@ static void try_check(void) {
     make_module();
     expect("the halves come before the text", DOVECOUNTER_ABSENT,
            dovecounter_check(halves, 0, weights, (const uint8_t *)"", 0, &judgement));
+}
+
+/* ---- written certificates ---- */
+
+/* A buffer of this very size, so that a byte after it is noticed: written if the text fits, and else left. */
+static void write_text(const char *what, const struct dovecounter_path *kept, size_t kept_count, size_t size,
+                       const char *wanted) {
+    size_t needed = strlen(wanted), length = 12345;
+    uint8_t *buffer = malloc(size + (size == 0));
+    memset(buffer, 0x5A, size + (size == 0));
+    uint32_t status = dovecounter_certificate(halves, 3, weights, kept, kept_count, buffer, size, &length);
+    expect(what, size < needed ? DOVECOUNTER_TOO_SMALL : DOVECOUNTER_DONE, status);
+    expect("length of a certificate's text", (unsigned long)needed, (unsigned long)length);
+    if (status == DOVECOUNTER_DONE) expect_same(what, wanted, buffer, needed);
+    for (size_t i = status == DOVECOUNTER_DONE ? needed : 0; i < size; i++)
+        expect("a byte that is no text is not written", 0x5A, buffer[i]);
+    free(buffer);
+}
+
+static void refuse_text(const char *what, uint32_t wanted, const struct dovecounter_half *in, size_t count,
+                        const struct dovecounter_path *kept, size_t kept_count) {
+    uint8_t buffer[DOVECOUNTER_CERTIFICATE_SIZE], before[DOVECOUNTER_CERTIFICATE_SIZE];
+    size_t length = 12345;
+    memset(buffer, 0x5A, sizeof buffer);
+    memcpy(before, buffer, sizeof buffer);
+    expect(what, wanted, dovecounter_certificate(in, count, weights, kept, kept_count, buffer, sizeof buffer, &length));
+    expect("a refused certificate has no length", 12345, (unsigned long)length);
+    expect_same("a refused certificate is not written", before, buffer, sizeof buffer);
+}
+
+/* What is written for the module as it is now is good for it, and of the plan's weight and paths. */
+static void expect_good_text(const char *what, const struct dovecounter_path *kept, size_t kept_count) {
+    static char text[DOVECOUNTER_CERTIFICATE_SIZE + 1], head[400];
+    struct dovecounter_judgement judgement = {77, 77};
+    struct dovecounter_plan plan;
+    size_t length = 0;
+    expect(what, DOVECOUNTER_DONE, dovecounter_plan(halves, 3, weights, kept, kept_count, &plan));
+    expect(what, DOVECOUNTER_DONE,
+           dovecounter_certificate(halves, 3, weights, kept, kept_count, (uint8_t *)text, sizeof text - 1, &length));
+    text[length] = 0;
+    expect(what, DOVECOUNTER_DONE, dovecounter_check(halves, 3, weights, (const uint8_t *)text, length, &judgement));
+    expect(what, 0, judgement.reason);
+    int end =
+        snprintf(head, sizeof head, "certificate %d\nweight %lu\n", kept_count ? 2 : 1, (unsigned long)plan.weight);
+    for (size_t i = 0; i < kept_count; i++)
+        end += snprintf(head + end, sizeof head - (size_t)end, "keep %d %d %d\n", kept[i].application, kept[i].host,
+                        kept[i].media);
+    for (int i = 0; i < plan.count; i++)
+        end += snprintf(head + end, sizeof head - (size_t)end, "path %d %d %d\n", plan.paths[i].application,
+                        plan.paths[i].host, plan.paths[i].media);
+    expect_same("the lines of a certificate before its states", head, text, (size_t)end);
+    for (size_t size = 0; size <= length + 3; size += size < 3 || size + 3 > length ? 1 : 97)
+        write_text(what, kept, kept_count, size, text);
+}
+
+static void try_certificate(void) {
+    static const char keeps[] = "certificate 2\nweight 400\nkeep 1 1 1\npath 1 1 1\n"
+                                "state 0 00 400\nstate 8 0f 0\nend\n";
+    static const struct dovecounter_half many[17];
+    static const struct dovecounter_path all = {1, 1, 1}, first = {2, 3, 2}, absent = {3, 1, 1},
+                                         other[2] = {{2, 3, 2}, {1, 1, 1}}, nine[9];
+    make_module();
+    for (size_t size = 0; size < sizeof good + 3; size++) write_text("a certificate", nothing, 0, size, good);
+    for (size_t size = 0; size < sizeof keeps + 3; size++) write_text("a kept path", &all, 1, size, keeps);
+    refuse_text("a certificate of too many halves", DOVECOUNTER_TOO_MANY_HALVES, many, 17, nothing, 0);
+    refuse_text("a certificate of halves without a device", DOVECOUNTER_NO_PLACE, many, 16, nothing, 0);
+    refuse_text("a certificate of no halves", DOVECOUNTER_ABSENT, halves, 0, nine, 9);
+    refuse_text("a certificate that keeps too many paths", DOVECOUNTER_TOO_MANY_KEPT, halves, 3, nine, 9);
+    refuse_text("a certificate that keeps what isn't there", DOVECOUNTER_KEPT_NOT_ADMISSIBLE, halves, 3, &absent, 1);
+    make_two_applications();
+    weights[0x0D] = 101;
+    expect_good_text("four paths", nothing, 0);
+    expect_good_text("four paths, one of which is kept", &first, 1);
+    refuse_text("a certificate that keeps a lane twice", DOVECOUNTER_KEPT_NOT_ADMISSIBLE, halves, 3, other, 2);
+    weights[0x0D] = weights[0x11] = UINT32_MAX;
+    expect_good_text("paths of the greatest weight", nothing, 0);
+    weights[0x0D] = 0;
 }
 
 /* ---- procedures ---- */
@@ -437,6 +515,7 @@ int main(void) {
     try_plan(&plan);
     try_kept();
     try_check();
+    try_certificate();
     try_durations();
     try_procedure(&plan);
     try_kept_procedure();

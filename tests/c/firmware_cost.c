@@ -41,6 +41,12 @@ static void *checks(void *x) {
     dovecounter_check(halves, half_count, weights, (const uint8_t *)certificate, strlen(certificate), &judgement);
     return x;
 }
+static void *writes(void *x) {
+    static uint8_t text[DOVECOUNTER_CERTIFICATE_SIZE];
+    size_t length;
+    dovecounter_certificate(halves, half_count, weights, kept, 0, text, sizeof text, &length);
+    return x;
+}
 static void *provisions(void *x) {
     dovecounter_provision(plan.control, 0xFF, &procedure);
     return x;
@@ -142,6 +148,7 @@ int main(void) {
     size_t alone = used(nothing);
     print_used("dovecounter_advertisement", advertises, alone);
     print_used("dovecounter_plan", plans, alone);
+    print_used("dovecounter_certificate", writes, alone);
     print_used("dovecounter_check", checks, alone);
     print_used("dovecounter_provision", provisions, alone);
     print_used("dovecounter_next", asks, alone);

@@ -10,6 +10,7 @@ pub mod SimulatedModules
 pub mod SavedReadings
 pub mod Durations
 pub mod Texts
+pub mod WrittenCertificates
 pub mod ReadModules
 pub mod ShownTexts
 pub mod Identities

@@ -4,6 +4,7 @@
 #![tactic(auto)]
 
 mod advertisement;
+mod certificate;
 mod checking;
 mod durations;
 mod flags;

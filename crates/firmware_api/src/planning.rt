@@ -62,8 +62,8 @@ fn planned(halves: &[Half], weights: &[u32; 256], kept: &[Path]) -> Result<LaneP
     Ok(best_plan(&advert, weights, &kept))
 }
 
-// The kept paths as a plan, if the module can carry it.
-fn kept_plan(advert: &Advert, kept: &[Path]) -> Result<Plan, Refusal>
+/// The kept paths as a plan, if the module can carry it.
+pub fn kept_plan(advert: &Advert, kept: &[Path]) -> Result<Plan, Refusal>
     ensures { MatchOption (kept_refusal advert.now kept.now) ((result ≡ Ok kept.now) × IsAdmissible advert.now kept.now)
         (λ refusal. result ≡ Err refusal) }
 {
