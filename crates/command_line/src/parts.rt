@@ -1,5 +1,6 @@
 //! The parts of the program's input, between lines that are exactly `---`.
-ghost use Rattle.std.specs.Prelude.{◌≡◌, ◌≤◌, ◌∷◌, [], map, length, MatchResult};
+ghost use Rattle.std.specs.Borrow.{Bor};
+ghost use Rattle.std.specs.Prelude.{◌≡◌, ◌≤◌, ◌∷◌, [], ℕ, List, map, length, option_map, slice_get, MatchResult};
 ghost use Rattle.std.specs.Option.{option_map_or};
 ghost use Rattle.std.specs.Iterator.{YieldsFirstBy, item_count};
 ghost use Rattle.command_line.specs.Parts.{is_separator_line, most_parts, parts_of};
@@ -35,7 +36,9 @@ pub fn parts(input: &[u8], count: usize) -> Result<ArrayVec<&[u8], MAX_PARTS>, F
 }
 
 /// The part of this number, from 0 on, if there is one.
-pub fn part(input: &[u8], number: usize) -> Option<&[u8]> {
+pub fn part(input: &[u8], number: usize) -> Option<&[u8]>
+    ensures { option_map (λ (part : Bor (List ℕ)). part.now) result ≡ slice_get (parts_of input.now) number }
+{
     Pieces::of(input).nth(number)
 }
 
