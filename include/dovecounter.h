@@ -20,7 +20,7 @@
 extern "C" {
 #endif
 
-#define DOVECOUNTER_VERSION 2
+#define DOVECOUNTER_VERSION 3
 
 /* What a function answers. On any status but DOVECOUNTER_DONE it has written nothing, but for the length that
    dovecounter_certificate also writes if a buffer is too small. The comments name the faults that the program cmisctl prints for

@@ -24,7 +24,7 @@ from ctypes import (
 )
 from typing import Any, Callable, Dict, List, Tuple
 
-VERSION = 2  # DOVECOUNTER_VERSION
+VERSION = 3  # DOVECOUNTER_VERSION
 TEXT_SIZE = 256  # DOVECOUNTER_TEXT_SIZE
 FILE = f"libdovecounter.so.{VERSION}"
 
