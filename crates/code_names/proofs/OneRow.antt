@@ -4,7 +4,7 @@ use Rattle.std.specs.Prelude.{Contains, nat_lt, nat_le}
 use Rattle.std.specs.List.{list_all}
 use Rattle.std.proofs.lemmas.Bool.{and_parts, leb-true, ltb-true}
 use Rattle.code_names.specs.declared.table.Table.{Table}
-use Rattle.code_names.specs.declared.table.Table.TheVariants.{Identifiers, Connectors, Sff8472Encodings, Sff8636Encodings, ExtendedCompliance, HostInterfaces, MultiModeMedia, SingleModeMedia, PassiveCopper, ActiveCables, BaseTMedia, MediaTypes, MediaTechnologies}
+use Rattle.code_names.specs.declared.table.Table.TheVariants.{Identifiers, Connectors, Sff8472Encodings, Sff8636Encodings, ExtendedCompliance, HostInterfaces, MultiModeMedia, SingleModeMedia, PassiveCopper, ActiveCables, BaseTMedia, MediaTypes, MediaTechnologies, ModuleFaults, Durations, SquelchMethods, OutputEqualizers, Sff8636Revisions, Sff8636RateSelects, Sff8636Compliance, InfinibandSpeeds, Sff8472ExtendedIdentifiers, Sff8472Revisions, Sff8472RateSelects, Sff8472Compliance, SfpPassiveCables, SfpActiveCables}
 use Rattle.code_names.specs.Rows.{Row, row_has}
 use Rattle.code_names.specs.Identifiers.{identifier_names}
 use Rattle.code_names.specs.Connectors.{connector_names}
@@ -19,6 +19,20 @@ use Rattle.code_names.specs.ActiveCables.{active_cable_names}
 use Rattle.code_names.specs.BaseTMedia.{base_t_media_names}
 use Rattle.code_names.specs.MediaTypes.{media_type_names}
 use Rattle.code_names.specs.MediaTechnologies.{media_technology_names}
+use Rattle.code_names.specs.ModuleFaults.{module_fault_names}
+use Rattle.code_names.specs.Durations.{duration_names}
+use Rattle.code_names.specs.SquelchMethods.{squelch_method_names}
+use Rattle.code_names.specs.OutputEqualizers.{output_equalizer_names}
+use Rattle.code_names.specs.Sff8636Revisions.{sff8636_revision_names}
+use Rattle.code_names.specs.Sff8636RateSelects.{sff8636_rate_select_names}
+use Rattle.code_names.specs.Sff8636Compliance.{sff8636_compliance_names}
+use Rattle.code_names.specs.InfinibandSpeeds.{infiniband_speed_names}
+use Rattle.code_names.specs.Sff8472ExtendedIdentifiers.{sff8472_extended_identifier_names}
+use Rattle.code_names.specs.Sff8472Revisions.{sff8472_revision_names}
+use Rattle.code_names.specs.Sff8472RateSelects.{sff8472_rate_select_names}
+use Rattle.code_names.specs.Sff8472Compliance.{sff8472_compliance_names}
+use Rattle.code_names.specs.SfpPassiveCables.{sfp_passive_cable_names}
+use Rattle.code_names.specs.SfpActiveCables.{sfp_active_cable_names}
 use Rattle.code_names.specs.Names.{rows_of, EachCodeHasOneRow}
 
 -- each row ends before the later ones begin
@@ -78,6 +92,62 @@ media_technology_names_apart : apart media_technology_names ≡ true
 unfolding media_technology_names
 media_technology_names_apart = refl
 
+module_fault_names_apart : apart module_fault_names ≡ true
+unfolding module_fault_names
+module_fault_names_apart = refl
+
+duration_names_apart : apart duration_names ≡ true
+unfolding duration_names
+duration_names_apart = refl
+
+squelch_method_names_apart : apart squelch_method_names ≡ true
+unfolding squelch_method_names
+squelch_method_names_apart = refl
+
+output_equalizer_names_apart : apart output_equalizer_names ≡ true
+unfolding output_equalizer_names
+output_equalizer_names_apart = refl
+
+sff8636_revision_names_apart : apart sff8636_revision_names ≡ true
+unfolding sff8636_revision_names
+sff8636_revision_names_apart = refl
+
+sff8636_rate_select_names_apart : apart sff8636_rate_select_names ≡ true
+unfolding sff8636_rate_select_names
+sff8636_rate_select_names_apart = refl
+
+sff8636_compliance_names_apart : apart sff8636_compliance_names ≡ true
+unfolding sff8636_compliance_names
+sff8636_compliance_names_apart = refl
+
+infiniband_speed_names_apart : apart infiniband_speed_names ≡ true
+unfolding infiniband_speed_names
+infiniband_speed_names_apart = refl
+
+sff8472_extended_identifier_names_apart : apart sff8472_extended_identifier_names ≡ true
+unfolding sff8472_extended_identifier_names
+sff8472_extended_identifier_names_apart = refl
+
+sff8472_revision_names_apart : apart sff8472_revision_names ≡ true
+unfolding sff8472_revision_names
+sff8472_revision_names_apart = refl
+
+sff8472_rate_select_names_apart : apart sff8472_rate_select_names ≡ true
+unfolding sff8472_rate_select_names
+sff8472_rate_select_names_apart = refl
+
+sff8472_compliance_names_apart : apart sff8472_compliance_names ≡ true
+unfolding sff8472_compliance_names
+sff8472_compliance_names_apart = refl
+
+sfp_passive_cable_names_apart : apart sfp_passive_cable_names ≡ true
+unfolding sfp_passive_cable_names
+sfp_passive_cable_names_apart = refl
+
+sfp_active_cable_names_apart : apart sfp_active_cable_names ≡ true
+unfolding sfp_active_cable_names
+sfp_active_cable_names_apart = refl
+
 all_apart : (table : Table) → apart (rows_of table) ≡ true
 all_apart Identifiers = identifier_names_apart
 all_apart Connectors = connector_names_apart
@@ -92,6 +162,20 @@ all_apart ActiveCables = active_cable_names_apart
 all_apart BaseTMedia = base_t_media_names_apart
 all_apart MediaTypes = media_type_names_apart
 all_apart MediaTechnologies = media_technology_names_apart
+all_apart ModuleFaults = module_fault_names_apart
+all_apart Durations = duration_names_apart
+all_apart SquelchMethods = squelch_method_names_apart
+all_apart OutputEqualizers = output_equalizer_names_apart
+all_apart Sff8636Revisions = sff8636_revision_names_apart
+all_apart Sff8636RateSelects = sff8636_rate_select_names_apart
+all_apart Sff8636Compliance = sff8636_compliance_names_apart
+all_apart InfinibandSpeeds = infiniband_speed_names_apart
+all_apart Sff8472ExtendedIdentifiers = sff8472_extended_identifier_names_apart
+all_apart Sff8472Revisions = sff8472_revision_names_apart
+all_apart Sff8472RateSelects = sff8472_rate_select_names_apart
+all_apart Sff8472Compliance = sff8472_compliance_names_apart
+all_apart SfpPassiveCables = sfp_passive_cable_names_apart
+all_apart SfpActiveCables = sfp_active_cable_names_apart
 
 -- a test of all rows
 of_each : (test : Row → Bool) (rows : List Row) (row : Row) → list_all test rows ≡ true → Contains rows row → test row ≡ true

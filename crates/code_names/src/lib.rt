@@ -1,4 +1,4 @@
-//! The names of the codes by which a module says what it is: the tables of SFF-8024, and two of CMIS.
+//! The names of the codes by which a module says what it is: tables of SFF-8024, CMIS, SFF-8636 and SFF-8472.
 //! Facts alone; what isn't known for sure is left out, and `Name::Unlisted` says so.
 #![tactic(auto)]
 

@@ -29,4 +29,33 @@ pub enum Table {
     MediaTypes,
     /// OIF-CMIS-05.0, Media Interface Technology Encodings.
     MediaTechnologies,
+    /// OIF-CMIS-05.0, Module Fault Information.
+    ModuleFaults,
+    /// OIF-CMIS-05.0, Durations Advertising.
+    Durations,
+    /// OIF-CMIS-05.0, Supported Controls Advertisement.
+    SquelchMethods,
+    /// OIF-CMIS-05.0, Supported Signal Integrity Controls Advertisement.
+    OutputEqualizers,
+    /// SFF-8636, Revision Compliance.
+    Sff8636Revisions,
+    /// SFF-8636, Extended Rate Select Compliance.
+    Sff8636RateSelects,
+    /// SFF-8636, Specification Compliance; a code is a bit, counted from bit 0 of byte 131.
+    Sff8636Compliance,
+    /// SFF-8636, Extended Module Codes; a code is a bit of byte 164.
+    InfinibandSpeeds,
+    /// SFF-8472, Extended Identifier.
+    Sff8472ExtendedIdentifiers,
+    /// SFF-8472, SFF-8472 Compliance.
+    Sff8472Revisions,
+    /// SFF-8472, Rate Identifiers.
+    Sff8472RateSelects,
+    /// SFF-8472, Transceiver Compliance Codes and Fibre Channel Speed 2; a code is a bit, counted from bit 0 of byte 3, after
+    /// those of bytes 3 to 10 from bit 0 of byte 62.
+    Sff8472Compliance,
+    /// SFF-8472, Passive Cable Specification Compliance.
+    SfpPassiveCables,
+    /// SFF-8472, Active Cable Specification Compliance.
+    SfpActiveCables,
 }
