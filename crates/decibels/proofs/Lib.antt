@@ -1,2 +1,3 @@
 mod Powers
 mod LeastPowers
+mod LevelFound

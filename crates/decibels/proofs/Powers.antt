@@ -7,7 +7,7 @@ use Rattle.std.proofs.lemmas.Bool.{cases_lt}
 use Rattle.decibels.specs.Levels.{IsLevel}
 
 -- a power of a power
-pow-pow : (n i j : ℕ) → (n ^ i) ^ j ≡ n ^ (i * j)
+pub pow-pow : (n i j : ℕ) → (n ^ i) ^ j ≡ n ^ (i * j)
 pow-pow n i zero = pow-zero (n ^ i) ∙ (sym (pow-zero n) ∙ ap (λ k. n ^ k) (sym (mul-zero i)))
 pow-pow n i (suc j) = pow-suc (n ^ i) j ∙ (ap (λ x. x * n ^ i) (pow-pow n i j) ∙ (sym (pow-add n (i * j) i) ∙ ap (λ k. n ^ k) (let e : i * j + i ≡ i * suc j = omega arith in e)))
 

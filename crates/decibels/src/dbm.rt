@@ -2,11 +2,24 @@
 ghost use Rattle.std.specs.Prelude.{Some};
 ghost use Rattle.decibels.specs.Dbm.{dbm_text, hundredths_text};
 
+use crate::levels::level;
 use std::fmt;
 
 /// A level as `level` gives it, shown in dBm: `-2.30`, and `-inf` if there is no power.
 #[derive(Clone, Copy)]
 pub struct Dbm(pub Option<u16>);
+
+impl Dbm {
+    ghost use Rattle.std.specs.Prelude.{◌≡◌};
+    ghost use Rattle.decibels.specs.Levels.{level_of};
+
+    /// Of a power in tenths of a microwatt.
+    pub fn of(power: u16) -> Dbm
+        ensures { result.0 ≡ level_of power }
+    {
+        Dbm(level(power))
+    }
+}
 
 impl fmt::Display for Dbm {
     ghost output = { λ shown. Some (dbm_text shown.0) };
