@@ -11,5 +11,5 @@ mod words;
 pub use decimal::read_decimal;
 pub use hexadecimal::{HexByte, Hexadecimal, read_hex_byte, read_hexadecimal};
 pub use lines::{LF, Lines, split_ended_line, split_line};
-pub use spelling::{Spelled, Spelling};
+pub use spelling::{Spelled, Spelling, Word};
 pub use words::split_words;

@@ -19,10 +19,13 @@ const WORDS: usize = 8;
 /// The most bytes of a line, with its first word and its LF.
 const LINE: usize = (WORD + 1) * (WORDS + 1);
 
+/// A word of a line that is printed.
+pub type Word = ArrayVec<u8, WORD>;
+
 /// Words of a line that is printed: at most eight, of at most 20 bytes each.
 #[derive(Drop)]
 pub struct Spelling {
-    words: ArrayVec<ArrayVec<u8, WORD>, WORDS>,
+    words: ArrayVec<Word, WORDS>,
 }
 
 impl Model for Spelling {
@@ -81,6 +84,13 @@ impl Spelling {
         }
         line.push(LF);
         line
+    }
+
+    /// The words.
+    pub fn words(&self) -> &[Word]
+        ensures { map (λ word. word.items) result.now ≡ self.now }
+    {
+        self.words.as_slice()
     }
 
     fn of_bytes(word: &[u8]) -> Spelling
