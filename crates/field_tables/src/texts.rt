@@ -49,6 +49,7 @@ fn span_of(text: TextField) -> Span
         CPartRevision: A0 Upper 0x00, 164-165;
         CSerial: A0 Upper 0x00, 166-181;
         CDate: A0 Upper 0x00, 182-189;
+        CClei: A0 Upper 0x00, 190-199;
         QVendor: A0 Upper 0x00, 148-163;
         QPart: A0 Upper 0x00, 168-183;
         QPartRevision: A0 Upper 0x00, 184-185;

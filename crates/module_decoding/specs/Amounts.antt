@@ -15,10 +15,14 @@ use Rattle.field_tables.specs.Units.{millis_of}
 abbrev pub unit_of : Field → Unit
 unit_of field = unwrap_or (row_of field).unit units.ModulePower
 
+-- as often as the number says
+abbrev pub doubled : ℤ → ℕ → ℤ
+doubled steps power = steps *ℤ pos (2 ^ power)
+
 -- steps that count more, by a field that says how often they are doubled
 abbrev pub times : Memory → ℤ → Option Field → ℤ
 times memory steps None = steps
-times memory steps (Some power) = steps *ℤ pos (2 ^ number memory power)
+times memory steps (Some power) = doubled steps (number memory power)
 
 -- value i of a field in thousandths of its unit
 unfoldable pub amount_at : Memory → Field → Option Field → ℕ → ℤ

@@ -1,4 +1,4 @@
--- The pages of a CMIS module that have what is told of it. (docs/formats.md, "inventory", "monitors" and "flags"; OIF-CMIS-05.0,
+-- The pages of a CMIS module that have what is told of it. (docs/formats.md, "inventory", "monitors", "flags" and "details"; OIF-CMIS-05.0,
 -- "Management Characteristics" and "Management Memory Map")
 use Rattle.std.specs.Prelude.{ℕ, Bool, if◌then◌else◌, List, [], ◌∷◌, map, Option, find}
 use Rattle.bus_model.specs.declared.device.Dev.TheVariants.{A0}
@@ -28,6 +28,10 @@ monitor_pages memory = unless_flat memory (0x01 ∷ 0x02 ∷ 0x11 ∷ [])
 -- of its states and flags
 abbrev pub flag_pages : Memory → List ℕ
 flag_pages memory = unless_flat memory (0x11 ∷ [])
+
+-- of all that it says of itself
+abbrev pub detail_pages : Memory → List ℕ
+detail_pages memory = if is_flat memory then 0x00 ∷ [] else 0x00 ∷ 0x01 ∷ 0x11 ∷ []
 
 -- the first of these pages of bank 0 that memory lacks
 unfoldable pub absent_page : List ℕ → Memory → Option Key

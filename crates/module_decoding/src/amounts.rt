@@ -31,8 +31,19 @@ fn times(image: &Image, steps: i32, power: Option<Field>) -> i32
 {
     match power {
         None => steps,
-        Some(field) => steps * two_to(number(image, field)),
+        Some(field) => doubled(steps, number(image, field)),
     }
+}
+
+// As often as the number says.
+fn doubled(steps: i32, power: u8) -> i32
+    requires steps { IsWord steps }
+    requires power { power < 4 }
+    ensures value { result ≡ spec.doubled steps power }
+    ensures low { neg_ℤ (pos 262144) ≤ℤ result }
+    ensures high { result ≤ℤ pos 524280 }
+{
+    steps * two_to(power)
 }
 
 fn two_to(power: u8) -> i32

@@ -1,7 +1,7 @@
 // The pages of a CMIS module that have what is told of it.
 ghost use Rattle.std.specs.Prelude.{◌≡◌};
 ghost use Rattle.module_decoding.specs.CmisPages as spec;
-ghost use Rattle.module_decoding.specs.CmisPages.{absent_page, flag_pages, identity_pages, is_flat, monitor_pages};
+ghost use Rattle.module_decoding.specs.CmisPages.{absent_page, detail_pages, flag_pages, identity_pages, is_flat, monitor_pages};
 
 use bus_model::Dev;
 use field_tables::{Field, bit};
@@ -33,6 +33,17 @@ pub fn absent_flag_page(image: &Image) -> Option<Key>
     ensures { result ≡ absent_page (flag_pages image.now) image.now }
 {
     absent_page(image, unless_flat(image, &[0x11]))
+}
+
+/// The first page that the image lacks of those that have all that the module says of itself.
+pub fn absent_detail_page(image: &Image) -> Option<Key>
+    ensures { result ≡ absent_page (detail_pages image.now) image.now }
+{
+    if is_flat(image) {
+        absent_page(image, &[0x00])
+    } else {
+        absent_page(image, &[0x00, 0x01, 0x11])
+    }
 }
 
 // Those that are needed of a module that has more than page 00h.

@@ -8,6 +8,8 @@ mod module_family;
 mod padded_texts;
 
 pub use amounts::{amount_at, length_in, limit_amounts, unit_of};
-pub use cmis_pages::{absent_flag_page, absent_identity_page, absent_monitor_page, is_flat};
+pub use cmis_pages::{
+    absent_detail_page, absent_flag_page, absent_identity_page, absent_monitor_page, is_flat,
+};
 pub use module_family::{ModuleFault, family_of};
 pub use padded_texts::{shown_byte, trimmed};

@@ -56,6 +56,9 @@ statuses =
     ∷ stands_for 84 (codes "SF4")
     ∷ stands_for 85 (codes "SF5")
     ∷ stands_for 86 (codes "SF6")
+    ∷ says 91 (codes "the line is none of weights: write '[host]' once, and after it lines as '0Dh = 101', comments or empty lines, with numbers up to 4294967295")
+    ∷ stands_for 92 (codes "WT2")
+    ∷ says 94 (codes "the line writes a HostInterfaceID that an earlier line writes: keep one of them")
     ∷ []
 
 unfoldable pub procedure_faults : List Says

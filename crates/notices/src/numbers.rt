@@ -62,6 +62,9 @@ pub fn statuses() -> &'static [Numbered]
         84 "SF4" "";
         85 "SF5" "";
         86 "SF6" "";
+        91 "" "the line is none of weights: write '[host]' once, and after it lines as '0Dh = 101', comments or empty lines, with numbers up to 4294967295";
+        92 "WT2" "";
+        94 "" "the line writes a HostInterfaceID that an earlier line writes: keep one of them";
     }
 }
 

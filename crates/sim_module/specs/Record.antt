@@ -1,5 +1,5 @@
 -- All that later answers of a module depend on. (docs/module.md, "The record"; this project's own)
-use Rattle.std.specs.Prelude.{ℕ, Bool, List, [], refl}
+use Rattle.std.specs.Prelude.{ℕ, Bool, false, List, [], refl}
 use Rattle.std.specs.Coded.{Coded, code_by, coded×}
 use Rattle.std.specs.FinMap as finmap
 use Rattle.std.specs.FinSet as set
@@ -51,7 +51,7 @@ module_of fixed moving = record {
 
 -- no memory, and no Applications
 abbrev pub nothing : Fixed
-nothing = record { image = finmap.empty; advert = record { apps = []; unsupported = set.empty } }
+nothing = record { image = finmap.empty; advert = record { apps = []; unsupported = set.empty; paired = false } }
 
 -- what changes, alone
 abbrev pub bare : Moving → Simulated
