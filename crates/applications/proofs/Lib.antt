@@ -2,3 +2,4 @@ mod Listed
 mod DocumentKeys
 mod HostMembers
 mod WeightAnswers
+mod SaidLines

@@ -1,6 +1,6 @@
 -- What a module advertises as data that a proof can tell apart: member by member. (This project's own.)
-use Rattle.std.specs.Prelude.{ℕ, List, refl}
-use Rattle.std.specs.Coded.{Coded, code_by, coded×, coded_list, coded_ℕ}
+use Rattle.std.specs.Prelude.{ℕ, Bool, List, refl}
+use Rattle.std.specs.Coded.{Coded, code_by, coded×, coded_list, coded_ℕ, coded_bool}
 use Rattle.std.specs.FinSet as set
 use Rattle.field_tables.specs.LaneSets.{Lanes}
 use Rattle.applications.specs.declared.app.App.{App}
@@ -30,4 +30,4 @@ abbrev pub coded_app : Coded App
 coded_app = code_by (Numbers × (Lanes × Lanes)) (coded× (coded× coded_ℕ (coded× coded_ℕ (coded× coded_ℕ (coded× coded_ℕ coded_ℕ)))) (coded× coded_lanes coded_lanes)) members_of app_of (λ _. refl)
 
 abbrev pub coded_advertised : Coded Advertised
-coded_advertised = code_by (List App × Lanes) (coded× (coded_list coded_app) coded_lanes) (λ a. (a.apps, a.unsupported)) (λ p. record { apps = p.0; unsupported = p.1 }) (λ _. refl)
+coded_advertised = code_by (List App × (Lanes × Bool)) (coded× (coded_list coded_app) (coded× coded_lanes coded_bool)) (λ a. (a.apps, (a.unsupported, a.paired))) (λ p. record { apps = p.0; unsupported = p.1.0; paired = p.1.1 }) (λ _. refl)

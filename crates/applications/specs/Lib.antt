@@ -5,5 +5,6 @@ pub mod AdvertisedCode
 pub mod Refusals
 pub mod Weights
 pub mod HostTable
+pub mod WeightLines
 pub mod WeightFaults
 pub mod FaultWords

@@ -12,6 +12,7 @@ use std::marker::Model;
 pub struct Advert {
     apps: ArrayVec<App, MAX_APPS>,
     unsupported: LaneSet,
+    paired: bool,
 }
 
 impl Model for Advert {
@@ -22,14 +23,14 @@ impl Model for Advert {
 
     ghost coded = { coded_advertised };
 
-    ghost view = { λ advert. record { apps = advert.apps.items; unsupported = advert.unsupported } };
+    ghost view = { λ advert. record { apps = advert.apps.items; unsupported = advert.unsupported; paired = advert.paired } };
 
     ghost invariant = { λ advert. InOrder advert.apps.items };
 }
 
 impl Advert {
     ghost use Rattle.std.specs.Prelude.{◌≡◌, ◌≤◌, MatchOption, length};
-    ghost use Rattle.applications.specs.Advertised.{InOrder, advertised_by};
+    ghost use Rattle.applications.specs.Advertised.{InOrder, advertised_by, with_pairing};
     ghost use Rattle.applications.specs.Refusals.{advert_fault};
 
     /// What the module of an image advertises.
@@ -42,7 +43,16 @@ impl Advert {
         Ok(Advert {
             apps: apps_in(image),
             unsupported: LaneSet::from(number(image, Field::CUnsupportedMedia)),
+            paired: false,
         })
+    }
+
+    /// The same of a module that pairs an Application's first host lanes with its first media lanes in their order, or does not.
+    /// `of` takes it that it does not, as no register says so.
+    pub fn with_pairing(self, paired: bool) -> Advert
+        ensures { result ≡ with_pairing paired self }
+    {
+        Advert { paired, ..self }
     }
 
     /// The Applications by rising number.
@@ -59,5 +69,12 @@ impl Advert {
         ensures { result ≡ self.now.unsupported }
     {
         self.unsupported
+    }
+
+    /// Whether a path's first host lane and first media lane have to have the same place among the Application's.
+    pub fn is_paired(&self) -> bool
+        ensures { result ≡ self.now.paired }
+    {
+        self.paired
     }
 }

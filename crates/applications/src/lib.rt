@@ -13,4 +13,4 @@ pub use app::{App, MAX_APPS};
 pub use fault::AdvertFault;
 pub use field_tables::LaneSet;
 pub use refusal::is_read_revision;
-pub use weights::{Weights, WeightsFault};
+pub use weights::{WeightLinesFault, Weights, WeightsFault};

@@ -1,10 +1,12 @@
 // How much a host interface is wanted, as a user's text says.
 mod document;
 mod fault;
+mod lines;
 mod members;
 
 use document::read_document;
 pub use fault::WeightsFault;
+pub use lines::WeightLinesFault;
 use std::alloc::Global;
 use std::marker::Model;
 use toml::table_from_str;
@@ -54,6 +56,13 @@ impl Weights {
         let mut by_host_id = [0; 256];
         by_host_id.copy_from_slice(table);
         Weights { by_host_id }
+    }
+
+    /// The weights of the HostInterfaceIDs from 00h on.
+    pub fn table(&self) -> [u32; 256]
+        ensures { result ≡ self.now }
+    {
+        self.by_host_id
     }
 
     /// The weight of a HostInterfaceID.

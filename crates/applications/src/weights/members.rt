@@ -46,7 +46,7 @@ fn read_member(key: &[u8], value: &Value, listed: &[bool; 256]) -> Result<(u8, u
 
 /// The HostInterfaceID that a key writes, as `0Bh` or `0bh` write 11.
 #[tactic(auto, unfolding(crate::specs::HostTable::id_of_key))]
-fn id_of_key(key: &[u8]) -> Option<u8>
+pub fn id_of_key(key: &[u8]) -> Option<u8>
     ensures { result ≡ spec.id_of_key key.now }
 {
     if key.len() != 3 || key[2] != b'h' {

@@ -1,0 +1,148 @@
+-- Lines of weights: where a byte cuts them, that each says one thing alone, and what a reader keeps of them.
+use Rattle.std.proofs.Common.{◌≡◌, ◌≢◌, ℕ, ◌+◌, ◌^◌, ◌<◌, Bool, true, false, cond, not, ◌==◌, List, [], ◌∷◌, ◌++◌, codes, length, map, Option, Some, None, unwrap_or, arith, refl, sym, subst, ap, inl, inr, ◌∙◌, append_assoc, append-nil, length-append}
+use Rattle.std.proofs.lemmas.Bool.{cases_lt, cond_both, lt-ltb, le-ltb}
+use Rattle.std.proofs.lemmas.Fmt.{decimal_injective}
+use Rattle.std.proofs.lemmas.List.{ext_get_or, get_or_default, get_or-replicate}
+use Rattle.std.proofs.lemmas.List.FromFn.{get_or-map-range_with_len, length-map-range_with_len}
+use Rattle.std.proofs.lemmas.List.Sums.{prefix_len-le-length}
+use Rattle.std.proofs.Math.ListN.{length-replicate, replicate}
+use Rattle.std.specs.Fmt.{decimal}
+use Rattle.std.specs.List.{position, position_or_len, range_with_len}
+use Rattle.applications.specs.declared.weights.lines.Draft.{Draft}
+use Rattle.applications.specs.declared.weights.lines.Said.{Said}
+use Rattle.applications.specs.declared.weights.lines.Said.TheVariants.{Nothing, Host, Weight}
+use Rattle.applications.specs.declared.weights.lines.WeightLinesFault.{WeightLinesFault}
+use Rattle.applications.specs.declared.weights.lines.WeightLinesFault.TheVariants.{BadLine, SameIdTwice, NoHost}
+use Rattle.applications.specs.HostTable.{id_of_key}
+use Rattle.applications.specs.Weights.{IsHostWeights}
+use Rattle.applications.specs.WeightLines.{AreWeights, Drafts, IsFirstFault, IsLineFault, Say, Says, SaysIn, Stops, has_host, host_line, key_in, may_follow, trimmed, weight_said}
+
+-- what a search finds is the place, or the length
+pub place_is : (p : ℕ → Bool) (xs : List ℕ) → unwrap_or (position p xs) (length xs) ≡ position_or_len p xs
+place_is p xs =
+    let place = position_or_len p xs in
+    elim (cases_lt place (length xs)) [
+      | inl within ↦ ap (λ b. unwrap_or (cond b (Some place) None) (length xs)) (lt-ltb _ _ within)
+      | inr past ↦
+          ap (λ b. unwrap_or (cond b (Some place) None) (length xs)) (le-ltb _ _ past) ∙ omega (arith, past, prefix_len-le-length (λ x. not (p x)) xs)
+    ]
+
+-- ---- what a line says
+
+nothing_no_key : id_of_key (key_in []) ≡ None
+unfolding id_of_key trimmed
+nothing_no_key = refl
+
+host_no_key : id_of_key (key_in host_line) ≡ None
+unfolding id_of_key trimmed host_line
+host_no_key = refl
+
+nothing_no_host : [] ≢ host_line
+unfolding host_line
+nothing_no_host e = absurd cc
+
+no_some : (id : ℕ) → None ≢ Some id
+no_some id e = absurd cc
+
+pub same_said : (content : List ℕ) (a b : Said) → SaysIn content a → SaysIn content b → a ≡ b
+same_said content Nothing Nothing x y = refl
+same_said content Nothing Host x y = absurd (nothing_no_host (sym x ∙ y))
+same_said content Nothing (Weight id w) x y = absurd (no_some id (sym nothing_no_key ∙ ap (λ c. id_of_key (key_in c)) (sym x) ∙ y.0))
+same_said content Host Nothing x y = absurd (nothing_no_host (sym y ∙ x))
+same_said content Host Host x y = refl
+same_said content Host (Weight id w) x y = absurd (no_some id (sym host_no_key ∙ ap (λ c. id_of_key (key_in c)) (sym x) ∙ y.0))
+same_said content (Weight id w) Nothing x y = absurd (no_some id (sym nothing_no_key ∙ ap (λ c. id_of_key (key_in c)) (sym y) ∙ x.0))
+same_said content (Weight id w) Host x y = absurd (no_some id (sym host_no_key ∙ ap (λ c. id_of_key (key_in c)) (sym y) ∙ x.0))
+same_said content (Weight id w) (Weight id' w') x y =
+    let same_id : id ≡ id' = let e = sym x.0 ∙ y.0 in cc in
+    let same_weight : w ≡ w' = decimal_injective w w' (omega (arith, x.1)) (omega (arith, y.1)) (sym x.2 ∙ y.2) in
+    (λ i. Weight (same_id i) (same_weight i))
+
+-- ---- what a reader keeps
+
+pub drafts_none : (draft : Draft) → draft.has_host ≡ false → draft.listed ≡ replicate 256 false → draft.by_host_id ≡ replicate 256 0 → Drafts [] draft
+drafts_none draft host listed weights = record {
+  host = host;
+  listed = λ id below. rw listed (get_or-replicate 256 id false false below);
+  weights = λ id below. rw weights (get_or-replicate 256 id 0 0 below);
+  listed_room = rw listed (length-replicate {A = Bool} 256 false);
+  weights_room = rw weights (length-replicate {A = ℕ} 256 0);
+}
+
+-- these lines are read, and these are left
+pub record ReadTo (lines left : List (List ℕ)) (draft : Draft) (number : ℕ) : Type 0 where
+  pub said : List Said
+  pub before : List (List ℕ)
+  pub lines_are : lines ≡ before ++ left
+  pub say : Say said before
+  pub drafts : Drafts said draft
+  pub counted : number ≡ length before
+
+pub read_none : (lines : List (List ℕ)) (draft : Draft) → Drafts [] draft → ReadTo lines lines draft 0
+read_none lines draft d = record { said = []; before = []; lines_are = refl; say = refl; drafts = d; counted = refl }
+
+pub read_more : (lines left : List (List ℕ)) (line : List ℕ) (draft new : Draft) (number : ℕ) (read : ReadTo lines (line ∷ left) draft number) (said : Said)
+    → Says line said → may_follow read.said said ≡ true → Drafts (said ∷ read.said) new → ReadTo lines left new (number + 1)
+read_more lines left line draft new number read said says follows d = record {
+  said = said ∷ read.said;
+  before = read.before ++ line ∷ [];
+  lines_are = read.lines_are ∙ sym (append_assoc read.before (line ∷ []) left);
+  say = (read.before, line, refl, says, follows, read.say);
+  drafts = d;
+  counted = ap (λ n. n + 1) read.counted ∙ sym (length-append read.before (line ∷ []));
+}
+
+pub read_fault : (lines left : List (List ℕ)) (line : List ℕ) (draft : Draft) (number : ℕ) (fault : WeightLinesFault) (read : ReadTo lines (line ∷ left) draft number)
+    → IsLineFault read.said line (number + 1) fault → IsFirstFault lines fault
+read_fault lines left line draft number (BadLine n) read stops = record {
+  said = read.said;
+  before = read.before;
+  line = line;
+  rest = left;
+  lines_are = read.lines_are;
+  say = read.say;
+  stops = (stops.0 ∙ ap (λ k. k + 1) read.counted, stops.1);
+}
+read_fault lines left line draft number (SameIdTwice n) read (counted, said, says, placed, again) = record {
+  said = read.said;
+  before = read.before;
+  line = line;
+  rest = left;
+  lines_are = read.lines_are;
+  say = read.say;
+  stops = (counted ∙ ap (λ k. k + 1) read.counted, said, says, placed, again);
+}
+read_fault lines left line draft number NoHost read stops = absurd stops
+
+say_all : (lines : List (List ℕ)) (draft : Draft) (number : ℕ) (read : ReadTo lines [] draft number) → Say read.said lines
+say_all lines draft number read = subst (Say read.said) (sym (read.lines_are ∙ append-nil read.before)) read.say
+
+pub read_no_host : (lines : List (List ℕ)) (draft : Draft) (number : ℕ) → ReadTo lines [] draft number → draft.has_host ≡ false → IsFirstFault lines NoHost
+read_no_host lines draft number read none = (read.said, say_all lines draft number read, sym read.drafts.host ∙ none)
+
+weight_below : (said : List Said) (lines : List (List ℕ)) → Say said lines → (id : ℕ) → weight_said said id < 2 ^ 32
+weight_below [] lines say id = omega arith
+weight_below (Nothing ∷ earlier) lines (before, line, is, says, follows, say) id = weight_below earlier before say id
+weight_below (Host ∷ earlier) lines (before, line, is, says, follows, say) id = weight_below earlier before say id
+weight_below (Weight listed weight ∷ earlier) lines (before, line, is, says, follows, say) id =
+    cond_both (listed == id) weight (weight_said earlier id) (λ (w : ℕ). w < 2 ^ 32) (λ e. says.1.1) (λ e. weight_below earlier before say id)
+
+pub read_are_weights : (lines left : List (List ℕ)) (draft : Draft) (number : ℕ) → ReadTo lines left draft number → IsHostWeights draft.by_host_id
+read_are_weights lines left draft number read = (
+  read.drafts.weights_room,
+  λ id d within.
+      rw (get_or_default draft.by_host_id id d 0 within, read.drafts.weights id (rw read.drafts.weights_room at within))
+      (weight_below read.said read.before read.say id),
+)
+
+pub read_all : (lines : List (List ℕ)) (draft : Draft) (number : ℕ) → ReadTo lines [] draft number → draft.has_host ≡ true → AreWeights lines draft.by_host_id
+read_all lines draft number read host = (
+  read.said,
+  say_all lines draft number read,
+  sym read.drafts.host ∙ host,
+  let count = length-map-range_with_len (weight_said read.said) 0 256 in
+      ext_get_or 0 draft.by_host_id (map (weight_said read.said) (range_with_len 0 256)) (read.drafts.weights_room ∙ sym count)
+      (λ id within.
+      let below : id < 256 = rw read.drafts.weights_room at within in
+      read.drafts.weights id below ∙ sym (get_or-map-range_with_len (weight_said read.said) 0 256 id id 0 below (omega arith))),
+)
