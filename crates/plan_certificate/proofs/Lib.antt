@@ -10,6 +10,7 @@ pub mod Searches
 pub mod ByteLanes
 pub mod GoodVerdicts
 pub mod Heaviest
+pub mod PairedLanes
 mod LineWords
 mod NextLines
 mod Drafts

@@ -1,9 +1,12 @@
 //! What holds of certificates and their texts, over all of them.
-ghost use Rattle.std.specs.Prelude.{◌≡◌, ℕ, List, Result, Ok};
+ghost use Rattle.std.specs.Prelude.{◌≡◌, ℕ, List, Result, Ok, true, false};
 ghost use Rattle.text_lines.specs.Lines.{lines_of, text_of};
 ghost use Rattle.plan_certificate.specs.declared.fault.CertificateFault.{CertificateFault};
 ghost use Rattle.plan_certificate.specs.declared.fault.KeptFault.{KeptFault};
 ghost use Rattle.plan_certificate.specs.declared.path.Path.{Path};
+ghost use Rattle.applications.specs.Advertised.{Advertised, with_pairing};
+ghost use Rattle.plan_certificate.specs.Paths.{is_allowed};
+ghost use Rattle.plan_certificate.specs.Plans.{IsAdmissible};
 ghost use Rattle.plan_certificate.specs.Certificates.{Claim};
 ghost use Rattle.plan_certificate.specs.CertificateText.{certificate_lines, IsReadable, IsTextOf};
 ghost use Rattle.plan_certificate.specs.CertificateFaults.{IsAnswer};
@@ -27,4 +30,16 @@ pub fn written_is_read()
 /// Lines have one answer at most as the text of kept paths, too: one list, or one first fault.
 pub fn one_kept_list()
     ensures { (lines : List (List ℕ)) (a b : Result (List Path) KeptFault) → IsKeptAnswer lines a → IsKeptAnswer lines b → a ≡ b }
+{}
+
+/// If a module pairs first lanes, the Application and the first host lane of an allowed path tell its first media lane.
+pub fn paired_lanes_are_told()
+    ensures { (advert : Advertised) (path other : Path) → advert.paired ≡ true → is_allowed advert path ≡ true →
+        is_allowed advert other ≡ true → path.app ≡ other.app → path.host ≡ other.host → path ≡ other }
+{}
+
+/// A plan that is admissible on a module that pairs first lanes is admissible if it does not.
+pub fn paired_plans_are_admissible()
+    ensures { (advert : Advertised) (paths : List Path) → IsAdmissible (with_pairing true advert) paths →
+        IsAdmissible (with_pairing false advert) paths }
 {}

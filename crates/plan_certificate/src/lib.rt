@@ -22,7 +22,7 @@ pub use certificate::{
 };
 pub use checker::check;
 pub use fault::{CertificateFault, KeptFault};
-pub use kept::is_among;
+pub use kept::{is_among, is_eligible_as, may_stay_free};
 pub use kept_text::kept_of;
 pub use moves::{MAX_MOVES, Move, put_moves};
 pub use path::Path;

@@ -3,7 +3,7 @@ ghost use Rattle.plan_certificate.specs.Paths as spec;
 ghost use Rattle.plan_certificate.specs.Plans as plans;
 
 use applications::{Advert, App, Weights};
-use field_tables::LaneSet;
+use field_tables::{LaneNumber, LaneSet};
 
 /// A data path: an Application on consecutive host lanes and consecutive media lanes.
 #[repr(C)]
@@ -41,10 +41,19 @@ impl Path {
     /// Whether such an Application may begin at the path's media lane, and takes no unsupported one.
     pub fn may_take(self, app: &App, advert: &Advert) -> bool
         requires { spec.may_begin app.now self.host ≡ true }
-        ensures { result ≡ spec.may_take advert.now app.now self.media }
+        ensures { result ≡ spec.may_take advert.now app.now self.host self.media }
     {
         is_run(app.media_starts, self.media, app.media_lanes)
             && LaneSet::run(self.media, app.media_lanes).is_disjoint(advert.unsupported())
+            && self.is_paired(app, advert)
+    }
+
+    // Whether the module may join its first lanes.
+    fn is_paired(self, app: &App, advert: &Advert) -> bool
+        ensures { result ≡ spec.is_paired advert.now app.now self.host self.media }
+    {
+        !advert.is_paired()
+            || rank(app.host_starts, self.host) == rank(app.media_starts, self.media)
     }
 
     /// Whether the module can carry the path.
@@ -94,6 +103,17 @@ impl Path {
     {
         weights.of(self.application(advert).host_id)
     }
+}
+
+// How many of the lanes come before this one.
+#[tactic(auto, unfolding(crate::specs::Paths::rank))]
+fn rank(lanes: LaneSet, lane: u8) -> usize
+    ensures { result ≡ spec.rank lanes lane }
+{
+    LaneNumber::all()
+        .iter()
+        .filter(|other| other.number() < lane && lanes.contains(other.number()))
+        .count()
 }
 
 // Whether there are so many lanes from the first on, and a path may begin there.
