@@ -24,7 +24,7 @@ passes test xs x all held = All-contains (λ y. test y ≡ true) xs x (All-from_
 
 -- ---- the lanes of a path
 
-abbrev HasLane : Advertised → Path → ℕ → Type 0
+abbrev pub HasLane : Advertised → Path → ℕ → Type 0
 HasLane advert path lane = set.contains (host_lanes advert path) lane ≡ true
 
 pub has_lane : (advert : Advertised) (path : Path) (lane : ℕ) → path.host ≤ lane → lane < path.host + (app_of advert path).host_lanes → HasLane advert path lane
@@ -39,7 +39,7 @@ lane_within advert path lane has =
     let within = sym (contains-run_of path.host (app_of advert path).host_lanes lane) ∙ has in
     record { from = grind (arith, nat_tests, within); to = grind (arith, nat_tests, within) }
 
-not_both : (advert : Advertised) (path other : Path) (lane : ℕ) → IsApart advert path other → HasLane advert path lane → HasLane advert other lane → ⊥
+pub not_both : (advert : Advertised) (path other : Path) (lane : ℕ) → IsApart advert path other → HasLane advert path lane → HasLane advert other lane → ⊥
 unfolding are_apart
 not_both advert path other lane apart has also = apart_at (host_lanes advert path) (host_lanes advert other) (and_parts _ _ apart).0 lane has also
 

@@ -1,22 +1,22 @@
-mod DisjointLanes
-mod StepKinds
-mod KeptLanes
+pub mod DisjointLanes
+pub mod StepKinds
+pub mod KeptLanes
 mod FreeLanes
-mod GainLaws
+pub mod GainLaws
 mod Places
 mod JoinedNumbers
-mod StepEnds
-mod ReachedStates
+pub mod StepEnds
+pub mod ReachedStates
 mod Marking
 mod MarkingEnds
 mod MoreMoves
-mod TableGains
+pub mod TableGains
 mod MostGained
 mod KeptGains
-mod LaterPaths
+pub mod LaterPaths
 mod ChosenPaths
 mod FirstPlans
-mod KeptTaken
+pub mod KeptTaken
 mod FirstLaws
 mod ReadOffs
 mod PlansReadOff

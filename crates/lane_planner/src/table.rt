@@ -1,6 +1,7 @@
-ghost use Rattle.std.specs.Prelude.{◌≡◌, ◌<◌, replicate, slice_index, slice_set};
+ghost use Rattle.std.specs.Prelude.{◌≡◌, ◌≤◌, ◌<◌, replicate, slice_index, slice_set};
+ghost use Rattle.lane_planner.specs.Tables.{gain_at};
 
-use plan_certificate::STATES;
+use plan_certificate::{STATES, State};
 use std::marker::Model;
 
 /// How many states there are before the last boundary.
@@ -27,7 +28,7 @@ impl Model for Table {
 
 impl Table {
     /// All numbers are 0.
-    pub fn blank() -> Self
+    pub(crate) fn blank() -> Self
         ensures { result ≡ replicate STATES 0 }
     {
         Table {
@@ -36,7 +37,7 @@ impl Table {
         }
     }
 
-    pub fn at(&self, place: usize) -> u64
+    pub(crate) fn at(&self, place: usize) -> u64
         requires { place < STATES }
         ensures { result ≡ slice_index self.now place }
     {
@@ -48,7 +49,15 @@ impl Table {
         }
     }
 
-    pub fn put(&mut self, place: usize, number: u64)
+    /// What the table has for a state.
+    pub fn of(&self, state: &State) -> u64
+        requires { state.now.boundary ≤ 8 }
+        ensures { result ≡ gain_at self.now state.now }
+    {
+        self.at(state.place())
+    }
+
+    pub(crate) fn put(&mut self, place: usize, number: u64)
         requires place { place < OPEN_STATES }
         requires small { number < 1099511627776 }
         ensures { self.new ≡ slice_set self.old place number }
