@@ -19,7 +19,7 @@ pub record HasLanes (advert : Advertised) (path : Path) : Type 0 where
 pub lanes_of_allowed : (advert : Advertised) (path : Path) → is_allowed advert path ≡ true → HasLanes advert path
 unfolding is_allowed
 lanes_of_allowed advert path allowed =
-    let parts = and_parts _ _ (and_parts _ _ (and_parts _ _ allowed).0).0 in
+    let parts = and_parts _ _ (and_parts _ _ (and_parts _ _ (and_parts _ _ allowed).0).0).0 in
     let count = and_parts _ _ (and_parts _ _ parts.0).0 in
     let within = and_parts _ _ (and_parts _ _ parts.1).0 in
     record {

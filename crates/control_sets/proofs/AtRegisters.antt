@@ -1,14 +1,17 @@
--- Each operation of provisioning and of activation is at a register of the memory map.
+-- Each operation of provisioning, activation and changes of power is at a register of the memory map.
 use Rattle.std.proofs.Common.{◌≡◌, inl, inr, ℕ, ◌-◌, List, [], ◌∷◌, length, refl}
 use Rattle.bus_model.specs.declared.operation.Step.{Step}
 use Rattle.field_tables.specs.LaneSets.{Lanes, byte_of}
 use Rattle.field_tables.specs.declared.field.Register.{Register}
-use Rattle.field_tables.specs.declared.field.Register.TheVariants.{CActiveControl, CApplyDPInit, CConfigStatus, CDPDeinit, CGlobalStatus, CPageMapping, CPathStates, CStagedControl}
+use Rattle.field_tables.specs.declared.field.Register.TheVariants.{CActiveControl, CApplyDPInit, CConfigStatus, CDPDeinit, CGlobalControls, CGlobalStatus, CPageMapping, CPathStates, CStagedControl}
 use Rattle.field_tables.specs.Registers.{byte_count, page_of}
 use Rattle.control_sets.specs.RegisterOperations.{read_of, store_to}
 use Rattle.control_sets.specs.OutcomeOperations.{IsAtRegister, IsConfirmed, control_page, status_page}
 use Rattle.control_sets.specs.OutcomeOfProvisioning.{IsProvisioningStep}
 use Rattle.control_sets.specs.OutcomeOfActivation.{IsActivationStep}
+use Rattle.control_sets.specs.OutcomeOfPower.{IsPowerStep}
+use Rattle.control_sets.specs.PowerControls.{wanted_controls}
+use Rattle.control_sets.specs.declared.procedures.power.Power.{Power}
 use Rattle.control_sets.specs.Pages.{EachStep, History}
 use Rattle.control_sets.proofs.OutcomeWords.{each_from}
 
@@ -52,3 +55,11 @@ activation_step lanes step before (inr (inr (inr none, shown))) = absurd none
 
 pub activation_at_registers : (lanes : Lanes) (history : History) → EachStep (IsActivationStep lanes) history → EachStep IsAtRegister history
 activation_at_registers lanes history shape = each_from (IsActivationStep lanes) IsAtRegister history (activation_step lanes) shape
+
+power_step : (power : Power) (step : Step) (before : History) → IsPowerStep power step before → IsAtRegister step before
+power_step power step before (inl is) = reads step before CGlobalControls is tt
+power_step power step before (inr (inl (byte, is, found))) = stores step before CGlobalControls (wanted_controls power byte ∷ []) is refl tt
+power_step power step before (inr (inr is)) = reads step before CGlobalStatus is tt
+
+pub power_at_registers : (power : Power) (history : History) → EachStep (IsPowerStep power) history → EachStep IsAtRegister history
+power_at_registers power history shape = each_from (IsPowerStep power) IsAtRegister history (power_step power) shape

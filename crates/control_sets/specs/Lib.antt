@@ -23,3 +23,7 @@ pub mod OutcomeOfActivation
 pub mod OutcomeSuccess
 pub mod OutcomeExamples
 pub mod StoredBits
+pub mod PowerControls
+pub mod OutcomeOfPower
+pub mod PowerProgress
+pub mod SavedPower

@@ -25,7 +25,14 @@ ghost use Rattle.control_sets.specs.OutcomeOfProvisioning.{IsProvisioning};
 ghost use Rattle.control_sets.specs.OutcomeOfActivation.{IsActivation, release};
 ghost use Rattle.control_sets.specs.OutcomeCodes.{IsOf, IsReservedPathState};
 ghost use Rattle.datapath_states.specs.Lanes.{code_in};
+ghost use Rattle.control_sets.specs.OutcomeOfPower.{IsPowerChange};
 ghost use Rattle.control_sets.specs.OutcomeSuccess.{ReadsActive};
+ghost use Rattle.control_sets.specs.PowerControls.{set_controls, read_controls};
+ghost use Rattle.control_sets.specs.PowerProgress.{IsPowerAt, power_next};
+ghost use Rattle.control_sets.specs.declared.procedures.next.Next.TheVariants.{Done};
+ghost use Rattle.control_sets.specs.declared.procedures.power.Power.{Power};
+ghost use Rattle.control_sets.specs.declared.procedures.power.Power.TheVariants.{Asleep, Awake};
+ghost use Rattle.control_sets.specs.declared.procedures.power.PowerChange.{PowerChange};
 ghost use Rattle.control_sets.specs.StoredBits.{HasBitsOf, LeavesOthers};
 
 /// A control byte says the same in Staged Control Set 0 and in the Active Control Set.
@@ -67,16 +74,18 @@ pub fn bits_are_those_of_the_lanes()
         IsProvisioning control lanes (made ≡ room) history answer → AllByRecursion (LeavesOthers lanes) history }
 {}
 
-/// Each operation of provisioning and of activation, whatever it answers, reads all bytes of a register of the memory map or stores
+/// Each operation of provisioning, activation and changes of power, whatever it answers, reads all bytes of a register of the memory map or stores
 /// all of them, and the page of the register is confirmed before it.
 pub fn operations_are_at_registers()
     ensures provisioning { (control : List ℕ) (lanes : Lanes) (made room : ℕ) (history : History) (answer : Answer) →
         length control ≡ 8 → IsProvisioning control lanes (made ≡ room) history answer → EachStep IsAtRegister history }
     ensures activation { (control : List ℕ) (lanes : Lanes) (made room : ℕ) (history : History) (answer : Answer) →
         IsActivation control lanes (made ≡ room) history answer → EachStep IsAtRegister history }
+    ensures power { (power : Power) (made room : ℕ) (history : History) (answer : Answer) →
+        IsPowerChange power (made ≡ room) history answer → EachStep IsAtRegister history }
 {}
 
-/// Procedures that were told their replies, without a bus, have the outcomes of provisioning and activation.
+/// Procedures that were told their replies, without a bus, have the outcomes of provisioning, activation and changes of power.
 pub fn procedures_have_their_outcomes()
     ensures provisioning { (control : List ℕ) (lanes : Lanes) (made room : ℕ) (history : History) (answer : Answer) →
         length control ≡ 8 → HasEnded (provisioning control lanes) history answer →
@@ -84,6 +93,9 @@ pub fn procedures_have_their_outcomes()
     ensures activation { (control : List ℕ) (lanes : Lanes) (made room : ℕ) (history : History) (answer : Answer) →
         length control ≡ 8 → HasEnded (activation control lanes) history answer →
         IsActivation control lanes (made ≡ room) history answer }
+    ensures power { (change : PowerChange) (made room : ℕ) (history : History) (answer : Answer) →
+        IsPowerAt history change → power_next change ≡ Done answer →
+        IsPowerChange change.power (made ≡ room) history answer }
 {}
 
 /// Steps and answers that look right, but are no provisioning, whatever the control bytes, the lanes and the bus.
@@ -193,4 +205,24 @@ pub fn what_procedures_may_do()
     ensures active_differs { (made room : ℕ) →
         IsActivation pairs every_lane (made ≡ room) (gave read_active almost_pairs ∷ on_status_at_once) (Err (ActiveDiffers 2)) }
     ensures activated { (made room : ℕ) → IsActivation pairs every_lane (made ≡ room) activated (Ok 11) }
+{}
+
+/// Steps and answers of waking up and going to sleep on every bus, and some that look right, but are none.
+pub fn what_changes_of_power_may_do()
+    ensures woken { (made room : ℕ) →
+        let history = ready ∷ gave read_module_state (0x04 ∷ []) ∷ took (set_controls 0xA5) ∷ refused (set_controls 0xA5)
+        ∷ gave read_controls (0xFD ∷ []) ∷ refused read_controls ∷ [] in
+        IsPowerChange Awake (made ≡ room) history (Ok 6) }
+    ensures asleep { (made room : ℕ) →
+        let history = low_power ∷ took (set_controls 0xB5) ∷ gave read_controls (0xAD ∷ []) ∷ [] in
+        IsPowerChange Asleep (made ≡ room) history (Ok 3) }
+    ensures faulty { (made room : ℕ) →
+        let history = gave read_module_state (0x0A ∷ []) ∷ took (set_controls 0x00) ∷ gave read_controls (0x40 ∷ []) ∷ [] in
+        IsPowerChange Awake (made ≡ room) history (Err (ModuleState 5)) }
+    ensures no_success_without_a_store { (made room : ℕ) (steps : ℕ) →
+        ¬ (IsPowerChange Awake (made ≡ room) (ready ∷ gave read_controls (0x00 ∷ []) ∷ []) (Ok steps)) }
+    ensures no_other_byte { (power : Power) (made room byte : ℕ) (answer : Answer) → byte ≢ 0x00 → byte ≢ 0x10 →
+        ¬ (IsPowerChange power (made ≡ room) (took (set_controls byte) ∷ gave read_controls (0x00 ∷ []) ∷ []) answer) }
+    ensures no_second_store { (power : Power) (made room byte other : ℕ) (before : History) (answer : Answer) →
+        ¬ (IsPowerChange power (made ≡ room) (took (set_controls byte) ∷ took (set_controls other) ∷ before) answer) }
 {}

@@ -3,6 +3,7 @@
 mod judgement;
 mod next;
 mod page_tracker;
+mod power;
 mod procedure;
 mod runner;
 mod saved_fault;
@@ -10,6 +11,7 @@ mod task;
 
 pub use next::Next;
 pub use page_tracker::MAX_STEPS;
+pub use power::{Power, PowerChange, PowerStage, change_power};
 pub use procedure::{Procedure, SavedProcedure, can_have};
 pub use runner::{Activated, Provisioned, activate, provision, provision_keeping};
 pub use saved_fault::SavedFault;

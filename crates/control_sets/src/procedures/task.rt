@@ -76,7 +76,7 @@ impl Task {
 }
 
 // Asks for all bytes of a register.
-fn read_of(of: Register) -> Op
+pub fn read_of(of: Register) -> Op
     ensures { result ≡ operations.read_of of }
 {
     let span = register(of);
@@ -98,7 +98,7 @@ fn store_to(to: Register, bytes: ArrayVec<u8, MAX_STORE>) -> Op
     }
 }
 
-fn store_byte(to: Register, byte: u8) -> Op
+pub fn store_byte(to: Register, byte: u8) -> Op
     ensures { result ≡ operations.store_to to (byte ∷ []) }
 {
     let mut bytes = ArrayVec::new();

@@ -1,0 +1,139 @@
+-- How far waking a module up, or putting it to sleep, has come. Steps stand with the newest first. (docs/bus.md, "Waking and
+-- sleeping"; this project's own)
+use Rattle.std.specs.Prelude.{◌≡◌, ◌⊎◌, ◌+◌, ◌≤◌, ℕ, nat_lt, if◌then◌else◌, [], ◌∷◌, length, Option, Some, None, Result, Ok, Err, slice_index}
+use Rattle.bus_model.specs.declared.operation.Op.{Op}
+use Rattle.bus_model.specs.declared.operation.Reply.{Reply}
+use Rattle.bus_model.specs.declared.operation.Reply.TheVariants.{Bytes, Refused}
+use Rattle.bus_model.specs.declared.operation.Reply.TheVariants as replies
+use Rattle.bus_model.specs.declared.operation.Step.{Step}
+use Rattle.module_states.specs.declared.state.ModuleState.{ModuleState as State}
+use Rattle.module_states.specs.declared.state.ModuleState.TheVariants.{LowPwr, PwrUp, Ready, PwrDn, Fault}
+use Rattle.module_states.specs.Codes.{state_at}
+use Rattle.control_sets.specs.declared.fault.ProvisionFault.{ProvisionFault}
+use Rattle.control_sets.specs.declared.fault.ProvisionFault.TheVariants.{GaveUp, ModuleState, Reserved}
+use Rattle.control_sets.specs.declared.procedures.judgement.Judgement.{Judgement}
+use Rattle.control_sets.specs.declared.procedures.judgement.Judgement.TheVariants.{Met, NotYet, Fails}
+use Rattle.control_sets.specs.declared.procedures.next.Next.{Next}
+use Rattle.control_sets.specs.declared.procedures.next.Next.TheVariants.{Do, Done}
+use Rattle.control_sets.specs.declared.procedures.power.Power.{Power}
+use Rattle.control_sets.specs.declared.procedures.power.Power.TheVariants.{Awake, Asleep}
+use Rattle.control_sets.specs.declared.procedures.power.PowerChange.{PowerChange}
+use Rattle.control_sets.specs.declared.procedures.power.PowerStage.{PowerStage}
+use Rattle.control_sets.specs.declared.procedures.power.PowerStage.TheVariants as stage
+use Rattle.control_sets.specs.Pages.{History}
+use Rattle.control_sets.specs.OutcomeSteps.{Gives, IsAccepted, IsRefused}
+use Rattle.control_sets.specs.OutcomeOperations.{read_module_state}
+use Rattle.control_sets.specs.OutcomeAnswers.{Answer, most_steps}
+use Rattle.control_sets.specs.OutcomeCodes.{module_code}
+use Rattle.control_sets.specs.OutcomeOfPower.{EndsPower}
+use Rattle.control_sets.specs.PowerControls.{read_controls, set_controls, wanted_controls}
+
+-- what is done at a stage; nothing more if the state was found
+abbrev pub operation_at : Power → PowerStage → Option Op
+operation_at power stage.Unread = Some read_controls
+operation_at power (stage.Found byte) = Some (set_controls (wanted_controls power byte))
+operation_at power stage.Stored = Some read_module_state
+operation_at power stage.Met = None
+
+abbrev pub next_op : ℕ → Option Op → Next
+next_op steps None = Done (Ok steps)
+next_op steps (Some op) = if nat_lt steps most_steps then Do op else Done (Err GaveUp)
+
+abbrev pub next_by : Option ProvisionFault → ℕ → Option Op → Next
+next_by None steps op = next_op steps op
+next_by (Some fault) steps op = Done (Err fault)
+
+-- what is asked for next
+abbrev pub power_next : PowerChange → Next
+power_next change = next_by change.fault change.steps (operation_at change.power change.stage)
+
+abbrev pub judged_awake : ℕ → Option State → Judgement
+judged_awake code None = Fails (Reserved code)
+judged_awake code (Some Ready) = Met
+judged_awake code (Some Fault) = Fails (ModuleState code)
+judged_awake code (Some LowPwr) = NotYet
+judged_awake code (Some PwrUp) = NotYet
+judged_awake code (Some PwrDn) = NotYet
+
+abbrev pub judged_asleep : ℕ → Option State → Judgement
+judged_asleep code None = Fails (Reserved code)
+judged_asleep code (Some LowPwr) = Met
+judged_asleep code (Some Fault) = Fails (ModuleState code)
+judged_asleep code (Some Ready) = NotYet
+judged_asleep code (Some PwrUp) = NotYet
+judged_asleep code (Some PwrDn) = NotYet
+
+-- what the code of a module state says
+abbrev pub judged_power : Power → ℕ → Judgement
+judged_power Awake code = judged_awake code (state_at code)
+judged_power Asleep code = judged_asleep code (state_at code)
+
+-- where a change stands after the state was read
+abbrev pub stage_judged : Judgement → Result PowerStage ProvisionFault
+stage_judged Met = Ok stage.Met
+stage_judged NotYet = Ok stage.Stored
+stage_judged (Fails fault) = Err fault
+
+-- and after a reply to what is done at a stage
+abbrev pub stage_after : Power → PowerStage → Reply → Result PowerStage ProvisionFault
+stage_after power stage.Unread (Bytes bytes) = Ok (stage.Found (slice_index bytes.items 0))
+stage_after power stage.Unread replies.Done = Ok stage.Unread
+stage_after power stage.Unread Refused = Ok stage.Unread
+stage_after power (stage.Found byte) (Bytes bytes) = Ok (stage.Found byte)
+stage_after power (stage.Found byte) replies.Done = Ok stage.Stored
+stage_after power (stage.Found byte) Refused = Ok (stage.Found byte)
+stage_after power stage.Stored (Bytes bytes) = stage_judged (judged_power power (module_code bytes.items))
+stage_after power stage.Stored replies.Done = Ok stage.Stored
+stage_after power stage.Stored Refused = Ok stage.Stored
+stage_after power stage.Met reply = Ok stage.Met
+
+abbrev pub with_stage : PowerChange → Result PowerStage ProvisionFault → PowerChange
+with_stage change (Ok stage) = record { power = change.power; stage = stage; steps = change.steps + 1; fault = change.fault }
+with_stage change (Err fault) = record { power = change.power; stage = change.stage; steps = change.steps + 1; fault = Some fault }
+
+abbrev pub taken : PowerChange → Reply → PowerChange
+taken change reply = with_stage change (stage_after change.power change.stage reply)
+
+-- each read of the controls was refused
+abbrev pub IsUnread : History → Type 0
+IsUnread [] = Unit {0}
+IsUnread (step ∷ before) = IsRefused read_controls step × IsUnread before
+
+-- then they were read, and each store of what follows was refused
+abbrev pub IsFound : Power → ℕ → History → Type 0
+IsFound power byte [] = ⊥
+IsFound power byte (step ∷ before) =
+    (IsRefused (set_controls (wanted_controls power byte)) step × IsFound power byte before)
+    ⊎ (Gives read_controls (byte ∷ []) step × IsUnread before)
+
+-- the state was read or asked for, and that ends nothing
+abbrev pub IsWaiting : Power → Step → Type 0
+IsWaiting power step = (step.op ≡ read_module_state) × ((answer : Answer) → ¬ (EndsPower power answer step))
+
+-- then a store was taken, and the state is awaited
+abbrev pub IsStored : Power → History → Type 0
+IsStored power [] = ⊥
+IsStored power (step ∷ before) =
+    (IsWaiting power step × IsStored power before)
+    ⊎ ((byte : ℕ) × IsAccepted (set_controls (wanted_controls power byte)) step × IsFound power byte before)
+
+-- then a step ended it
+abbrev pub IsEnded : Power → Answer → History → Type 0
+IsEnded power answer [] = ⊥
+IsEnded power answer (step ∷ before) = EndsPower power answer step × (step.op ≡ read_module_state) × IsStored power before
+
+abbrev pub IsAtStage : Power → PowerStage → History → Type 0
+IsAtStage power stage.Unread history = IsUnread history
+IsAtStage power (stage.Found byte) history = IsFound power byte history
+IsAtStage power stage.Stored history = IsStored power history
+IsAtStage power stage.Met history = IsEnded power (Ok (length history)) history
+
+abbrev pub HasComeTo : Power → PowerStage → Option ProvisionFault → History → Type 0
+HasComeTo power stage None history = IsAtStage power stage history
+HasComeTo power stage (Some fault) history = IsEnded power (Err fault) history
+
+-- the change of power was told these steps
+pub record IsPowerAt (history : History) (change : PowerChange) : Type 0 where
+  pub counted : length history ≡ change.steps
+  pub few : change.steps ≤ most_steps
+  pub come : HasComeTo change.power change.stage change.fault history

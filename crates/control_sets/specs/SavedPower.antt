@@ -1,0 +1,33 @@
+-- Waking a module up, and putting it to sleep, as the numbers of a saved procedure: which numbers are such, and of which.
+-- (docs/firmware.md, "The procedure's numbers"; this project's own)
+use Rattle.std.specs.Prelude.{ℕ, ◌==◌, Option, Some, None, if◌then◌else◌, slice_index}
+use Rattle.control_sets.specs.declared.fault.ProvisionFault.{ProvisionFault}
+use Rattle.control_sets.specs.declared.procedures.procedure.saved.SavedProcedure.{SavedProcedure}
+use Rattle.control_sets.specs.declared.procedures.power.Power.{Power}
+use Rattle.control_sets.specs.declared.procedures.power.Power.TheVariants.{Awake, Asleep}
+use Rattle.control_sets.specs.declared.procedures.power.PowerChange.{PowerChange}
+use Rattle.control_sets.specs.declared.procedures.power.PowerStage.{PowerStage}
+use Rattle.control_sets.specs.declared.procedures.power.PowerStage.TheVariants.{Unread, Found, Stored, Met}
+use Rattle.control_sets.specs.SavedNumbers.{fault_in}
+
+-- the works 3 and 4; 1 and 2 are provisioning and activation
+abbrev pub power_numbered : ℕ → Option Power
+power_numbered number = if number == 3 then Some Awake else (if number == 4 then Some Asleep else None)
+
+-- by how many of the three things to do were done; of the byte that was read, the number is kept while it is needed
+abbrev pub stage_numbered : ℕ → ℕ → Option PowerStage
+stage_numbered met found =
+    if met == 0 then Some Unread
+    else (if met == 1 then Some (Found found)
+    else (if met == 2 then Some Stored
+    else (if met == 3 then Some Met
+    else None)))
+
+abbrev pub change_of : ℕ → Option Power → Option PowerStage → Option (Option ProvisionFault) → Option PowerChange
+change_of steps (Some power) (Some stage) (Some fault) = Some (record { power = power; stage = stage; steps = steps; fault = fault })
+change_of steps power stage fault = None
+
+-- the change of power that has these numbers; none if those of its work, of what is done or of its fault stand for nothing
+unfoldable pub restored_power : SavedProcedure → Option PowerChange
+restored_power saved =
+    change_of saved.steps (power_numbered saved.work) (stage_numbered saved.met (slice_index saved.control 0)) (fault_in saved.fault)
