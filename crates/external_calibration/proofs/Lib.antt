@@ -1,0 +1,8 @@
+mod FloatSizes
+mod Signs
+mod Integers
+mod Halves
+mod Refused
+mod Products
+mod Lines
+mod Sums

@@ -1,0 +1,31 @@
+-- The two parts of a float, with its sign.
+use Rattle.std.proofs.Common.{◌≡◌, ◌∙◌, sym, ap, zero, suc, arith, w32, to_z, of_z}
+use Rattle.std.specs.Prelude.{ℕ, ◌+◌, ◌-◌, ◌*◌, ◌^◌, ◌<◌, ℤ, pos, negsuc, neg_ℤ, ◌+ℤ◌, ◌-ℤ◌, ◌*ℤ◌, ◌≤ℤ◌, ◌<ℤ◌, refl}
+use Rattle.std.proofs.Math.Nat.{zero-mul}
+use Rattle.std.proofs.lemmas.Int.{ints}
+use Rattle.external_calibration.proofs.FloatSizes.{size_by, size_by_positive}
+
+neg_mul : (k d : ℕ) → neg_ℤ (pos k) *ℤ pos d ≡ neg_ℤ (pos (k * d))
+neg_mul zero d = ap pos (zero-mul d) ∙ sym (ap (λ n. neg_ℤ (pos n)) (zero-mul d))
+neg_mul (suc k) d = refl
+
+pub negated : (m : ℤ) (d n : ℕ) → pos 0 ≤ℤ m → m <ℤ pos (2 ^ 24) → m *ℤ pos d ≡ pos n
+    → to_z w32 (of_z w32 (pos 0 -ℤ to_z w32 (of_z w32 m))) *ℤ pos d ≡ neg_ℤ (pos n)
+negated (pos k) d n low high whole =
+    let sign : to_z w32 (of_z w32 (pos 0 -ℤ to_z w32 (of_z w32 (pos k)))) ≡ neg_ℤ (pos k) = omega (arith, ints, high) in
+    ap (λ z. z *ℤ pos d) sign ∙ (neg_mul k d ∙ ap neg_ℤ whole)
+negated (negsuc k) d n low high whole = absurd (omega (arith, ints, low))
+
+pub kept : (m : ℤ) (d n : ℕ) → pos 0 ≤ℤ m → m <ℤ pos (2 ^ 24) → m *ℤ pos d ≡ pos n → to_z w32 (of_z w32 m) *ℤ pos d ≡ pos n
+kept m d n low high whole =
+    let same : to_z w32 (of_z w32 m) ≡ m = omega (arith, ints, low, high) in
+    ap (λ z. z *ℤ pos d) same ∙ whole
+
+pub without_one : (fraction : ℕ) → fraction < 2 ^ 23 → to_z w32 fraction *ℤ pos 1 ≡ pos fraction
+without_one fraction small = omega (arith, ints, small)
+
+pub with_one : (exponent fraction : ℕ) → fraction < 2 ^ 23 → ¬ (exponent ≡ 0)
+    → to_z w32 (of_z w32 (pos (2 ^ 23) +ℤ to_z w32 fraction)) *ℤ pos (2 ^ (exponent - 1)) ≡ pos (size_by exponent fraction)
+with_one exponent fraction small some =
+    let mantissa : to_z w32 (of_z w32 (pos (2 ^ 23) +ℤ to_z w32 fraction)) ≡ pos (2 ^ 23 + fraction) = omega (arith, ints, small) in
+    ap (λ z. z *ℤ pos (2 ^ (exponent - 1))) mantissa ∙ ap pos (sym (size_by_positive exponent fraction some))

@@ -1,0 +1,24 @@
+use Rattle.std.proofs.Common.{◌≡◌, ◌∙◌, sym, ap, arith, pos}
+use Rattle.std.specs.Prelude.{ℕ, ◌<◌, ◌^◌}
+use Rattle.std.proofs.lemmas.Nat.{mod_below}
+use Rattle.external_calibration.specs.Floats.{exponent, fraction, size}
+use Rattle.external_calibration.proofs.FloatSizes.{size_by}
+use Rattle.external_calibration.proofs.Signs.{with_one, without_one}
+use Rattle.external_calibration.proofs.binary32.magnitude.Goals as goal
+
+fraction_small : (bits : ℕ) → fraction bits < 2 ^ 23
+fraction_small bits = mod_below bits (2 ^ 23) (omega arith)
+
+pub returns-in-0-clause-size : goal.returns-in-0-clause-size
+unfolding size
+returns-in-0-clause-size c =
+    let bits = c.args.bits in
+    let none : exponent bits ≡ 0 = cc in
+    without_one (fraction bits) (fraction_small bits) ∙ ap (λ (e : ℕ). pos (size_by e (fraction bits))) (sym none)
+
+pub returns-in_default-clause-size : goal.returns-in_default-clause-size
+unfolding size
+returns-in_default-clause-size c =
+    let bits = c.args.bits in
+    with_one c.exponent.result (fraction bits) (fraction_small bits) (λ none. omega arith)
+    ∙ ap (λ (e : ℕ). pos (size_by e (fraction bits))) c.exponent.ensures.exponent
