@@ -16,15 +16,16 @@ use Rattle.control_sets.specs.ControlBytes.{control_bytes}
 use Rattle.plan_certificate.specs.declared.path.Path.{Path}
 use Rattle.plan_certificate.specs.Paths.{app_of}
 use Rattle.plan_certificate.specs.Plans.{plan_weight}
-use Rattle.reports.specs.EntryJson.{count_json, count_members, form_members, string_members}
-use Rattle.reports.specs.FaultJson.{code_members, fault_members, is_read, names_half, reason_json, reason_members, scalar_json, sentence_members, value_json, values_from, values_json, values_members}
-use Rattle.reports.specs.JsonTrees.{Member, items_of, members_of, object_of}
+use Rattle.report_entries.specs.EntryJson.{count_json, count_members, form_members, string_members}
+use Rattle.reports.specs.FaultJson.{code_members, fault_members, names_half, reason_json, reason_members, sentence_members, value_json, values_from, values_json, values_members}
+use Rattle.report_entries.specs.JsonScalars.{is_read, scalar_json}
+use Rattle.report_entries.specs.JsonTrees.{Member, items_of, members_of, object_of}
 use Rattle.reports.specs.PlanJson.{control_members, host_run_members, kept_members, media_run_members, numbers_json, numbers_members, path_json, paths_json, paths_members, plan_members, weight_members}
 use Rattle.reports.specs.ProcedureJson.{active_members, answer_members, kind_members, op_members, operations_members, outcome_fault_members, outcome_members, place_members, reply_members, step_json, steps_json, steps_members, taken_members}
-use Rattle.reports.specs.Shown.{printable}
+use Rattle.report_entries.specs.Shown.{printable}
 use Rattle.reports.specs.VerdictJson.{boolean_members, first_members, good_members, why_members}
 use Rattle.reports.specs.declared.json_procedure.Outcome.{Outcome}
-use Rattle.reports.proofs.JsonTokens.{all_deep, count_depth, deep, form_depth}
+use Rattle.report_entries.proofs.JsonTokens.{all_deep, count_depth, deep, form_depth}
 
 -- after the version of the form
 pub document_depth : (members : List Member) → members_depth (members_of members) ≤ 8 → depth (object_of (form_members ++ members)) ≤ max_depth

@@ -14,11 +14,12 @@ use Rattle.applications.specs.Weights.{HostWeights}
 use Rattle.control_sets.specs.ControlBytes.{control_bytes}
 use Rattle.plan_certificate.specs.declared.path.Path.{Path}
 use Rattle.plan_certificate.specs.Paths.{app_of}
-use Rattle.reports.specs.EntryJson.{count_json, count_members, form_members, string_members}
-use Rattle.reports.specs.FaultJson.{code_members, fault_members, is_read, names_half, reason_json, reason_members, scalar_json, sentence_members, value_json, values_from, values_json, values_members}
-use Rattle.reports.specs.JsonTrees.{items_of}
+use Rattle.report_entries.specs.EntryJson.{count_json, count_members, form_members, string_members}
+use Rattle.reports.specs.FaultJson.{code_members, fault_members, names_half, reason_json, reason_members, sentence_members, value_json, values_from, values_json, values_members}
+use Rattle.report_entries.specs.JsonScalars.{is_read, scalar_json}
+use Rattle.report_entries.specs.JsonTrees.{items_of}
 use Rattle.reports.specs.PlanJson.{control_members, host_run_members, kept_members, media_run_members, numbers_json, numbers_members, path_json, paths_json, paths_members, plan_members, weight_members}
-use Rattle.reports.specs.Shown.{printable}
+use Rattle.report_entries.specs.Shown.{printable}
 use Rattle.reports.specs.UniqueKeys.{FaultsHaveUniqueKeys, PlansHaveUniqueKeys, VerdictsHaveUniqueKeys}
 use Rattle.reports.specs.VerdictJson.{boolean_members, good_json, bad_json, good_members, why_members}
 

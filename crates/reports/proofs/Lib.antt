@@ -1,16 +1,14 @@
-pub mod Numbered
-pub mod RaisedFlags
 pub mod FetchedHalves
 pub mod SameFamilies
 pub mod SameInventories
 pub mod SameApps
+mod SameDetailRows
+mod SameDetails
 pub mod SameMonitors
 pub mod SameFlags
 pub mod FetchedReports
-pub mod RowsFit
 pub mod SameRows
 pub mod SameFlagRows
-pub mod JsonNumbers
-pub mod JsonTokens
 pub mod JsonDepths
 pub mod JsonKeys
+mod UniqueDetails

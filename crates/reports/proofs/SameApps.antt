@@ -42,12 +42,12 @@ is_cmis (Some Sff8472) e = absurd cc
 is_cmis None e = absurd cc
 
 -- a paged CMIS module
-record IsPaged (a : Memory) : Type 0 where
-  cmis : family_by (identifier a) ≡ Some Cmis
-  paged : is_flat a ≡ false
+pub record IsPaged (a : Memory) : Type 0 where
+  pub cmis : family_by (identifier a) ≡ Some Cmis
+  pub paged : is_flat a ≡ false
 
 -- no fault is left only where it is paged
-is_paged : (a : Memory) → advert_fault a ≡ None → IsPaged a
+pub is_paged : (a : Memory) → advert_fault a ≡ None → IsPaged a
 unfolding advert_fault
 is_paged a none =
     let applies = none_applies (map (judged a) (module_reasons ++ page_reasons)) none in
@@ -97,12 +97,12 @@ module _ (a b : Memory) (agree : CmisAgree a b) (second : Agree a b (upper_key A
   unfolding apps_of
   same_apps_of = ap (take_while is_listed) (same_apps_from 1 15 (omega arith) (omega arith))
 
-  same_advertised : advertised_by a ≡ advertised_by b
+  pub same_advertised : advertised_by a ≡ advertised_by b
   same_advertised =
       let unsupported = same_number a b fields.CUnsupportedMedia agree.first refl refl in
-      λ i. record { apps = same_apps_of i; unsupported = lanes_in (unsupported i) }
+      λ i. record { apps = same_apps_of i; unsupported = lanes_in (unsupported i); paired = false }
 
-same_advert_fault : (a b : Memory) → FamilyAgrees a b → advert_fault a ≡ advert_fault b
+pub same_advert_fault : (a b : Memory) → FamilyAgrees a b → advert_fault a ≡ advert_fault b
 unfolding advert_fault
 same_advert_fault a b agrees =
     let low = agrees.low in

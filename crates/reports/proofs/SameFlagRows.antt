@@ -9,12 +9,12 @@ use Rattle.field_tables.specs.declared.field.Field.{Field}
 use Rattle.field_tables.specs.FieldRows.{row_of}
 use Rattle.field_tables.specs.FieldValues.{field_key}
 use Rattle.field_tables.proofs.SameValues.{Agree, is_selection, same_bit_at, same_reading_at}
-use Rattle.reports.specs.declared.flag.Flag.{Flag}
-use Rattle.reports.specs.declared.flag.FlagName.{FlagName}
-use Rattle.reports.specs.declared.flag_rows.FlagPlace.{FlagPlace}
-use Rattle.reports.specs.declared.flag_rows.FlagPlace.TheVariants.{Value, Lanes}
-use Rattle.reports.specs.declared.flag_rows.FlagRow.{FlagRow}
-use Rattle.reports.specs.FlagRows.{flags_at, lane_flag, row_flags, rows_flags}
+use Rattle.report_entries.specs.declared.flag.Flag.{Flag}
+use Rattle.report_entries.specs.declared.flag.FlagName.{FlagName}
+use Rattle.report_entries.specs.declared.flag_rows.FlagPlace.{FlagPlace}
+use Rattle.report_entries.specs.declared.flag_rows.FlagPlace.TheVariants.{Value, Lanes}
+use Rattle.report_entries.specs.declared.flag_rows.FlagRow.{FlagRow}
+use Rattle.report_entries.specs.FlagRows.{flags_at, lane_flag, row_flags, rows_flags}
 use Rattle.reports.proofs.SameRows.{agree_among, is_among}
 
 abbrev place_in : Field → FlagPlace → Bool

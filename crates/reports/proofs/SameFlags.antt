@@ -11,16 +11,16 @@ use Rattle.field_tables.proofs.SameValues.{Agree}
 use Rattle.sff8472_map.specs.Refusals as sfp_refusals
 use Rattle.reports.specs.CmisFlags as cmis
 use Rattle.reports.specs.SffFlags as sff
-use Rattle.reports.specs.declared.flag.Flag.{Flag}
-use Rattle.reports.specs.FlagRows.{flags_entry, rows_flags}
+use Rattle.report_entries.specs.declared.flag.Flag.{Flag}
+use Rattle.report_entries.specs.FlagRows.{flags_entry, rows_flags}
 use Rattle.reports.proofs.SameRows.{by_flat, rows_same}
 use Rattle.reports.proofs.SameFlagRows.{flag_rows_same}
 use Rattle.module_decoding.specs.CmisPages.{is_flat}
 use Rattle.reports.specs.Families.{of_sff}
-use Rattle.reports.specs.Flags.{raised}
-use Rattle.reports.specs.Rows.{rows_entries}
+use Rattle.report_entries.specs.Flags.{raised}
+use Rattle.report_entries.specs.Rows.{rows_entries}
 use Rattle.reports.specs.SameReports.{IsSame}
-use Rattle.reports.specs.Warned.{entries_in, fault_in, flags_entries, flags_fault}
+use Rattle.reports.specs.FlagsByFamily.{entries_in, fault_in, flags_entries, flags_fault}
 use Rattle.reports.proofs.SameFamilies.{CmisAgree, FamilyAgrees, QsfpAgree, SfpAgree, by_family, no_sff, none_applies, same_flat, same_unless_flat}
 use Rattle.reports.proofs.SameMonitors.{are_diagnosed, same_qsfp_module}
 

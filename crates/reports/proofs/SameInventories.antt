@@ -30,7 +30,7 @@ module _ (a b : Memory) (agree : CmisAgree a b) where
   }
 
 module _ (a b : Memory) (agree : QsfpAgree a b) where
-  same_qsfp_fault : qsfp_refusals.identity_fault a ≡ qsfp_refusals.identity_fault b
+  pub same_qsfp_fault : qsfp_refusals.identity_fault a ≡ qsfp_refusals.identity_fault b
   unfolding qsfp_refusals.identity_fault
   same_qsfp_fault = same_refusal a b qsfp_refusals.identity_reasons refl (agree.low, λ here. (agree.low, λ of. (agree.first, λ there. tt)))
 

@@ -18,10 +18,10 @@ use Rattle.reports.specs.CmisMonitors as cmis
 use Rattle.reports.specs.SffMonitors.{qsfp_rows, sff8472_entries, sff8636_entries, sfp_rows}
 use Rattle.module_decoding.specs.CmisPages.{is_flat}
 use Rattle.reports.specs.Families.{of_sff}
-use Rattle.reports.specs.Measured.{entries_in, fault_in, monitors_entries, monitors_fault}
+use Rattle.reports.specs.MonitorsByFamily.{entries_in, fault_in, monitors_entries, monitors_fault}
 use Rattle.module_reading.specs.Regions.{has_diagnostics}
 use Rattle.reports.specs.SameReports.{IsSame}
-use Rattle.reports.specs.Rows.{rows_entries}
+use Rattle.report_entries.specs.Rows.{rows_entries}
 use Rattle.reports.proofs.SameRows.{by_flat, rows_same}
 use Rattle.reports.proofs.SameFamilies.{CmisAgree, FamilyAgrees, QsfpAgree, SfpAgree, by_family, none_applies, same_flat, same_if, same_qsfp_flat, same_unless_flat, no_sff}
 

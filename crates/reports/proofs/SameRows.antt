@@ -18,10 +18,10 @@ use Rattle.field_tables.specs.Texts.{text_key}
 use Rattle.field_tables.specs.Units.{millis_of}
 use Rattle.field_tables.proofs.SameValues.{Agree, is_selection, same_number, same_numbers, same_reading_at, same_sum_right, same_text}
 use Rattle.module_decoding.specs.Amounts.{amount_at, limit_amounts, times, unit_of}
-use Rattle.reports.specs.Entries.{Entry, entry, word, right, number, code, revision, text, oui, amount, lanes, limits, state, lane_states}
-use Rattle.reports.specs.declared.entry.LaneState.{LaneState}
-use Rattle.reports.specs.declared.printed_unit.PrintedUnit.TheVariants.{Metre}
-use Rattle.reports.specs.Rows.{Row, Source, Instead, Word, Either, Code, Revision, Next, Text, Oui, Right, Amount, Length, Lanes, Limits, State, LaneStates, Nothing, Says, applies, decided_entries, deciding, lane_state_at, printed_unit, row_entries, rows_entries, source_said}
+use Rattle.report_entries.specs.Entries.{Entry, entry, word, right, number, code, revision, text, oui, amount, lanes, limits, state, lane_states}
+use Rattle.report_entries.specs.declared.entry.LaneState.{LaneState}
+use Rattle.report_entries.specs.declared.printed_unit.PrintedUnit.TheVariants.{Metre}
+use Rattle.report_entries.specs.Rows.{Row, Source, Instead, Word, Either, Code, Revision, Next, Text, Oui, Right, Amount, Length, Lanes, Limits, State, LaneStates, Nothing, Says, applies, decided_entries, deciding, lane_state_at, printed_unit, row_entries, rows_entries, source_said}
 use Rattle.module_reading.proofs.RegionLaws.{keys_are}
 
 -- ---- the test

@@ -6,8 +6,8 @@ use Rattle.applications.specs.Refusals.{advert_fault}
 use Rattle.paged_memory.specs.Images.{Memory}
 use Rattle.reports.specs.declared.fault.ReportFault.{ReportFault}
 use Rattle.reports.specs.declared.fault.ReportFault.TheVariants.{Advert}
-use Rattle.reports.specs.Entries.{Entry, entry, number, apps, lane_set}
-use Rattle.reports.specs.EntryText.{entries_lines}
+use Rattle.report_entries.specs.Entries.{Entry, entry, number, apps, lane_set}
+use Rattle.report_entries.specs.EntryText.{entries_lines}
 
 unfoldable pub apps_entries : Advertised → List Entry
 apps_entries advertised =

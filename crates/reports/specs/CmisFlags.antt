@@ -5,16 +5,16 @@ use Rattle.std.specs.Prelude.{Bool, List, [], ◌∷◌, ◌++◌, codes}
 use Rattle.paged_memory.specs.Images.{Memory}
 use Rattle.field_tables.specs.declared.field.Field.TheVariants as fields
 use Rattle.module_decoding.specs.CmisPages.{is_flat}
-use Rattle.reports.specs.declared.flag.Flag.{Flag}
-use Rattle.reports.specs.declared.flag.Condition.TheVariants as conditions
-use Rattle.reports.specs.declared.flag.FlagName.TheVariants.{Holds, Passed}
-use Rattle.reports.specs.declared.flag.Level.TheVariants.{HighAlarm, LowAlarm, HighWarning, LowWarning}
-use Rattle.reports.specs.declared.flag_rows.FlagRow.{FlagRow}
-use Rattle.reports.specs.declared.quantity.Quantity.TheVariants.{Temperature, Vcc, TxPower, TxBias, RxPower}
-use Rattle.reports.specs.Entries.{Entry}
-use Rattle.reports.specs.FlagRows.{flags_entry, of_paged_lanes, past_limits, rows_flags}
-use Rattle.reports.specs.Flags.{raised}
-use Rattle.reports.specs.Rows.{Row, LaneStates, State, always, if_paged, rows_entries}
+use Rattle.report_entries.specs.declared.flag.Flag.{Flag}
+use Rattle.report_entries.specs.declared.flag.Condition.TheVariants as conditions
+use Rattle.report_entries.specs.declared.flag.FlagName.TheVariants.{Holds, Passed}
+use Rattle.report_entries.specs.declared.flag.Level.TheVariants.{HighAlarm, LowAlarm, HighWarning, LowWarning}
+use Rattle.report_entries.specs.declared.flag_rows.FlagRow.{FlagRow}
+use Rattle.report_entries.specs.declared.quantity.Quantity.TheVariants.{Temperature, Vcc, TxPower, TxBias, RxPower}
+use Rattle.report_entries.specs.Entries.{Entry}
+use Rattle.report_entries.specs.FlagRows.{flags_entry, of_paged_lanes, past_limits, rows_flags}
+use Rattle.report_entries.specs.Flags.{raised}
+use Rattle.report_entries.specs.Rows.{Row, LaneStates, State, always, if_paged, rows_entries}
 
 -- a module with flat memory tells nothing of its lanes
 unfoldable pub state_rows : List Row

@@ -6,8 +6,8 @@ use Rattle.field_tables.specs.declared.field.Field.TheVariants as fields
 use Rattle.field_tables.specs.declared.field.Sum.TheVariants as sums
 use Rattle.field_tables.specs.declared.field.TextField.TheVariants as texts
 use Rattle.module_decoding.specs.CmisPages.{is_flat}
-use Rattle.reports.specs.Entries.{Entry}
-use Rattle.reports.specs.Rows.{Row, Word, Either, Code, Revision, Next, Text, Oui, Right, Amount, Length, always, rows_entries}
+use Rattle.report_entries.specs.Entries.{Entry}
+use Rattle.report_entries.specs.Rows.{Row, Word, Either, Code, Revision, Next, Text, Oui, Right, Amount, Length, always, rows_entries}
 
 unfoldable pub inventory_rows : List Row
 inventory_rows =

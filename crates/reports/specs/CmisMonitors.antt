@@ -6,8 +6,8 @@ use Rattle.paged_memory.specs.Images.{Memory}
 use Rattle.field_tables.specs.declared.field.Field.TheVariants as fields
 use Rattle.field_tables.specs.declared.field.Sum.TheVariants as sums
 use Rattle.module_decoding.specs.CmisPages.{is_flat}
-use Rattle.reports.specs.Entries.{Entry}
-use Rattle.reports.specs.Rows.{Row, Instead, Amount, Lanes, Limits, Right, Nothing, Says, always, if_paged, rows_entries}
+use Rattle.report_entries.specs.Entries.{Entry}
+use Rattle.report_entries.specs.Rows.{Row, Instead, Amount, Lanes, Limits, Right, Nothing, Says, always, if_paged, rows_entries}
 
 -- the module says that it measures none, or multiplies bias by a reserved code
 abbrev bias_words : List Instead

@@ -1,23 +1,13 @@
 -- The JSON of a fault: its code, its values, and the sentence that says what is wrong and what to do. (docs/formats.md,
 -- "JSON"; this project's own)
-use Rattle.std.specs.Prelude.{ℕ, Bool, true, false, ◌||◌, if◌then◌else◌, List, [], ◌∷◌, ◌++◌, codes, drop, get_or, Option, Some, None}
+use Rattle.std.specs.Prelude.{ℕ, Bool, true, false, ◌||◌, List, [], ◌∷◌, ◌++◌, codes, drop, get_or}
 use Rattle.std.specs.Str.{bytes_eq}
 use Rattle.json.specs.Json as json
 use Rattle.json.specs.Json.{Json}
-use Rattle.json.specs.Word.{after_number}
-use Rattle.reports.specs.EntryJson.{form_members, string_members}
-use Rattle.reports.specs.JsonTrees.{Member, array_of, object_of}
-use Rattle.reports.specs.Shown.{printable}
-
--- a number has been read, and nothing is left
-abbrev pub is_read : Option (List ℕ) → Bool
-is_read None = false
-is_read (Some []) = true
-is_read (Some (byte ∷ rest)) = false
-
--- a text that is a number of JSON is one (RFC 8259, section 6), and else a string
-unfoldable pub scalar_json : List ℕ → Json
-scalar_json text = if is_read (after_number text) then json.number text else json.string text
+use Rattle.report_entries.specs.EntryJson.{form_members, string_members}
+use Rattle.report_entries.specs.JsonScalars.{scalar_json}
+use Rattle.report_entries.specs.JsonTrees.{Member, array_of, object_of}
+use Rattle.report_entries.specs.Shown.{printable}
 
 -- the first word of a half's key
 abbrev pub names_half : List ℕ → Bool

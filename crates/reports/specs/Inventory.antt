@@ -10,8 +10,8 @@ use Rattle.sff8636_map.specs.Refusals as sff8636_refusals
 use Rattle.sff8472_map.specs.Refusals as sff8472_refusals
 use Rattle.reports.specs.CmisInventory as cmis
 use Rattle.reports.specs.declared.fault.ReportFault.{ReportFault}
-use Rattle.reports.specs.Entries.{Entry}
-use Rattle.reports.specs.EntryText.{entries_lines}
+use Rattle.report_entries.specs.Entries.{Entry}
+use Rattle.report_entries.specs.EntryText.{entries_lines}
 use Rattle.reports.specs.Families.{lacks, module_fault, of_sff}
 use Rattle.reports.specs.SffInventory.{qsfp_entries, sfp_entries}
 

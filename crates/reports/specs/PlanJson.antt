@@ -9,8 +9,8 @@ use Rattle.plan_certificate.specs.declared.path.Path.{Path}
 use Rattle.plan_certificate.specs.Paths.{app_of}
 use Rattle.plan_certificate.specs.Plans.{plan_weight}
 use Rattle.control_sets.specs.ControlBytes.{control_bytes}
-use Rattle.reports.specs.EntryJson.{count_json, count_members, form_members}
-use Rattle.reports.specs.JsonTrees.{Member, array_of, object_of}
+use Rattle.report_entries.specs.EntryJson.{count_json, count_members, form_members}
+use Rattle.report_entries.specs.JsonTrees.{Member, array_of, object_of}
 
 -- ---- numbers
 

@@ -10,8 +10,8 @@ use Rattle.plan_certificate.specs.Plans.{plan_weight}
 use Rattle.control_sets.specs.ControlBytes.{control_bytes}
 use Rattle.reports.specs.declared.shown_plan.LaneSpan.{LaneSpan}
 use Rattle.reports.specs.declared.shown_plan.PathLanes.{PathLanes}
-use Rattle.reports.specs.Lines.{line}
-use Rattle.reports.specs.Shown.{spaced_bytes}
+use Rattle.report_entries.specs.Lines.{line}
+use Rattle.report_entries.specs.Shown.{spaced_bytes}
 
 -- so many lanes from the first on, by the first and the last
 abbrev pub span_of : ℕ → ℕ → LaneSpan

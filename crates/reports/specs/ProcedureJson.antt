@@ -9,9 +9,9 @@ use Rattle.bus_model.specs.declared.operation.Op.TheVariants.{Fetch, Store}
 use Rattle.bus_model.specs.declared.operation.Reply.{Reply}
 use Rattle.bus_model.specs.declared.operation.Reply.TheVariants.{Bytes, Done, Refused}
 use Rattle.bus_model.specs.declared.operation.Step.{Step}
-use Rattle.reports.specs.EntryJson.{count_members, form_members, string_members}
+use Rattle.report_entries.specs.EntryJson.{count_members, form_members, string_members}
 use Rattle.reports.specs.FaultJson.{fault_members}
-use Rattle.reports.specs.JsonTrees.{Member, array_of, object_of}
+use Rattle.report_entries.specs.JsonTrees.{Member, array_of, object_of}
 use Rattle.reports.specs.PlanJson.{numbers_members}
 use Rattle.reports.specs.declared.json_procedure.Outcome.{Outcome}
 

@@ -1,5 +1,5 @@
 -- When two memories have the same reports, and that what is read of an image over a scripted bus has the image's.
--- (docs/bus.md, "Reading an image"; docs/formats.md, "inventory", "apps", "monitors" and "flags"; this project's own)
+-- (docs/bus.md, "Reading an image"; docs/formats.md, "inventory", "apps", "monitors", "flags" and "details"; this project's own)
 use Rattle.std.specs.Prelude.{◌≡◌, List, Option, None, Ok, reverse}
 use Rattle.bus_model.specs.declared.script.Directive.{Directive}
 use Rattle.bus_model.specs.Runs.{IsFull, Ran, Seen}
@@ -11,22 +11,24 @@ use Rattle.paged_memory.specs.Windows.{Windowed, started, window_conduct}
 use Rattle.applications.specs.Advertised.{advertised_by}
 use Rattle.reports.specs.declared.fault.ReportFault.{ReportFault}
 use Rattle.reports.specs.Apps.{apps_entries, apps_fault}
+use Rattle.reports.specs.Details.{details_entries, details_fault}
 use Rattle.reports.specs.FetchedImages.{IsFetching}
 use Rattle.reports.specs.Inventory.{inventory_entries, inventory_fault}
-use Rattle.reports.specs.Measured.{monitors_entries, monitors_fault}
-use Rattle.reports.specs.Warned.{flags_entries, flags_fault}
+use Rattle.reports.specs.MonitorsByFamily.{monitors_entries, monitors_fault}
+use Rattle.reports.specs.FlagsByFamily.{flags_entries, flags_fault}
 
 -- the report has the same fault for both memories, and if it has none, it says the same
 pub record IsSame {A : Type 0} (fault_of : Memory → Option ReportFault) (said_of : Memory → A) (memory other : Memory) : Type 0 where
   pub fault : fault_of memory ≡ fault_of other
   pub said : fault_of memory ≡ None → said_of memory ≡ said_of other
 
--- so have the four reports of modules, in whatever form their entries are printed
+-- so have the five reports of modules, in whatever form their entries are printed
 pub record ReportsSame (memory other : Memory) : Type 0 where
   pub inventory : IsSame inventory_fault inventory_entries memory other
   pub apps : IsSame apps_fault (λ (m : Memory). apps_entries (advertised_by m)) memory other
   pub monitors : IsSame monitors_fault monitors_entries memory other
   pub flags : IsSame flags_fault flags_entries memory other
+  pub details : IsSame details_fault details_entries memory other
 
 -- whatever a script refuses: if the steps on its bus over a new window of an image are the reading of an image, the
 -- reports of what was read are those of the window's image

@@ -2,19 +2,19 @@
 -- and Warning Flag Bits")
 use Rattle.std.specs.Prelude.{ℕ, ◌+◌, Bool, false, List, [], ◌∷◌, ◌++◌}
 use Rattle.paged_memory.specs.Images.{Memory}
-use Rattle.reports.specs.declared.flag.Flag.{Flag}
-use Rattle.reports.specs.declared.flag.Condition.TheVariants as conditions
-use Rattle.reports.specs.declared.flag.FlagName.{FlagName}
-use Rattle.reports.specs.declared.flag.FlagName.TheVariants.{Holds, Passed}
-use Rattle.reports.specs.declared.flag.Level.TheVariants.{HighAlarm, LowAlarm, HighWarning, LowWarning}
-use Rattle.reports.specs.declared.flag_rows.FlagRow.{FlagRow}
-use Rattle.reports.specs.declared.quantity.Quantity.{Quantity}
-use Rattle.reports.specs.declared.quantity.Quantity.TheVariants.{Temperature, Vcc, TxPower, TxBias, RxPower}
+use Rattle.report_entries.specs.declared.flag.Flag.{Flag}
+use Rattle.report_entries.specs.declared.flag.Condition.TheVariants as conditions
+use Rattle.report_entries.specs.declared.flag.FlagName.{FlagName}
+use Rattle.report_entries.specs.declared.flag.FlagName.TheVariants.{Holds, Passed}
+use Rattle.report_entries.specs.declared.flag.Level.TheVariants.{HighAlarm, LowAlarm, HighWarning, LowWarning}
+use Rattle.report_entries.specs.declared.flag_rows.FlagRow.{FlagRow}
+use Rattle.report_entries.specs.declared.quantity.Quantity.{Quantity}
+use Rattle.report_entries.specs.declared.quantity.Quantity.TheVariants.{Temperature, Vcc, TxPower, TxBias, RxPower}
 use Rattle.field_tables.specs.declared.field.Field.{Field}
 use Rattle.field_tables.specs.declared.field.Field.TheVariants as fields
-use Rattle.reports.specs.Entries.{Entry}
-use Rattle.reports.specs.FlagRows.{flags_entry, of_lanes, of_module, of_one_lane, past_limits, rows_flags}
-use Rattle.reports.specs.Flags.{raised}
+use Rattle.report_entries.specs.Entries.{Entry}
+use Rattle.report_entries.specs.FlagRows.{flags_entry, of_lanes, of_module, of_one_lane, past_limits, rows_flags}
+use Rattle.report_entries.specs.Flags.{raised}
 
 abbrev qsfp_lane_rows : List FlagRow
 qsfp_lane_rows =

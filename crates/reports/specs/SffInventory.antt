@@ -5,8 +5,8 @@ use Rattle.paged_memory.specs.Images.{Memory}
 use Rattle.field_tables.specs.declared.field.Field.TheVariants as fields
 use Rattle.field_tables.specs.declared.field.Sum.TheVariants as sums
 use Rattle.field_tables.specs.declared.field.TextField.TheVariants as texts
-use Rattle.reports.specs.Entries.{Entry}
-use Rattle.reports.specs.Rows.{Row, Word, Code, Text, Oui, Right, always, rows_entries}
+use Rattle.report_entries.specs.Entries.{Entry}
+use Rattle.report_entries.specs.Rows.{Row, Word, Code, Text, Oui, Right, always, rows_entries}
 
 unfoldable pub qsfp_rows : List Row
 qsfp_rows =

@@ -10,9 +10,9 @@ use Rattle.field_tables.specs.Readings.{bit}
 use Rattle.sff8636_map.specs.Refusals as qsfp_refusals
 use Rattle.sff8472_map.specs.Refusals as sfp_refusals
 use Rattle.reports.specs.declared.fault.ReportFault.{ReportFault}
-use Rattle.reports.specs.Entries.{Entry}
+use Rattle.report_entries.specs.Entries.{Entry}
 use Rattle.reports.specs.Families.{of_sff}
-use Rattle.reports.specs.Rows.{Row, Amount, Lanes, Limits, Right, always, if_paged, rows_entries}
+use Rattle.report_entries.specs.Rows.{Row, Amount, Lanes, Limits, Right, always, if_paged, rows_entries}
 
 abbrev pub sff8636_fault : Memory → Option ReportFault
 sff8636_fault memory = of_sff (qsfp_refusals.measured_fault memory)

@@ -9,7 +9,7 @@ use Rattle.bus_model.specs.declared.operation.Op.TheVariants.{Fetch, Store}
 use Rattle.bus_model.specs.declared.operation.Reply.{Reply}
 use Rattle.bus_model.specs.declared.operation.Reply.TheVariants.{Bytes, Done, Refused}
 use Rattle.bus_model.specs.declared.operation.Step.{Step}
-use Rattle.reports.specs.Shown.{spaced_bytes}
+use Rattle.report_entries.specs.Shown.{spaced_bytes}
 
 -- the device and the address, and how many bytes are asked for, or the bytes that are given
 abbrev pub op_text : Op → List ℕ

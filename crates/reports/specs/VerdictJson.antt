@@ -6,9 +6,9 @@ use Rattle.json.specs.Json.{Json}
 use Rattle.applications.specs.Advertised.{Advertised}
 use Rattle.applications.specs.Weights.{HostWeights}
 use Rattle.plan_certificate.specs.declared.path.Path.{Path}
-use Rattle.reports.specs.EntryJson.{form_members}
+use Rattle.report_entries.specs.EntryJson.{form_members}
 use Rattle.reports.specs.FaultJson.{reason_members}
-use Rattle.reports.specs.JsonTrees.{Member, object_of}
+use Rattle.report_entries.specs.JsonTrees.{Member, object_of}
 use Rattle.reports.specs.PlanJson.{plan_members}
 
 unfoldable pub boolean_members : List ℕ → Bool → List Member

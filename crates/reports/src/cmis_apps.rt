@@ -1,21 +1,18 @@
 ghost use Rattle.std.specs.Prelude.{◌≡◌, IfOk};
 ghost use Rattle.applications.specs.Advertised.{advertised_by};
 ghost use Rattle.reports.specs.Apps.{apps_entries, apps_fault, apps_lines};
-ghost use Rattle.reports.specs.Entries.{Says, said_in};
-ghost use Rattle.reports.specs.EntryJson.{ReportsJson};
-ghost use Rattle.reports.specs.Lines.{Reports};
+ghost use Rattle.report_entries.specs.Entries.{said_in};
+ghost use Rattle.reports.specs.Answered.{Reports, ReportsJson, Says};
 
-use crate::entry::{Entry, Said, say};
-use crate::entry_json::json;
-use crate::entry_text::text;
 use crate::fault::ReportFault;
 use applications::Advert;
 use arrayvec::ArrayVec;
 use paged_memory::Image;
+use report_entries::{Entry, Said, json, say, text};
 use std::alloc::{AllocError, Global};
 
 /// What the module advertises, line by line.
-#[tactic(auto, unfolding(crate::specs::Entries::said_in))]
+#[tactic(auto, unfolding(report_entries::specs::Entries::said_in))]
 pub fn apps(alloc: Global, image: &Image) -> Result<Vec<u8>, ReportFault>
     ensures { Reports (apps_fault image.now) (apps_lines (advertised_by image.now)) result }
 {
@@ -23,7 +20,7 @@ pub fn apps(alloc: Global, image: &Image) -> Result<Vec<u8>, ReportFault>
 }
 
 /// The same as JSON.
-#[tactic(auto, unfolding(crate::specs::Entries::said_in))]
+#[tactic(auto, unfolding(report_entries::specs::Entries::said_in))]
 pub fn apps_json(alloc: Global, image: &Image) -> Result<Vec<u8>, ReportFault>
     ensures { ReportsJson (apps_fault image.now) (apps_entries (advertised_by image.now)) result }
 {
@@ -39,7 +36,7 @@ fn apps_entries(alloc: Global, image: &Image) -> Result<Vec<Entry>, ReportFault>
     }
 }
 
-#[tactic(auto, unfolding(crate::specs::Entries::said_in, crate::specs::Apps::apps_entries))]
+#[tactic(auto, unfolding(report_entries::specs::Entries::said_in, crate::specs::Apps::apps_entries))]
 fn said_of(alloc: Global, advert: &Advert) -> Result<Vec<Entry>, AllocError>
     ensures { IfOk result (λ entries. said_in entries ≡ apps_entries advert.now) }
 {

@@ -1,14 +1,13 @@
 ghost use Rattle.module_decoding.specs.CmisPages.{absent_page, identity_pages};
 ghost use Rattle.reports.specs.CmisInventory.{inventory_entries};
-ghost use Rattle.reports.specs.Entries.{Says};
+ghost use Rattle.reports.specs.Answered.{Says};
 ghost use Rattle.reports.specs.Families.{lacks};
 
-use crate::entry::Entry;
 use crate::fault::ReportFault;
-use crate::said_rows::said_by;
 use crate::tables;
 use module_decoding::{absent_identity_page, is_flat};
 use paged_memory::Image;
+use report_entries::{Entry, said_by};
 use std::alloc::Global;
 
 /// What the module is.
@@ -19,5 +18,5 @@ pub fn inventory(alloc: Global, image: &Image) -> Result<Vec<Entry>, ReportFault
     if let Some(key) = absent_identity_page(image) {
         return Err(ReportFault::Absent(key));
     }
-    Ok(said_by(alloc, image, is_flat(image), tables::cmis_inventory())?)
+    Ok(said_by(alloc, image, is_flat(image), tables::cmis_inventory_lines())?)
 }

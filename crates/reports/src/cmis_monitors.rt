@@ -1,14 +1,13 @@
 ghost use Rattle.module_decoding.specs.CmisPages.{absent_page, monitor_pages};
 ghost use Rattle.reports.specs.CmisMonitors.{monitors_entries};
-ghost use Rattle.reports.specs.Entries.{Says};
+ghost use Rattle.reports.specs.Answered.{Says};
 ghost use Rattle.reports.specs.Families.{lacks};
 
-use crate::entry::Entry;
 use crate::fault::ReportFault;
-use crate::said_rows::said_by;
 use crate::tables;
 use module_decoding::{absent_monitor_page, is_flat};
 use paged_memory::Image;
+use report_entries::{Entry, said_by};
 use std::alloc::Global;
 
 /// What the module measures.

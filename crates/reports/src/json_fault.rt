@@ -1,14 +1,13 @@
 // A fault as JSON.
 ghost use Rattle.std.specs.Prelude.{◌≡◌, ◌++◌, [], IfOk, OnOk, ◌||◌, drop, false, get_or, map};
 ghost use Rattle.json.specs.Tree.{json_tokens};
-ghost use Rattle.reports.specs.EntryJson.{IsJsonText};
+ghost use Rattle.report_entries.specs.EntryJson.{IsJsonText};
 ghost use Rattle.reports.specs.FaultJson.{code_members, fault_json, fault_members, names_half, reason_json, reason_members, sentence_members, value_json, values_from, values_json, values_members};
-ghost use Rattle.reports.specs.JsonTrees.{all_member_tokens, all_tokens};
+ghost use Rattle.report_entries.specs.JsonTrees.{all_member_tokens, all_tokens};
 
-use crate::json_document::{begin, end};
-use crate::json_writer::JsonWriter;
-use crate::shown::TextIn;
 use arrayvec::ArrayVec;
+use report_entries::json_document::{begin, end};
+use report_entries::{JsonWriter, TextIn};
 use std::alloc::{AllocError, Global};
 
 /// A word of a fault, as it is spelled.
@@ -58,7 +57,7 @@ fn put_words(out: &mut JsonWriter, words: &[Word], sentence: &str) -> Result<(),
     out.end_object()
 }
 
-#[tactic(auto, unfolding(crate::specs::FaultJson::code_members, crate::specs::EntryJson::string_members))]
+#[tactic(auto, unfolding(crate::specs::FaultJson::code_members, report_entries::specs::EntryJson::string_members))]
 fn put_code(out: &mut JsonWriter, words: &[Word]) -> Result<(), AllocError>
     ensures { OnOk result (out.new
         ≡ out.old ++ all_member_tokens (code_members (map (λ word. word.items) words.now))) }
@@ -137,7 +136,7 @@ fn names_half(word: &[u8]) -> bool
     word == b"lower".as_slice() || word == b"upper".as_slice()
 }
 
-#[tactic(auto, unfolding(crate::specs::FaultJson::sentence_members, crate::specs::EntryJson::string_members))]
+#[tactic(auto, unfolding(crate::specs::FaultJson::sentence_members, report_entries::specs::EntryJson::string_members))]
 fn put_sentence(out: &mut JsonWriter, sentence: &str) -> Result<(), AllocError>
     ensures { OnOk result (out.new ≡ out.old ++ all_member_tokens (sentence_members sentence.now)) }
 {

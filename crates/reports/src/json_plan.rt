@@ -4,16 +4,15 @@ ghost use Rattle.std.specs.List.{range_with_len};
 ghost use Rattle.json.specs.Tree.{json_tokens};
 ghost use Rattle.plan_certificate.specs.Paths.{app_of, is_allowed};
 ghost use Rattle.plan_certificate.specs.Plans.{IsAdmissible};
-ghost use Rattle.reports.specs.EntryJson.{count_json, count_members, IsJsonText};
-ghost use Rattle.reports.specs.JsonTrees.{all_member_tokens, all_tokens};
+ghost use Rattle.report_entries.specs.EntryJson.{count_json, count_members, IsJsonText};
+ghost use Rattle.report_entries.specs.JsonTrees.{all_member_tokens, all_tokens};
 ghost use Rattle.reports.specs.PlanJson.{control_members, host_run_members, kept_members, media_run_members, numbers_json, numbers_members, path_json, paths_json, paths_members, plan_json, plan_members, run_members, weight_members};
 
-use crate::entry_json::put_count;
-use crate::json_document::{begin, end};
-use crate::json_writer::JsonWriter;
 use applications::{Advert, Weights};
 use control_sets::bytes_of;
 use plan_certificate::{Path, Plan, weight_of};
+use report_entries::json_document::{begin, end};
+use report_entries::{JsonWriter, put_count};
 use std::alloc::{AllocError, Global};
 
 /// What a plan weighs, the paths that it keeps, all its paths, and the control bytes that ask for it, as JSON.
@@ -51,7 +50,7 @@ pub fn put_plan(
     put_control(out, advert, plan)
 }
 
-#[tactic(auto, unfolding(crate::specs::PlanJson::weight_members, crate::specs::EntryJson::count_members))]
+#[tactic(auto, unfolding(crate::specs::PlanJson::weight_members, report_entries::specs::EntryJson::count_members))]
 fn put_weight(out: &mut JsonWriter, weight: u64) -> Result<(), AllocError>
     ensures { OnOk result (out.new ≡ out.old ++ all_member_tokens (weight_members weight)) }
 {

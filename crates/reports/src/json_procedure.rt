@@ -1,16 +1,15 @@
 // What provisioning and activation came to, as JSON.
 ghost use Rattle.std.specs.Prelude.{◌≡◌, ◌++◌, IfOk, OnOk, map};
 ghost use Rattle.json.specs.Tree.{json_tokens};
-ghost use Rattle.reports.specs.EntryJson.{IsJsonText, string_members};
-ghost use Rattle.reports.specs.JsonTrees.{all_member_tokens, all_tokens};
+ghost use Rattle.report_entries.specs.EntryJson.{IsJsonText, string_members};
+ghost use Rattle.report_entries.specs.JsonTrees.{all_member_tokens, all_tokens};
 ghost use Rattle.reports.specs.ProcedureJson.{active_members, answer_members, kind_members, op_members, operations_members, outcome_fault_members, outcome_members, place_members, procedure_json, reply_members, step_json, steps_json, steps_members, taken_members};
 
-use crate::entry_json::{put_count, put_shown};
-use crate::json_document::{begin, end};
 use crate::json_fault::{Word, put_fault};
 use crate::json_plan::put_bytes;
-use crate::json_writer::JsonWriter;
 use bus_model::{Dev, Op, Reply, Step};
+use report_entries::json_document::{begin, end};
+use report_entries::{JsonWriter, put_count, put_shown};
 use std::alloc::{AllocError, Global};
 
 /// What provisioning and activation came to.
@@ -152,7 +151,7 @@ fn put_outcome(out: &mut JsonWriter, outcome: Outcome) -> Result<(), AllocError>
     put_active(out, outcome.active)
 }
 
-#[tactic(auto, unfolding(crate::specs::EntryJson::count_members))]
+#[tactic(auto, unfolding(report_entries::specs::EntryJson::count_members))]
 fn put_taken(out: &mut JsonWriter, key: &str, steps: Option<u16>) -> Result<(), AllocError>
     ensures { OnOk result (out.new ≡ out.old ++ all_member_tokens (taken_members key.now steps)) }
 {
@@ -182,7 +181,7 @@ fn put_outcome_fault(out: &mut JsonWriter, fault: &[Word], sentence: &str) -> Re
     put_fault(out, fault, sentence)
 }
 
-#[tactic(auto, unfolding(crate::specs::EntryJson::string_members))]
+#[tactic(auto, unfolding(report_entries::specs::EntryJson::string_members))]
 fn put_string(out: &mut JsonWriter, key: &str, value: &str) -> Result<(), AllocError>
     ensures { OnOk result (out.new ≡ out.old ++ all_member_tokens (string_members key.now value.now)) }
 {

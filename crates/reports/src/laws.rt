@@ -2,6 +2,7 @@
 //! bodies are empty.
 
 ghost use Rattle.reports.specs.SameReports.{FetchedReportsSame};
+ghost use Rattle.reports.specs.UniqueDetails.{DetailsHaveUniqueKeys};
 ghost use Rattle.reports.specs.UniqueKeys.{FaultsHaveUniqueKeys, PlansHaveUniqueKeys, VerdictsHaveUniqueKeys};
 
 /// Over a scripted bus with a new window of an image, whatever the script refuses or cuts short: the image that
@@ -16,4 +17,9 @@ pub fn no_object_has_a_key_twice()
     ensures plans { PlansHaveUniqueKeys }
     ensures faults { FaultsHaveUniqueKeys }
     ensures verdicts { VerdictsHaveUniqueKeys }
+{}
+
+/// No key stands twice in what the rows of a module's details say.
+pub fn no_detail_has_a_key_twice()
+    ensures { DetailsHaveUniqueKeys }
 {}

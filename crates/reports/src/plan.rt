@@ -4,11 +4,11 @@ ghost use Rattle.plan_certificate.specs.Paths.{is_allowed};
 ghost use Rattle.plan_certificate.specs.Plans.{IsAdmissible};
 ghost use Rattle.reports.specs.PlanText.{lanes_of, path_line, plan_lines, span_of};
 
-use crate::report::Report;
 use crate::shown_plan::{LaneSpan, PathLanes};
 use applications::{Advert, Weights};
 use control_sets::bytes_of;
 use plan_certificate::{Path, Plan, weight_of};
+use report_entries::ReportText;
 use std::alloc::{AllocError, Global};
 
 /// What a plan weighs, its paths, and the control bytes that ask for it, line by line.
@@ -22,14 +22,14 @@ pub fn plan_text(
     requires { IsAdmissible advert.now plan.now }
     ensures { IfOk result (λ text. text.items ≡ text_of (plan_lines advert.now weights.now plan.now)) }
 {
-    let mut report = Report::new(alloc);
+    let mut report = ReportText::new(alloc);
     report.line("weight", weight_of(advert, weights, plan))?;
     push_paths(&mut report, advert, plan.paths.as_slice())?;
     report.bytes("control", &bytes_of(advert, plan))?;
     Ok(report.into_bytes())
 }
 
-fn push_paths(report: &mut Report, advert: &Advert, paths: &[Path]) -> Result<(), AllocError>
+fn push_paths(report: &mut ReportText, advert: &Advert, paths: &[Path]) -> Result<(), AllocError>
     requires { All (λ path. is_allowed advert.now path ≡ true) paths.now }
     ensures { OnOk result (report.new ≡ report.old ++ text_of (map (path_line advert.now) paths.now)) }
 {
@@ -40,7 +40,7 @@ fn push_paths(report: &mut Report, advert: &Advert, paths: &[Path]) -> Result<()
 }
 
 #[tactic(auto, unfolding(crate::specs::PlanText::path_line))]
-fn push_path(report: &mut Report, advert: &Advert, path: Path) -> Result<(), AllocError>
+fn push_path(report: &mut ReportText, advert: &Advert, path: Path) -> Result<(), AllocError>
     requires { is_allowed advert.now path ≡ true }
     ensures { OnOk result (report.new ≡ report.old ++ (path_line advert.now path ++ 10 ∷ [])) }
 {

@@ -1,13 +1,12 @@
 // What a module of SFF-8636 or SFF-8472 measures.
-ghost use Rattle.reports.specs.Entries.{Says};
+ghost use Rattle.reports.specs.Answered.{Says};
 ghost use Rattle.reports.specs.SffMonitors.{sff8472_fault, sff8472_entries, sff8636_fault, sff8636_entries};
 
-use crate::entry::Entry;
 use crate::fault::ReportFault;
-use crate::said_rows::said_by;
 use crate::tables;
 use field_tables::{Field, bit};
 use paged_memory::Image;
+use report_entries::{Entry, said_by};
 use std::alloc::Global;
 
 /// What a module of SFF-8636 measures.

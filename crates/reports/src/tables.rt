@@ -5,18 +5,17 @@ ghost use Rattle.std.specs.List.{list_all};
 ghost use Rattle.reports.specs.CmisFlags as spec_cmis_flags;
 ghost use Rattle.reports.specs.CmisInventory as spec_cmis_inventory;
 ghost use Rattle.reports.specs.CmisMonitors as spec_cmis_monitors;
-ghost use Rattle.reports.specs.FlagRows.{flag_row_fits};
-ghost use Rattle.reports.specs.RowTables.{rows_in};
-ghost use Rattle.reports.specs.Rows.{row_fits};
+ghost use Rattle.report_entries.specs.FlagRows.{flag_row_fits};
+ghost use Rattle.report_entries.specs.RowTables.{rows_in};
+ghost use Rattle.report_entries.specs.Rows.{row_fits};
 ghost use Rattle.reports.specs.SffFlags as spec_sff_flags;
 ghost use Rattle.reports.specs.SffInventory as spec_sff_inventory;
 ghost use Rattle.reports.specs.SffMonitors as spec_sff_monitors;
 
-use crate::flag::{Condition, FlagName, Level};
-use crate::flag_rows::{FlagPlace, FlagRow};
-use crate::quantity::Quantity;
-use crate::row::{Instead, Line, Row, Source};
 use field_tables::{Field, Sum, TextField};
+use report_entries::{
+    Condition, FlagName, FlagPlace, FlagRow, Instead, Level, Line, Quantity, Row, Source,
+};
 
 macro_rules! source {
     (Word $word:literal) => { Source::Word($word) };
@@ -75,7 +74,7 @@ const CMIS_INVENTORY: &[Line] = line_table! {
 
 /// What a CMIS module is.
 #[tactic(auto, unfolding(crate::specs::CmisInventory::inventory_rows))]
-pub fn cmis_inventory() -> &'static [Line]
+pub fn cmis_inventory_lines() -> &'static [Line]
     ensures rows { rows_in result.now ≡ spec_cmis_inventory.inventory_rows }
     ensures fit { IsTrue (list_all row_fits (rows_in result.now)) }
 {
@@ -121,7 +120,7 @@ const QSFP_INVENTORY: &[Line] = line_table! {
 
 /// What a module of SFF-8636 is.
 #[tactic(auto, unfolding(crate::specs::SffInventory::qsfp_rows))]
-pub fn qsfp_inventory() -> &'static [Line]
+pub fn qsfp_inventory_lines() -> &'static [Line]
     ensures rows { rows_in result.now ≡ spec_sff_inventory.qsfp_rows }
     ensures fit { IsTrue (list_all row_fits (rows_in result.now)) }
 {
@@ -166,7 +165,7 @@ const SFP_INVENTORY: &[Line] = line_table! {
 
 /// What a module of SFF-8472 is.
 #[tactic(auto, unfolding(crate::specs::SffInventory::sfp_rows))]
-pub fn sfp_inventory() -> &'static [Line]
+pub fn sfp_inventory_lines() -> &'static [Line]
     ensures rows { rows_in result.now ≡ spec_sff_inventory.sfp_rows }
     ensures fit { IsTrue (list_all row_fits (rows_in result.now)) }
 {

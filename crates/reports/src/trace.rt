@@ -2,7 +2,7 @@ ghost use Rattle.std.specs.Prelude.{◌≡◌, ◌++◌, ◌∷◌, [], IfOk, On
 ghost use Rattle.std.specs.Fmt.{decimal};
 ghost use Rattle.text_lines.specs.Lines.{text_of};
 ghost use Rattle.bus_model.specs.DeviceName.{device_name};
-ghost use Rattle.reports.specs.Shown.{spaced_bytes};
+ghost use Rattle.report_entries.specs.Shown.{spaced_bytes};
 ghost use Rattle.reports.specs.Trace.{op_text, reply_text, step_line, step_text, trace_lines};
 
 use bus_model::{Dev, Op, Reply, Step};
@@ -75,7 +75,7 @@ fn push_place(text: &mut Vec<u8>, dev: Dev, offset: u8) -> Result<(), AllocError
 }
 
 // In hexadecimal, each with a space before it.
-#[tactic(auto, unfolding(crate::specs::Shown::spaced_bytes))]
+#[tactic(auto, unfolding(report_entries::specs::Shown::spaced_bytes))]
 fn push_bytes(text: &mut Vec<u8>, bytes: &[u8]) -> Result<(), AllocError>
     ensures { OnOk result (text.new.items ≡ text.old.items ++ spaced_bytes bytes.now) }
 {

@@ -1,6 +1,6 @@
 use Rattle.std.proofs.Common.{◌≡◌, ◌++◌, drop, false, map}
 use Rattle.reports.specs.FaultJson.{values_from}
-use Rattle.reports.specs.JsonTrees.{all_tokens}
+use Rattle.report_entries.specs.JsonTrees.{all_tokens}
 use Rattle.reports.proofs.json_fault.put_each_value.Given as goal
 
 -- what is there and what is left are the whole

@@ -3,8 +3,8 @@ use Rattle.std.proofs.lemmas.Grind.{common_steps}
 use Rattle.json.specs.Token.{end_object}
 use Rattle.json.specs.Tree.{members_tokens}
 use Rattle.reports.specs.FaultJson.{code_members, reason_json, sentence_members, values_members}
-use Rattle.reports.specs.JsonTrees.{all_member_tokens, members_of}
-use Rattle.reports.proofs.JsonTokens.{of_members}
+use Rattle.report_entries.specs.JsonTrees.{all_member_tokens, members_of}
+use Rattle.report_entries.proofs.JsonTokens.{of_members}
 use Rattle.reports.proofs.json_fault.put_words.Goals as goal
 
 pub returns : goal.returns

@@ -3,9 +3,9 @@ use Rattle.std.proofs.lemmas.Grind.{common_steps, flat_map-append}
 use Rattle.std.proofs.lemmas.List.{map-append}
 use Rattle.std.specs.List.{range_with_len}
 use Rattle.json.specs.Tree.{json_tokens}
-use Rattle.reports.specs.EntryJson.{count_json}
-use Rattle.reports.specs.JsonTrees.{all_tokens}
-use Rattle.reports.proofs.Numbered.{range_more}
+use Rattle.report_entries.specs.EntryJson.{count_json}
+use Rattle.report_entries.specs.JsonTrees.{all_tokens}
+use Rattle.report_entries.proofs.Numbered.{range_more}
 use Rattle.reports.proofs.json_plan.put_each_lane.Goals as goal
 
 pub loop-index-preserved : goal.loop-index-preserved

@@ -1,7 +1,7 @@
 use Rattle.std.proofs.Common.{◌≡◌, ◌++◌, map}
 use Rattle.std.specs.List.{range_with_len}
-use Rattle.reports.specs.EntryJson.{count_json}
-use Rattle.reports.specs.JsonTrees.{all_tokens}
+use Rattle.report_entries.specs.EntryJson.{count_json}
+use Rattle.report_entries.specs.JsonTrees.{all_tokens}
 use Rattle.reports.proofs.json_plan.put_each_lane.Given as goal
 
 -- the lanes so far

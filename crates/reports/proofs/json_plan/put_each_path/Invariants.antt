@@ -1,6 +1,6 @@
 use Rattle.std.proofs.Common.{◌≡◌, ◌++◌, map, take}
 use Rattle.reports.specs.PlanJson.{path_json}
-use Rattle.reports.specs.JsonTrees.{all_tokens}
+use Rattle.report_entries.specs.JsonTrees.{all_tokens}
 use Rattle.reports.proofs.json_plan.put_each_path.Given as goal
 
 -- the paths so far

@@ -2,10 +2,10 @@ use Rattle.std.proofs.Common.{◌≡◌, ◌++◌, ◌∷◌, [], map, arith}
 use Rattle.std.proofs.lemmas.Grind.{common_steps}
 use Rattle.json.specs.Token.{end_array}
 use Rattle.json.specs.Tree.{items_tokens}
-use Rattle.reports.specs.EntryJson.{count_json}
+use Rattle.report_entries.specs.EntryJson.{count_json}
 use Rattle.reports.specs.PlanJson.{numbers_json}
-use Rattle.reports.specs.JsonTrees.{all_tokens, items_of}
-use Rattle.reports.proofs.JsonTokens.{of_items}
+use Rattle.report_entries.specs.JsonTrees.{all_tokens, items_of}
+use Rattle.report_entries.proofs.JsonTokens.{of_items}
 use Rattle.reports.proofs.json_plan.put_numbers.Goals as goal
 
 pub returns : goal.returns

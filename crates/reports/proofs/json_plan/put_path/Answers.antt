@@ -2,10 +2,10 @@ use Rattle.std.proofs.Common.{◌≡◌, ◌++◌, ◌∷◌, [], codes, arith}
 use Rattle.std.proofs.lemmas.Grind.{common_steps}
 use Rattle.json.specs.Token.{end_object}
 use Rattle.json.specs.Tree.{members_tokens}
-use Rattle.reports.specs.EntryJson.{count_members}
+use Rattle.report_entries.specs.EntryJson.{count_members}
 use Rattle.reports.specs.PlanJson.{host_run_members, media_run_members, path_json}
-use Rattle.reports.specs.JsonTrees.{all_member_tokens, members_of}
-use Rattle.reports.proofs.JsonTokens.{of_members}
+use Rattle.report_entries.specs.JsonTrees.{all_member_tokens, members_of}
+use Rattle.report_entries.proofs.JsonTokens.{of_members}
 use Rattle.reports.proofs.json_plan.put_path.Goals as goal
 
 pub returns : goal.returns

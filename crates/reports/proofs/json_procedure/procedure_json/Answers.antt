@@ -1,8 +1,8 @@
 use Rattle.std.proofs.Common.{◌≡◌, ◌++◌, ◌∷◌, map, arith}
 use Rattle.std.proofs.lemmas.Grind.{common_steps}
 use Rattle.json.specs.Token.{begin_object}
-use Rattle.reports.specs.EntryJson.{form_members}
-use Rattle.reports.specs.JsonTrees.{all_member_tokens}
+use Rattle.report_entries.specs.EntryJson.{form_members}
+use Rattle.report_entries.specs.JsonTrees.{all_member_tokens}
 use Rattle.reports.specs.ProcedureJson.{operations_members, outcome_fault_members, outcome_members}
 use Rattle.reports.proofs.JsonDepths.{document_depth, procedure_depth}
 use Rattle.reports.proofs.json_procedure.procedure_json.Goals as goal

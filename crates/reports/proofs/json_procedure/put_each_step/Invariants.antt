@@ -1,6 +1,6 @@
 use Rattle.std.proofs.Common.{◌≡◌, ◌++◌, map, take}
 use Rattle.reports.specs.ProcedureJson.{step_json}
-use Rattle.reports.specs.JsonTrees.{all_tokens}
+use Rattle.report_entries.specs.JsonTrees.{all_tokens}
 use Rattle.reports.proofs.json_procedure.put_each_step.Given as goal
 
 -- the steps so far

@@ -3,8 +3,8 @@ use Rattle.std.proofs.lemmas.Grind.{common_steps}
 use Rattle.json.specs.Token.{end_array}
 use Rattle.json.specs.Tree.{items_tokens}
 use Rattle.reports.specs.ProcedureJson.{step_json, steps_json}
-use Rattle.reports.specs.JsonTrees.{all_tokens, items_of}
-use Rattle.reports.proofs.JsonTokens.{of_items}
+use Rattle.report_entries.specs.JsonTrees.{all_tokens, items_of}
+use Rattle.report_entries.proofs.JsonTokens.{of_items}
 use Rattle.reports.proofs.json_procedure.put_steps.Goals as goal
 
 pub returns : goal.returns

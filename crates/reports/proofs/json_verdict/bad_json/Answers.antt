@@ -1,8 +1,8 @@
 use Rattle.std.proofs.Common.{◌≡◌, ◌++◌, ◌∷◌, map, arith}
 use Rattle.std.proofs.lemmas.Grind.{common_steps}
 use Rattle.json.specs.Token.{begin_object}
-use Rattle.reports.specs.EntryJson.{form_members}
-use Rattle.reports.specs.JsonTrees.{all_member_tokens}
+use Rattle.report_entries.specs.EntryJson.{form_members}
+use Rattle.report_entries.specs.JsonTrees.{all_member_tokens}
 use Rattle.std.specs.Prelude.{false}
 use Rattle.reports.specs.VerdictJson.{good_members, why_members}
 use Rattle.reports.proofs.JsonDepths.{document_depth, bad_depth}

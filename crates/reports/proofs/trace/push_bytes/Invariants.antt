@@ -1,5 +1,5 @@
 use Rattle.std.proofs.Common.{◌≡◌, ◌++◌, take}
-use Rattle.reports.specs.Shown.{spaced_bytes}
+use Rattle.report_entries.specs.Shown.{spaced_bytes}
 use Rattle.reports.proofs.trace.push_bytes.Given as goal
 
 -- the bytes so far

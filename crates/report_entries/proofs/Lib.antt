@@ -1,0 +1,5 @@
+pub mod Numbered
+pub mod RaisedFlags
+pub mod RowsFit
+pub mod JsonNumbers
+pub mod JsonTokens

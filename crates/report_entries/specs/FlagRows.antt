@@ -1,0 +1,69 @@
+-- The flags that the rows of a report tell of a module's memory, and whether they are raised. (docs/formats.md, "flags";
+-- this project's own)
+use Rattle.std.specs.Prelude.{ℕ, ◌+◌, ◌&&◌, if◌then◌else◌, Bool, true, false, nat_le, List, [], ◌∷◌, Some, None, codes}
+use Rattle.std.specs.List.{flat_map}
+use Rattle.paged_memory.specs.Images.{Memory}
+use Rattle.field_tables.specs.declared.field.Field.{Field}
+use Rattle.field_tables.specs.FieldRows.{row_of}
+use Rattle.field_tables.specs.FieldValues.{of_each}
+use Rattle.field_tables.specs.Readings.{bit_at, is_of_bytes}
+use Rattle.report_entries.specs.Entries.{Entry, entry, flags}
+use Rattle.report_entries.specs.declared.flag.Flag.{Flag}
+use Rattle.report_entries.specs.declared.flag.FlagName.{FlagName}
+use Rattle.report_entries.specs.declared.flag.FlagName.TheVariants.{Passed}
+use Rattle.report_entries.specs.declared.flag.Level.TheVariants.{HighAlarm, LowAlarm, HighWarning, LowWarning}
+use Rattle.report_entries.specs.declared.quantity.Quantity.{Quantity}
+use Rattle.report_entries.specs.declared.flag_rows.FlagPlace.{FlagPlace}
+use Rattle.report_entries.specs.declared.flag_rows.FlagPlace.TheVariants.{Value, Lanes}
+use Rattle.report_entries.specs.declared.flag_rows.FlagRow.{FlagRow}
+
+-- a flag of the module, by this value of the field
+abbrev pub of_module : FlagName → Field → ℕ → FlagRow
+of_module name field i = record { name = name; field = field; place = Value None i; paged = false }
+
+-- of the one lane that a module has
+abbrev pub of_one_lane : FlagName → Field → ℕ → FlagRow
+of_one_lane name field i = record { name = name; field = field; place = Value (Some 1) i; paged = false }
+
+-- of each lane, by a value of its own
+abbrev pub of_lanes : FlagName → Field → FlagRow
+of_lanes name field = record { name = name; field = field; place = Lanes; paged = false }
+
+abbrev pub of_paged_lanes : FlagName → Field → FlagRow
+of_paged_lanes name field = record { name = name; field = field; place = Lanes; paged = true }
+
+-- the four limits of the module's value, by four values of the field from the first on
+abbrev pub past_limits : Quantity → Field → ℕ → List FlagRow
+past_limits quantity field first =
+    of_module (Passed quantity HighAlarm) field first
+    ∷ of_module (Passed quantity LowAlarm) field (first + 1)
+    ∷ of_module (Passed quantity HighWarning) field (first + 2)
+    ∷ of_module (Passed quantity LowWarning) field (first + 3)
+    ∷ []
+
+abbrev pub lane_flag : Memory → FlagName → Field → ℕ → Flag × Bool
+lane_flag memory name field i = (record { name = name; lane = Some i }, bit_at memory field i)
+
+abbrev pub flags_at : Memory → FlagName → Field → FlagPlace → List (Flag × Bool)
+flags_at memory name field (Value lane i) = (record { name = name; lane = lane }, bit_at memory field i) ∷ []
+flags_at memory name field Lanes = of_each field (lane_flag memory name field)
+
+unfoldable pub row_flags : Memory → Bool → FlagRow → List (Flag × Bool)
+row_flags memory flat row = if row.paged && flat then [] else flags_at memory row.name row.field row.place
+
+-- of a module whose memory is flat or not
+abbrev pub rows_flags : Memory → Bool → List FlagRow → List (Flag × Bool)
+rows_flags memory flat rows = flat_map (row_flags memory flat) rows
+
+-- what is said of those that are raised
+abbrev pub flags_entry : List Flag → Entry
+flags_entry raised = entry (codes "flag") (flags raised)
+
+-- ---- what each row keeps to
+
+abbrev pub place_fits : Field → FlagPlace → Bool
+place_fits field (Value lane i) = nat_le 1 i && nat_le i (row_of field).count
+place_fits field Lanes = true
+
+abbrev pub flag_row_fits : FlagRow → Bool
+flag_row_fits row = is_of_bytes (row_of row.field) && place_fits row.field row.place

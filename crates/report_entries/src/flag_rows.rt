@@ -1,0 +1,158 @@
+// The flags of a report as rows: what each tells, and which bits of a module's memory raise it.
+ghost use Rattle.std.specs.Prelude.{◌≡◌, ◌++◌, ◌∷◌, [], IfOk, IsTrue, OnOk};
+ghost use Rattle.std.specs.List.{list_all};
+ghost use Rattle.field_tables.specs.FieldRows.{row_of};
+ghost use Rattle.field_tables.specs.FieldValues.{of_each};
+ghost use Rattle.field_tables.specs.Readings.{is_of_bytes};
+ghost use Rattle.report_entries.specs.FlagRows.{flag_row_fits, lane_flag, row_flags, rows_flags};
+ghost use Rattle.report_entries.specs.Flags.{raised};
+
+use crate::flag::{Flag, FlagName};
+use field_tables::{Field, bit_at, row};
+use paged_memory::Image;
+use std::alloc::{AllocError, Global};
+
+/// Which values of a field raise a flag.
+#[derive(Clone, Copy)]
+pub enum FlagPlace {
+    /// The flag of this lane, or of the module, by the value of this number.
+    Value(Option<u8>, u8),
+    /// The flag of each lane, by a value of its own.
+    Lanes,
+}
+
+/// A flag, of the module or of lanes.
+#[derive(Clone, Copy)]
+pub struct FlagRow {
+    pub name: FlagName,
+    pub field: Field,
+    pub place: FlagPlace,
+    /// Whether only for a module with paged memory.
+    pub paged: bool,
+}
+
+/// Those of these flags that are raised.
+#[tactic(auto, using(crate::proofs::RaisedFlags::raised_append))]
+pub fn raised_flags(
+    alloc: Global,
+    image: &Image,
+    flat: bool,
+    rows: &[FlagRow],
+) -> Result<Vec<Flag>, AllocError>
+    requires { IsTrue (list_all flag_row_fits rows.now) }
+    ensures { IfOk result (λ flags. flags.items ≡ raised (rows_flags image.now flat rows.now)) }
+{
+    let mut flags = Vec::new(alloc);
+    for row in rows {
+        push_row(&mut flags, image, flat, row)?;
+    }
+    Ok(flags)
+}
+
+/// All of these flags, each with whether it is raised.
+pub fn told_flags(
+    alloc: Global,
+    image: &Image,
+    flat: bool,
+    rows: &[FlagRow],
+) -> Result<Vec<(Flag, bool)>, AllocError>
+    requires { IsTrue (list_all flag_row_fits rows.now) }
+    ensures { IfOk result (λ flags. flags.items ≡ rows_flags image.now flat rows.now) }
+{
+    let mut flags = Vec::new(alloc);
+    for row in rows {
+        tell_row(&mut flags, image, flat, row)?;
+    }
+    Ok(flags)
+}
+
+#[tactic(auto, unfolding(crate::specs::FlagRows::row_flags))]
+fn tell_row(
+    flags: &mut Vec<(Flag, bool)>,
+    image: &Image,
+    flat: bool,
+    row: &FlagRow,
+) -> Result<(), AllocError>
+    requires { IsTrue (flag_row_fits row.now) }
+    ensures { OnOk result (flags.new.items ≡ flags.old.items ++ row_flags image.now flat row.now) }
+{
+    if row.paged && flat {
+        return Ok(());
+    }
+    let name = row.name;
+    match row.place {
+        FlagPlace::Value(lane, index) => {
+            flags.push((Flag { name, lane }, bit_at(image, row.field, index)))?;
+            Ok(())
+        }
+        FlagPlace::Lanes => tell_lanes(flags, image, name, row.field),
+    }
+}
+
+fn tell_lanes(
+    flags: &mut Vec<(Flag, bool)>,
+    image: &Image,
+    name: FlagName,
+    field: Field,
+) -> Result<(), AllocError>
+    requires { IsTrue (is_of_bytes (row_of field)) }
+    ensures { OnOk result (flags.new.items ≡ flags.old.items ++ of_each field (lane_flag image.now name field)) }
+{
+    for before in 0..row(field).count {
+        let lane = Some(before + 1);
+        flags.push((Flag { name, lane }, bit_at(image, field, before + 1)))?;
+    }
+    Ok(())
+}
+
+#[tactic(auto, unfolding(crate::specs::FlagRows::row_flags))]
+fn push_row(
+    flags: &mut Vec<Flag>,
+    image: &Image,
+    flat: bool,
+    row: &FlagRow,
+) -> Result<(), AllocError>
+    requires { IsTrue (flag_row_fits row.now) }
+    ensures { OnOk result (flags.new.items ≡ flags.old.items ++ raised (row_flags image.now flat row.now)) }
+{
+    if row.paged && flat {
+        return Ok(());
+    }
+    match row.place {
+        FlagPlace::Value(lane, index) => {
+            push_flag(flags, row.name, lane, bit_at(image, row.field, index))
+        }
+        FlagPlace::Lanes => push_lanes(flags, image, row.name, row.field),
+    }
+}
+
+#[tactic(auto, using(crate::proofs::RaisedFlags::raised_append))]
+fn push_lanes(
+    flags: &mut Vec<Flag>,
+    image: &Image,
+    name: FlagName,
+    field: Field,
+) -> Result<(), AllocError>
+    requires { IsTrue (is_of_bytes (row_of field)) }
+    ensures { OnOk result (flags.new.items ≡ flags.old.items ++ raised (of_each field (lane_flag image.now name field))) }
+{
+    for before in 0..row(field).count {
+        let is_raised = bit_at(image, field, before + 1);
+        push_flag(flags, name, Some(before + 1), is_raised)?;
+    }
+    Ok(())
+}
+
+fn push_flag(
+    flags: &mut Vec<Flag>,
+    name: FlagName,
+    lane: Option<u8>,
+    is_raised: bool,
+) -> Result<(), AllocError>
+    ensures { OnOk result (flags.new.items ≡ flags.old.items ++ raised ((record { name = name; lane = lane }, is_raised) ∷ [])) }
+{
+    if is_raised {
+        flags.push(Flag { name, lane })?;
+    }
+    Ok(())
+}

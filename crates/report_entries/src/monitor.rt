@@ -1,0 +1,37 @@
+// What is measured in a lane, and at each level.
+ghost use Rattle.std.specs.Prelude.{Some};
+ghost use Rattle.report_entries.specs.Monitors.{lane_measure, levels_text};
+ghost use Rattle.report_entries.specs.Shown.{measure};
+
+use crate::shown::{Measure, Thousandths};
+use field_tables::Levels;
+use std::fmt;
+
+/// A lane and what is measured there.
+#[derive(Clone, Copy)]
+pub struct LaneMeasure(pub u8, pub Measure);
+
+impl fmt::Display for LaneMeasure {
+    ghost output = { λ shown. Some (lane_measure shown.0 (measure shown.1.0 shown.1.1.now)) };
+
+    #[tactic(auto, unfolding(crate::specs::Monitors::lane_measure))]
+    fn fmt<W: fmt::Write>(&self, f: &mut fmt::Formatter<W>) -> fmt::Result {
+        let (lane, amount) = (self.0, self.1);
+        write!(f, "{lane} {amount}")
+    }
+}
+
+/// Thousandths at each level: alarms before warnings, and of both high before low.
+#[derive(Clone, Copy)]
+pub struct LevelsText(pub Levels<Thousandths>);
+
+impl fmt::Display for LevelsText {
+    ghost output = { λ shown. Some (levels_text shown.0) };
+
+    #[tactic(auto, unfolding(crate::specs::Monitors::levels_text))]
+    fn fmt<W: fmt::Write>(&self, f: &mut fmt::Formatter<W>) -> fmt::Result {
+        let (high_alarm, low_alarm) = (self.0.high_alarm, self.0.low_alarm);
+        let (high_warning, low_warning) = (self.0.high_warning, self.0.low_warning);
+        write!(f, "{high_alarm} {low_alarm} {high_warning} {low_warning}")
+    }
+}

@@ -1,0 +1,266 @@
+-- Memories that agree in halves have the same of each row of details that reads of these halves alone, which a test of rows tells.
+use Rattle.std.proofs.Common.{◌≡◌, inl, inr, ℕ, zero, suc, ◌≤◌, ◌∙◌, sym, ◌+◌, ◌-◌, ◌*◌, ◌^◌, ◌==◌, ◌&&◌, ◌||◌, Bool, true, false, List, [], ◌∷◌, ◌++◌, map, Option, Some, None, refl, ap, if◌then◌else◌, nat_le, arith}
+use Rattle.std.proofs.lemmas.Bool.{and_parts, not-true, or_cases, true≢false, leb-true}
+use Rattle.std.specs.Prelude.{ℤ, pos, ◌*ℤ◌, not, nat_lt, unsigned_abs}
+use Rattle.std.specs.List.{AllByRecursion, flat_map, list_all, list_any, range_with_len}
+use Rattle.paged_memory.specs.declared.key.Key.{Key}
+use Rattle.paged_memory.specs.Images.{Memory}
+use Rattle.code_names.specs.declared.table.Table.{Table}
+use Rattle.field_tables.specs.declared.field.Field.{Field}
+use Rattle.field_tables.specs.declared.field.Field.TheVariants.{QMaxPower, QPowerClass, QPowerClass8, QPowerClassHigh}
+use Rattle.field_tables.specs.FieldRows.{row_of}
+use Rattle.field_tables.specs.FieldValues.{field_key}
+use Rattle.field_tables.specs.Readings as readings
+use Rattle.field_tables.specs.Texts.{text_key}
+use Rattle.field_tables.specs.Units.{millis_of}
+use Rattle.field_tables.proofs.SameValues.{Agree, is_selection, same_numbers, same_reading_at, same_text}
+use Rattle.module_decoding.specs.Amounts.{amount_at, doubled, length_in, times, unit_of}
+use Rattle.module_details.specs.declared.item.Case.{Case}
+use Rattle.module_details.specs.declared.item.Case.TheVariants.{Within, Outside, Neither, LacksSince}
+use Rattle.module_details.specs.declared.item.Values.{Values}
+use Rattle.module_details.specs.declared.item.Values.TheVariants.{One, Lanes}
+use Rattle.module_details.specs.Details.{amount_fact, applies, bit_rate, bit_rate_fact, celsius_fact, fact_at, fact_entries, first_lane_fact, if_any, is_positive, is_within, lane_entries, name_if_set, name_of, named_fact, names_fact, names_of, names_up_to, pair, pair_fact, percent_fact, row_entries, rows_entries, steps_fact, temperature_fact, text_fact, values_entries}
+use Rattle.module_details.specs.PowerClasses.{class_power, power_class, power_of}
+use Rattle.module_details.specs.Rows.{Row, Item, Word, Either, Yes, Named, Names, Number, Revision, Version, Text, Oui, Amount, Steps, StepsIfAny, PairIfAny, TenthsIfAny, Celsius, Percent, Temperature, Level, Milliwatts, ModuleState, PathState, ConfigStatus, FirstLane, BitRate, PowerClass, ClassPower}
+use Rattle.report_entries.specs.Entries.{Entry}
+use Rattle.report_entries.specs.Facts as facts
+use Rattle.report_entries.specs.Facts.{Fact}
+use Rattle.report_entries.specs.PrintedUnits.{printed_in}
+use Rattle.report_entries.specs.declared.fact.Place.TheVariants.{Module, Lane}
+use Rattle.report_entries.specs.declared.printed_unit.PrintedUnit.TheVariants as units
+use Rattle.reports.proofs.SameRows.{agree_among, is_among}
+
+-- ---- the test
+
+-- a field in these halves, and such a value of one
+abbrev field_in : List Key → Field → Bool
+field_in keys field = is_among keys (field_key field) && not (is_selection field)
+
+abbrev value_in : List Key → Field → ℕ → Bool
+value_in keys field i = field_in keys field && (nat_le 1 i && nat_le i (row_of field).count)
+
+abbrev power_in : List Key → Option Field → Bool
+power_in keys None = true
+power_in keys (Some field) = value_in keys field 1
+
+abbrev item_in : List Key → Item → ℕ → Bool
+item_in keys (Word w) i = true
+item_in keys (Either field one other) i = value_in keys field i
+item_in keys (Yes field) i = value_in keys field i
+item_in keys (Named table field) i = value_in keys field i
+item_in keys (Names table field first) i = field_in keys field
+item_in keys (Number field more) i = value_in keys field i
+item_in keys (Revision field) i = value_in keys field i
+item_in keys (Version field) i = value_in keys field i && value_in keys field (i + 1)
+item_in keys (Text field) i = is_among keys (text_key field)
+item_in keys (Oui field) i = field_in keys field
+item_in keys (Amount field power) i = value_in keys field i && power_in keys power
+item_in keys (Steps field step unit) i = value_in keys field i
+item_in keys (StepsIfAny field step unit) i = value_in keys field i
+item_in keys (PairIfAny field step unit) i = value_in keys field i && value_in keys field (i + 1)
+item_in keys (TenthsIfAny base power unit) i = value_in keys base 1 && value_in keys power 1
+item_in keys (Celsius field) i = value_in keys field i
+item_in keys (Percent field) i = value_in keys field i
+item_in keys (Temperature field) i = value_in keys field i
+item_in keys (Level field) i = value_in keys field i
+item_in keys (Milliwatts field) i = value_in keys field i
+item_in keys (ModuleState field) i = value_in keys field i
+item_in keys (PathState field) i = value_in keys field i
+item_in keys (ConfigStatus field) i = value_in keys field i
+item_in keys (FirstLane apps paths) i = value_in keys apps i && value_in keys paths i
+item_in keys (BitRate rate more) i = value_in keys rate 1 && value_in keys more 1
+item_in keys PowerClass i = value_in keys QPowerClass8 1 && (value_in keys QPowerClassHigh 1 && value_in keys QPowerClass 1)
+item_in keys ClassPower i = value_in keys QMaxPower 1 && (value_in keys QPowerClass8 1 && (value_in keys QPowerClassHigh 1 && value_in keys QPowerClass 1))
+
+abbrev values_in : List Key → Item → Values → Bool
+values_in keys item (One i) = item_in keys item i
+values_in keys item (Lanes n) = list_all (item_in keys item) (range_with_len 1 n)
+
+abbrev case_in : List Key → Case → Bool
+case_in keys (Within field i low high) = value_in keys field i
+case_in keys (Outside field i low high) = value_in keys field i
+case_in keys (Neither field i j) = value_in keys field i && value_in keys field j
+case_in keys (LacksSince field i since first) = value_in keys field i && value_in keys since 1
+
+-- the row says nothing of a module that is flat or not, or reads of these halves alone
+abbrev pub detail_in : Bool → List Key → Row → Bool
+detail_in flat keys row = (row.paged && flat) || (list_all (case_in keys) row.cases && values_in keys row.item row.values)
+
+-- ---- what it says
+
+module _ (a b : Memory) (keys : List Key) (all : AllByRecursion (λ key. Agree a b key) keys) where
+  field_agrees : (field : Field) → field_in keys field ≡ true → Agree a b (field_key field)
+  field_agrees field e = agree_among a b keys all (field_key field) (and_parts (is_among keys (field_key field)) (not (is_selection field)) e).0
+
+  field_other : (field : Field) → field_in keys field ≡ true → is_selection field ≡ false
+  field_other field e = not-true (is_selection field) (and_parts (is_among keys (field_key field)) (not (is_selection field)) e).1
+
+  reading_same : (field : Field) (i : ℕ) → value_in keys field i ≡ true → readings.reading_at a field i ≡ readings.reading_at b field i
+  reading_same field i e =
+      let parts = and_parts (field_in keys field) (nat_le 1 i && nat_le i (row_of field).count) e in
+      let bounds = and_parts (nat_le 1 i) (nat_le i (row_of field).count) parts.1 in
+      same_reading_at a b field i (field_agrees field parts.0) (field_other field parts.0) (leb-true 1 i bounds.0) (leb-true i (row_of field).count bounds.1)
+
+  number_same : (field : Field) (i : ℕ) → value_in keys field i ≡ true → readings.number_at a field i ≡ readings.number_at b field i
+  number_same field i e = ap unsigned_abs (reading_same field i e)
+
+  bit_same : (field : Field) (i : ℕ) → value_in keys field i ≡ true → readings.bit_at a field i ≡ readings.bit_at b field i
+  bit_same field i e = ap (λ (n : ℕ). n == 1) (number_same field i e)
+
+  times_same : (steps : ℤ) (power : Option Field) → power_in keys power ≡ true → times a steps power ≡ times b steps power
+  times_same steps None e = refl
+  times_same steps (Some power) e = ap (doubled steps) (number_same power 1 e)
+
+  amount_same : (field : Field) (power : Option Field) (i : ℕ) → value_in keys field i ≡ true → power_in keys power ≡ true → amount_at a field power i ≡ amount_at b field power i
+  unfolding amount_at
+  amount_same field power i e counts =
+      let steps = reading_same field i e in
+      (λ j. millis_of (times a (steps j) power) (unit_of field))
+      ∙ ap (λ (steps : ℤ). millis_of steps (unit_of field)) (times_same (readings.reading_at b field i) power counts)
+
+  length_same : (base power : Field) → value_in keys base 1 ≡ true → value_in keys power 1 ≡ true → length_in a base power ≡ length_in b base power
+  length_same base power e f =
+      let size = number_same base 1 e in
+      let tens = number_same power 1 f in
+      λ i. pos (size i * 100 * 10 ^ tens i)
+
+  -- the names of the first values
+  names_from : (table : Table) (field : Field) (code : ℕ) → field_in keys field ≡ true → (first count : ℕ) → 1 ≤ first → first + count ≤ (row_of field).count + 1 →
+      flat_map (name_if_set a table field code) (range_with_len first count) ≡ flat_map (name_if_set b table field code) (range_with_len first count)
+  names_from table field code e first zero from to = refl
+  names_from table field code e first (suc count) from to =
+      let here = ap unsigned_abs (same_reading_at a b field first (field_agrees field e) (field_other field e) from (omega (arith, to))) in
+      let later = names_from table field code e (first + 1) count (omega (arith, from)) (omega (arith, to)) in
+      λ i. (if (here i == 1) then name_of table (code + (first - 1)) ∷ [] else []) ++ later i
+
+  names_same : (table : Table) (field : Field) (first : ℕ) → field_in keys field ≡ true → names_of a table field first ≡ names_of b table field first
+  unfolding names_of
+  names_same table field first e = names_from table field first e 1 (row_of field).count (omega arith) (omega arith)
+
+  class_same : item_in keys PowerClass 1 ≡ true → power_class a ≡ power_class b
+  unfolding power_class
+  class_same e =
+      let parts = and_parts (value_in keys QPowerClass8 1) (value_in keys QPowerClassHigh 1 && value_in keys QPowerClass 1) e in
+      let others = and_parts (value_in keys QPowerClassHigh 1) (value_in keys QPowerClass 1) parts.1 in
+      let eighth = bit_same QPowerClass8 1 parts.0 in
+      let high = number_same QPowerClassHigh 1 others.0 in
+      let low = number_same QPowerClass 1 others.1 in
+      λ i. if eighth i then 8 else if nat_lt 0 (high i) then high i + 4 else low i + 1
+
+  power_same : item_in keys ClassPower 1 ≡ true → class_power a ≡ class_power b
+  unfolding class_power
+  power_same e =
+      let parts = and_parts (value_in keys QMaxPower 1) (item_in keys PowerClass 1) e in
+      let eighth = bit_same QPowerClass8 1 (and_parts (value_in keys QPowerClass8 1) (value_in keys QPowerClassHigh 1 && value_in keys QPowerClass 1) parts.1).0 in
+      let most = number_same QMaxPower 1 parts.0 in
+      let class = class_same parts.1 in
+      λ i. if eighth i then most i * 100 else power_of (class i)
+
+  fact_same : (item : Item) (i : ℕ) → item_in keys item i ≡ true → fact_at a item i ≡ fact_at b item i
+  unfolding fact_at
+  fact_same (Word w) i e = refl
+  fact_same (Either field one other) i e = ap (λ (set : Bool). Some (facts.word (if set then one else other))) (bit_same field i e)
+  fact_same (Yes field) i e = ap (λ (set : Bool). Some (facts.yes set)) (bit_same field i e)
+  fact_same (Named table field) i e = ap (λ (n : ℕ). Some (named_fact table n)) (number_same field i e)
+  fact_same (Names table field first) i e = ap names_fact (names_same table field first e)
+  fact_same (Number field more) i e = ap (λ (n : ℕ). Some (facts.number (n + more))) (number_same field i e)
+  fact_same (Revision field) i e = ap (λ (n : ℕ). Some (facts.revision n)) (number_same field i e)
+  fact_same (Version field) i e =
+      let parts = and_parts (value_in keys field i) (value_in keys field (i + 1)) e in
+      let major = number_same field i parts.0 in
+      let minor = number_same field (i + 1) parts.1 in
+      λ j. Some (facts.version (major j) (minor j))
+  fact_same (Text field) i e = ap text_fact (same_text a b field (agree_among a b keys all (text_key field) e))
+  fact_same (Oui field) i e = ap (λ (bytes : List ℕ). Some (facts.oui bytes)) (same_numbers a b field (field_agrees field e) (field_other field e))
+  fact_same (Amount field power) i e =
+      let parts = and_parts (value_in keys field i) (power_in keys power) e in
+      ap (λ (z : ℤ). Some (facts.amount z (printed_in (unit_of field)))) (amount_same field power i parts.0 parts.1)
+  fact_same (Steps field step unit) i e = ap (λ (z : ℤ). Some (steps_fact z step unit)) (reading_same field i e)
+  fact_same (StepsIfAny field step unit) i e = ap (λ (z : ℤ). if_any (is_positive z) (steps_fact z step unit)) (reading_same field i e)
+  fact_same (PairIfAny field step unit) i e =
+      let parts = and_parts (value_in keys field i) (value_in keys field (i + 1)) e in
+      let high = number_same field i parts.0 in
+      let low = number_same field (i + 1) parts.1 in
+      λ j. pair_fact (pair (high j) (low j)) step unit
+  fact_same (TenthsIfAny base power unit) i e =
+      let parts = and_parts (value_in keys base 1) (value_in keys power 1) e in
+      ap (λ (z : ℤ). amount_fact z unit) (length_same base power parts.0 parts.1)
+  fact_same (Celsius field) i e = ap (λ (n : ℕ). Some (celsius_fact n)) (number_same field i e)
+  fact_same (Percent field) i e = ap (λ (z : ℤ). Some (percent_fact z)) (reading_same field i e)
+  fact_same (Temperature field) i e = ap (λ (z : ℤ). Some (temperature_fact z)) (reading_same field i e)
+  fact_same (Level field) i e = ap (λ (z : ℤ). Some (facts.level (unsigned_abs z))) (reading_same field i e)
+  fact_same (Milliwatts field) i e = ap (λ (z : ℤ). Some (facts.milliwatts (unsigned_abs z))) (reading_same field i e)
+  fact_same (ModuleState field) i e = ap (λ (n : ℕ). Some (facts.module_state n)) (number_same field i e)
+  fact_same (PathState field) i e = ap (λ (n : ℕ). Some (facts.path_state n)) (number_same field i e)
+  fact_same (ConfigStatus field) i e = ap (λ (n : ℕ). Some (facts.config_status n)) (number_same field i e)
+  fact_same (FirstLane apps paths) i e =
+      let parts = and_parts (value_in keys apps i) (value_in keys paths i) e in
+      let app = number_same apps i parts.0 in
+      let path = number_same paths i parts.1 in
+      λ j. first_lane_fact (app j) (path j)
+  fact_same (BitRate rate more) i e =
+      let parts = and_parts (value_in keys rate 1) (value_in keys more 1) e in
+      let slow = number_same rate 1 parts.0 in
+      let fast = number_same more 1 parts.1 in
+      λ j. bit_rate_fact (bit_rate (slow j) (fast j))
+  fact_same PowerClass i e = ap (λ (n : ℕ). Some (facts.number n)) (class_same e)
+  fact_same ClassPower i e = ap (λ (n : ℕ). Some (facts.amount (pos n) units.Watt)) (power_same e)
+
+  lanes_same : (name : List ℕ) (item : Item) (lanes : List ℕ) → list_all (item_in keys item) lanes ≡ true → flat_map (lane_entries a name item) lanes ≡ flat_map (lane_entries b name item) lanes
+  lanes_same name item [] e = refl
+  lanes_same name item (lane ∷ lanes) e =
+      let parts = and_parts (item_in keys item lane) (list_all (item_in keys item) lanes) e in
+      let here = fact_same item lane parts.0 in
+      let later = lanes_same name item lanes parts.1 in
+      ap (λ (f : Option Fact). fact_entries name (Lane lane) f ++ flat_map (lane_entries a name item) lanes) here
+      ∙ ap (λ (rest : List Entry). lane_entries b name item lane ++ rest) later
+
+  values_same : (name : List ℕ) (item : Item) (values : Values) → values_in keys item values ≡ true → values_entries a name item values ≡ values_entries b name item values
+  values_same name item (One i) e = ap (λ (f : Option Fact). fact_entries name Module f) (fact_same item i e)
+  values_same name item (Lanes n) e = lanes_same name item (range_with_len 1 n) e
+
+  applies_same : (case : Case) → case_in keys case ≡ true → applies a case ≡ applies b case
+  applies_same (Within field i low high) e = ap (λ (n : ℕ). is_within low high n) (number_same field i e)
+  applies_same (Outside field i low high) e = ap (λ (n : ℕ). not (is_within low high n)) (number_same field i e)
+  applies_same (Neither field i j) e =
+      let parts = and_parts (value_in keys field i) (value_in keys field j) e in
+      let one = bit_same field i parts.0 in
+      let other = bit_same field j parts.1 in
+      λ k. not (one k || other k)
+  applies_same (LacksSince field i since first) e =
+      let parts = and_parts (value_in keys field i) (value_in keys since 1) e in
+      let set = bit_same field i parts.0 in
+      let number = number_same since 1 parts.1 in
+      λ k. not (set k) && nat_le first (number k)
+
+  any_same : (cases : List Case) → list_all (case_in keys) cases ≡ true → list_any (applies a) cases ≡ list_any (applies b) cases
+  any_same [] e = refl
+  any_same (case ∷ cases) e =
+      let parts = and_parts (case_in keys case) (list_all (case_in keys) cases) e in
+      let here = applies_same case parts.0 in
+      let later = any_same cases parts.1 in
+      λ i. here i || later i
+
+  unless : (absent : Bool) (s t : Bool) (u v : List Entry) → (absent ≡ false → (s ≡ t) × (u ≡ v)) → (if absent || s then [] else u) ≡ (if absent || t then [] else v)
+  unless true s t u v same = refl
+  unless false s t u v same = let both = same refl in let test = both.0 in let said = both.1 in λ i. if test i then [] else said i
+
+  row_same : (flat : Bool) (row : Row) → detail_in flat keys row ≡ true → row_entries a flat row ≡ row_entries b flat row
+  unfolding row_entries
+  row_same flat row e =
+      unless (row.paged && flat) (list_any (applies a) row.cases) (list_any (applies b) row.cases)
+      (values_entries a row.name row.item row.values) (values_entries b row.name row.item row.values) (λ shown.
+      elim (or_cases (row.paged && flat) (list_all (case_in keys) row.cases && values_in keys row.item row.values) e) [
+        | inl absent ↦ absurd (true≢false (sym absent ∙ shown))
+        | inr reads ↦
+            let parts = and_parts (list_all (case_in keys) row.cases) (values_in keys row.item row.values) reads in
+            (any_same row.cases parts.0, values_same row.name row.item row.values parts.1)
+      ])
+
+  pub details_same : (flat : Bool) (rows : List Row) → list_all (detail_in flat keys) rows ≡ true → rows_entries a flat rows ≡ rows_entries b flat rows
+  details_same flat [] e = refl
+  details_same flat (row ∷ rows) e =
+      let parts = and_parts (detail_in flat keys row) (list_all (detail_in flat keys) rows) e in
+      let here = row_same flat row parts.0 in
+      let later = details_same flat rows parts.1 in
+      λ i. here i ++ later i

@@ -1,8 +1,0 @@
-use Rattle.std.proofs.Common.{◌≡◌, ◌++◌, map, take}
-use Rattle.reports.specs.EntryJson.{flag_json}
-use Rattle.reports.specs.JsonTrees.{all_tokens}
-use Rattle.reports.proofs.entry_json.put_each_flag.Given as goal
-
--- the flags so far
-abbrev pub invariant-loop-flag : goal.invariant-loop-flag
-invariant-loop-flag l = l.out ≡ l.initial.out ++ all_tokens (map flag_json (take l.flag-index l.flags))

@@ -1,8 +1,0 @@
-use Rattle.std.proofs.Common.{◌≡◌, ◌++◌, take}
-use Rattle.text_lines.specs.Lines.{text_of}
-use Rattle.reports.specs.EntryText.{lane_state_lines}
-use Rattle.reports.proofs.entry_text.push_lane_states.Given as goal
-
--- the lanes so far
-abbrev pub invariant-loop-index : goal.invariant-loop-index
-invariant-loop-index l = l.report ≡ l.initial.report ++ text_of (lane_state_lines l.name (take l.index l.states))

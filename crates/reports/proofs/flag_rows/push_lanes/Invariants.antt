@@ -1,9 +1,0 @@
-use Rattle.std.proofs.Common.{◌≡◌, ◌++◌, map}
-use Rattle.std.specs.List.{range_with_len}
-use Rattle.reports.specs.FlagRows.{lane_flag}
-use Rattle.reports.specs.Flags.{raised}
-use Rattle.reports.proofs.flag_rows.push_lanes.Given as goal
-
--- the lanes so far
-abbrev pub invariant-loop-before : goal.invariant-loop-before
-invariant-loop-before l = l.flags.items ≡ l.initial.flags.items ++ raised (map (lane_flag l.image l.name l.field) (range_with_len 1 l.before))

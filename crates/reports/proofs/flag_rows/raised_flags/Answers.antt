@@ -1,7 +1,0 @@
-use Rattle.std.proofs.Common.{arith}
-use Rattle.reports.specs.FlagRows.{flag_row_fits}
-use Rattle.reports.proofs.RowsFit.{at_fits}
-use Rattle.reports.proofs.flag_rows.raised_flags.Goals as goal
-
-pub push_row-requires : goal.push_row-requires
-push_row-requires c = at_fits flag_row_fits c.args.rows.now c.loop-row.row-index _ (omega (arith, c.loop-row-test.true)) c.requires

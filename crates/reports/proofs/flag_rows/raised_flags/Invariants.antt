@@ -1,8 +1,0 @@
-use Rattle.std.proofs.Common.{◌≡◌, take}
-use Rattle.reports.specs.FlagRows.{rows_flags}
-use Rattle.reports.specs.Flags.{raised}
-use Rattle.reports.proofs.flag_rows.raised_flags.Given as goal
-
--- the flags so far
-abbrev pub invariant-loop-row : goal.invariant-loop-row
-invariant-loop-row l = l.flags.items ≡ raised (rows_flags l.image l.flat (take l.row-index l.rows))

@@ -1,0 +1,72 @@
+// All that a module says of itself.
+ghost use Rattle.reports.specs.Answered.{Reports, ReportsJson, Says};
+ghost use Rattle.reports.specs.Details as spec;
+ghost use Rattle.reports.specs.Details.{details_entries, details_fault, details_lines};
+ghost use Rattle.paged_memory.specs.declared.family.Family.TheVariants as families;
+
+use crate::family::family_of;
+use crate::fault::ReportFault;
+use bus_model::Dev;
+use module_decoding::absent_detail_page;
+use module_details::{cmis_details, lacks_diagnostics, qsfp_details, sfp_details};
+use paged_memory::{Family, Image, Key};
+use report_entries::{Entry, json, text};
+use std::alloc::Global;
+
+/// All that the module says of itself, line by line.
+#[tactic(auto, unfolding(report_entries::specs::Entries::said_in, crate::specs::Details::details_lines))]
+pub fn details(alloc: Global, image: &Image) -> Result<Vec<u8>, ReportFault>
+    ensures { Reports (details_fault image.now) (details_lines image.now) result }
+{
+    Ok(text(alloc, &details_entries(alloc, image)?)?)
+}
+
+/// The same as JSON.
+#[tactic(auto, unfolding(report_entries::specs::Entries::said_in))]
+pub fn details_json(alloc: Global, image: &Image) -> Result<Vec<u8>, ReportFault>
+    ensures { ReportsJson (details_fault image.now) (details_entries image.now) result }
+{
+    Ok(json(alloc, &details_entries(alloc, image)?)?)
+}
+
+#[tactic(auto, unfolding(crate::specs::Details::details_fault, crate::specs::Details::details_entries))]
+fn details_entries(alloc: Global, image: &Image) -> Result<Vec<Entry>, ReportFault>
+    ensures { Says (details_fault image.now) (details_entries image.now) result }
+{
+    match family_of(image)? {
+        Family::Cmis => of_cmis(alloc, image),
+        Family::Sff8636 => of_sff8636(alloc, image),
+        Family::Sff8472 => of_sff8472(alloc, image),
+    }
+}
+
+fn of_cmis(alloc: Global, image: &Image) -> Result<Vec<Entry>, ReportFault>
+    ensures { Says (spec.fault_in families.Cmis image.now) (spec.entries_in families.Cmis image.now) result }
+{
+    if let Some(key) = absent_detail_page(image) {
+        return Err(ReportFault::Absent(key));
+    }
+    Ok(cmis_details(alloc, image)?)
+}
+
+fn of_sff8636(alloc: Global, image: &Image) -> Result<Vec<Entry>, ReportFault>
+    ensures { Says (spec.fault_in families.Sff8636 image.now) (spec.entries_in families.Sff8636 image.now) result }
+{
+    if let Some(fault) = sff8636_map::identity_refusal(image) {
+        return Err(ReportFault::Sff(fault));
+    }
+    Ok(qsfp_details(alloc, image)?)
+}
+
+fn of_sff8472(alloc: Global, image: &Image) -> Result<Vec<Entry>, ReportFault>
+    ensures { Says (spec.fault_in families.Sff8472 image.now) (spec.entries_in families.Sff8472 image.now) result }
+{
+    if let Some(fault) = sff8472_map::module_refusal(image) {
+        return Err(ReportFault::Sff(fault));
+    }
+    let diagnostics = Key::lower(Dev::A2);
+    if !lacks_diagnostics(image) && !image.has(diagnostics) {
+        return Err(ReportFault::Absent(diagnostics));
+    }
+    Ok(sfp_details(alloc, image)?)
+}
