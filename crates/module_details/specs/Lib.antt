@@ -1,0 +1,10 @@
+pub mod PowerClasses
+pub mod Rows
+pub mod RowTables
+pub mod Fits
+pub mod Details
+pub mod CmisDetails
+pub mod QsfpDetails
+pub mod SfpDetails
+pub mod AppDetails
+pub mod Families

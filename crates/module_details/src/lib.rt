@@ -1,0 +1,12 @@
+//! All that a module says of itself: a table of facts for each family, and what a module's memory makes of it.
+#![tactic(auto)]
+
+mod apps;
+mod details;
+mod facts;
+mod item;
+mod power_class;
+mod said_rows;
+mod tables;
+
+pub use details::{cmis_details, lacks_diagnostics, qsfp_details, sfp_details};

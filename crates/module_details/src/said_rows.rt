@@ -1,0 +1,141 @@
+// What rows say of a module's memory.
+ghost use Rattle.std.specs.Prelude.{◌≡◌, ◌++◌, ◌≤◌, IsTrue, OnOk, option_map};
+ghost use Rattle.std.specs.List.{list_all, list_any, range_with_len, flat_map};
+ghost use Rattle.report_entries.specs.Entries.{said_in};
+ghost use Rattle.report_entries.specs.Facts.{fact_of};
+ghost use Rattle.module_details.specs.Details as spec;
+ghost use Rattle.module_details.specs.Details.{fact_entries, lane_entries, row_entries, rows_entries, values_entries};
+ghost use Rattle.module_details.specs.Fits.{case_fits, item_fits, row_fits, values_fit};
+ghost use Rattle.module_details.specs.RowTables.{item_in, row_in, rows_in};
+
+use crate::facts::fact_at;
+use crate::item::{Case, Item, Line, Values};
+use field_tables::{bit_at, number_at};
+use paged_memory::Image;
+use report_entries::{Entry, Fact, Place, Said, say};
+use std::alloc::AllocError;
+
+/// Adds what these rows say of a module, whose memory is flat or not.
+pub fn say_rows(
+    entries: &mut Vec<Entry>,
+    image: &Image,
+    flat: bool,
+    rows: &'static [Line],
+) -> Result<(), AllocError>
+    requires { IsTrue (list_all row_fits (rows_in rows.now)) }
+    ensures { OnOk result (said_in entries.new ≡ said_in entries.old ++ rows_entries image.now flat (rows_in rows.now)) }
+{
+    for row in rows {
+        say_row(entries, image, flat, row)?;
+    }
+    Ok(())
+}
+
+#[tactic(auto, unfolding(crate::specs::Details::row_entries))]
+fn say_row(
+    entries: &mut Vec<Entry>,
+    image: &Image,
+    flat: bool,
+    row: &'static Line,
+) -> Result<(), AllocError>
+    requires { IsTrue (row_fits (row_in row.now)) }
+    ensures { OnOk result (said_in entries.new ≡ said_in entries.old ++ row_entries image.now flat (row_in row.now)) }
+{
+    if row.paged && flat || applies_any(image, row.cases) {
+        return Ok(());
+    }
+    say_values(entries, image, row.name, &row.item, row.values)
+}
+
+fn say_values(
+    entries: &mut Vec<Entry>,
+    image: &Image,
+    name: &'static str,
+    item: &Item<&'static str>,
+    values: Values,
+) -> Result<(), AllocError>
+    requires { IsTrue (values_fit (item_in item.now) values) }
+    ensures { OnOk result (said_in entries.new
+        ≡ said_in entries.old ++ values_entries image.now name.now (item_in item.now) values) }
+{
+    match values {
+        Values::One(index) => {
+            say_fact(entries, name, Place::Module, fact_at(image, item, index))
+        }
+        Values::Lanes(count) => say_lanes(entries, image, name, item, count),
+    }
+}
+
+fn say_lanes(
+    entries: &mut Vec<Entry>,
+    image: &Image,
+    name: &'static str,
+    item: &Item<&'static str>,
+    count: u8,
+) -> Result<(), AllocError>
+    requires fits { IsTrue (list_all (item_fits (item_in item.now)) (range_with_len 1 count)) }
+    requires count { count ≤ 8 }
+    ensures { OnOk result (said_in entries.new
+        ≡ said_in entries.old ++ flat_map (lane_entries image.now name.now (item_in item.now)) (range_with_len 1 count)) }
+{
+    for before in 0..count {
+        let lane = before + 1;
+        say_fact(entries, name, Place::Lane(lane), fact_at(image, item, lane))?;
+    }
+    Ok(())
+}
+
+#[tactic(auto, unfolding(crate::specs::Details::fact_entries))]
+fn say_fact(
+    entries: &mut Vec<Entry>,
+    name: &'static str,
+    place: Place,
+    fact: Option<Fact>,
+) -> Result<(), AllocError>
+    ensures { OnOk result (said_in entries.new
+        ≡ said_in entries.old ++ fact_entries name.now place (option_map fact_of fact)) }
+{
+    match fact {
+        None => Ok(()),
+        Some(fact) => say(entries, name, Said::Fact(place, fact)),
+    }
+}
+
+fn applies_any(image: &Image, cases: &'static [Case]) -> bool
+    requires { IsTrue (list_all case_fits cases.now) }
+    ensures { result ≡ list_any (spec.applies image.now) cases.now }
+{
+    for case in cases {
+        if applies(image, *case) {
+            return true;
+        }
+    }
+    false
+}
+
+fn applies(image: &Image, case: Case) -> bool
+    requires { IsTrue (case_fits case) }
+    ensures { result ≡ spec.applies image.now case }
+{
+    match case {
+        Case::Within(field, index, low, high) => {
+            is_within(low, high, number_at(image, field, index))
+        }
+        Case::Outside(field, index, low, high) => {
+            !is_within(low, high, number_at(image, field, index))
+        }
+        Case::Neither(field, one, other) => {
+            !(bit_at(image, field, one) || bit_at(image, field, other))
+        }
+        Case::LacksSince(field, index, since, first) => {
+            let number = number_at(image, since, 1);
+            !bit_at(image, field, index) && number >= first
+        }
+    }
+}
+
+fn is_within(low: u8, high: u8, number: u8) -> bool
+    ensures { result ≡ spec.is_within low high number }
+{
+    low <= number && number <= high
+}
