@@ -1,0 +1,10 @@
+pub mod PathsFrom
+pub mod RankedChoices
+pub mod ToldStates
+pub mod FoundPaths
+mod GrownPlans
+mod AheadPlans
+mod WalkedStates
+mod LessSums
+mod FairChoices
+mod EachSum

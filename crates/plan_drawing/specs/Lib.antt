@@ -1,0 +1,9 @@
+pub mod Owners
+pub mod Picture
+pub mod UsedApps
+pub mod Choices
+pub mod Walks
+pub mod Why
+pub mod Alternatives
+pub mod Svg
+pub mod Drawings

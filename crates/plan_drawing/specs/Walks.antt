@@ -1,0 +1,36 @@
+-- How a plan comes from the start over all host lanes. (docs/planning.md, "States and steps"; this project's own)
+use Rattle.std.specs.Prelude.{ℕ, ◌+◌, ◌==◌, Bool, if◌then◌else◌, List, [], ◌∷◌, Option, Some, None, find}
+use Rattle.std.specs.List.{range_with_len}
+use Rattle.applications.specs.Advertised.{Advertised}
+use Rattle.applications.specs.Weights.{HostWeights}
+use Rattle.plan_certificate.specs.declared.path.Path.{Path}
+use Rattle.plan_certificate.specs.declared.state.State.{State}
+use Rattle.plan_certificate.specs.declared.state.Step.{Step}
+use Rattle.plan_certificate.specs.States.{start, free_step, path_step}
+
+abbrev pub begins_at : ℕ → Path → Bool
+begins_at lane path = path.host == lane
+
+-- the path of the plan that begins at a host lane
+abbrev pub path_at : List Path → ℕ → Option Path
+path_at paths lane = find (begins_at lane) paths
+
+abbrev pub step_of : Advertised → HostWeights → State → Option Path → Step
+step_of advert weights state (Some path) = path_step advert weights state path
+step_of advert weights state None = free_step state
+
+-- where the plan comes to from a state
+abbrev pub next_state : Advertised → HostWeights → List Path → State → State
+next_state advert weights paths state = (step_of advert weights state (path_at paths (state.boundary + 1))).end
+
+-- the states in which it decides on these host lanes; those that a path takes after its first are decided with that
+unfoldable pub states_on : Advertised → HostWeights → List Path → State → List ℕ → List State
+states_on advert weights paths state [] = []
+states_on advert weights paths state (lane ∷ lanes) =
+    if state.boundary + 1 == lane
+    then state ∷ states_on advert weights paths (next_state advert weights paths state) lanes
+    else states_on advert weights paths state lanes
+
+-- from the start on, over all host lanes
+abbrev pub states_of : Advertised → HostWeights → List Path → List State
+states_of advert weights paths = states_on advert weights paths start (range_with_len 1 8)

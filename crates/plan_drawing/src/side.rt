@@ -1,0 +1,6 @@
+/// A side of the module.
+#[derive(Clone, Copy, Debug, PartialEq, Eq)]
+pub enum Side {
+    Host,
+    Media,
+}
