@@ -1,0 +1,280 @@
+-- The metrics of each image are well formed, of whatever family its module is.
+use Rattle.std.proofs.Common.{◌≡◌, inl, inr, ℕ, ◌+◌, ◌<◌, Bool, true, false, nat_lt, List, [], ◌∷◌, ◌++◌, map, decimal, Option, None, Some, option_map, refl, sym, ap, ◌∙◌, subst, append_assoc, append-nil, if◌then◌else◌, arith}
+use Rattle.std.proofs.lemmas.Bool.{and_parts}
+use Rattle.std.proofs.lemmas.Bool.Decides.{nat_tests}
+use Rattle.std.proofs.lemmas.Fmt.{decimal_digit}
+use Rattle.std.proofs.lemmas.Grind.{flat_map-append}
+use Rattle.std.specs.List.{AllByRecursion, flat_map, list_all}
+use Rattle.paged_memory.specs.declared.family.Family.{Family}
+use Rattle.paged_memory.specs.declared.family.Family.TheVariants.{Cmis, Sff8636, Sff8472}
+use Rattle.paged_memory.specs.Images.{Memory}
+use Rattle.field_tables.specs.declared.field.Field.TheVariants.{QFlatMemory}
+use Rattle.field_tables.specs.Readings.{bit}
+use Rattle.module_decoding.specs.CmisPages.{is_flat}
+use Rattle.module_decoding.specs.ModuleFamilies.{family_of}
+use Rattle.report_entries.specs.declared.flag.Flag.{Flag}
+use Rattle.report_entries.specs.Entries.{Entry, entry}
+use Rattle.report_entries.specs.FlagNames.{condition_name, flag_name, level_name}
+use Rattle.report_entries.specs.FlagRows.{flags_entry, row_flags, rows_flags}
+use Rattle.report_entries.specs.Flags.{raised}
+use Rattle.report_entries.specs.Quantities.{name_of}
+use Rattle.report_entries.specs.Rows.{Row, row_fits, rows_entries}
+use Rattle.reports.specs.declared.fault.ReportFault.{ReportFault}
+use Rattle.reports.specs.CmisFlags as cmis_flags
+use Rattle.reports.specs.CmisInventory as cmis_identity
+use Rattle.reports.specs.CmisMonitors as cmis_measures
+use Rattle.reports.specs.FlagsByFamily as flags
+use Rattle.reports.specs.FlagsByFamily.{flags_entries, flags_fault, flags_told}
+use Rattle.reports.specs.Inventory as identities
+use Rattle.reports.specs.Inventory.{inventory_entries, inventory_fault}
+use Rattle.reports.specs.MonitorsByFamily as measures
+use Rattle.reports.specs.MonitorsByFamily.{monitors_entries, monitors_fault}
+use Rattle.reports.specs.SffFlags as sff_flags
+use Rattle.reports.specs.SffInventory as sff_identity
+use Rattle.reports.specs.SffMonitors as sff_measures
+use Rattle.module_metrics.specs.AddedLabels.{AreAdded}
+use Rattle.module_metrics.specs.Answers.{code_of, first_fault, metrics_of, told_flags, unless}
+use Rattle.module_metrics.specs.BaseUnits.{base_name}
+use Rattle.module_metrics.specs.CommonLabels.{is_taken, row_keys}
+use Rattle.module_metrics.specs.Exposition.{Label, label, metric, sample}
+use Rattle.module_metrics.specs.FlagMetrics.{count_metric, count_name, each_raised, flag_sample, flags_metric, flags_name}
+use Rattle.module_metrics.specs.Laws.{EveryModulesMetricsAreRight}
+use Rattle.module_metrics.specs.MetricNames.{amount_name, scope_name}
+use Rattle.module_metrics.specs.ModuleMetrics.{fault_name, info_labels, info_name, module_metrics, said_metrics, sums_name}
+use Rattle.module_metrics.specs.StateMetrics.{paths_name, state_name, statuses_name}
+use Rattle.module_metrics.specs.WellFormed.{AreApart, AreMetrics}
+use Rattle.module_metrics.proofs.ModuleRight.{AreRight, IsSaid, IsSum, module_right}
+use Rattle.module_metrics.proofs.RowMetrics.{EntryIsPlain, both, entry_names, is_sure, keys_sub, names_sub, plain_rows, row_names, row_sums, sum_labels, sums_sub}
+use Rattle.module_metrics.proofs.SaidMetrics.{flag_labels}
+use Rattle.module_metrics.proofs.Sublists.{Sub, apart_by, apart_sub, sub_all, sub_append, sub_none}
+use Rattle.module_metrics.proofs.Tested.{are_new, tested}
+
+-- ---- flags
+
+-- the values of a sample's labels, each before a zero
+abbrev values : List Label → List ℕ
+values labels = flat_map (λ (l : Label). l.value ++ 0 ∷ []) labels
+
+abbrev small_lane : Option ℕ → Bool
+small_lane None = true
+small_lane (Some lane) = nat_lt lane 10
+
+abbrev has_small_lane : Flag × Bool → Bool
+has_small_lane f = small_lane f.0.lane
+
+-- the same of a flag whose lane has one digit
+abbrev lane_value : Option ℕ → List ℕ
+lane_value None = []
+lane_value (Some lane) = (48 + lane) ∷ 0 ∷ []
+
+abbrev flag_value : Flag × Bool → List ℕ
+flag_value f = flag_name f.0.name ++ 0 ∷ lane_value f.0.lane
+
+same_value_in : (f : Flag × Bool) (lane : Option ℕ) → f.0.lane ≡ lane → small_lane lane ≡ true → values (flag_labels f) ≡ flag_value f
+unfolding flag_sample sample label
+same_value_in f None e small = rw e (append-nil (flag_name f.0.name ++ 0 ∷ []))
+same_value_in f (Some lane) e small =
+    let below : lane < 10 = grind (arith, nat_tests) in
+    let digit : decimal lane ≡ (48 + lane) ∷ [] = decimal_digit lane below in
+    rw e (ap (λ t. (flag_name f.0.name ++ 0 ∷ []) ++ ((t ++ 0 ∷ []) ++ [])) digit ∙ append_assoc (flag_name f.0.name) (0 ∷ []) ((48 + lane) ∷ 0 ∷ []))
+
+same_values : (told : List (Flag × Bool)) → list_all has_small_lane told ≡ true → map values (map flag_labels told) ≡ map flag_value told
+same_values [] small = refl
+same_values (f ∷ told) small =
+    let parts = and_parts (has_small_lane f) (list_all has_small_lane told) small in
+    ap (λ v. v ∷ map values (map flag_labels told)) (same_value_in f f.0.lane refl parts.0) ∙ ap (λ vs. flag_value f ∷ vs) (same_values told parts.1)
+
+-- flags differ if their names and lanes do
+flags_apart : (told : List (Flag × Bool)) → list_all has_small_lane told ≡ true → are_new (map flag_value told) ≡ true → AreApart (map flag_labels told)
+flags_apart told small new =
+    apart_by values (map flag_labels told) (subst (λ vs. AreApart vs) (sym (same_values told small)) (tested (map flag_value told) new))
+
+pub cmis_flags_apart : (memory : Memory) (flat : Bool) → AreApart (map flag_labels (rows_flags memory flat cmis_flags.flag_rows))
+unfolding row_flags cmis_flags.flag_rows flag_name level_name condition_name name_of
+cmis_flags_apart memory true = flags_apart (rows_flags memory true cmis_flags.flag_rows) refl refl
+cmis_flags_apart memory false = flags_apart (rows_flags memory false cmis_flags.flag_rows) refl refl
+
+pub qsfp_flags_apart : (memory : Memory) → AreApart (map flag_labels (sff_flags.qsfp_flags memory))
+unfolding row_flags sff_flags.qsfp_flags sff_flags.qsfp_rows flag_name level_name condition_name name_of
+qsfp_flags_apart memory = flags_apart (sff_flags.qsfp_flags memory) refl refl
+
+pub sfp_flags_apart : (memory : Memory) → AreApart (map flag_labels (sff_flags.sfp_flags memory))
+unfolding row_flags sff_flags.sfp_flags sff_flags.sfp_rows flag_name level_name condition_name name_of
+sfp_flags_apart memory = flags_apart (sff_flags.sfp_flags memory) refl refl
+
+raised_sub : (told : List (Flag × Bool)) → Sub (map flag_labels (each_raised (raised told))) (map flag_labels told)
+unfolding flag_sample sample
+raised_sub [] = refl
+raised_sub ((f, true) ∷ told) = inr (map flag_labels (each_raised (raised told)), refl, raised_sub told)
+raised_sub ((f, false) ∷ told) = inl (raised_sub told)
+
+abbrev flag_names : List (List ℕ)
+flag_names = count_name false ∷ flags_name false ∷ count_name true ∷ flags_name true ∷ []
+
+flags_named : (all : Bool) (told : List (Flag × Bool)) (raised : List Flag) → entry_names all told (flags_entry raised) ≡ flag_names
+unfolding entry said_metrics count_metric flags_metric metric
+flags_named all told raised = refl
+
+flags_plain : (told : List (Flag × Bool)) → AreApart (map flag_labels told) → EntryIsPlain (flags_entry (raised told))
+unfolding entry
+flags_plain told apart = apart_sub (map flag_labels (each_raised (raised told))) (map flag_labels told) (raised_sub told) apart
+
+-- ---- what reports say if they have no fault
+
+unless_sub : {A B : Type 0} (f : A → List B) (fault : Option ReportFault) (xs : List A) (ys : List B) → Sub (flat_map f xs) ys → Sub (flat_map f (unless fault xs)) ys
+unless_sub f None xs ys sub = sub
+unless_sub f (Some fault) xs ys sub = sub_none ys
+
+unless_all : {A : Type 0} (P : A → Type 0) (fault : Option ReportFault) (xs : List A) → AllByRecursion P xs → AllByRecursion P (unless fault xs)
+unless_all P None xs all = all
+unless_all P (Some fault) xs all = tt
+
+keys_unless : (memory : Memory) (flat : Bool) (rows : List Row) → list_all is_sure rows ≡ true → (fault : Option ReportFault)
+    → Sub (map (λ (l : Label). l.key) (info_labels (unless fault (rows_entries memory flat rows)))) (flat_map row_keys rows)
+keys_unless memory flat rows sure None = keys_sub memory flat rows sure
+keys_unless memory flat rows sure (Some fault) = sub_none (flat_map row_keys rows)
+
+said_of : (all : Bool) (told : List (Flag × Bool)) (memory : Memory) (flat other : Bool) (identity_rows measured_rows : List Row) (warned : List Entry) (warned_names : List (List ℕ))
+    → list_all is_sure identity_rows ≡ true → list_all row_fits identity_rows ≡ true → list_all row_fits measured_rows ≡ true
+    → Sub (flat_map (entry_names all told) warned) warned_names → AllByRecursion EntryIsPlain warned → (first second third : Option ReportFault)
+    → IsSaid (unless first (rows_entries memory flat identity_rows)) (unless second (rows_entries memory other measured_rows)) (unless third warned) identity_rows measured_rows warned_names all told
+said_of all told memory flat other identity_rows measured_rows warned warned_names sure fits more named plain first second third = record {
+  identity_keys = keys_unless memory flat identity_rows sure first;
+  identity_named = unless_sub (entry_names all told) first (rows_entries memory flat identity_rows) (flat_map row_names identity_rows) (names_sub all told memory flat identity_rows);
+  measured_named = unless_sub (entry_names all told) second (rows_entries memory other measured_rows) (flat_map row_names measured_rows) (names_sub all told memory other measured_rows);
+  warned_named = unless_sub (entry_names all told) third warned warned_names named;
+  identity_sums = unless_sub sum_labels first (rows_entries memory flat identity_rows) (flat_map row_sums identity_rows) (sums_sub memory flat identity_rows);
+  measured_sums = unless_sub sum_labels second (rows_entries memory other measured_rows) (flat_map row_sums measured_rows) (sums_sub memory other measured_rows);
+  identity_plain = unless_all EntryIsPlain first (rows_entries memory flat identity_rows) (plain_rows memory flat identity_rows fits);
+  measured_plain = unless_all EntryIsPlain second (rows_entries memory other measured_rows) (plain_rows memory other measured_rows more);
+  warned_plain = unless_all EntryIsPlain third warned plain;
+}
+
+-- the flags that are told if that is asked for
+abbrev asked : Bool → Option ReportFault → List (Flag × Bool) → List (Flag × Bool)
+asked all fault told = if all then unless fault told else []
+
+asked_apart : (all : Bool) (fault : Option ReportFault) (told : List (Flag × Bool)) → AreApart (map flag_labels told) → AreApart (map flag_labels (asked all fault told))
+asked_apart false fault told apart = tt
+asked_apart true None told apart = apart
+asked_apart true (Some fault) told apart = tt
+
+-- ---- CMIS
+
+cmis_rows : AreRight cmis_identity.inventory_rows cmis_measures.monitor_rows (flat_map row_names cmis_flags.state_rows ++ flag_names)
+unfolding is_taken cmis_identity.inventory_rows cmis_measures.monitor_rows cmis_flags.state_rows sff_identity.qsfp_rows sff_identity.sfp_rows info_name sums_name fault_name amount_name scope_name base_name state_name paths_name statuses_name count_name flags_name label
+cmis_rows = record { keys_own = refl; keys_new = refl; sums_new = refl; names_new = refl }
+
+cmis_sums : AllByRecursion IsSum (flat_map row_sums cmis_identity.inventory_rows ++ flat_map row_sums cmis_measures.monitor_rows)
+unfolding cmis_identity.inventory_rows cmis_measures.monitor_rows label
+cmis_sums = (refl, (refl, tt))
+
+cmis_fit : (list_all is_sure cmis_identity.inventory_rows ≡ true) × (list_all row_fits cmis_identity.inventory_rows ≡ true)
+    × (list_all row_fits cmis_measures.monitor_rows ≡ true) × (list_all row_fits cmis_flags.state_rows ≡ true)
+unfolding cmis_identity.inventory_rows cmis_measures.monitor_rows cmis_flags.state_rows
+cmis_fit = (refl, refl, refl, refl)
+
+-- of its states and flags
+cmis_named : (all : Bool) (told : List (Flag × Bool)) (memory : Memory) → Sub (flat_map (entry_names all told) (cmis_flags.flags_entries memory)) (flat_map row_names cmis_flags.state_rows ++ flag_names)
+cmis_named all told memory =
+    let f = entry_names all told in
+    let states = rows_entries memory (is_flat memory) cmis_flags.state_rows in
+    let last = flags_entry (raised (cmis_flags.all_flags memory)) in
+    subst (λ zs. Sub zs (flat_map row_names cmis_flags.state_rows ++ flag_names)) (sym (flat_map-append f states (last ∷ [])))
+    (sub_append (flat_map f states) (flat_map row_names cmis_flags.state_rows) (f last ++ []) flag_names (names_sub all told memory (is_flat memory) cmis_flags.state_rows)
+    (subst (λ zs. Sub (zs ++ []) flag_names) (sym (flags_named all told (raised (cmis_flags.all_flags memory)))) (sub_all flag_names)))
+
+cmis_apart : (memory : Memory) → AreApart (map flag_labels (cmis_flags.all_flags memory))
+unfolding cmis_flags.all_flags
+cmis_apart memory = cmis_flags_apart memory (is_flat memory)
+
+cmis_plain : (memory : Memory) → AllByRecursion EntryIsPlain (cmis_flags.flags_entries memory)
+cmis_plain memory =
+    both EntryIsPlain (rows_entries memory (is_flat memory) cmis_flags.state_rows) (flags_entry (raised (cmis_flags.all_flags memory)) ∷ [])
+    (plain_rows memory (is_flat memory) cmis_flags.state_rows cmis_fit.3) (flags_plain (cmis_flags.all_flags memory) (cmis_apart memory), tt)
+
+cmis_right : (common : List Label) → AreAdded common → (all : Bool) (memory : Memory) (first second third : Option ReportFault) (fault : Option (List ℕ))
+    → AreMetrics common (module_metrics all (asked all third (cmis_flags.all_flags memory)) (unless first (cmis_identity.inventory_entries memory)) (unless second (cmis_measures.monitors_entries memory))
+    (unless third (cmis_flags.flags_entries memory)) fault)
+unfolding cmis_identity.inventory_entries cmis_measures.monitors_entries
+cmis_right common added all memory first second third fault =
+    let told = asked all third (cmis_flags.all_flags memory) in
+    let names = flat_map row_names cmis_flags.state_rows ++ flag_names in
+    module_right common added (unless first (rows_entries memory (is_flat memory) cmis_identity.inventory_rows)) (unless second (rows_entries memory (is_flat memory) cmis_measures.monitor_rows))
+    (unless third (cmis_flags.flags_entries memory)) cmis_identity.inventory_rows cmis_measures.monitor_rows names all told
+    (said_of all told memory (is_flat memory) (is_flat memory) cmis_identity.inventory_rows cmis_measures.monitor_rows (cmis_flags.flags_entries memory) names cmis_fit.0 cmis_fit.1 cmis_fit.2
+    (cmis_named all told memory) (cmis_plain memory) first second third)
+    cmis_rows (asked_apart all third (cmis_flags.all_flags memory) (cmis_apart memory)) cmis_sums fault
+
+-- ---- SFF-8636
+
+qsfp_rows : AreRight sff_identity.qsfp_rows sff_measures.qsfp_rows flag_names
+unfolding is_taken cmis_identity.inventory_rows sff_identity.qsfp_rows sff_identity.sfp_rows sff_measures.qsfp_rows info_name sums_name fault_name amount_name scope_name base_name count_name flags_name label
+qsfp_rows = record { keys_own = refl; keys_new = refl; sums_new = refl; names_new = refl }
+
+qsfp_sums : AllByRecursion IsSum (flat_map row_sums sff_identity.qsfp_rows ++ flat_map row_sums sff_measures.qsfp_rows)
+unfolding sff_identity.qsfp_rows sff_measures.qsfp_rows label
+qsfp_sums = (refl, (refl, tt))
+
+qsfp_fit : (list_all is_sure sff_identity.qsfp_rows ≡ true) × (list_all row_fits sff_identity.qsfp_rows ≡ true) × (list_all row_fits sff_measures.qsfp_rows ≡ true)
+unfolding sff_identity.qsfp_rows sff_measures.qsfp_rows
+qsfp_fit = (refl, refl, refl)
+
+sff_named : (all : Bool) (told : List (Flag × Bool)) (raised : List Flag) → Sub (flat_map (entry_names all told) (flags_entry raised ∷ [])) flag_names
+sff_named all told raised = subst (λ zs. Sub (zs ++ []) flag_names) (sym (flags_named all told raised)) (sub_all flag_names)
+
+qsfp_right : (common : List Label) → AreAdded common → (all : Bool) (memory : Memory) (first second third : Option ReportFault) (fault : Option (List ℕ))
+    → AreMetrics common (module_metrics all (asked all third (sff_flags.qsfp_flags memory)) (unless first (sff_identity.qsfp_entries memory)) (unless second (sff_measures.sff8636_entries memory))
+    (unless third (sff_flags.sff8636_entries memory)) fault)
+unfolding sff_identity.qsfp_entries sff_measures.sff8636_entries
+qsfp_right common added all memory first second third fault =
+    let flags = sff_flags.qsfp_flags memory in
+    let told = asked all third flags in
+    let warned = flags_entry (raised flags) ∷ [] in
+    module_right common added (unless first (rows_entries memory false sff_identity.qsfp_rows)) (unless second (rows_entries memory (bit memory QFlatMemory) sff_measures.qsfp_rows)) (unless third warned)
+    sff_identity.qsfp_rows sff_measures.qsfp_rows flag_names all told
+    (said_of all told memory false (bit memory QFlatMemory) sff_identity.qsfp_rows sff_measures.qsfp_rows warned flag_names qsfp_fit.0 qsfp_fit.1 qsfp_fit.2
+    (sff_named all told (raised flags)) (flags_plain flags (qsfp_flags_apart memory), tt) first second third)
+    qsfp_rows (asked_apart all third flags (qsfp_flags_apart memory)) qsfp_sums fault
+
+-- ---- SFF-8472
+
+sfp_rows : AreRight sff_identity.sfp_rows sff_measures.sfp_rows flag_names
+unfolding is_taken cmis_identity.inventory_rows sff_identity.qsfp_rows sff_identity.sfp_rows sff_measures.sfp_rows info_name sums_name fault_name amount_name scope_name base_name count_name flags_name label
+sfp_rows = record { keys_own = refl; keys_new = refl; sums_new = refl; names_new = refl }
+
+sfp_sums : AllByRecursion IsSum (flat_map row_sums sff_identity.sfp_rows ++ flat_map row_sums sff_measures.sfp_rows)
+unfolding sff_identity.sfp_rows sff_measures.sfp_rows label
+sfp_sums = (refl, (refl, (refl, tt)))
+
+sfp_fit : (list_all is_sure sff_identity.sfp_rows ≡ true) × (list_all row_fits sff_identity.sfp_rows ≡ true) × (list_all row_fits sff_measures.sfp_rows ≡ true)
+unfolding sff_identity.sfp_rows sff_measures.sfp_rows
+sfp_fit = (refl, refl, refl)
+
+sfp_right : (common : List Label) → AreAdded common → (all : Bool) (memory : Memory) (first second third : Option ReportFault) (fault : Option (List ℕ))
+    → AreMetrics common (module_metrics all (asked all third (sff_flags.sfp_flags memory)) (unless first (sff_identity.sfp_entries memory)) (unless second (sff_measures.sff8472_entries memory))
+    (unless third (sff_flags.sff8472_entries memory)) fault)
+unfolding sff_identity.sfp_entries sff_measures.sff8472_entries
+sfp_right common added all memory first second third fault =
+    let flags = sff_flags.sfp_flags memory in
+    let told = asked all third flags in
+    let warned = flags_entry (raised flags) ∷ [] in
+    module_right common added (unless first (rows_entries memory false sff_identity.sfp_rows)) (unless second (rows_entries memory false sff_measures.sfp_rows)) (unless third warned)
+    sff_identity.sfp_rows sff_measures.sfp_rows flag_names all told
+    (said_of all told memory false false sff_identity.sfp_rows sff_measures.sfp_rows warned flag_names sfp_fit.0 sfp_fit.1 sfp_fit.2
+    (sff_named all told (raised flags)) (flags_plain flags (sfp_flags_apart memory), tt) first second third)
+    sfp_rows (asked_apart all third flags (sfp_flags_apart memory)) sfp_sums fault
+
+-- ---- all
+
+of_family : (common : List Label) → AreAdded common → (all : Bool) (memory : Memory) (first second third : Option ReportFault) (fault : Option (List ℕ)) (family : Family)
+    → AreMetrics common (module_metrics all (asked all third (flags.told_in family memory)) (unless first (identities.entries_in family memory)) (unless second (measures.entries_in family memory))
+    (unless third (flags.entries_in family memory)) fault)
+of_family common added all memory first second third fault Cmis = cmis_right common added all memory first second third fault
+of_family common added all memory first second third fault Sff8636 = qsfp_right common added all memory first second third fault
+of_family common added all memory first second third fault Sff8472 = sfp_right common added all memory first second third fault
+
+pub every_module_right : EveryModulesMetricsAreRight
+unfolding metrics_of told_flags inventory_entries monitors_entries flags_entries flags_told
+every_module_right common all memory added =
+    of_family common added all memory (inventory_fault memory) (monitors_fault memory) (flags_fault memory) (option_map code_of (first_fault memory)) (family_of memory)

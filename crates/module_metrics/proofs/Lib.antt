@@ -1,0 +1,16 @@
+pub mod ScaledWrites
+pub mod QuotedValues
+pub mod Sublists
+pub mod Tested
+pub mod Words
+pub mod RightMetrics
+pub mod MoreLabels
+pub mod SaidMetrics
+pub mod RowMetrics
+pub mod ModuleRight
+pub mod FamiliesRight
+pub mod LinesRight
+pub mod Appended
+pub mod LabelTexts
+pub mod Fractions
+pub mod Reported

@@ -1,0 +1,8 @@
+use Rattle.reports.specs.Inventory.{inventory_entries, inventory_fault}
+use Rattle.module_metrics.proofs.answer.identity.Goals as goal
+
+pub returns-clause-entries : goal.returns-clause-entries
+returns-clause-entries c = c.said.ensures.entries (inventory_fault c.args.image.now) (inventory_entries c.args.image.now) c.inventory_entries.ensures
+
+pub returns-clause-first : goal.returns-clause-first
+returns-clause-first c = c.said.ensures.first (inventory_fault c.args.image.now) (inventory_entries c.args.image.now) c.inventory_entries.ensures

@@ -1,0 +1,8 @@
+use Rattle.reports.specs.MonitorsByFamily.{monitors_entries, monitors_fault}
+use Rattle.module_metrics.proofs.answer.measured.Goals as goal
+
+pub returns-clause-entries : goal.returns-clause-entries
+returns-clause-entries c = c.said.ensures.entries (monitors_fault c.args.image.now) (monitors_entries c.args.image.now) c.monitors_entries.ensures
+
+pub returns-clause-first : goal.returns-clause-first
+returns-clause-first c = c.said.ensures.first (monitors_fault c.args.image.now) (monitors_entries c.args.image.now) c.monitors_entries.ensures

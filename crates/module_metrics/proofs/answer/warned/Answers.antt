@@ -1,0 +1,8 @@
+use Rattle.reports.specs.FlagsByFamily.{flags_entries, flags_fault}
+use Rattle.module_metrics.proofs.answer.warned.Goals as goal
+
+pub returns-clause-entries : goal.returns-clause-entries
+returns-clause-entries c = c.said.ensures.entries (flags_fault c.args.image.now) (flags_entries c.args.image.now) c.flags_entries.ensures
+
+pub returns-clause-first : goal.returns-clause-first
+returns-clause-first c = c.said.ensures.first (flags_fault c.args.image.now) (flags_entries c.args.image.now) c.flags_entries.ensures

@@ -1,0 +1,9 @@
+use Rattle.std.proofs.Common.{◌≡◌, map, take}
+use Rattle.std.specs.List.{enumerate_from}
+use Rattle.module_metrics.specs.StateMetrics.{path_sample}
+use Rattle.module_metrics.specs.Told.{samples_in}
+use Rattle.module_metrics.proofs.state_metrics.path_samples.Given as goal
+
+-- the lanes so far
+abbrev pub invariant-loop-index : goal.invariant-loop-index
+invariant-loop-index l = samples_in l.samples ≡ map (path_sample) (enumerate_from 1 (take l.index l.states))

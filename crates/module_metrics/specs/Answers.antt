@@ -1,0 +1,44 @@
+-- What is answered to an image: its metrics, of the reports that have no fault, and the first fault. (docs/formats.md, "Metrics";
+-- this project's own)
+use Rattle.std.specs.Prelude.{ℕ, Bool, if◌then◌else◌, get_or, List, [], Option, Some, None, option_map}
+use Rattle.std.specs.Option.{option_or}
+use Rattle.paged_memory.specs.Images.{Memory}
+use Rattle.report_entries.specs.declared.flag.Flag.{Flag}
+use Rattle.report_entries.specs.Shown.{printable}
+use Rattle.reports.specs.declared.fault.ReportFault.{ReportFault}
+use Rattle.reports.specs.FaultWords.{report_fault_words}
+use Rattle.reports.specs.FlagsByFamily.{flags_entries, flags_fault, flags_told}
+use Rattle.reports.specs.Inventory.{inventory_entries, inventory_fault}
+use Rattle.reports.specs.MonitorsByFamily.{monitors_entries, monitors_fault}
+use Rattle.module_metrics.specs.Exposition.{Label, Metric, exposition}
+use Rattle.module_metrics.specs.ModuleMetrics.{fault_metrics, module_metrics}
+
+-- what a report says if it has no fault
+abbrev pub unless : {A : Type 0} → Option ReportFault → List A → List A
+unless None said = said
+unless (Some fault) said = []
+
+-- the first word of a fault's line
+abbrev pub code_of : ReportFault → List ℕ
+code_of fault = printable (get_or (report_fault_words fault) 0 [])
+
+-- of the three reports in this order
+unfoldable pub first_fault : Memory → Option ReportFault
+first_fault memory = option_or (option_or (inventory_fault memory) (monitors_fault memory)) (flags_fault memory)
+
+-- whether a flag is raised is told of each only if that is asked for
+unfoldable pub told_flags : Bool → Memory → List (Flag × Bool)
+told_flags all memory = if all then unless (flags_fault memory) (flags_told memory) else []
+
+unfoldable pub metrics_of : Bool → Memory → List Metric
+metrics_of all memory =
+    module_metrics all (told_flags all memory)
+    (unless (inventory_fault memory) (inventory_entries memory))
+    (unless (monitors_fault memory) (monitors_entries memory))
+    (unless (flags_fault memory) (flags_entries memory))
+    (option_map code_of (first_fault memory))
+
+-- ---- without an image
+
+unfoldable pub fault_text : List Label → ReportFault → List ℕ
+fault_text labels fault = exposition labels (fault_metrics (Some (code_of fault)))

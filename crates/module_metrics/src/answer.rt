@@ -1,0 +1,221 @@
+// What is answered to an image.
+ghost use Rattle.std.specs.Prelude.{◌≡◌, ◌++◌, [], List, Option, IfErr, IfOk, OnOk, None, Some, get_or, option_map, map};
+ghost use Rattle.std.specs.Option.{option_or};
+ghost use Rattle.report_entries.specs.Entries.{Entry as SpecEntry, entry_of, said_in};
+ghost use Rattle.reports.specs.declared.fault.ReportFault.{ReportFault as SpecFault};
+ghost use Rattle.reports.specs.declared.fault.ReportFault.TheVariants.{Memory};
+ghost use Rattle.reports.specs.Answered.{Says};
+ghost use Rattle.reports.specs.FlagsByFamily.{flags_entries, flags_fault};
+ghost use Rattle.reports.specs.Inventory.{inventory_entries, inventory_fault};
+ghost use Rattle.reports.specs.MonitorsByFamily.{monitors_entries, monitors_fault};
+ghost use Rattle.module_metrics.specs.AddedLabels.{AreAdded};
+ghost use Rattle.module_metrics.specs.Answers.{code_of, fault_text, first_fault, metrics_of, told_flags, unless};
+ghost use Rattle.module_metrics.specs.Exposition.{exposition};
+ghost use Rattle.module_metrics.specs.ModuleMetrics.{fault_metrics, module_metrics};
+ghost use Rattle.module_metrics.specs.Told.{metrics_in};
+
+use crate::exposition;
+use crate::labels::Labels;
+use crate::metric::{Metric, add_metric, no_metrics, one_label, one_sample};
+use crate::module_metrics::{add_entries, add_info, add_sums};
+use crate::scale::Scale;
+use paged_memory::Image;
+use report_entries::{Entry, Flag, TextIn};
+use reports::{ReportFault, flags_entries, flags_told, inventory_entries, monitors_entries};
+use std::alloc::{AllocError, Global};
+use text_lines::{Spelled, Spelling};
+
+/// The metrics of a module, and the first fault of its reports.
+#[derive(Drop)]
+pub struct Answer {
+    pub text: Vec<u8>,
+    pub fault: Option<ReportFault>,
+}
+
+/// What the reports of the module of an image say, as metrics whose samples all have these labels. Of its flags those that are raised
+/// are told, or all. The only refusal is want of memory: a report that has a fault says nothing, and the first fault is a metric.
+#[tactic(auto, unfolding(crate::specs::Answers::metrics_of, crate::specs::Answers::first_fault, crate::specs::Told::metrics_in, report_entries::specs::Entries::said_in))]
+pub fn metrics(
+    alloc: Global,
+    image: &Image,
+    labels: &Labels,
+    all: bool,
+) -> Result<Answer, ReportFault>
+    ensures text { IfOk result (λ answer. answer.text.items ≡ exposition labels.now (metrics_of all image.now)) }
+    ensures fault { IfOk result (λ answer. answer.fault ≡ first_fault image.now) }
+    ensures labels { IfOk result (λ answer. AreAdded labels.now) }
+    ensures refused { IfErr result (λ refusal. refusal ≡ Memory) }
+{
+    let mut fault = None;
+    let identity = identity(alloc, image, &mut fault)?;
+    let measured = measured(alloc, image, &mut fault)?;
+    let warned = warned(alloc, image, &mut fault)?;
+    let told = told(alloc, image, all)?;
+    let metrics = module_metrics(alloc, all, &told, &identity, &measured, &warned, fault)?;
+    Ok(Answer {
+        text: exposition::text(alloc, labels.as_slice(), &metrics)?,
+        fault,
+    })
+}
+
+/// The metrics if there is no image to report on, since reading it ended with this fault.
+#[tactic(auto, unfolding(crate::specs::Answers::fault_text, crate::specs::Told::metrics_in))]
+pub fn fault_metrics(
+    alloc: Global,
+    fault: ReportFault,
+    labels: &Labels,
+) -> Result<Vec<u8>, AllocError>
+    ensures { IfOk result (λ text. text.items ≡ fault_text labels.now fault) }
+{
+    let mut metrics = no_metrics(alloc);
+    add_fault(alloc, &mut metrics, Some(fault))?;
+    exposition::text(alloc, labels.as_slice(), &metrics)
+}
+
+// What the module is.
+fn identity(
+    alloc: Global,
+    image: &Image,
+    first: &mut Option<ReportFault>,
+) -> Result<Vec<Entry>, ReportFault>
+    ensures entries { IfOk result (λ told. said_in told ≡ unless (inventory_fault image.now) (inventory_entries image.now)) }
+    ensures first { OnOk result (first.new ≡ option_or first.old (inventory_fault image.now)) }
+    ensures memory { IfErr result (λ refusal. refusal ≡ Memory) }
+{
+    said(alloc, first, inventory_entries(alloc, image))
+}
+
+// What it measures.
+fn measured(
+    alloc: Global,
+    image: &Image,
+    first: &mut Option<ReportFault>,
+) -> Result<Vec<Entry>, ReportFault>
+    ensures entries { IfOk result (λ told. said_in told ≡ unless (monitors_fault image.now) (monitors_entries image.now)) }
+    ensures first { OnOk result (first.new ≡ option_or first.old (monitors_fault image.now)) }
+    ensures memory { IfErr result (λ refusal. refusal ≡ Memory) }
+{
+    said(alloc, first, monitors_entries(alloc, image))
+}
+
+// Its states, and the flags that are raised.
+fn warned(
+    alloc: Global,
+    image: &Image,
+    first: &mut Option<ReportFault>,
+) -> Result<Vec<Entry>, ReportFault>
+    ensures entries { IfOk result (λ told. said_in told ≡ unless (flags_fault image.now) (flags_entries image.now)) }
+    ensures first { OnOk result (first.new ≡ option_or first.old (flags_fault image.now)) }
+    ensures memory { IfErr result (λ refusal. refusal ≡ Memory) }
+{
+    said(alloc, first, flags_entries(alloc, image))
+}
+
+// What a report says, nothing if it has a fault, which is kept if it is the first.
+fn said(
+    alloc: Global,
+    first: &mut Option<ReportFault>,
+    report: Result<Vec<Entry>, ReportFault>,
+) -> Result<Vec<Entry>, ReportFault>
+    ensures entries { (refused : Option SpecFault) (entries : List SpecEntry) → Says refused entries report
+        → IfOk result (λ told. said_in told ≡ unless refused entries) }
+    ensures first { (refused : Option SpecFault) (entries : List SpecEntry) → Says refused entries report
+        → OnOk result (first.new ≡ option_or first.old refused) }
+    ensures memory { IfErr result (λ refusal. refusal ≡ Memory) }
+{
+    match report {
+        Ok(entries) => Ok(entries),
+        Err(fault) => match fault {
+            ReportFault::Memory => Err(fault),
+            _ => {
+                keep_first(first, fault);
+                Ok(no_entries(alloc))
+            }
+        },
+    }
+}
+
+fn keep_first(first: &mut Option<ReportFault>, fault: ReportFault)
+    ensures { first.new ≡ option_or first.old (Some fault) }
+{
+    if first.is_none() {
+        *first = Some(fault);
+    }
+}
+
+#[tactic(auto, unfolding(report_entries::specs::Entries::said_in))]
+fn no_entries(alloc: Global) -> Vec<Entry>
+    ensures { said_in result ≡ [] }
+{
+    Vec::new(alloc)
+}
+
+// All flags, each with whether it is raised, if they are asked for and told.
+#[tactic(auto, unfolding(crate::specs::Answers::told_flags))]
+fn told(alloc: Global, image: &Image, all: bool) -> Result<Vec<(Flag, bool)>, ReportFault>
+    ensures told { IfOk result (λ told. told.items ≡ told_flags all image.now) }
+    ensures memory { IfErr result (λ refusal. refusal ≡ Memory) }
+{
+    if !all {
+        return Ok(Vec::new(alloc));
+    }
+    match flags_told(alloc, image) {
+        Ok(told) => Ok(told),
+        Err(fault) => match fault {
+            ReportFault::Memory => Err(fault),
+            _ => Ok(Vec::new(alloc)),
+        },
+    }
+}
+
+#[tactic(auto, unfolding(crate::specs::ModuleMetrics::module_metrics, report_entries::specs::Entries::said_in))]
+fn module_metrics(
+    alloc: Global,
+    all: bool,
+    told: &[(Flag, bool)],
+    identity: &[Entry],
+    measured: &[Entry],
+    warned: &[Entry],
+    fault: Option<ReportFault>,
+) -> Result<Vec<Metric>, AllocError>
+    ensures { IfOk result (λ metrics. metrics_in metrics ≡ module_metrics all told.now (map entry_of identity.now)
+        (map entry_of measured.now) (map entry_of warned.now) (option_map code_of fault)) }
+{
+    let mut metrics = no_metrics(alloc);
+    add_info(alloc, &mut metrics, identity)?;
+    add_sums(alloc, &mut metrics, identity, measured)?;
+    add_entries(alloc, &mut metrics, all, told, identity)?;
+    add_entries(alloc, &mut metrics, all, told, measured)?;
+    add_entries(alloc, &mut metrics, all, told, warned)?;
+    add_fault(alloc, &mut metrics, fault)?;
+    Ok(metrics)
+}
+
+#[tactic(auto, unfolding(crate::specs::ModuleMetrics::fault_metric, crate::specs::ModuleMetrics::fault_name, crate::specs::ModuleMetrics::fault_help))]
+fn add_fault(
+    alloc: Global,
+    metrics: &mut Vec<Metric>,
+    fault: Option<ReportFault>,
+) -> Result<(), AllocError>
+    ensures { OnOk result (metrics_in metrics.new
+        ≡ metrics_in metrics.old ++ fault_metrics (option_map code_of fault)) }
+{
+    let Some(fault) = fault else {
+        return Ok(());
+    };
+    let spelling = fault.spelling();
+    let name = "dovecounter_fault";
+    let help = "what keeps a report from being made, by its code";
+    let labels = one_label(alloc, "code", TextIn(first_word(&spelling)))?;
+    let samples = one_sample(alloc, labels, 1, Scale::Ones)?;
+    add_metric(alloc, metrics, name, help, samples)
+}
+
+fn first_word(spelling: &Spelling) -> &[u8]
+    ensures { result.now ≡ get_or spelling.now 0 [] }
+{
+    match spelling.words().first() {
+        Some(word) => word.as_slice(),
+        None => &[],
+    }
+}
