@@ -20,10 +20,10 @@
 extern "C" {
 #endif
 
-#define DOVECOUNTER_VERSION 3
+#define DOVECOUNTER_VERSION 4
 
 /* What a function answers. On any status but DOVECOUNTER_DONE it has written nothing, but for the length that
-   dovecounter_certificate also writes if a buffer is too small. The comments name the faults that the program cmisctl prints for
+   dovecounter_certificate also writes if a buffer is too small, and the line that dovecounter_weights then writes. The comments name the faults that the program cmisctl prints for
    the same reason. Each function below has a table of the statuses besides 0 that it answers; if more
    than one applies, it answers the one that stands first. */
 enum dovecounter_status {
@@ -83,7 +83,12 @@ enum dovecounter_status {
     DOVECOUNTER_NO_DIAGNOSTICS = 84,  /* SF4: a module of SFF-8472 has no diagnostics */
     DOVECOUNTER_ADDRESS_CHANGE = 86,  /* SF6: it wants an address change before they are read */
     DOVECOUNTER_EXTERNAL_CALIBRATION = 85, /* SF5: the host has to calibrate what it measures */
-    DOVECOUNTER_SFF_LACKS_HALF = 83   /* SF3: a module of SFF-8636 or SFF-8472 lacks a half */
+    DOVECOUNTER_SFF_LACKS_HALF = 83,  /* SF3: a module of SFF-8636 or SFF-8472 lacks a half */
+
+    /* of weights as lines, the first */
+    DOVECOUNTER_BAD_WEIGHT_LINE = 91, /* a line is none of weights, or may not stand there */
+    DOVECOUNTER_SAME_ID_TWICE = 94,   /* a line writes a HostInterfaceID that an earlier one writes */
+    DOVECOUNTER_NO_HOST_LINE = 92     /* WT2: there is no line `[host]` */
 };
 
 /* No text of the four functions below is longer. */
@@ -321,6 +326,20 @@ struct dovecounter_durations {
 uint32_t dovecounter_durations(const struct dovecounter_half *halves, size_t half_count,
                                struct dovecounter_durations *durations);
 
+/* Writes to weights[0] to weights[255] how much each HostInterfaceID is worth, as the lines of a text say: 0 if it isn't listed.
+   A line `[host]` comes first, and after it a line such as `0Dh = 101` for each ID that is wanted: two hexadecimal digits of either
+   case and `h`, and the weight, a decimal number up to 4294967295 without leading zeros. Blanks and tabs may stand at both ends of a
+   line and around `=`; from `#` on a line is a comment; a line may have nothing else, or be empty. The text is UTF-8; LF ends a line,
+   and the last one may have none. cmisctl reads the same weights from it. Other TOML that cmisctl reads, such as 1_000, or lines that
+   end in CR LF, is refused here. On status 91 and 94 *line becomes the number of the faulty line, from 1 on, and on 92 it becomes 0;
+   else it stays.
+
+   status   if
+   91       a line is none of these, comes before `[host]`, or is a second `[host]`
+   94       a line writes the same ID as an earlier one
+   92       there is no line `[host]` */
+uint32_t dovecounter_weights(const uint8_t *text, size_t text_length, uint32_t weights[256], size_t *line);
+
 /* A data path: an Application on consecutive host lanes and consecutive media lanes. */
 struct dovecounter_path {
     uint8_t application; /* its number */
@@ -343,7 +362,9 @@ struct dovecounter_plan {
    weighs what `weights` has at its HostInterfaceID. The kept paths may come in any order.
 
    To provision the plan and leave the kept data paths alone, hand plan->control and plan->outside to dovecounter_provision,
-   and then plan->control and plan->lanes to dovecounter_activate.
+   and then plan->control and plan->lanes to dovecounter_activate. To keep paths of this plan in a later one, save plan->paths, also
+   across a restart: no register of the module says which media lanes a path takes. A structure's layout changes only with
+   DOVECOUNTER_VERSION.
 
    status     if
    1, 2       there are more than 16 halves, or one has no place
@@ -397,10 +418,15 @@ enum dovecounter_fault_code {
     DOVECOUNTER_NOT_ACTIVE = 3,        /* PV3: the active control byte of the lane `first` isn't that of the plan */
     DOVECOUNTER_GAVE_UP_WAITING = 4,   /* PV4: 4096 operations were made without another answer */
     DOVECOUNTER_BUS_ENDED = 5,         /* PV5: no procedure here ends so; `first` is the digit of BU1 or BU2 */
-    DOVECOUNTER_NOT_READY = 6,         /* PV6: the module is in the state `first`, and not in ModuleReady */
+    DOVECOUNTER_NOT_READY = 6,         /* PV6: the module is in the state `first`, and not in ModuleReady; of dovecounter_wake and
+                                          dovecounter_sleep: in ModuleFault */
     DOVECOUNTER_RESERVED_CODE = 7      /* PV7: the standard reserves the code `first` that the module shows */
 };
 
+/* What the host has done to the module before a fault. Provisioning: PV6, and PV7 by the module's state, nothing; PV2, its lanes were
+   taken down, and the bytes staged; PV1 and PV3, the bytes were also applied; PV4, and PV7 by a path state or a status, any part of
+   this. Activation: PV3 and PV6, nothing; PV4 and PV7, lanes may be coming up or going down. Waking up and going to sleep: PV6 and
+   PV7, byte 26 was stored; PV4, maybe. */
 struct dovecounter_fault {
     uint8_t code; /* of enum dovecounter_fault_code */
     uint8_t first;
@@ -438,6 +464,15 @@ void dovecounter_provision(const uint8_t control[8], uint8_t lanes, struct dovec
 /* Begins to bring up the data paths of `lanes`, those of a plan whose control bytes are in the Active Control Set, and to take down
    those of all other lanes; writes to *procedure. After a success the lanes are DPActivated. */
 void dovecounter_activate(const uint8_t control[8], uint8_t lanes, struct dovecounter_procedure *procedure);
+
+/* Begins to wake a module up, and writes to *procedure. Byte 26 is read and stored again with its low power requests cleared, by
+   software (bit 4) and by the pin (bit 6, LowPwrAllowRequestHW); so is SoftwareReset (bit 3). After a success the module is in
+   ModuleReady. PV6 says that it is in ModuleFault. It draws more power then: the caller has to see that it may. */
+void dovecounter_wake(struct dovecounter_procedure *procedure);
+
+/* Begins to put a module to sleep likewise, by its low power request by software (bit 4). After a success it is in ModuleLowPwr, and
+   its data paths are down. */
+void dovecounter_sleep(struct dovecounter_procedure *procedure);
 
 enum dovecounter_kind { DOVECOUNTER_FETCH = 0, DOVECOUNTER_STORE = 1 };
 

@@ -5,8 +5,17 @@ docs/python.md has a first page. The package touches no bus by itself; only `Ima
 a file."""
 from .faults import Fault
 from .image import LOWER, Image, Key, page
-from .planning import DataPath, Judgement, Plan, check, plan
-from .procedures import Activation, Operation, Procedure, Provisioning, Reading, Reply
+from .planning import DataPath, Judgement, Plan, check, plan, read_weights
+from .procedures import (
+    Activation,
+    Operation,
+    Procedure,
+    Provisioning,
+    Reading,
+    Reply,
+    Sleeping,
+    Waking,
+)
 from .reports import (
     Advertisement,
     Application,
@@ -53,9 +62,12 @@ __all__ = [
     "Reading",
     "Reply",
     "SimulatedModule",
+    "Sleeping",
     "Support",
     "Value",
+    "Waking",
     "check",
     "page",
     "plan",
+    "read_weights",
 ]

@@ -24,7 +24,7 @@ from ctypes import (
 )
 from typing import Any, Callable, Dict, List, Tuple
 
-VERSION = 3  # DOVECOUNTER_VERSION
+VERSION = 4  # DOVECOUNTER_VERSION
 TEXT_SIZE = 256  # DOVECOUNTER_TEXT_SIZE
 FILE = f"libdovecounter.so.{VERSION}"
 
@@ -200,8 +200,11 @@ FUNCTIONS: Dict[str, Tuple[Any, Tuple[Any, ...]]] = {
     "durations": (c_uint32, (*_HALVES, POINTER(Durations))),
     "plan": (c_uint32, (*_HALVES, _WEIGHTS, POINTER(Path), c_size_t, POINTER(Plan))),
     "check": (c_uint32, (*_HALVES, _WEIGHTS, *_BYTES, POINTER(Judgement))),
+    "weights": (c_uint32, (*_BYTES, _WEIGHTS, POINTER(c_size_t))),
     "provision": (None, (_CONTROL, c_uint8, POINTER(Procedure))),
     "activate": (None, (_CONTROL, c_uint8, POINTER(Procedure))),
+    "wake": (None, (POINTER(Procedure),)),
+    "sleep": (None, (POINTER(Procedure),)),
     "next": (c_uint32, (POINTER(Procedure), POINTER(Operation))),
     "reply": (c_uint32, (POINTER(Procedure), c_uint8, *_BYTES)),
     "answer": (c_uint32, (POINTER(Procedure), POINTER(Answer))),

@@ -1,9 +1,9 @@
 """Plans of a module's lanes, and what a certificate of one is worth (docs/planning.md)."""
 from __future__ import annotations
 
-from ctypes import Array, byref, c_uint32
+from ctypes import Array, byref, c_size_t, c_uint32
 from dataclasses import dataclass
-from typing import Any, Mapping, Optional, Sequence, Tuple, Union
+from typing import Any, Dict, Mapping, Optional, Sequence, Tuple, Union
 
 from . import library
 from .faults import CODES, Fault, first_refused, look_at, sentence_of
@@ -11,6 +11,7 @@ from .image import Image
 
 _plan = library.function("plan")
 _check = library.function("check")
+_read_weights = library.function("weights")
 
 
 @dataclass(frozen=True)
@@ -69,6 +70,19 @@ def _weights(weights: Mapping[int, int]) -> Array[c_uint32]:
         look_at("a HostInterfaceID", host_id, 255)
         found[host_id] = look_at(f"the weight of 0x{host_id:02X}", weight, 2**32 - 1)
     return found
+
+
+def read_weights(text: Union[str, bytes]) -> Dict[int, int]:
+    """How much each HostInterfaceID is worth, as the lines of a text say: `[host]`, and after it
+    lines such as `0Dh = 101`, comments and empty lines (docs/firmware.md, "Weights"). IDs that
+    weigh nothing are left out. Raises ValueError, with the number of the line, for another text."""
+    written = text.encode("utf-8", "surrogateescape") if isinstance(text, str) else bytes(text)
+    found, line = library.Weights(), c_size_t()
+    status = int(_read_weights(written, len(written), found, byref(line)))
+    if status:
+        place = f"line {line.value}: " if line.value else ""
+        raise ValueError(place + library.text("status", status))
+    return {host_id: weight for host_id, weight in enumerate(found) if weight}
 
 
 def _kept(paths: Sequence[DataPath]) -> Any:

@@ -119,10 +119,8 @@ class _Change(Procedure):
     steps: Optional[int] = None
     """how many operations its success took; None before"""
 
-    def __init__(self, begin: Callable[..., None], control: bytes, lanes: int) -> None:
+    def __init__(self) -> None:
         super().__init__(library.Procedure())
-        bytes_of_lanes = library.Lanes(*look_at_bytes("the control bytes", control, 8))
-        begin(bytes_of_lanes, look_at("the byte of lanes", lanes, 255), byref(self._saved))
 
     def _end(self) -> None:
         answer = library.Answer()
@@ -135,7 +133,14 @@ class _Change(Procedure):
         self.steps = answer.steps
 
 
-class Provisioning(_Change):
+class _OfPlan(_Change):
+    def __init__(self, begin: Callable[..., None], control: bytes, lanes: int) -> None:
+        super().__init__()
+        bytes_of_lanes = library.Lanes(*look_at_bytes("the control bytes", control, 8))
+        begin(bytes_of_lanes, look_at("the byte of lanes", lanes, 255), byref(self._saved))
+
+
+class Provisioning(_OfPlan):
     """Puts a plan into the Active Control Set, and leaves kept data paths alone. After a success
     its other lanes are DPDeactivated until an Activation. Raises a Fault of PV1 to PV7 while it is
     iterated; after PV3 and PV4 it may be begun again."""
@@ -146,7 +151,7 @@ class Provisioning(_Change):
         super().__init__(self._begin, plan.control, plan.outside)
 
 
-class Activation(_Change):
+class Activation(_OfPlan):
     """Brings up the data paths of a plan that is in the Active Control Set, and takes down those of
     all other lanes. After a success the plan's lanes are DPActivated. Raises a Fault of PV1 to PV7
     while it is iterated."""
@@ -155,6 +160,29 @@ class Activation(_Change):
 
     def __init__(self, plan: Plan) -> None:
         super().__init__(self._begin, plan.control, plan.lanes)
+
+
+class Waking(_Change):
+    """Wakes a module up: clears its low power requests, by software and by the pin. After a success
+    it is in ModuleReady, and may draw the most power of its `inventory()`. Raises a Fault while it
+    is iterated: PV6 if the module is in ModuleFault, PV4 or PV7."""
+
+    _begin = staticmethod(library.function("wake"))
+
+    def __init__(self) -> None:
+        super().__init__()
+        self._begin(byref(self._saved))
+
+
+class Sleeping(_Change):
+    """Puts a module to sleep, by its low power request by software. After a success it is in
+    ModuleLowPwr, and its data paths are down. Raises a Fault as Waking does."""
+
+    _begin = staticmethod(library.function("sleep"))
+
+    def __init__(self) -> None:
+        super().__init__()
+        self._begin(byref(self._saved))
 
 
 class Reading(Procedure):

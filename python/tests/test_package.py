@@ -43,6 +43,7 @@ from dovecounter import (
     check,
     page,
     plan,
+    read_weights,
 )
 from dovecounter.faults import CODES, sentence_of
 
@@ -247,6 +248,19 @@ def test_numbers_out_of_range_are_refused_and_not_cut() -> None:
         lambda: module.fetch(0xA0, 0, None),  # type: ignore[arg-type]
     ):
         pytest.raises(TypeError, call)
+
+
+def test_weights_are_read_from_lines() -> None:
+    assert read_weights("# what for\n[host]\n0dh = 101 # DR1\n\n11h=400\n12h = 0") == {0x0D: 101, 0x11: 400}
+    assert read_weights(table(WEIGHTS)) == {host_id: weight for host_id, weight in WEIGHTS.items() if weight}
+    for text, place in (
+        ("", ""),
+        ("0Dh = 1\n[host]\n", "line 1: "),
+        (b"[host]\n\n#\xff\n", "line 3: "),
+        ("[host]\n0Dh = 1\n0dh = 1\n", "line 3: "),
+    ):
+        with pytest.raises(ValueError, match=f"^{place}[a-z]"):
+            read_weights(text)
 
 
 def test_sentences_are_those_of_the_page() -> None:

@@ -15,11 +15,14 @@ from shared import IMAGES, ROOT, WEIGHTS, compare_with_trace, example, fault_of,
 from dovecounter import (
     Activation,
     Delays,
+    ModuleState,
     Operation,
     PathState,
     Provisioning,
     Reading,
     SimulatedModule,
+    Sleeping,
+    Waking,
     page,
     plan,
 )
@@ -77,6 +80,23 @@ def test_a_reading_gives_the_halves_that_are_read(most: int) -> None:
         for key in (page(0x00), page(0x01), page(0x02)):
             assert reading.image.halves[key] == image.halves[key]
         assert reading.image.applications() == image.applications()
+
+
+def test_a_module_wakes_up_and_goes_to_sleep_whatever_is_refused() -> None:
+    chance = random.Random(11)
+    module = SimulatedModule(DR4, Delays(1, 2, 3, 4, 5, 6, 7))
+    module.hold_low_power_pin(True)
+    assert module.store(0xA0, 26, b"\xf0")
+    for procedure, state, controls in (
+        (Waking(), ModuleState.ModuleReady, b"\xa0"),
+        (Sleeping(), ModuleState.ModuleLowPwr, b"\xb0"),
+        (Waking(), ModuleState.ModuleReady, b"\xa0"),
+    ):
+        procedure.run(
+            lambda operation: chance.random() < 0.8 and module.transact(operation), module.tick
+        )
+        assert procedure.steps is not None and procedure.steps >= 3
+        assert (module.state, module.fetch(0xA0, 26, 1)) == (state, controls)
 
 
 def test_a_silent_bus_ends_in_a_fault() -> None:

@@ -5,6 +5,7 @@ pub mod Plans
 pub mod Checks
 pub mod Operations
 pub mod Waits
+pub mod KeptProcedures
 pub mod SavedProcedures
 pub mod SimulatedModules
 pub mod SavedReadings
@@ -17,3 +18,4 @@ pub mod Identities
 pub mod RaisedFlags
 pub mod MeasuredValues
 pub mod Monitors
+pub mod ReadWeights

@@ -9,12 +9,19 @@ use Rattle.control_sets.specs.declared.procedures.procedure.Procedure.{Procedure
 use Rattle.control_sets.specs.declared.procedures.next.Next.{Next}
 use Rattle.control_sets.specs.declared.procedures.next.Next.TheVariants as next
 use Rattle.control_sets.specs.declared.procedures.task.Task.{Task}
+use Rattle.control_sets.specs.declared.procedures.power.Power.{Power}
+use Rattle.control_sets.specs.declared.procedures.power.PowerChange.{PowerChange}
+use Rattle.control_sets.specs.PowerProgress.{IsPowerAt, power_next}
 use Rattle.control_sets.specs.SavedNumbers.{saved_fault, restored}
+use Rattle.control_sets.specs.SavedPower.{restored_power}
 use Rattle.control_sets.specs.Pages.{History}
 use Rattle.control_sets.specs.Progress.{IsAt}
 use Rattle.control_sets.specs.Progress as progress
 use Rattle.firmware_api.specs.declared.procedure.Answer.{Answer}
 use Rattle.firmware_api.specs.declared.procedure.KeptProcedure.{KeptProcedure}
+use Rattle.firmware_api.specs.declared.kept.Kept.{Kept}
+use Rattle.firmware_api.specs.declared.kept.Kept.TheVariants.{OfTasks, OfPower}
+use Rattle.firmware_api.specs.KeptProcedures.{kept_as, next_of}
 use Rattle.firmware_api.specs.declared.operation.Operation.{Operation}
 use Rattle.firmware_api.specs.declared.status.Refusal.TheVariants.{Ended, NoProcedure, NoReply, NotEnded}
 use Rattle.firmware_api.specs.Operations.{operation_of}
@@ -26,17 +33,23 @@ abbrev pub procedure_magic : ℕ
 procedure_magic = 0x44435031
 
 -- the procedure that has these numbers; none for memory that is no procedure
-unfoldable pub procedure_in : KeptProcedure → Option Procedure
-procedure_in kept = if kept.magic == procedure_magic && nat_le kept.wait 1 then restored kept.saved else None
+unfoldable pub procedure_in : KeptProcedure → Option Kept
+procedure_in kept = if kept.magic == procedure_magic && nat_le kept.wait 1 then kept_as (restored kept.saved) (restored_power kept.saved) else None
 
 -- these are the numbers of a procedure of these tasks that was told these steps, the newest first
 abbrev pub IsSavedAt : List Task → History → KeptProcedure → Type 0
 IsSavedAt tasks history kept =
-    (procedure : Procedure) × (procedure_in kept ≡ Some procedure) × IsAt tasks history procedure × (kept.wait ≡ wait_for history (progress.next procedure))
+    (procedure : Procedure) × (procedure_in kept ≡ Some (OfTasks procedure)) × IsAt tasks history procedure × (kept.wait ≡ wait_for history (progress.next procedure))
+
+-- the same of waking a module up, or putting it to sleep
+abbrev pub IsSavedPowerAt : Power → History → KeptProcedure → Type 0
+IsSavedPowerAt power history kept =
+    (change : PowerChange) × (procedure_in kept ≡ Some (OfPower change)) × (change.power ≡ power) × IsPowerAt history change
+    × (kept.wait ≡ wait_for history (power_next change))
 
 -- what the procedure with these numbers asks for, if one has them
 abbrev pub asked : KeptProcedure → Option Next
-asked kept = option_map progress.next (procedure_in kept)
+asked kept = option_map next_of (procedure_in kept)
 
 -- what C is told of that
 abbrev pub IsNextTold : ℕ → Operation → ℕ → Option Next → Type 0

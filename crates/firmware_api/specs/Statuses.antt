@@ -3,6 +3,8 @@
 use Rattle.std.specs.Prelude.{ℕ, Option, Some, None, Result, Ok, Err}
 use Rattle.applications.specs.declared.fault.AdvertFault.{AdvertFault}
 use Rattle.applications.specs.declared.fault.AdvertFault.TheVariants.{NotCmis, Revision, NotEightLanes, FlatMemory, Absent, BadSum}
+use Rattle.applications.specs.declared.weights.lines.WeightLinesFault.{WeightLinesFault}
+use Rattle.applications.specs.declared.weights.lines.WeightLinesFault.TheVariants as weights_fault
 use Rattle.field_tables.specs.declared.sff_fault.SffFault.{SffFault}
 use Rattle.field_tables.specs.declared.sff_fault.SffFault.TheVariants as sff_fault
 use Rattle.module_decoding.specs.declared.module_family.ModuleFault.{ModuleFault}
@@ -12,7 +14,7 @@ use Rattle.plan_certificate.specs.declared.fault.CertificateFault.TheVariants.{B
 use Rattle.sim_module.specs.declared.fault.SimFault.{SimFault}
 use Rattle.sim_module.specs.declared.fault.SimFault.TheVariants as sim_fault
 use Rattle.firmware_api.specs.declared.status.Refusal.{Refusal}
-use Rattle.firmware_api.specs.declared.status.Refusal.TheVariants.{TooManyHalves, NoPlace, NoText, TooSmall, Advert, Certificate, TooManyKept, KeptNotAdmissible, NoProcedure, Ended, NotEnded, NoReply, GaveUp, TooFewBytes, NoStart, NoModule, NoRange, NotTaken, Module, Sff}
+use Rattle.firmware_api.specs.declared.status.Refusal.TheVariants.{TooManyHalves, NoPlace, NoText, TooSmall, Advert, Certificate, TooManyKept, KeptNotAdmissible, NoProcedure, Ended, NotEnded, NoReply, GaveUp, TooFewBytes, NoStart, NoModule, NoRange, NotTaken, Module, Sff, Weights}
 
 -- of a call that did what it is for
 abbrev pub done : ℕ
@@ -53,6 +55,11 @@ sff_status sff_fault.NoDiagnostics = 84
 sff_status sff_fault.ExternalCalibration = 85
 sff_status sff_fault.AddressChange = 86
 
+abbrev pub weights_status : WeightLinesFault → ℕ
+weights_status (weights_fault.BadLine line) = 91
+weights_status weights_fault.NoHost = 92
+weights_status (weights_fault.SameIdTwice line) = 94
+
 abbrev pub status_of : Refusal → ℕ
 status_of TooManyHalves = 1
 status_of NoPlace = 2
@@ -74,6 +81,7 @@ status_of NoRange = 62
 status_of NotTaken = 63
 status_of (Module fault) = module_status fault
 status_of (Sff fault) = sff_status fault
+status_of (Weights fault) = weights_status fault
 
 -- a call is refused, or does what it is for
 abbrev pub status_by : Option Refusal → ℕ

@@ -10,17 +10,24 @@ ghost use Rattle.control_sets.specs.declared.procedures.task.Task.{Task};
 ghost use Rattle.control_sets.specs.Asking.{step_with};
 ghost use Rattle.control_sets.specs.Pages.{History};
 ghost use Rattle.control_sets.specs.Procedures.{HasEnded};
-ghost use Rattle.control_sets.specs.Progress.{Follows, next};
+ghost use Rattle.control_sets.specs.Progress.{Follows};
+ghost use Rattle.control_sets.specs.declared.procedures.power.Power.{Power};
+ghost use Rattle.control_sets.specs.declared.procedures.power.Power.TheVariants.{Asleep, Awake};
+ghost use Rattle.control_sets.specs.OutcomeOfPower.{IsPowerChange};
 ghost use Rattle.control_sets.specs.Tasks.{activation, provisioning};
-ghost use Rattle.firmware_api.specs.SavedProcedures.{IsAnswerTold, IsSavedAt, IsNextTold, IsReplyTold, answer_of, asked, procedure_in};
+ghost use Rattle.firmware_api.specs.SavedProcedures.{IsAnswerTold, IsNextTold, IsReplyTold, IsSavedAt, IsSavedPowerAt, answer_of, asked, procedure_in};
+ghost use Rattle.firmware_api.specs.KeptProcedures.{next_of};
 ghost use Rattle.firmware_api.specs.Waits.{is_same_fetch, wait_for, wait_number, waits_after};
 ghost use Rattle.firmware_api.specs.Operations.{reply_of};
 ghost use Rattle.firmware_api.specs.Statuses.{done, status_in};
 
+use crate::kept::Kept;
 use crate::operation::{Operation, reply_of};
 use crate::status::{DONE, Refusal};
 use bus_model::{Dev, Op, Reply, Step};
-use control_sets::{Next, Procedure, ProvisionFault, SavedFault, SavedProcedure};
+use control_sets::{
+    Next, Power, PowerChange, Procedure, ProvisionFault, SavedFault, SavedProcedure,
+};
 use field_tables::LaneSet;
 
 /// What stands in each procedure, so that other memory is not taken for one: `DCP1`.
@@ -51,10 +58,7 @@ pub struct Answer {
 pub extern "C" fn dovecounter_provision(control: &[u8; 8], lanes: u8, procedure: &mut KeptProcedure)
     ensures { IsSavedAt (provisioning control.now (lanes_in lanes)) [] procedure.new }
 {
-    *procedure = kept(
-        &Procedure::provisioning(*control, LaneSet::from(lanes)),
-        false,
-    );
+    *procedure = begun(Kept::OfTasks(Procedure::provisioning(*control, LaneSet::from(lanes))));
 }
 
 /// Puts into `procedure` the procedure that brings up the data paths of these lanes, if these control bytes are active,
@@ -63,14 +67,27 @@ pub extern "C" fn dovecounter_provision(control: &[u8; 8], lanes: u8, procedure:
 pub extern "C" fn dovecounter_activate(control: &[u8; 8], lanes: u8, procedure: &mut KeptProcedure)
     ensures { IsSavedAt (activation control.now (lanes_in lanes)) [] procedure.new }
 {
-    *procedure = kept(
-        &Procedure::activation(*control, LaneSet::from(lanes)),
-        false,
-    );
+    *procedure = begun(Kept::OfTasks(Procedure::activation(*control, LaneSet::from(lanes))));
+}
+
+/// Puts into `procedure` the procedure that wakes a module up.
+#[unsafe(no_mangle)]
+pub extern "C" fn dovecounter_wake(procedure: &mut KeptProcedure)
+    ensures { IsSavedPowerAt Awake [] procedure.new }
+{
+    *procedure = begun(Kept::OfPower(PowerChange::to(Power::Awake)));
+}
+
+/// Puts into `procedure` the procedure that puts a module to sleep.
+#[unsafe(no_mangle)]
+pub extern "C" fn dovecounter_sleep(procedure: &mut KeptProcedure)
+    ensures { IsSavedPowerAt Asleep [] procedure.new }
+{
+    *procedure = begun(Kept::OfPower(PowerChange::to(Power::Asleep)));
 }
 
 /// Puts into `operation` the operation that is to be made now.
-#[tactic(auto, using(crate::proofs::SavedLaws::saved_follows, crate::proofs::SavedLaws::saved_waits))]
+#[tactic(auto, using(crate::proofs::SavedLaws::saved_follows, crate::proofs::SavedLaws::saved_waits, crate::proofs::SavedLaws::saved_power_waits))]
 #[unsafe(no_mangle)]
 pub extern "C" fn dovecounter_next(procedure: &KeptProcedure, operation: &mut Operation) -> u32
     ensures told { IsNextTold result operation.new procedure.now.wait (asked procedure.now) }
@@ -78,6 +95,8 @@ pub extern "C" fn dovecounter_next(procedure: &KeptProcedure, operation: &mut Op
     ensures follows { (tasks : List Task) (history : History) (next : Next) → IsSavedAt tasks history procedure.now →
         asked procedure.now ≡ Some next → Follows tasks history next }
     ensures waits { result ≡ done → (tasks : List Task) (history : History) (op : Op) → IsSavedAt tasks history procedure.now →
+        asked procedure.now ≡ Some (nexts.Do op) → operation.new.wait ≡ wait_for history (nexts.Do op) }
+    ensures waits_for_power { result ≡ done → (power : Power) (history : History) (op : Op) → IsSavedPowerAt power history procedure.now →
         asked procedure.now ≡ Some (nexts.Do op) → operation.new.wait ≡ wait_for history (nexts.Do op) }
 {
     match wanted(procedure) {
@@ -97,6 +116,9 @@ pub extern "C" fn dovecounter_reply(procedure: &mut KeptProcedure, reply: u8, by
     ensures taken { result ≡ done → (tasks : List Task) (history : History) (op : Op) (made : Reply) →
         IsSavedAt tasks history procedure.old → asked procedure.old ≡ Some (nexts.Do op) →
         reply_of reply bytes.now ≡ Some made → IsSavedAt tasks (step_with op made ∷ history) procedure.new }
+    ensures taken_by_power { result ≡ done → (power : Power) (history : History) (op : Op) (made : Reply) →
+        IsSavedPowerAt power history procedure.old → asked procedure.old ≡ Some (nexts.Do op) →
+        reply_of reply bytes.now ≡ Some made → IsSavedPowerAt power (step_with op made ∷ history) procedure.new }
     ensures refused { result ≢ done → procedure.new ≡ procedure.old }
 {
     match told(procedure, reply, bytes) {
@@ -109,7 +131,7 @@ pub extern "C" fn dovecounter_reply(procedure: &mut KeptProcedure, reply: u8, by
 }
 
 /// Puts into `answer` how the procedure ended.
-#[tactic(auto, using(crate::proofs::SavedLaws::saved_follows))]
+#[tactic(auto, using(crate::proofs::SavedLaws::saved_follows, crate::proofs::SavedLaws::saved_power_ends))]
 #[unsafe(no_mangle)]
 pub extern "C" fn dovecounter_answer(procedure: &KeptProcedure, answer: &mut Answer) -> u32
     ensures told { IsAnswerTold result answer.new (asked procedure.now) }
@@ -117,6 +139,9 @@ pub extern "C" fn dovecounter_answer(procedure: &KeptProcedure, answer: &mut Ans
     ensures ended { (tasks : List Task) (history : History) (ended : Result ℕ ProvisionFault) →
         IsSavedAt tasks history procedure.now → asked procedure.now ≡ Some (nexts.Done ended) →
         HasEnded tasks history ended }
+    ensures ended_by_power { (power : Power) (history : History) (ended : Result ℕ ProvisionFault) (made room : ℕ) →
+        IsSavedPowerAt power history procedure.now → asked procedure.now ≡ Some (nexts.Done ended) →
+        IsPowerChange power (made ≡ room) history ended }
 {
     match wanted(procedure) {
         Ok(Next::Done(ended)) => {
@@ -148,7 +173,7 @@ fn wanted(saved: &KeptProcedure) -> Result<Next, Refusal>
     ensures { MatchOption (asked saved.now) (result ≡ Err Refusal.NoProcedure) (λ next. result ≡ Ok next) }
 {
     match restore(saved) {
-        Some(procedure) => Ok(procedure.next()),
+        Some(kept) => Ok(kept.next()),
         None => Err(Refusal::NoProcedure),
     }
 }
@@ -159,52 +184,60 @@ fn told(saved: &KeptProcedure, reply: u8, bytes: &[u8]) -> Result<KeptProcedure,
     ensures taken { IfOk result (λ told. (tasks : List Task) (history : History) (op : Op) (made : Reply) →
         IsSavedAt tasks history saved.now → asked saved.now ≡ Some (nexts.Do op) →
         reply_of reply bytes.now ≡ Some made → IsSavedAt tasks (step_with op made ∷ history) told) }
+    ensures taken_by_power { IfOk result (λ told. (power : Power) (history : History) (op : Op) (made : Reply) →
+        IsSavedPowerAt power history saved.now → asked saved.now ≡ Some (nexts.Do op) →
+        reply_of reply bytes.now ≡ Some made → IsSavedPowerAt power (step_with op made ∷ history) told) }
 {
-    let Some(mut procedure) = restore(saved) else {
+    let Some(mut kept) = restore(saved) else {
         return Err(Refusal::NoProcedure);
     };
-    let Next::Do(op) = procedure.next() else {
+    let Next::Do(op) = kept.next() else {
         return Err(Refusal::Ended);
     };
     match reply_of(reply, bytes) {
-        Some(reply) if procedure.try_take(&reply) => Ok(kept_after(
-            &procedure,
-            &Step { op, reply },
-        )),
+        Some(reply) if kept.try_take(&reply) => Ok(kept_after(&kept, &Step { op, reply })),
         _ => Err(Refusal::NoReply),
     }
 }
 
 // The procedure that has these numbers, if one has.
 #[tactic(auto, unfolding(crate::specs::SavedProcedures::procedure_in))]
-fn restore(kept: &KeptProcedure) -> Option<Procedure>
+fn restore(kept: &KeptProcedure) -> Option<Kept>
     ensures { result ≡ procedure_in kept.now }
 {
     if kept.magic == PROCEDURE && kept.wait <= 1 {
-        Procedure::restore(&kept.saved)
+        Kept::restore(&kept.saved)
     } else {
         None
     }
 }
 
 #[tactic(auto, unfolding(crate::specs::SavedProcedures::procedure_in))]
-fn kept(procedure: &Procedure, wait: bool) -> KeptProcedure
-    ensures same { procedure_in result ≡ Some procedure.now }
+fn numbers_of(kept: &Kept, wait: bool) -> KeptProcedure
+    ensures same { procedure_in result ≡ Some kept.now }
     ensures wait { result.wait ≡ wait_number wait }
 {
     KeptProcedure {
         magic: PROCEDURE,
         wait: if wait { 1 } else { 0 },
-        saved: procedure.save(),
+        saved: kept.save(),
     }
 }
 
-// The procedure after this step.
-fn kept_after(procedure: &Procedure, step: &Step) -> KeptProcedure
-    ensures same { procedure_in result ≡ Some procedure.now }
-    ensures wait { (before : History) → result.wait ≡ wait_for (step.now ∷ before) (next procedure.now) }
+// A procedure that was told nothing yet.
+fn begun(kept: Kept) -> KeptProcedure
+    ensures same { procedure_in result ≡ Some kept }
+    ensures wait { result.wait ≡ 0 }
 {
-    kept(procedure, waits_after(step, &procedure.next()))
+    numbers_of(&kept, false)
+}
+
+// The procedure after this step.
+fn kept_after(kept: &Kept, step: &Step) -> KeptProcedure
+    ensures same { procedure_in result ≡ Some kept.now }
+    ensures wait { (before : History) → result.wait ≡ wait_for (step.now ∷ before) (next_of kept.now) }
+{
+    numbers_of(kept, waits_after(step, &kept.next()))
 }
 
 fn waits_after(step: &Step, wanted: &Next) -> bool

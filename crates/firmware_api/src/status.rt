@@ -1,7 +1,7 @@
 ghost use Rattle.std.specs.Prelude.{◌≡◌, ◌≢◌};
-ghost use Rattle.firmware_api.specs.Statuses.{advert_status, certificate_status, done, module_status, sff_status, start_status, status_of};
+ghost use Rattle.firmware_api.specs.Statuses.{advert_status, certificate_status, done, module_status, sff_status, start_status, status_of, weights_status};
 
-use applications::AdvertFault;
+use applications::{AdvertFault, WeightLinesFault};
 use field_tables::SffFault;
 use module_decoding::ModuleFault;
 use plan_certificate::CertificateFault;
@@ -53,6 +53,8 @@ pub enum Refusal {
     Module(ModuleFault),
     /// The memory of the SFF module is not read.
     Sff(SffFault),
+    /// The lines say no weights.
+    Weights(WeightLinesFault),
 }
 
 impl Refusal {
@@ -82,6 +84,7 @@ impl Refusal {
             Refusal::NotTaken => 63,
             Refusal::Module(fault) => module_status(fault),
             Refusal::Sff(fault) => sff_status(fault),
+            Refusal::Weights(fault) => weights_status(fault),
         }
     }
 }
@@ -146,5 +149,16 @@ fn sff_status(fault: SffFault) -> u32
         SffFault::NoDiagnostics => 84,
         SffFault::ExternalCalibration => 85,
         SffFault::AddressChange => 86,
+    }
+}
+
+fn weights_status(fault: WeightLinesFault) -> u32
+    ensures status { result ≡ weights_status fault }
+    ensures refused { result ≢ done }
+{
+    match fault {
+        WeightLinesFault::BadLine(_) => 91,
+        WeightLinesFault::NoHost => 92,
+        WeightLinesFault::SameIdTwice(_) => 94,
     }
 }

@@ -1,22 +1,34 @@
 use Rattle.std.proofs.Common.{◌∷◌, refl, sym, subst, ◌∙◌}
+use Rattle.bus_model.specs.declared.operation.Op.{Op}
+use Rattle.bus_model.specs.declared.operation.Reply.{Reply}
 use Rattle.control_sets.specs.declared.procedures.next.Next.TheVariants.{Do}
 use Rattle.control_sets.specs.Asking.{step_with}
-use Rattle.control_sets.specs.Progress.{IsAt, next}
-use Rattle.firmware_api.specs.Waits.{wait_for}
-use Rattle.firmware_api.proofs.SavedLaws.{asked_is_next, same_do, saved_is_at, same_some}
+use Rattle.firmware_api.specs.SavedProcedures.{IsSavedAt, IsSavedPowerAt}
+use Rattle.firmware_api.proofs.SavedLaws.{asked_is_next, same_do, same_some, taken_by_power, taken_by_tasks}
 use Rattle.firmware_api.proofs.procedure.told.Goals as goal
 
 pub returns-in-Some-reply_of-clause-taken : goal.returns-in-Some-reply_of-clause-taken
 returns-in-Some-reply_of-clause-taken c tasks history op made saved asks replied =
-    let old = c.in-Some.procedure in
+    let old = c.in-Some.kept in
     let is = sym c.restore.ensures ∙ c.in-Some.is in
     let wanted = asked_is_next c.args.saved.now old (Do op) is asks in
-    let same_op = same_do c.in-Do.op op (sym c.in-Do.is ∙ c.next.ensures.value ∙ wanted) in
+    let same_op = same_do c.in-Do.op op (sym c.in-Do.is ∙ c.next.ensures ∙ wanted) in
     let same = same_some c.in-Some-reply_of.reply made (sym c.in-Some-reply_of.is ∙ c.reply_of.ensures ∙ replied) in
-    let at = subst (λ reply. IsAt tasks (step_with op reply ∷ history) c.try_take.new.self) same
-    (c.if-try_take.ensures.told refl tasks history op (saved_is_at tasks history c.args.saved.now old is saved) wanted) in (
-      c.try_take.new.self,
-      c.kept_after.ensures.same,
-      at,
-      c.kept_after.ensures.wait history ∙ (λ i. wait_for (step_with (same_op i) (same i) ∷ history) (next c.try_take.new.self)),
-    )
+    let told = c.kept_after.result in
+    let at = taken_by_tasks c.args.saved.now told history c.in-Do.op c.in-Some-reply_of.reply tasks old c.try_take.new.self is c.kept_after.ensures.same
+    (c.if-try_take.ensures.told refl) (c.kept_after.ensures.wait history) saved (sym c.next.ensures ∙ c.in-Do.is) in
+    subst (λ (reply : Reply). IsSavedAt tasks (step_with op reply ∷ history) told) same
+    (subst (λ (o : Op). IsSavedAt tasks (step_with o c.in-Some-reply_of.reply ∷ history) told) same_op at)
+
+pub returns-in-Some-reply_of-clause-taken_by_power : goal.returns-in-Some-reply_of-clause-taken_by_power
+returns-in-Some-reply_of-clause-taken_by_power c power history op made saved asks replied =
+    let old = c.in-Some.kept in
+    let is = sym c.restore.ensures ∙ c.in-Some.is in
+    let wanted = asked_is_next c.args.saved.now old (Do op) is asks in
+    let same_op = same_do c.in-Do.op op (sym c.in-Do.is ∙ c.next.ensures ∙ wanted) in
+    let same = same_some c.in-Some-reply_of.reply made (sym c.in-Some-reply_of.is ∙ c.reply_of.ensures ∙ replied) in
+    let told = c.kept_after.result in
+    let at = taken_by_power c.args.saved.now told history c.in-Do.op c.in-Some-reply_of.reply power old c.try_take.new.self is c.kept_after.ensures.same
+    (c.if-try_take.ensures.told refl) (c.kept_after.ensures.wait history) saved (sym c.next.ensures ∙ c.in-Do.is) in
+    subst (λ (reply : Reply). IsSavedPowerAt power (step_with op reply ∷ history) told) same
+    (subst (λ (o : Op). IsSavedPowerAt power (step_with o c.in-Some-reply_of.reply ∷ history) told) same_op at)

@@ -1,0 +1,70 @@
+ghost use Rattle.std.specs.Prelude.{◌≡◌, ◌↔◌, IsFalse, IsTrue, None, Some};
+ghost use Rattle.control_sets.specs.Asking.{IsReplyTo};
+ghost use Rattle.control_sets.specs.SavedNumbers.{restored};
+ghost use Rattle.control_sets.specs.SavedPower.{restored_power};
+ghost use Rattle.firmware_api.specs.KeptProcedures.{Takes, kept_as, next_of};
+
+use bus_model::Reply;
+use control_sets::{Next, PowerChange, Procedure, SavedProcedure};
+
+/// A procedure that C keeps.
+#[derive(Clone, Copy)]
+pub enum Kept {
+    /// Provisioning or activation.
+    OfTasks(Procedure),
+    /// Waking a module up, or putting it to sleep.
+    OfPower(PowerChange),
+}
+
+impl Kept {
+    /// The one that has these numbers, if one has.
+    pub fn restore(saved: &SavedProcedure) -> Option<Kept>
+        ensures { result ≡ kept_as (restored saved.now) (restored_power saved.now) }
+    {
+        match Procedure::restore(saved) {
+            Some(procedure) => Some(Kept::OfTasks(procedure)),
+            None => restore_power(saved),
+        }
+    }
+
+    /// Its numbers.
+    pub fn save(&self) -> SavedProcedure
+        ensures { kept_as (restored result) (restored_power result) ≡ Some self.now }
+    {
+        match self {
+            Kept::OfTasks(procedure) => procedure.save(),
+            Kept::OfPower(change) => change.save(),
+        }
+    }
+
+    /// The operation to be made now, or the end.
+    pub fn next(&self) -> Next
+        ensures { result ≡ next_of self.now }
+    {
+        match self {
+            Kept::OfTasks(procedure) => procedure.next(),
+            Kept::OfPower(change) => change.next(),
+        }
+    }
+
+    /// Takes the reply if it is one that the operation to be made can have; answers whether it was.
+    pub fn try_take(&mut self, reply: &Reply) -> bool
+        ensures taken { IsTrue result ↔ IsReplyTo (next_of self.old) reply.now }
+        ensures told { IsTrue result → Takes self.old reply.now self.new }
+        ensures refused { IsFalse result → self.new ≡ self.old }
+    {
+        match self {
+            Kept::OfTasks(procedure) => procedure.try_take(reply),
+            Kept::OfPower(change) => change.try_take(reply),
+        }
+    }
+}
+
+fn restore_power(saved: &SavedProcedure) -> Option<Kept>
+    ensures { result ≡ kept_as None (restored_power saved.now) }
+{
+    match PowerChange::restore(saved) {
+        Some(change) => Some(Kept::OfPower(change)),
+        None => None,
+    }
+}
