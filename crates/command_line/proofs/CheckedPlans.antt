@@ -1,5 +1,5 @@
 -- What `check` answers where the third part is the certificate that `plan` wrote.
-use Rattle.std.proofs.Common.{◌≡◌, ◌≢◌, ℕ, ◌≤◌, Bool, true, false, List, [], ◌∷◌, ◌++◌, length, get_or, map, codes, None, Some, Ok, Err, refl, sym, ap, subst, ◌∙◌, arith}
+use Rattle.std.proofs.Common.{◌≡◌, ◌≢◌, ℕ, ◌≤◌, Bool, true, false, List, [], ◌∷◌, ◌++◌, length, get_or, map, codes, Option, None, Some, Ok, Err, refl, sym, ap, subst, ◌∙◌, arith}
 use Rattle.std.specs.List.{All, before_first}
 use Rattle.std.proofs.lemmas.List.Elements.{All-cons, All-nil}
 use Rattle.text_lines.specs.Lines.{is_lf, ended_lines, lines_of, text_of}
@@ -20,15 +20,14 @@ use Rattle.plan_certificate.specs.Limits.{most_states}
 use Rattle.plan_certificate.specs.declared.verdict.Verdict.{Verdict}
 use Rattle.plan_certificate.specs.declared.verdict.Verdict.TheVariants.{Good, Bad}
 use Rattle.plan_certificate.proofs.OneAnswer.{same_answer}
-use Rattle.reports.specs.PlanText.{plan_lines}
-use Rattle.command_line.specs.CheckCommand.{IsCheckAnswer, IsGoodAnswer, IsJudged, SaysFirst, first_line, good_line, kept_lines}
+use Rattle.command_line.specs.CheckCommand.{IsCheckAnswer, IsGoodAnswer, IsJudged, SaysFirst, good_output}
 use Rattle.command_line.specs.Limits.{input_limit}
 use Rattle.command_line.specs.Parts.{is_separator_line, parts_of}
 use Rattle.command_line.specs.PartsRead.{parts_read, text_in}
 use Rattle.command_line.specs.PlanCommand.{IsPlanned}
 use Rattle.command_line.specs.PlanningInputs.{IsAdvertText}
-use Rattle.command_line.specs.PlanThenCheck.{first_lines, good_text, input_with, IsCalledGood, IsEnded, IsGoodBehind, IsGoodBehindInput, IsGoodInPlace}
-use Rattle.command_line.specs.Commands.{IsAnswerOf, IsAnswerToTexts}
+use Rattle.command_line.specs.PlanThenCheck.{first_if, good_text, input_with, IsCalledGood, IsEnded, IsGoodBehind, IsGoodBehindInput, IsGoodInPlace}
+use Rattle.command_line.specs.Commands.{IsAnswerOf, IsAnswerToTexts, in_form}
 use Rattle.command_line.specs.Runs.{Answer}
 use Rattle.command_line.specs.declared.choice.commands.Choice.TheVariants.{Check, Plan}
 use Rattle.command_line.specs.declared.fault.Fault.TheVariants as fault
@@ -86,19 +85,19 @@ same_claim text a b p q = let same = same_answer most_states (lines_of text) (Ok
 -- ---- what `check` answers to the parts
 
 -- what each command answers to an input that is cut so
-abbrev IsCheckTo : Bool → List (List ℕ) → Answer → Type 0
-IsCheckTo first parts = IsAnswerToTexts (Check first) (text_in (parts_read (Check first)) parts)
+abbrev IsCheckTo : Bool → Bool → List (List ℕ) → Answer → Type 0
+IsCheckTo json first parts = IsAnswerToTexts (Check first) json (text_in (parts_read (Check first)) parts)
 
 abbrev IsPlanTo : Bool → List (List ℕ) → Answer → Type 0
-IsPlanTo keep parts = IsAnswerToTexts (Plan keep) (text_in (parts_read (Plan keep)) parts)
+IsPlanTo keep parts = IsAnswerToTexts (Plan keep) false (text_in (parts_read (Plan keep)) parts)
 
 module _ (image_text weights_text kept_text text : List ℕ) (planned : IsPlanned image_text weights_text kept_text text) where
-  says : (first : Bool) → SaysFirst first planned.given.advert planned.given.weights planned.certificate (first_lines first)
-  says true = (true, ((λ _. planned.given.is_first), (λ _. refl)), refl)
-  says false = refl
+  says : (first : Bool) → SaysFirst first planned.given.advert planned.given.weights planned.certificate (first_if first)
+  says true = ((λ _. planned.given.is_first), (λ _. refl))
+  says false = tt
 
-  good_answer : (first : Bool) → IsGoodAnswer first image_text weights_text text (good_text first planned)
-  good_answer first = record {
+  good_answer : (json first : Bool) → IsGoodAnswer json first image_text weights_text text (good_text json first planned)
+  good_answer json first = record {
     judged = record {
       advert = planned.given.advert;
       weights = planned.given.weights;
@@ -109,7 +108,7 @@ module _ (image_text weights_text kept_text text : List ℕ) (planned : IsPlanne
       is_verdict = planned.given.judged_again;
     };
     is_best = planned.given.is_best;
-    told = record { first_lines = first_lines first; says_first = says first; told = refl };
+    told = record { is_first = first_if first; says_first = says first; told = refl };
   }
 
   module _ (judged : Verdict) (is : IsJudged image_text weights_text text judged) where
@@ -126,54 +125,56 @@ module _ (image_text weights_text kept_text text : List ℕ) (planned : IsPlanne
     judged_good = sym is.is_verdict ∙ (λ i. verdict (the_advert i) (the_weights i) (the_certificate i)) ∙ planned.given.judged_again
 
   -- the plan is the first of the best, so this is said of it where it is asked for
-  says_so : (first : Bool) (lines : List (List ℕ)) → SaysFirst first planned.given.advert planned.given.weights planned.certificate lines → lines ≡ first_lines first
-  says_so true lines (is_first, same, said) = said ∙ ap (λ (b : Bool). first_line b ∷ []) (same.1 planned.given.is_first)
-  says_so false lines none = none
+  says_so : (first : Bool) (said : Option Bool) → SaysFirst first planned.given.advert planned.given.weights planned.certificate said → said ≡ first_if first
+  says_so true (Some is_first) same = ap Some (same.1 planned.given.is_first)
+  says_so true None never = absurd never
+  says_so false None said = refl
+  says_so false (Some is_first) never = absurd never
 
-  told_good : (first : Bool) (told : List ℕ) → IsGoodAnswer first image_text weights_text text told → told ≡ good_text first planned
-  told_good first told is =
+  told_good : (json first : Bool) (told : List ℕ) → IsGoodAnswer json first image_text weights_text text told → told ≡ good_text json first planned
+  told_good json first told is =
       let advert = the_advert Good is.judged in
       let listed = the_weights Good is.judged in
       let certificate = the_certificate Good is.judged in
-      let lines = says_so first is.told.first_lines (subst (λ (c : Claim). SaysFirst first planned.given.advert planned.given.weights c is.told.first_lines) certificate
-      (subst (λ (w : HostWeights). SaysFirst first planned.given.advert w is.judged.certificate is.told.first_lines) listed
-      (subst (λ (a : Advertised). SaysFirst first a is.judged.weights is.judged.certificate is.told.first_lines) advert is.told.says_first))) in
-      is.told.told ∙ (λ i. text_of (good_line ∷ kept_lines (length (certificate i).kept) ++ plan_lines (advert i) (listed i) (certificate i).paths ++ lines i))
+      let said = says_so first is.told.is_first (subst (λ (c : Claim). SaysFirst first planned.given.advert planned.given.weights c is.told.is_first) certificate
+      (subst (λ (w : HostWeights). SaysFirst first planned.given.advert w is.judged.certificate is.told.is_first) listed
+      (subst (λ (a : Advertised). SaysFirst first a is.judged.weights is.judged.certificate is.told.is_first) advert is.told.says_first))) in
+      is.told.told ∙ (λ i. good_output json (said i) (advert i) (listed i) (certificate i))
 
-  alone : (first : Bool) (answer : Answer) → IsCheckAnswer first image_text weights_text text answer → answer ≡ Ok (good_text first planned, None)
-  alone first (Ok (told, None)) is = let same = told_good first told is in λ i. Ok (same i, None)
-  alone first (Ok (told, Some f)) is = absurd is
-  alone first (Err (fault.Bad reason number)) is = let good = judged_good (Bad reason number) is in absurd cc
-  alone first (Err (fault.Certificate f)) is =
+  alone : (json first : Bool) (answer : Answer) → IsCheckAnswer json first image_text weights_text text answer → answer ≡ Ok (good_text json first planned, None)
+  alone json first (Ok (told, None)) is = let same = told_good json first told is in λ i. Ok (same i, None)
+  alone json first (Ok (told, Some f)) is = absurd is
+  alone json first (Err (fault.Bad reason number)) is = let good = judged_good (Bad reason number) is in absurd cc
+  alone json first (Err (fault.Certificate f)) is =
       let same = same_answer most_states (lines_of text) (Ok planned.certificate) (Err f) planned.read_again is.2 in
       absurd cc
-  alone first (Err (fault.Weights f)) is = absurd (not_refused weights_text planned.given.weights f is.1.0 planned.given.are_weights is.1.1)
-  alone first (Err (fault.Image f)) is =
+  alone json first (Err (fault.Weights f)) is = absurd (not_refused weights_text planned.given.weights f is.1.0 planned.given.are_weights is.1.1)
+  alone json first (Err (fault.Image f)) is =
       let read = planned.given.is_advert in
       let same = same_image_answer (lines_of image_text) (Ok read.memory) (Err f) read.is_module.is_text is in
       absurd cc
-  alone first (Err (fault.Advert f)) is =
+  alone json first (Err (fault.Advert f)) is =
       let read = planned.given.is_advert in
       let same = same_image image_text read.memory is.0 read.is_module.is_text is.1 in
       let accepted = read.is_module.accepted in
       absurd (cc is.2)
-  alone first (Err f) is = absurd is
+  alone json first (Err f) is = absurd is
 
   module _ (input : List ℕ) (cut : parts_of input ≡ image_text ∷ weights_text ∷ text ∷ []) (within : length input ≤ input_limit) where
     counted : length (parts_of input) ≡ 3
     counted = ap (λ (l : List (List ℕ)). length l) cut
 
-    good_to : (first : Bool) → IsAnswerOf (Check first) input (Ok (good_text first planned, None))
-    good_to first = (within, counted, subst (λ l. IsCheckTo first l (Ok (good_text first planned, None))) (sym cut) (good_answer first))
+    good_to : (json first : Bool) → IsAnswerOf (in_form json (Check first)) input (Ok (good_text json first planned, None))
+    good_to json first = (within, counted, subst (λ l. IsCheckTo json first l (Ok (good_text json first planned, None))) (sym cut) (good_answer json first))
 
-    alone_to : (first : Bool) (answer : Answer) → IsAnswerOf (Check first) input answer → answer ≢ Err fault.Memory → answer ≢ Err fault.Io
-        → answer ≡ Ok (good_text first planned, None)
-    alone_to first (Ok told) is memory read = alone first (Ok told) (subst (λ l. IsCheckTo first l (Ok told)) cut is.2)
-    alone_to first (Err fault.Memory) is memory read = absurd (memory refl)
-    alone_to first (Err fault.Io) is memory read = absurd (read refl)
-    alone_to first (Err fault.TooLong) is memory read = absurd (omega arith)
-    alone_to first (Err (fault.Parts number)) is memory read = absurd (is.2 (is.1 ∙ counted))
-    alone_to first (Err f) is memory read = alone first (Err f) (subst (λ l. IsCheckTo first l (Err f)) cut is.2)
+    alone_to : (json first : Bool) (answer : Answer) → IsAnswerOf (in_form json (Check first)) input answer → answer ≢ Err fault.Memory → answer ≢ Err fault.Io
+        → answer ≡ Ok (good_text json first planned, None)
+    alone_to json first (Ok told) is memory read = alone json first (Ok told) (subst (λ l. IsCheckTo json first l (Ok told)) cut is.2)
+    alone_to json first (Err fault.Memory) is memory read = absurd (memory refl)
+    alone_to json first (Err fault.Io) is memory read = absurd (read refl)
+    alone_to json first (Err fault.TooLong) is memory read = absurd (omega arith)
+    alone_to json first (Err (fault.Parts number)) is memory read = absurd (is.2 (is.1 ∙ counted))
+    alone_to json first (Err f) is memory read = alone json first (Err f) (subst (λ l. IsCheckTo json first l (Err f)) cut is.2)
 
     called_good : IsCalledGood planned input
     called_good = record { good = good_to; alone = alone_to }
@@ -193,7 +194,7 @@ planned_from input text (image ∷ []) cut two is = absurd (omega (arith, two))
 planned_from input text (image ∷ listed ∷ []) cut two is = record { image_text = image; weights_text = listed; parts = cut; planned = is }
 planned_from input text (image ∷ listed ∷ more ∷ rest) cut two is = absurd (omega (arith, two))
 
-pub good_behind_input : (input text : List ℕ) → IsEnded input → IsAnswerOf (Plan false) input (Ok (text, None))
+pub good_behind_input : (input text : List ℕ) → IsEnded input → IsAnswerOf (in_form false (Plan false)) input (Ok (text, None))
     → length (input_with input text) ≤ input_limit → IsGoodBehindInput input text
 good_behind_input input text (before, ends) is within =
     let from = planned_from input text (parts_of input) refl is.1 is.2 in
@@ -210,7 +211,7 @@ good_behind_input input text (before, ends) is within =
     }
 
 pub good_behind : (image listed kept text input : List ℕ) → parts_of input ≡ image ∷ listed ∷ kept ∷ []
-    → IsAnswerOf (Plan true) input (Ok (text, None)) → IsGoodBehind image listed kept text
+    → IsAnswerOf (in_form false (Plan true)) input (Ok (text, None)) → IsGoodBehind image listed kept text
 good_behind image listed kept text input cut is =
     let planned : IsPlanned image listed kept text = subst (λ l. IsPlanTo true l (Ok (text, None))) cut is.2 in
     record { planned = planned; good = λ other within parts. called_good image listed kept text planned other parts within }
@@ -239,7 +240,7 @@ parts_with : (input text : List ℕ) → IsEnded input → parts_of (input_with 
 parts_with input text (before, ends) = rw ends (parts_behind before text)
 
 pub good_in_place : (input kept text : List ℕ) → IsEnded input → length (parts_of input) ≡ 2
-    → IsAnswerOf (Plan true) (input_with input kept) (Ok (text, None))
+    → IsAnswerOf (in_form false (Plan true)) (input_with input kept) (Ok (text, None))
     → length (input_with input text) ≤ input_limit → IsGoodInPlace input kept text
 good_in_place input kept text ended two is within =
     let three = ap (λ (l : List (List ℕ)). length l) (sym (parts_with input kept ended)) ∙ is.1 in

@@ -11,7 +11,7 @@ use Rattle.clap.specs.declared.error.Error.{Error}
 use Rattle.clap.specs.declared.error.kind.ErrorKind.{ErrorKind}
 use Rattle.clap.specs.declared.error.kind.ErrorKind.TheVariants.{OutOfMemory}
 use Rattle.clap.proofs.WalkLemmas.{find-map}
-use Rattle.command_line.specs.Choice.{Entry, choice_in, commands, entry_named, program}
+use Rattle.command_line.specs.Choice.{Entry, request_in, commands, entry_named, program}
 use Rattle.command_line.specs.ChoiceFault.{IsFaultAmong, fault_by_kind}
 
 pub simple_and_free : is_simple_and_free program ≡ true
@@ -70,9 +70,9 @@ command_met words q met = sym (same_names (λ (s : Shape). s.name) (λ (entry : 
     ∙ entered_named (built program) _ q met
 
 -- so the words make a choice where they name a subcommand
-pub choice_known : (words : List Text) (met : Option (Text × List Row)) → subcommand_of program words ≡ met → is_some met ≡ true → is_some (choice_in met) ≡ true
-choice_known words None is some = cc
-choice_known words (Some q) is some = is_some-option_map _ (entry_named q.0) ∙ command_met words q is
+pub request_known : (words : List Text) (met : Option (Text × List Row)) → subcommand_of program words ≡ met → is_some met ≡ true → is_some (request_in met) ≡ true
+request_known words None is some = cc
+request_known words (Some q) is some = is_some-option_map _ (entry_named q.0) ∙ command_met words q is
 
 -- the parts of a subcommand that was met, from its name and its rows
 pub met_from_parts : {B : Type 0} (f : B → Text × List Row) (o : Option B) (name : Text) (rows : List Row)
@@ -85,7 +85,7 @@ met_from_parts f (Some b) name rows is_name is_rows =
     ap₂ (λ (x : Text) (y : List Row). Some (x, y)) same_name same_rows
 
 -- a choice comes only from a subcommand that was met
-pub met_before : (met : Option (Text × List Row)) → is_some (choice_in met) ≡ true → is_some met ≡ true
+pub met_before : (met : Option (Text × List Row)) → is_some (request_in met) ≡ true → is_some met ≡ true
 met_before None some = cc
 met_before (Some q) some = refl
 

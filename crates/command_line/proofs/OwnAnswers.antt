@@ -11,7 +11,7 @@ use Rattle.command_line.specs.PartsRead.{Texts, parts_read, text_in}
 use Rattle.command_line.specs.PlanningInputs.{Advertises}
 use Rattle.command_line.specs.Runs.{Answer, IsAnswerTo, IsOwnAnswer}
 use Rattle.command_line.specs.declared.choice.commands.Choice.{Choice}
-use Rattle.command_line.specs.declared.choice.commands.Choice.TheVariants.{Report, Plan, Check, Provision, Trace}
+use Rattle.command_line.specs.declared.choice.commands.Choice.TheVariants.{Report, Plan, Draw, Check, Provision, Trace}
 use Rattle.command_line.specs.declared.choice.part.Part.{Part}
 use Rattle.command_line.specs.declared.fault.Fault.TheVariants as fault
 
@@ -26,9 +26,11 @@ own_answer parts IsMine input (Err f) within is own = (within, is, own)
 
 -- no command reads more parts than are cut
 pub few_parts : (choice : Choice) → length (parts_read choice) ≤ most_parts
-few_parts (Report report bus json) = omega arith
+few_parts (Report report bus) = omega arith
 few_parts (Plan true) = omega arith
 few_parts (Plan false) = omega arith
+few_parts (Draw svg true) = omega arith
+few_parts (Draw svg false) = omega arith
 few_parts (Check first) = omega arith
 few_parts (Provision activate true) = omega arith
 few_parts (Provision activate false) = omega arith
@@ -46,7 +48,7 @@ pub if_known : {T : Type 0} (o : Option T) (P Q : T → Type 0) → ((x : T) →
 if_known None P Q k h = tt
 if_known (Some x) P Q k h = k x h
 
-pub check_weights_refused : (first : Bool) (image text certificate : List ℕ) (f : WeightsFault) → Advertises image → IsAnswer text (Err f)
-    → IsOwnAnswer (IsCheckAnswer first image text certificate) (Err (fault_of_weights f))
-check_weights_refused first image text certificate weights.Memory told is = tt
-check_weights_refused first image text certificate f told is = (told, (λ same. absurd cc, is))
+pub check_weights_refused : (json first : Bool) (image text certificate : List ℕ) (f : WeightsFault) → Advertises image → IsAnswer text (Err f)
+    → IsOwnAnswer (IsCheckAnswer json first image text certificate) (Err (fault_of_weights f))
+check_weights_refused json first image text certificate weights.Memory told is = tt
+check_weights_refused json first image text certificate f told is = (told, (λ same. absurd cc, is))

@@ -1,5 +1,5 @@
 -- The plan that is given, and the answer of the command `plan`, by what its texts answer.
-use Rattle.std.proofs.Common.{◌≡◌, ◌↔◌, ◌<◌, ℕ, All, AllPairs, Contains, List, Ok, Err, map, sym, subst}
+use Rattle.std.proofs.Common.{◌≡◌, ◌∙◌, ◌↔◌, ◌<◌, ℕ, Bool, true, false, ap, All, AllPairs, Contains, List, Ok, Err, map, sym, subst}
 use Rattle.applications.specs.Advertised.{Advertised}
 use Rattle.applications.specs.Weights.{HostWeights}
 use Rattle.applications.specs.WeightFaults.{IsAnswer}
@@ -8,15 +8,18 @@ use Rattle.applications.specs.declared.weights.fault.WeightsFault.TheVariants as
 use Rattle.lane_planner.specs.FirstBest.{IsFirstBest}
 use Rattle.lane_planner.specs.Gains.{IsGain}
 use Rattle.plan_certificate.specs.Certificates.{Claim, IsGood, state_of}
-use Rattle.plan_certificate.specs.Plans.{IsBest}
+use Rattle.lane_planner.specs.CertifiedPlans.{IsCertified, IsPlanText}
+use Rattle.plan_certificate.specs.Plans.{IsAdmissible, IsBest}
 use Rattle.plan_certificate.specs.ReachedStates.{IsReached}
 use Rattle.plan_certificate.specs.Verdicts.{verdict}
 use Rattle.plan_certificate.specs.declared.path.Path.{Path}
 use Rattle.plan_certificate.specs.declared.state.State.{State}
 use Rattle.plan_certificate.specs.declared.verdict.Verdict.TheVariants.{Good}
+use Rattle.report_entries.specs.EntryJson.{IsJsonText, json_text}
+use Rattle.reports.specs.PlanJson.{plan_json}
 use Rattle.command_line.specs.Faults.{fault_of_weights}
 use Rattle.command_line.specs.GivenPlan.{IsGiven}
-use Rattle.command_line.specs.PlanCommand.{IsPlanAnswer}
+use Rattle.command_line.specs.PlanCommand.{IsPlanAnswer, IsPlannedAs, TellsPlan}
 use Rattle.command_line.specs.PlanningInputs.{Advertises, AreKept, IsAdvertRefusal, IsAdvertText}
 use Rattle.command_line.specs.Runs.{IsOwnAnswer}
 use Rattle.command_line.specs.declared.fault.Fault.{Fault}
@@ -45,12 +48,56 @@ module _ (image_text weights_text kept_text : List ℕ) (advert : Advertised) (l
     judged_again = judged;
   }
 
-module _ (image listed kept : List ℕ) where
-  pub advert_refused : (f : Fault) → IsAdvertRefusal image f → IsOwnAnswer (IsPlanAnswer image listed kept) (Err f)
+-- a plan that a certificate has
+abbrev pub HasCertificate : Advertised → HostWeights → List Path → List Path → Type 0
+HasCertificate advert listed kept plan = (certificate : Claim) × IsCertified advert listed kept certificate × (certificate.paths ≡ plan)
+
+pub certified_admissible : (advert : Advertised) (listed : HostWeights) (kept plan : List Path) → HasCertificate advert listed kept plan → IsAdmissible advert plan
+certified_admissible advert listed kept plan (certificate, certified, same) = subst (λ (paths : List Path). IsAdmissible advert paths) same certified.good.admissible
+
+pub tells_json : (json : Bool) (advert : Advertised) (listed : HostWeights) (kept plan : List Path) (text : List ℕ) → json ≡ true → HasCertificate advert listed kept plan
+    → IsJsonText (plan_json advert listed kept plan) text → TellsPlan json advert listed kept text
+tells_json true advert listed kept plan text is (certificate, certified, same) written = record {
+  certificate = certificate;
+  certified = certified;
+  written = written.spelled ∙ ap (λ (paths : List Path). json_text (plan_json advert listed kept paths)) (sym same);
+}
+tells_json false advert listed kept plan text is given written = absurd cc
+
+pub tells_text : (json : Bool) (advert : Advertised) (listed : HostWeights) (kept : List Path) (text : List ℕ) → json ≡ false
+    → IsPlanText advert listed kept text → TellsPlan json advert listed kept text
+tells_text false advert listed kept text is written = written
+tells_text true advert listed kept text is written = absurd cc
+
+-- what is told of a certified plan is told of the one that is given
+pub plan_told : (json : Bool) (image_text weights_text kept_text : List ℕ) (advert : Advertised) (listed : HostWeights) (kept : List Path) (text : List ℕ)
+    → IsAdvertText image_text advert → IsAnswer weights_text (Ok listed) → AreKept advert kept_text kept → TellsPlan json advert listed kept text
+    → IsPlannedAs json image_text weights_text kept_text text
+unfolding is_given
+plan_told true image_text weights_text kept_text advert listed kept text is_advert are_weights are_kept told =
+    let all = told.certified in
+    record {
+      certificate = told.certificate;
+      given = is_given image_text weights_text kept_text advert listed kept told.certificate all.keeps is_advert are_weights are_kept
+          all.good all.best all.first all.rising all.gains all.states all.judged;
+      told = told.written ∙ ap (λ (k : List Path). json_text (plan_json advert listed k told.certificate.paths)) (sym all.keeps);
+    }
+plan_told false image_text weights_text kept_text advert listed kept text is_advert are_weights are_kept told =
+    let all = told.certified in
+    record {
+      certificate = told.certificate;
+      given = is_given image_text weights_text kept_text advert listed kept told.certificate all.keeps is_advert are_weights are_kept
+          all.good all.best all.first all.rising all.gains all.states all.judged;
+      told = told.written;
+      read_again = told.read_back;
+    }
+
+module _ (json : Bool) (image listed kept : List ℕ) where
+  pub advert_refused : (f : Fault) → IsAdvertRefusal image f → IsOwnAnswer (IsPlanAnswer json image listed kept) (Err f)
   advert_refused (fault.Image f) is = is
   advert_refused (fault.Advert f) is = is
   advert_refused f is = absurd is
 
-  pub weights_refused : (f : WeightsFault) → Advertises image → IsAnswer listed (Err f) → IsOwnAnswer (IsPlanAnswer image listed kept) (Err (fault_of_weights f))
+  pub weights_refused : (f : WeightsFault) → Advertises image → IsAnswer listed (Err f) → IsOwnAnswer (IsPlanAnswer json image listed kept) (Err (fault_of_weights f))
   weights_refused weights.Memory told is = tt
   weights_refused f told is = (told, (λ same. absurd cc, is))

@@ -1,6 +1,7 @@
 -- The answer of a command that carries out procedures, by what it sets up and does.
 use Rattle.std.proofs.Common.{◌≡◌, ◌∙◌, ◌-◌, ℕ, Bool, true, false, List, [], ◌∷◌, Option, Some, None, Result, Ok, Err, IfOk, refl, sym, subst, ap, ap₂, ◌++◌, ◌⊎◌, inl, inr, length, arith}
 use Rattle.std.specs.Prelude.{MatchOption, is_ok, slice_index}
+use Rattle.std.proofs.lemmas.Grind.{common_steps}
 use Rattle.hex.specs.Hex.{encode_lower}
 use Rattle.text_lines.specs.Lines.{text_of}
 use Rattle.bus_model.specs.declared.operation.Step.{Step}
@@ -31,7 +32,8 @@ use Rattle.sim_module.proofs.Provisioned.{active_if_none}
 use Rattle.sim_module.proofs.SoundModule.{made_keeps, sound_start}
 use Rattle.command_line.specs.Faults.{fault_of_weights}
 use Rattle.command_line.specs.PlanningInputs.{Advertises, IsAdvertRefusal}
-use Rattle.command_line.specs.ProvisionCommand.{Activates, CarriesOut, Ended, GoesOn, IsCarriedOut, IsProcedureAnswer, IsSetUpRefusal, ModuleBus, Provisions, control_words, delays, outcome_fault, outcome_lines, steps_lines, told_text}
+use Rattle.command_line.specs.ProvisionCommand.{Activates, CarriesOut, Ended, GoesOn, IsCarriedOut, IsProcedureAnswer, IsSetUpRefusal, ModuleBus, Provisions, control_words, delays, line_if, outcome_fault, outcome_lines, outcome_of, active_line, activated_line, provisioned_line, told_output}
+use Rattle.reports.specs.declared.json_procedure.Outcome.{Outcome}
 use Rattle.command_line.specs.Runs.{IsOwnAnswer}
 use Rattle.command_line.specs.Sessions.{IsSessionOf}
 use Rattle.command_line.specs.declared.commands.session.Session.{Session}
@@ -39,13 +41,13 @@ use Rattle.command_line.specs.declared.fault.Fault.{Fault}
 use Rattle.command_line.specs.declared.fault.Fault.TheVariants as fault
 
 -- a refusal of the texts is the command's own
-pub refused_answer : (traced activate : Bool) (image listed kept script : List ℕ) (f : Fault) → IsSetUpRefusal image listed kept script f
-    → IsOwnAnswer (IsProcedureAnswer traced activate image listed kept script) (Err f)
-refused_answer traced activate image listed kept script fault.Memory is = tt
-refused_answer traced activate image listed kept script fault.Io is = absurd is
-refused_answer traced activate image listed kept script fault.TooLong is = absurd is
-refused_answer traced activate image listed kept script (fault.Parts n) is = absurd is
-refused_answer traced activate image listed kept script f is = is
+pub refused_answer : (json traced activate : Bool) (image listed kept script : List ℕ) (f : Fault) → IsSetUpRefusal image listed kept script f
+    → IsOwnAnswer (IsProcedureAnswer json traced activate image listed kept script) (Err f)
+refused_answer json traced activate image listed kept script fault.Memory is = tt
+refused_answer json traced activate image listed kept script fault.Io is = absurd is
+refused_answer json traced activate image listed kept script fault.TooLong is = absurd is
+refused_answer json traced activate image listed kept script (fault.Parts n) is = absurd is
+refused_answer json traced activate image listed kept script f is = is
 
 module _ (image listed kept script : List ℕ) where
   pub weights_refused : (f : WeightsFault) → Advertises image → IsAnswer listed (Err f) → IsSetUpRefusal image listed kept script (fault_of_weights f)
@@ -105,12 +107,18 @@ eight_words (a ∷ b ∷ c ∷ d ∷ e ∷ f ∷ g ∷ []) is = absurd (omega ar
 eight_words (a ∷ b ∷ c ∷ d ∷ e ∷ f ∷ g ∷ h ∷ []) is = refl
 eight_words (a ∷ b ∷ c ∷ d ∷ e ∷ f ∷ g ∷ h ∷ i ∷ rest) is = absurd (omega arith)
 
--- the text, by its two halves
-pub told_as : (traced : Bool) (bus : ModuleBus) (provisioned : Ended) (activated : Option Ended) (text before active : List ℕ) (steps : List Step)
-    → text ≡ before ++ text_of (outcome_lines provisioned activated active) → before ≡ text_of (steps_lines traced steps) → steps ≡ bus.steps → active ≡ active_bytes bus.state.1
-    → text ≡ told_text traced bus provisioned activated
-told_as traced bus provisioned activated text before active steps told first same shown =
-    told ∙ ap₂ (λ (x y : List ℕ). x ++ y) (first ∙ ap (λ (l : List Step). text_of (steps_lines traced l)) same) (ap (λ (l : List ℕ). text_of (outcome_lines provisioned activated l)) shown)
+-- the lines one after the other
+pub outcome_text : (old : List ℕ) (outcome : Outcome)
+    → ((old ++ text_of (line_if provisioned_line outcome.provisioned)) ++ text_of (line_if activated_line outcome.activated)) ++ text_of (line_if active_line outcome.active)
+    ≡ old ++ text_of (outcome_lines outcome)
+outcome_text old outcome = grind (arith, common_steps)
+
+-- what is told, by what the bus has
+pub told_as : (json traced : Bool) (bus : ModuleBus) (provisioned : Ended) (activated : Option Ended) (text active : List ℕ) (steps : List Step) (outcome : Outcome) (ended : Option ProvisionFault)
+    → text ≡ told_output json traced steps outcome ended → outcome ≡ outcome_of provisioned activated active → steps ≡ bus.steps → active ≡ active_bytes bus.state.1
+    → text ≡ told_output json traced bus.steps (outcome_of provisioned activated (active_bytes bus.state.1)) ended
+told_as json traced bus provisioned activated text active steps outcome ended told is same shown =
+    told ∙ ap₂ (λ (l : List Step) (o : Outcome). told_output json traced l o ended) same (is ∙ ap (λ (l : List ℕ). outcome_of provisioned activated l) shown)
 
 -- a new module is in no apply
 new_at_rest : (memory : Memory) (given : Delays) → HasNoApply (start memory given)
@@ -119,10 +127,10 @@ new_at_rest memory given lane is = made_keeps (λ (l : Lane). l.kept ≡ None) (
 
 module _ (image listed kept script : List ℕ) (session : Session) (is : IsSessionOf image listed kept script session) where
   -- what a session's bus makes of the plan
-  pub carried : (traced activate : Bool) (text : List ℕ) (after : ModuleBus) (provisioned : Ended) (activated : Option Ended) (ended : Option ProvisionFault)
+  pub carried : (json traced activate : Bool) (text : List ℕ) (after : ModuleBus) (provisioned : Ended) (activated : Option Ended) (ended : Option ProvisionFault)
       → CarriesOut activate session.advert session.plan session.kept (seen_at session.bus) after provisioned activated
-      → text ≡ told_text traced after provisioned activated → ended ≡ outcome_fault provisioned activated → IsCarriedOut traced activate image listed kept script text ended
-  carried traced activate text after provisioned activated ended done told fault = record {
+      → text ≡ told_output json traced after.steps (outcome_of provisioned activated (active_bytes after.state.1)) ended → ended ≡ outcome_fault provisioned activated → IsCarriedOut json traced activate image listed kept script text ended
+  carried json traced activate text after provisioned activated ended done told fault = record {
     set_up = is.set_up;
     after = after;
     provisioned = provisioned;

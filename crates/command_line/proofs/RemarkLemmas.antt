@@ -1,9 +1,9 @@
 -- What is said beside an answer is what its input gives cause for.
-use Rattle.std.proofs.Common.{◌≡◌, ◌∙◌, ℕ, Bool, true, false, List, Option, Some, None, IfSome, Ok, Err, ap, sym, refl}
+use Rattle.std.proofs.Common.{◌≡◌, ◌∙◌, ℕ, Bool, true, false, List, Option, Some, None, IfSome, Ok, Err, ap, sym, refl, subst}
 use Rattle.command_line.specs.Input.{IsReadOf}
 use Rattle.command_line.specs.Remarks.{opening_for}
-use Rattle.command_line.specs.RemarksBeside.{IsRemarkBeside, opening_beside}
-use Rattle.command_line.specs.Runs.{Answer, EndsByFailure, IsSaidBeside, SaysReading, ended, ending_after, status_after}
+use Rattle.command_line.specs.RemarksBeside.{IsRemarkBeside}
+use Rattle.command_line.specs.Runs.{Answer, EndsByFailure, IsSaidBeside, IsWritten, SaysReading, ended, ending_after, opening_beside, output_of, status_after}
 use Rattle.command_line.specs.declared.fault.Fault.{Fault}
 use Rattle.command_line.specs.declared.fault.Fault.TheVariants as fault
 use Rattle.command_line.specs.declared.remark.Remark.{Remark}
@@ -76,3 +76,10 @@ ends_by_failure true true answer status is says = (λ _. refl, λ _. is)
 ends_by_failure false true answer status is says = (λ _. refl, λ _. is)
 ends_by_failure true false answer status is says = (λ _. refl, λ _. is ∙ ap status_after (says.1 refl))
 ends_by_failure false false answer status is says = (λ ends. says.0 (only_reading answer (sym is ∙ ends)), λ failed. absurd cc)
+
+-- what is written in the form of the fault is what is to be written of the answer to the input
+pub written_as : (json : Bool) (answer : Answer) (input : List ℕ) (opening : Opening) (out : List ℕ) (before after : Option (List ℕ)) (failed : Bool) (status : Status)
+    → out ≡ output_of json opening answer → opening ≡ opening_beside answer input → IsWritten out answer before after failed status
+    → IsWritten (output_of json (opening_beside answer input) answer) answer before after failed status
+written_as json answer input opening out before after failed status same clue written =
+    subst (λ (o : List ℕ). IsWritten o answer before after failed status) (same ∙ ap (λ (o : Opening). output_of json o answer) clue) written

@@ -13,6 +13,7 @@ use Rattle.reports.proofs.FetchedReports.{fetched_reports}
 use Rattle.reports.specs.SameReports.{FetchedReportsSame, IsSame, ReportsSame}
 use Rattle.reports.specs.declared.fault.ReportFault.{ReportFault}
 use Rattle.reports.specs.declared.fault.ReportFault.TheVariants as report
+use Rattle.command_line.specs.Commands.{in_form}
 use Rattle.command_line.specs.Limits.{input_limit}
 use Rattle.command_line.specs.OverBus.{IsFetchedFrom, window_at_start}
 use Rattle.command_line.specs.PartsRead.{text_in}
@@ -22,7 +23,7 @@ use Rattle.command_line.specs.Runs.{Answer, IsAnswerTo}
 use Rattle.command_line.specs.SameOverBus.{IsToldAlike}
 use Rattle.command_line.specs.declared.choice.commands.Choice.TheVariants.{Report}
 use Rattle.command_line.specs.declared.choice.commands.ReportName.{ReportName}
-use Rattle.command_line.specs.declared.choice.commands.ReportName.TheVariants.{Inventory, Apps, Monitors, Flags}
+use Rattle.command_line.specs.declared.choice.commands.ReportName.TheVariants.{Inventory, Apps, Monitors, Flags, Details}
 use Rattle.command_line.specs.declared.choice.part.Part.TheVariants.{Image}
 use Rattle.command_line.specs.declared.fault.Fault.TheVariants as fault
 
@@ -147,15 +148,16 @@ module _ (refusal : Memory → Option ReportFault) (text_of : Memory → List �
 
 -- what is printed of the same entries is the same, in each form
 printed_told_alike : (name : ReportName) (json : Bool) → ((fetched memory : Memory) → ReportsSame fetched memory → IsSame (refusal_of name) (entries_of name) fetched memory)
-    → IsToldAlike (λ over. Report name over json)
+    → IsToldAlike (λ over. in_form json (Report name over))
 printed_told_alike name json pick input a is ended memory read =
     let alike = told_alike (refusal_of name) (λ (m : Memory). printed json (entries_of name m)) fetched_reports (λ fetched image all.
     let same = pick fetched image all in
     record { fault = same.fault; said = λ none. ap (printed json) (same.said none) }) input a is ended memory read in
     record { plain = alike.0; alone = alike.1 }
 
-pub each_told_alike : (name : ReportName) (json : Bool) → IsToldAlike (λ over. Report name over json)
+pub each_told_alike : (name : ReportName) (json : Bool) → IsToldAlike (λ over. in_form json (Report name over))
 each_told_alike Inventory json = printed_told_alike Inventory json (λ fetched memory all. all.inventory)
 each_told_alike Apps json = printed_told_alike Apps json (λ fetched memory all. all.apps)
 each_told_alike Monitors json = printed_told_alike Monitors json (λ fetched memory all. all.monitors)
 each_told_alike Flags json = printed_told_alike Flags json (λ fetched memory all. all.flags)
+each_told_alike Details json = printed_told_alike Details json (λ fetched memory all. all.details)

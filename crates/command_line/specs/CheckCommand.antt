@@ -1,6 +1,6 @@
--- What the command `check` answers to the texts of its parts, with the flag `--first` or without it. (docs/formats.md, "Input" and "check"; this
--- project's own)
-use Rattle.std.specs.Prelude.{◌≡◌, ◌↔◌, ℕ, Bool, true, false, IsTrue, List, [], ◌∷◌, ◌++◌, ◌==◌, if◌then◌else◌, length, codes, None, Ok, Err}
+-- What the command `check` answers to the texts of its parts, with the flags `--first` and `--json` or without them.
+-- (docs/formats.md, "Input", "check" and "JSON"; this project's own)
+use Rattle.std.specs.Prelude.{◌≡◌, ◌↔◌, ℕ, Bool, true, false, IsTrue, List, [], ◌∷◌, ◌++◌, ◌==◌, if◌then◌else◌, length, codes, Option, Some, None, Ok, Err}
 use Rattle.std.specs.Fmt.{decimal}
 use Rattle.text_lines.specs.Lines.{lines_of, text_of}
 use Rattle.text_lines.specs.Words.{spaced}
@@ -15,7 +15,9 @@ use Rattle.plan_certificate.specs.Verdicts.{verdict}
 use Rattle.plan_certificate.specs.declared.verdict.Verdict.{Verdict}
 use Rattle.plan_certificate.specs.declared.verdict.Verdict.TheVariants.{Good, Bad}
 use Rattle.lane_planner.specs.FirstBest.{IsFirstBest}
+use Rattle.report_entries.specs.EntryJson.{json_text}
 use Rattle.reports.specs.PlanText.{plan_lines}
+use Rattle.reports.specs.VerdictJson.{good_json}
 use Rattle.plan_certificate.specs.Limits.{most_states}
 use Rattle.command_line.specs.declared.fault.Fault.TheVariants as fault
 use Rattle.command_line.specs.PlanningInputs.{Advertises, IsAdvertText, IsAdvertRefusal, IsWeightsRefusal}
@@ -35,17 +37,32 @@ unfoldable pub first_line : Bool → List ℕ
 first_line true = codes "first yes"
 first_line false = codes "first no"
 
--- whether the plan is the first of the best, if that is asked for
-abbrev pub SaysFirst : Bool → Advertised → HostWeights → Claim → List (List ℕ) → Type 0
-SaysFirst true advert weights certificate lines =
-    (is_first : Bool) × (IsTrue is_first ↔ IsFirstBest advert weights certificate.kept certificate.paths) × (lines ≡ first_line is_first ∷ [])
-SaysFirst false advert weights certificate lines = lines ≡ []
+-- if it is said whether the plan is the first of the best
+abbrev pub first_lines : Option Bool → List (List ℕ)
+first_lines None = []
+first_lines (Some is_first) = first_line is_first ∷ []
 
--- what is told of a good certificate: how many paths it keeps, its plan, and whether that is the first
-pub record TellsGood (first : Bool) (advert : Advertised) (weights : HostWeights) (certificate : Claim) (text : List ℕ) : Type 0 where
-  pub first_lines : List (List ℕ)
-  pub says_first : SaysFirst first advert weights certificate first_lines
-  pub told : text ≡ text_of (good_line ∷ kept_lines (length certificate.kept) ++ plan_lines advert weights certificate.paths ++ first_lines)
+-- that is said exactly if it is asked for
+abbrev pub SaysFirst : Bool → Advertised → HostWeights → Claim → Option Bool → Type 0
+SaysFirst true advert weights certificate (Some is_first) = IsTrue is_first ↔ IsFirstBest advert weights certificate.kept certificate.paths
+SaysFirst false advert weights certificate None = Unit {0}
+SaysFirst asked advert weights certificate said = ⊥
+
+-- how many paths a good certificate keeps, its plan, and whether that is the first
+abbrev pub good_lines : Option Bool → Advertised → HostWeights → Claim → List (List ℕ)
+good_lines is_first advert weights certificate =
+    good_line ∷ kept_lines (length certificate.kept) ++ plan_lines advert weights certificate.paths ++ first_lines is_first
+
+-- the same, as JSON or not
+abbrev pub good_output : Bool → Option Bool → Advertised → HostWeights → Claim → List ℕ
+good_output true is_first advert weights certificate = json_text (good_json is_first advert weights certificate.kept certificate.paths)
+good_output false is_first advert weights certificate = text_of (good_lines is_first advert weights certificate)
+
+-- what is told of a good certificate
+pub record TellsGood (json first : Bool) (advert : Advertised) (weights : HostWeights) (certificate : Claim) (text : List ℕ) : Type 0 where
+  pub is_first : Option Bool
+  pub says_first : SaysFirst first advert weights certificate is_first
+  pub told : text ≡ good_output json is_first advert weights certificate
 
 -- the texts are those of an image, of weights and of a certificate, of which this is the verdict
 pub record IsJudged (image_text weights_text certificate_text : List ℕ) (judged : Verdict) : Type 0 where
@@ -58,17 +75,17 @@ pub record IsJudged (image_text weights_text certificate_text : List ℕ) (judge
   pub is_verdict : verdict advert weights certificate ≡ judged
 
 -- the certificate is good, so its plan is best among those that hold the kept paths, and the plan is told
-pub record IsGoodAnswer (first : Bool) (image_text weights_text certificate_text text : List ℕ) : Type 0 where
+pub record IsGoodAnswer (json first : Bool) (image_text weights_text certificate_text text : List ℕ) : Type 0 where
   pub judged : IsJudged image_text weights_text certificate_text Good
   pub is_best : IsBest judged.advert judged.weights judged.certificate.kept judged.certificate.paths
-  pub told : TellsGood first judged.advert judged.weights judged.certificate text
+  pub told : TellsGood json first judged.advert judged.weights judged.certificate text
 
 -- the answer to the texts of an image, of weights and of a certificate
-abbrev pub IsCheckAnswer : Bool → List ℕ → List ℕ → List ℕ → Answer → Type 0
-IsCheckAnswer first image weights certificate (Ok (text, None)) = IsGoodAnswer first image weights certificate text
-IsCheckAnswer first image weights certificate (Ok (text, ended)) = ⊥
-IsCheckAnswer first image weights certificate (Err (fault.Bad reason number)) = IsJudged image weights certificate (Bad reason number)
-IsCheckAnswer first image weights certificate (Err (fault.Certificate f)) =
+abbrev pub IsCheckAnswer : Bool → Bool → List ℕ → List ℕ → List ℕ → Answer → Type 0
+IsCheckAnswer json first image weights certificate (Ok (text, None)) = IsGoodAnswer json first image weights certificate text
+IsCheckAnswer json first image weights certificate (Ok (text, ended)) = ⊥
+IsCheckAnswer json first image weights certificate (Err (fault.Bad reason number)) = IsJudged image weights certificate (Bad reason number)
+IsCheckAnswer json first image weights certificate (Err (fault.Certificate f)) =
     Advertises image × ((listed : HostWeights) × IsAnswer weights (Ok listed)) × IsFirstFault most_states (lines_of certificate) f
-IsCheckAnswer first image weights certificate (Err (fault.Weights f)) = Advertises image × IsWeightsRefusal weights f
-IsCheckAnswer first image weights certificate (Err f) = IsAdvertRefusal image f
+IsCheckAnswer json first image weights certificate (Err (fault.Weights f)) = Advertises image × IsWeightsRefusal weights f
+IsCheckAnswer json first image weights certificate (Err f) = IsAdvertRefusal image f

@@ -9,10 +9,11 @@ use Rattle.clap.specs.Words.{fault_of, with_rule, with_subcommand, Kinds}
 use Rattle.clap.specs.Simple.{on_top}
 use Rattle.clap.specs.declared.builder.action.ArgAction.TheVariants.{SetTrue}
 use Rattle.command_line.specs.declared.choice.commands.CommandName.{CommandName}
-use Rattle.command_line.specs.declared.choice.commands.CommandName.TheVariants.{Report, Plan, Check, Provision, Trace}
-use Rattle.command_line.specs.declared.choice.commands.ReportName.TheVariants.{Inventory, Apps, Monitors, Flags}
+use Rattle.command_line.specs.declared.choice.commands.CommandName.TheVariants.{Report, Plan, Draw, Check, Provision, Trace}
+use Rattle.command_line.specs.declared.choice.commands.ReportName.TheVariants.{Inventory, Apps, Monitors, Flags, Details}
 use Rattle.command_line.specs.declared.choice.commands.Choice.{Choice}
 use Rattle.command_line.specs.declared.choice.commands.Choice.TheVariants as choice
+use Rattle.command_line.specs.declared.choice.commands.Request.{Request}
 
 -- a command, by its name among the words, and the names of its flags
 pub record Entry : Type 0 where
@@ -32,6 +33,9 @@ activate = codes "activate"
 abbrev pub keep : Text
 keep = codes "keep"
 
+abbrev pub svg : Text
+svg = codes "svg"
+
 abbrev pub first : Text
 first = codes "first"
 
@@ -41,10 +45,12 @@ commands =
     ∷ record { name = codes "apps"; command = Report Apps; flags = bus ∷ json ∷ [] }
     ∷ record { name = codes "monitors"; command = Report Monitors; flags = bus ∷ json ∷ [] }
     ∷ record { name = codes "flags"; command = Report Flags; flags = bus ∷ json ∷ [] }
-    ∷ record { name = codes "plan"; command = Plan; flags = keep ∷ [] }
-    ∷ record { name = codes "check"; command = Check; flags = first ∷ [] }
-    ∷ record { name = codes "provision"; command = Provision; flags = activate ∷ keep ∷ [] }
-    ∷ record { name = codes "trace"; command = Trace; flags = activate ∷ keep ∷ [] }
+    ∷ record { name = codes "details"; command = Report Details; flags = bus ∷ json ∷ [] }
+    ∷ record { name = codes "plan"; command = Plan; flags = keep ∷ json ∷ [] }
+    ∷ record { name = codes "draw"; command = Draw; flags = svg ∷ keep ∷ [] }
+    ∷ record { name = codes "check"; command = Check; flags = first ∷ json ∷ [] }
+    ∷ record { name = codes "provision"; command = Provision; flags = activate ∷ keep ∷ json ∷ [] }
+    ∷ record { name = codes "trace"; command = Trace; flags = activate ∷ keep ∷ json ∷ [] }
     ∷ []
 
 -- `--name`, without a value and at most once
@@ -81,29 +87,39 @@ entry_named name = find (λ entry. bytes_eq entry.name name) commands
 abbrev pub is_given : Text → List Row → Bool
 is_given flag rows = option_map_or (λ value. bytes_eq value (codes "true")) (first_of flag rows) false
 
--- what a command asks for, by its matches
+-- a command with its own flags, by its matches
 abbrev pub choice_with : CommandName → List Row → Choice
-choice_with (Report report) rows = choice.Report report (is_given bus rows) (is_given json rows)
+choice_with (Report report) rows = choice.Report report (is_given bus rows)
 choice_with Plan rows = choice.Plan (is_given keep rows)
+choice_with Draw rows = choice.Draw (is_given svg rows) (is_given keep rows)
 choice_with Check rows = choice.Check (is_given first rows)
 choice_with Provision rows = choice.Provision (is_given activate rows) (is_given keep rows)
 choice_with Trace rows = choice.Trace (is_given activate rows) (is_given keep rows)
 
--- the choice that a subcommand and its matches make, if there is one
-abbrev pub choice_in : Option (Text × List Row) → Option Choice
-choice_in = option_and_then (λ found. option_map (λ entry. choice_with entry.command found.1) (entry_named found.0))
+-- the same, and the form of the answer
+abbrev pub request_with : CommandName → List Row → Request
+request_with command rows = record { choice = choice_with command rows; json = is_given json rows }
 
--- what a command's name alone asks for: the command, with none of its flags
+-- what a subcommand and its matches ask for, if there is one
+abbrev pub request_in : Option (Text × List Row) → Option Request
+request_in = option_and_then (λ found. option_map (λ entry. request_with entry.command found.1) (entry_named found.0))
+
+-- a command with none of its flags
 abbrev pub plain_choice : CommandName → Choice
-plain_choice (Report report) = choice.Report report false false
+plain_choice (Report report) = choice.Report report false
 plain_choice Plan = choice.Plan false
+plain_choice Draw = choice.Draw false false
 plain_choice Check = choice.Check false
 plain_choice Provision = choice.Provision false false
 plain_choice Trace = choice.Trace false false
 
--- the choice that the words make
-abbrev pub choice_of : List Text → Option Choice
-choice_of words = choice_in (subcommand_of program words)
+-- what a command's name alone asks for
+abbrev pub plain_request : CommandName → Request
+plain_request command = record { choice = plain_choice command; json = false }
+
+-- what the words ask for
+abbrev pub request_of : List Text → Option Request
+request_of words = request_in (subcommand_of program words)
 
 -- the kinds of error that `clap` may answer to the words, none where it takes them
 abbrev pub faults_of : List Text → Kinds

@@ -1,23 +1,32 @@
 -- What each command answers to its input, with the flags that are given. (docs/formats.md, "Input"; this project's own)
-use Rattle.std.specs.Prelude.{ℕ, true, false, List}
+use Rattle.std.specs.Prelude.{ℕ, Bool, true, false, List}
 use Rattle.command_line.specs.CheckCommand.{IsCheckAnswer}
+use Rattle.command_line.specs.DrawCommand.{IsDrawAnswer}
 use Rattle.command_line.specs.PartsRead.{Texts, parts_read}
 use Rattle.command_line.specs.PlanCommand.{IsPlanAnswer}
 use Rattle.command_line.specs.ProvisionCommand.{IsProcedureAnswer}
 use Rattle.command_line.specs.ReportCommands.{IsReportAnswer}
 use Rattle.command_line.specs.Runs.{Answer, IsAnswerTo}
 use Rattle.command_line.specs.declared.choice.commands.Choice.{Choice}
-use Rattle.command_line.specs.declared.choice.commands.Choice.TheVariants.{Report, Plan, Check, Provision, Trace}
+use Rattle.command_line.specs.declared.choice.commands.Choice.TheVariants.{Report, Plan, Draw, Check, Provision, Trace}
+use Rattle.command_line.specs.declared.choice.commands.Request.{Request}
 use Rattle.command_line.specs.declared.choice.part.Part.TheVariants.{Image, Weights, Kept, Certificate, Script}
 
--- the answer to the texts of its parts
-abbrev pub IsAnswerToTexts : Choice → Texts → Answer → Type 0
-IsAnswerToTexts (Report report bus json) texts = IsReportAnswer report bus json (texts Image)
-IsAnswerToTexts (Plan keep) texts = IsPlanAnswer (texts Image) (texts Weights) (texts Kept)
-IsAnswerToTexts (Check first) texts = IsCheckAnswer first (texts Image) (texts Weights) (texts Certificate)
-IsAnswerToTexts (Provision activate keep) texts = IsProcedureAnswer false activate (texts Image) (texts Weights) (texts Kept) (texts Script)
-IsAnswerToTexts (Trace activate keep) texts = IsProcedureAnswer true activate (texts Image) (texts Weights) (texts Kept) (texts Script)
+-- the answer to the texts of its parts, as JSON or not
+abbrev pub IsAnswerToTexts : Choice → Bool → Texts → Answer → Type 0
+IsAnswerToTexts (Report report bus) json texts = IsReportAnswer report bus json (texts Image)
+IsAnswerToTexts (Plan keep) json texts = IsPlanAnswer json (texts Image) (texts Weights) (texts Kept)
+IsAnswerToTexts (Draw svg keep) json texts = IsDrawAnswer svg (texts Image) (texts Weights) (texts Kept)
+IsAnswerToTexts (Check first) json texts = IsCheckAnswer json first (texts Image) (texts Weights) (texts Certificate)
+IsAnswerToTexts (Provision activate keep) json texts =
+    IsProcedureAnswer json false activate (texts Image) (texts Weights) (texts Kept) (texts Script)
+IsAnswerToTexts (Trace activate keep) json texts =
+    IsProcedureAnswer json true activate (texts Image) (texts Weights) (texts Kept) (texts Script)
 
 -- the answer to an input
-abbrev pub IsAnswerOf : Choice → List ℕ → Answer → Type 0
-IsAnswerOf choice = IsAnswerTo (parts_read choice) (IsAnswerToTexts choice)
+abbrev pub IsAnswerOf : Request → List ℕ → Answer → Type 0
+IsAnswerOf request = IsAnswerTo (parts_read request.choice) (IsAnswerToTexts request.choice request.json)
+
+-- a command whose answer is to be JSON or not
+abbrev pub in_form : Bool → Choice → Request
+in_form json choice = record { choice = choice; json = json }

@@ -14,7 +14,9 @@ pub mod PartsLeft
 pub mod Faults
 pub mod Places
 pub mod Remarks
+pub mod FaultTexts
 pub mod Runs
+pub mod FaultForms
 pub mod RemarksBeside
 pub mod PartFaults
 pub mod OverBus
@@ -22,6 +24,7 @@ pub mod ReportCommands
 pub mod PlanningInputs
 pub mod GivenPlan
 pub mod PlanCommand
+pub mod DrawCommand
 pub mod CheckCommand
 pub mod ProvisionCommand
 pub mod Sessions

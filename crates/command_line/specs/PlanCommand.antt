@@ -1,12 +1,18 @@
 -- What the command `plan` answers to the texts of its parts. (docs/formats.md, "Input" and "plan"; this project's own)
-use Rattle.std.specs.Prelude.{◌≡◌, ℕ, List, None, Ok, Err}
+use Rattle.std.specs.Prelude.{◌≡◌, ℕ, Bool, true, false, List, None, Ok, Err}
 use Rattle.text_lines.specs.Lines.{lines_of, text_of}
 use Rattle.plan_certificate.specs.Certificates.{Claim}
 use Rattle.plan_certificate.specs.CertificateText.{IsTextOf, certificate_lines}
 use Rattle.plan_certificate.specs.Limits.{most_states}
+use Rattle.report_entries.specs.EntryJson.{json_text}
+use Rattle.reports.specs.PlanJson.{plan_json}
 use Rattle.command_line.specs.declared.fault.Fault.TheVariants as fault
 use Rattle.command_line.specs.GivenPlan.{IsGiven}
 use Rattle.command_line.specs.PlanningInputs.{Advertises, IsAdvertRefusal, IsKeptRefusal, IsWeightsRefusal}
+use Rattle.applications.specs.Advertised.{Advertised}
+use Rattle.applications.specs.Weights.{HostWeights}
+use Rattle.plan_certificate.specs.declared.path.Path.{Path}
+use Rattle.lane_planner.specs.CertifiedPlans.{IsCertified, IsPlanText}
 use Rattle.command_line.specs.Runs.{Answer}
 
 -- the certificate of the plan that is given, as its text, which is read as it again
@@ -16,10 +22,31 @@ pub record IsPlanned (image_text weights_text kept_text text : List ℕ) : Type 
   pub told : text ≡ text_of (certificate_lines certificate)
   pub read_again : IsTextOf most_states (lines_of text) certificate
 
+-- that plan as JSON, without the certificate's states
+pub record IsPlannedJson (image_text weights_text kept_text text : List ℕ) : Type 0 where
+  pub certificate : Claim
+  pub given : IsGiven image_text weights_text kept_text certificate
+  pub told : text ≡ json_text (plan_json given.advert given.weights certificate.kept certificate.paths)
+
+-- the same, by what was read of the texts
+pub record IsPlanJson (advert : Advertised) (weights : HostWeights) (kept : List Path) (text : List ℕ) : Type 0 where
+  pub certificate : Claim
+  pub certified : IsCertified advert weights kept certificate
+  pub written : text ≡ json_text (plan_json advert weights kept certificate.paths)
+
+-- as JSON or not
+abbrev pub TellsPlan : Bool → Advertised → HostWeights → List Path → List ℕ → Type 0
+TellsPlan true advert weights kept text = IsPlanJson advert weights kept text
+TellsPlan false advert weights kept text = IsPlanText advert weights kept text
+
+abbrev pub IsPlannedAs : Bool → List ℕ → List ℕ → List ℕ → List ℕ → Type 0
+IsPlannedAs true image weights kept text = IsPlannedJson image weights kept text
+IsPlannedAs false image weights kept text = IsPlanned image weights kept text
+
 -- the answer to the texts of an image, of weights and of kept paths
-abbrev pub IsPlanAnswer : List ℕ → List ℕ → List ℕ → Answer → Type 0
-IsPlanAnswer image weights kept (Ok (text, None)) = IsPlanned image weights kept text
-IsPlanAnswer image weights kept (Ok (text, ended)) = ⊥
-IsPlanAnswer image weights kept (Err (fault.Kept f)) = IsKeptRefusal image weights kept f
-IsPlanAnswer image weights kept (Err (fault.Weights f)) = Advertises image × IsWeightsRefusal weights f
-IsPlanAnswer image weights kept (Err f) = IsAdvertRefusal image f
+abbrev pub IsPlanAnswer : Bool → List ℕ → List ℕ → List ℕ → Answer → Type 0
+IsPlanAnswer json image weights kept (Ok (text, None)) = IsPlannedAs json image weights kept text
+IsPlanAnswer json image weights kept (Ok (text, ended)) = ⊥
+IsPlanAnswer json image weights kept (Err (fault.Kept f)) = IsKeptRefusal image weights kept f
+IsPlanAnswer json image weights kept (Err (fault.Weights f)) = Advertises image × IsWeightsRefusal weights f
+IsPlanAnswer json image weights kept (Err f) = IsAdvertRefusal image f

@@ -1,10 +1,8 @@
 -- What `check` answers to the text that `plan` wrote, in its place after the same image and weights. (docs/formats.md,
 -- "check"; this project's own)
-use Rattle.std.specs.Prelude.{◌≡◌, ◌≢◌, ℕ, ◌≤◌, Bool, true, false, List, [], ◌∷◌, ◌++◌, length, codes, None, Ok, Err}
-use Rattle.text_lines.specs.Lines.{text_of}
-use Rattle.reports.specs.PlanText.{plan_lines}
-use Rattle.command_line.specs.CheckCommand.{first_line, good_line, kept_lines}
-use Rattle.command_line.specs.Commands.{IsAnswerOf}
+use Rattle.std.specs.Prelude.{◌≡◌, ◌≢◌, ℕ, ◌≤◌, Bool, true, false, List, [], ◌∷◌, ◌++◌, length, codes, Option, Some, None, Ok, Err}
+use Rattle.command_line.specs.CheckCommand.{good_output}
+use Rattle.command_line.specs.Commands.{IsAnswerOf, in_form}
 use Rattle.command_line.specs.declared.choice.commands.Choice.TheVariants.{Check}
 use Rattle.command_line.specs.Limits.{input_limit}
 use Rattle.command_line.specs.Parts.{parts_of}
@@ -21,21 +19,20 @@ abbrev pub input_with : List ℕ → List ℕ → List ℕ
 input_with input text = input ++ (codes "---\n" ++ text)
 
 -- the plan is the first of the best, if that is asked for
-abbrev pub first_lines : Bool → List (List ℕ)
-first_lines true = first_line true ∷ []
-first_lines false = []
+abbrev pub first_if : Bool → Option Bool
+first_if true = Some true
+first_if false = None
 
--- `good`, and the plan that was given
-abbrev pub good_text : {image_text weights_text kept_text text : List ℕ} → Bool → IsPlanned image_text weights_text kept_text text → List ℕ
-good_text first planned = text_of (good_line ∷ kept_lines (length planned.certificate.kept)
-    ++ plan_lines planned.given.advert planned.given.weights planned.certificate.paths ++ first_lines first)
+-- that it is good, and the plan that was given
+abbrev pub good_text : {image_text weights_text kept_text text : List ℕ} → Bool → Bool → IsPlanned image_text weights_text kept_text text → List ℕ
+good_text json first planned = good_output json (first_if first) planned.given.advert planned.given.weights planned.certificate
 
--- whatever flags are given, `check` answers `good` and the plan to this input, and, if no allocation and no read is refused,
--- nothing else
+-- whatever flags are given, `check` answers `good` and the plan to this input, as JSON or not, and, if no allocation and no read
+-- is refused, nothing else
 pub record IsCalledGood {image_text weights_text kept_text text : List ℕ} (planned : IsPlanned image_text weights_text kept_text text) (input : List ℕ) : Type 0 where
-  pub good : (first : Bool) → IsAnswerOf (Check first) input (Ok (good_text first planned, None))
-  pub alone : (first : Bool) (answer : Answer) → IsAnswerOf (Check first) input answer → answer ≢ Err Memory → answer ≢ Err Io
-      → answer ≡ Ok (good_text first planned, None)
+  pub good : (json first : Bool) → IsAnswerOf (in_form json (Check first)) input (Ok (good_text json first planned, None))
+  pub alone : (json first : Bool) (answer : Answer) → IsAnswerOf (in_form json (Check first)) input answer → answer ≢ Err Memory → answer ≢ Err Io
+      → answer ≡ Ok (good_text json first planned, None)
 
 -- the text is of the plan of these texts, and after the image and the weights `check` calls it good
 pub record IsGoodBehind (image_text weights_text kept_text text : List ℕ) : Type 0 where

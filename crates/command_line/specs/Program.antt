@@ -9,13 +9,13 @@ use Rattle.std.specs.declared.io.Error.{Error}
 use Rattle.std.specs.declared.io.ErrorKind.{ErrorKind}
 use Rattle.std.specs.declared.io.ErrorKind.TheVariants.{OutOfMemory}
 use Rattle.clap.specs.Words.{Text, takes}
-use Rattle.command_line.specs.Choice.{choice_of, faults_of, program}
+use Rattle.command_line.specs.Choice.{faults_of, program, request_of}
 use Rattle.command_line.specs.ChoiceFault.{IsFaultAmong, status_of_fault}
 use Rattle.command_line.specs.Commands.{IsAnswerOf}
 use Rattle.command_line.specs.Faults.{fault_line}
 use Rattle.command_line.specs.Runs.{IsCommandRun, ended, ending_after}
 use Rattle.command_line.specs.StoppingWriter.{contents_of, writing_failed}
-use Rattle.command_line.specs.declared.choice.commands.Choice.{Choice}
+use Rattle.command_line.specs.declared.choice.commands.Request.{Request}
 use Rattle.command_line.specs.declared.choice.fault.ChoiceFault.{ChoiceFault}
 use Rattle.command_line.specs.declared.choice.fault.ChoiceFault.TheVariants.{Memory}
 use Rattle.command_line.specs.declared.fault.Fault.TheVariants as fault
@@ -28,7 +28,7 @@ use Rattle.command_line.specs.declared.remark.Remark.TheVariants.{Nothing, NoMem
 use Rattle.command_line.specs.declared.status.Status.{Status}
 use Rattle.command_line.specs.declared.status.Status.TheVariants as status
 
--- the words give no choice: `clap` refuses them, or an allocation was refused
+-- the words ask for nothing: `clap` refuses them, or an allocation was refused
 abbrev pub IsRefusalOf : List Text → ChoiceFault → Type 0
 IsRefusalOf words fault = IsFaultAmong (faults_of words) fault × (takes program words ≡ true → fault ≡ Memory)
 
@@ -77,11 +77,11 @@ pub record IsRefusalRun {R W : Type 0} (contents : W → Option (List ℕ)) (IsS
   pub remarked : ending ≡ refusal_ending (writing_failed writer_after) ending.status
   pub stopped : writing_failed writer ≡ true → writer_after ≡ writer
 
--- the command that the words choose was run, or they were refused
+-- what the words ask for was run, or they were refused
 abbrev pub IsProgramRun : {R W : Type 0} → (R → Option (List ℕ)) → (W → Option (List ℕ)) → Result (List Text) Error
     → CountedReader R → CountedReader R → StoppingWriter W → StoppingWriter W → Ending → Type 0
 IsProgramRun remaining contents (Ok words) reader reader_after writer writer_after ending =
-    ((choice : Choice) × (choice_of words ≡ Some choice) × IsCommandRun remaining contents (IsAnswerOf choice) reader reader_after writer writer_after ending)
+    ((request : Request) × (request_of words ≡ Some request) × IsCommandRun remaining contents request.json (IsAnswerOf request) reader reader_after writer writer_after ending)
     ⊎ ((fault : ChoiceFault) × IsRefusalOf words fault × IsRefusalRun contents (IsRefusalSaid fault) reader reader_after writer writer_after ending)
 IsProgramRun remaining contents (Err error) reader reader_after writer writer_after ending =
     IsRefusalRun contents (IsWordsRefusalSaid error) reader reader_after writer writer_after ending

@@ -28,7 +28,14 @@ use Rattle.sim_module.specs.Starts.{start, start_fault}
 use Rattle.sim_module.specs.declared.delays.Delays.{Delays}
 use Rattle.sim_module.specs.declared.fault.SimFault.{SimFault}
 use Rattle.sim_module.specs.declared.module.SimModule.{SimModule}
+use Rattle.json.specs.Json.{Json}
+use Rattle.report_entries.specs.EntryJson.{json_text}
+use Rattle.reports.specs.ProcedureJson.{procedure_json}
 use Rattle.reports.specs.Trace.{trace_lines}
+use Rattle.reports.specs.declared.json_procedure.Outcome.{Outcome}
+use Rattle.command_line.specs.Faults.{fault_words}
+use Rattle.command_line.specs.FaultTexts.{fault_sentence}
+use Rattle.command_line.specs.declared.remark.opening.Opening.TheVariants.{Other}
 use Rattle.command_line.specs.GivenPlan.{IsGiven}
 use Rattle.command_line.specs.PlanningInputs.{Advertises, ArePlanningInputs, IsAdvertRefusal, IsKeptRefusal, IsWeightsRefusal}
 use Rattle.command_line.specs.Runs.{Answer}
@@ -91,12 +98,12 @@ control_words bytes = map (λ byte. encode_lower (byte ∷ [])) bytes
 unfoldable pub active_line : List ℕ → List ℕ
 active_line bytes = spaced (codes "active" ∷ control_words bytes)
 
--- each success, and the active bytes if there is no fault
-abbrev pub outcome_lines : Ended → Option Ended → List ℕ → List (List ℕ)
-outcome_lines (Err fault) activated active = []
-outcome_lines (Ok steps) None active = provisioned_line steps ∷ active_line active ∷ []
-outcome_lines (Ok steps) (Some (Ok more)) active = provisioned_line steps ∷ activated_line more ∷ active_line active ∷ []
-outcome_lines (Ok steps) (Some (Err fault)) active = provisioned_line steps ∷ []
+-- what came of them: each success, and the active bytes if there is no fault
+abbrev pub outcome_of : Ended → Option Ended → List ℕ → Outcome
+outcome_of (Err fault) activated active = record { provisioned = None; activated = None; active = None }
+outcome_of (Ok steps) None active = record { provisioned = Some steps; activated = None; active = Some active }
+outcome_of (Ok steps) (Some (Ok more)) active = record { provisioned = Some steps; activated = Some more; active = Some active }
+outcome_of (Ok steps) (Some (Err fault)) active = record { provisioned = Some steps; activated = None; active = None }
 
 abbrev pub outcome_fault : Ended → Option Ended → Option ProvisionFault
 outcome_fault (Err fault) activated = Some fault
@@ -104,14 +111,37 @@ outcome_fault (Ok steps) None = None
 outcome_fault (Ok steps) (Some (Ok more)) = None
 outcome_fault (Ok steps) (Some (Err fault)) = Some fault
 
+-- ---- as text
+
+abbrev pub line_if : {T : Type 0} → (T → List ℕ) → Option T → List (List ℕ)
+line_if line None = []
+line_if line (Some told) = line told ∷ []
+
+abbrev pub outcome_lines : Outcome → List (List ℕ)
+outcome_lines outcome = line_if provisioned_line outcome.provisioned ++ line_if activated_line outcome.activated ++ line_if active_line outcome.active
+
 -- the steps stand first, if they are shown
 abbrev pub steps_lines : Bool → List Step → List (List ℕ)
 steps_lines true steps = trace_lines steps
 steps_lines false steps = []
 
-abbrev pub told_text : Bool → ModuleBus → Ended → Option Ended → List ℕ
-told_text traced bus provisioned activated =
-    text_of (steps_lines traced bus.steps) ++ text_of (outcome_lines provisioned activated (active_bytes bus.state.1))
+abbrev pub told_text : Bool → List Step → Outcome → List ℕ
+told_text traced steps outcome = text_of (steps_lines traced steps) ++ text_of (outcome_lines outcome)
+
+-- ---- as JSON
+
+-- with the words and the sentence of the fault, if there is one
+abbrev pub told_tree : Bool → List Step → Outcome → Option ProvisionFault → Json
+told_tree traced steps outcome None = procedure_json traced steps outcome [] []
+told_tree traced steps outcome (Some f) =
+    procedure_json traced steps outcome (fault_words (fault.Provision f)) (fault_sentence (fault.Provision f) Other)
+
+-- ---- what is told
+
+-- as JSON, which has the fault too, or not
+abbrev pub told_output : Bool → Bool → List Step → Outcome → Option ProvisionFault → List ℕ
+told_output true traced steps outcome refused = json_text (told_tree traced steps outcome refused)
+told_output false traced steps outcome refused = told_text traced steps outcome
 
 -- the texts are those of an image, of weights, of kept paths and of a script; their plan, and the module that the image makes
 pub record IsSetUp (image_text weights_text kept_text script_text : List ℕ) : Type 0 where
@@ -138,17 +168,18 @@ IsSetUpRefusal image weights kept script (fault.Weights f) = Advertises image ×
 IsSetUpRefusal image weights kept script f = IsAdvertRefusal image f
 
 -- what was done, and what is told of it
-pub record IsCarriedOut (traced activate : Bool) (image_text weights_text kept_text script_text text : List ℕ) (ended : Option ProvisionFault) : Type 0 where
+pub record IsCarriedOut (json traced activate : Bool) (image_text weights_text kept_text script_text text : List ℕ) (ended : Option ProvisionFault) : Type 0 where
   pub set_up : IsSetUp image_text weights_text kept_text script_text
   pub after : ModuleBus
   pub provisioned : Ended
   pub activated : Option Ended
   pub done : CarriesOut activate set_up.given.advert set_up.certificate.paths set_up.certificate.kept (bus_at_start set_up.given.is_advert.memory set_up.script) after provisioned activated
-  pub told : text ≡ told_text traced after provisioned activated
+  pub told : text ≡ told_output json traced after.steps (outcome_of provisioned activated (active_bytes after.state.1)) ended
   pub fault : ended ≡ outcome_fault provisioned activated
 
--- the answer to the texts of an image, of weights, of kept paths and of a script, by whether the steps are shown and
+-- the answer to the texts of an image, of weights, of kept paths and of a script, by whether it is JSON, the steps are shown and
 -- activation is asked for
-abbrev pub IsProcedureAnswer : Bool → Bool → List ℕ → List ℕ → List ℕ → List ℕ → Answer → Type 0
-IsProcedureAnswer traced activate image weights kept script (Ok (text, ended)) = IsCarriedOut traced activate image weights kept script text ended
-IsProcedureAnswer traced activate image weights kept script (Err f) = IsSetUpRefusal image weights kept script f
+abbrev pub IsProcedureAnswer : Bool → Bool → Bool → List ℕ → List ℕ → List ℕ → List ℕ → Answer → Type 0
+IsProcedureAnswer json traced activate image weights kept script (Ok (text, ended)) =
+    IsCarriedOut json traced activate image weights kept script text ended
+IsProcedureAnswer json traced activate image weights kept script (Err f) = IsSetUpRefusal image weights kept script f

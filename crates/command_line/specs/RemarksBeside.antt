@@ -1,20 +1,12 @@
 -- What is said beside an answer, by the clue that the input gave. (docs/formats.md, "Standard error"; this project's own)
-use Rattle.std.specs.Prelude.{◌≡◌, ℕ, List, Some, None, Ok, Err}
-use Rattle.command_line.specs.Remarks.{opening_for}
+use Rattle.std.specs.Prelude.{◌≡◌, Some, None, Ok, Err}
 use Rattle.command_line.specs.Runs.{Answer}
 use Rattle.command_line.specs.declared.fault.Fault.{Fault}
 use Rattle.command_line.specs.declared.fault.Fault.TheVariants.{Provision}
 use Rattle.command_line.specs.declared.remark.Remark.{Remark}
 use Rattle.command_line.specs.declared.remark.Remark.TheVariants.{Refused, Warned}
 use Rattle.command_line.specs.declared.remark.clue.Clue.{Clue}
-use Rattle.command_line.specs.declared.remark.opening.Opening.{Opening}
-use Rattle.command_line.specs.declared.remark.opening.Opening.TheVariants.{Other}
 use Rattle.command_line.specs.declared.remark.warnings.Warnings.{Warnings}
-
--- what is known beside an answer of how its input begins
-abbrev pub opening_beside : Answer → List ℕ → Opening
-opening_beside (Err fault) input = opening_for fault input
-opening_beside (Ok text) input = Other
 
 -- of a fault, that it is explained
 abbrev pub explained : Fault → Clue → Remark

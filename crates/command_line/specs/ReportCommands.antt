@@ -8,16 +8,17 @@ use Rattle.paged_memory.specs.Images.{Memory}
 use Rattle.paged_memory.specs.ImageFaults.{IsFirstFault}
 use Rattle.applications.specs.Advertised.{advertised_by}
 use Rattle.reports.specs.Apps.{apps_entries, apps_fault}
-use Rattle.reports.specs.Entries.{Entry}
-use Rattle.reports.specs.EntryJson.{json_text, report_json}
-use Rattle.reports.specs.EntryText.{report_text}
+use Rattle.report_entries.specs.Entries.{Entry}
+use Rattle.report_entries.specs.EntryJson.{json_text, report_json}
+use Rattle.report_entries.specs.EntryText.{report_text}
+use Rattle.reports.specs.Details.{details_entries, details_fault}
 use Rattle.reports.specs.Inventory.{inventory_entries, inventory_fault}
-use Rattle.reports.specs.Measured.{monitors_entries, monitors_fault}
-use Rattle.reports.specs.Warned.{flags_entries, flags_fault}
+use Rattle.reports.specs.MonitorsByFamily.{monitors_entries, monitors_fault}
+use Rattle.reports.specs.FlagsByFamily.{flags_entries, flags_fault}
 use Rattle.reports.specs.declared.fault.ReportFault.{ReportFault}
 use Rattle.reports.specs.declared.fault.ReportFault.TheVariants.{Memory as NoMemory}
 use Rattle.command_line.specs.declared.choice.commands.ReportName.{ReportName}
-use Rattle.command_line.specs.declared.choice.commands.ReportName.TheVariants.{Inventory, Apps, Monitors, Flags}
+use Rattle.command_line.specs.declared.choice.commands.ReportName.TheVariants.{Inventory, Apps, Monitors, Flags, Details}
 use Rattle.command_line.specs.declared.fault.Fault.TheVariants as fault
 use Rattle.command_line.specs.OverBus.{IsToReport, IsUnread}
 use Rattle.command_line.specs.Runs.{Answer}
@@ -53,6 +54,7 @@ refusal_of Inventory = inventory_fault
 refusal_of Apps = apps_fault
 refusal_of Monitors = monitors_fault
 refusal_of Flags = flags_fault
+refusal_of Details = details_fault
 
 -- what it says of one
 abbrev pub entries_of : ReportName → Memory → List Entry
@@ -60,6 +62,7 @@ entries_of Inventory memory = inventory_entries memory
 entries_of Apps memory = apps_entries (advertised_by memory)
 entries_of Monitors memory = monitors_entries memory
 entries_of Flags memory = flags_entries memory
+entries_of Details memory = details_entries memory
 
 -- the answer of a report to the text of an image, with the flags `--bus` and `--json` or without them
 abbrev pub IsReportAnswer : ReportName → Bool → Bool → List ℕ → Answer → Type 0

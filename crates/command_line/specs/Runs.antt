@@ -6,8 +6,10 @@ use Rattle.std.specs.Io.KnownBytes.{Appends}
 use Rattle.control_sets.specs.declared.fault.ProvisionFault.{ProvisionFault}
 use Rattle.command_line.specs.declared.fault.Fault.{Fault}
 use Rattle.command_line.specs.declared.fault.Fault.TheVariants.{Memory, Io, TooLong, Parts, Provision}
-use Rattle.command_line.specs.declared.told.Told.{Told}
+use Rattle.command_line.specs.declared.command_output.CommandOutput.{CommandOutput}
 use Rattle.command_line.specs.Remarks.{opening_for}
+use Rattle.command_line.specs.declared.remark.opening.Opening.{Opening}
+use Rattle.command_line.specs.declared.remark.opening.Opening.TheVariants.{Other}
 use Rattle.command_line.specs.declared.ending.Ending.{Ending}
 use Rattle.command_line.specs.declared.remark.Remark.{Remark}
 use Rattle.command_line.specs.declared.remark.Remark.TheVariants.{Unwritten, Refused, Warned}
@@ -15,7 +17,8 @@ use Rattle.command_line.specs.declared.remark.warnings.Warnings.{Warnings}
 use Rattle.command_line.specs.declared.status.Status.{Status}
 use Rattle.command_line.specs.declared.status.Status.TheVariants.{Done, NotProvisioned, ReadOrWrite}
 use Rattle.command_line.specs.CountedReader.{reading_failed, reads_of, remaining_of}
-use Rattle.command_line.specs.Faults.{fault_line, status_of}
+use Rattle.command_line.specs.Faults.{status_of}
+use Rattle.command_line.specs.FaultTexts.{fault_text}
 use Rattle.command_line.specs.Input.{TakesWithinLimit}
 use Rattle.command_line.specs.Limits.{input_limit, read_limit}
 use Rattle.command_line.specs.Parts.{parts_of}
@@ -30,13 +33,20 @@ abbrev pub Answer : Type 0
 Answer = Result (List ℕ × Option ProvisionFault) Fault
 
 -- what a function answers, as such a one
-abbrev pub answer_of : Result Told Fault → Answer
+abbrev pub answer_of : Result CommandOutput Fault → Answer
 answer_of result = result_map_both (λ told. (told.text.items, told.fault)) (λ fault. fault) result
 
-abbrev pub output_of : Answer → List ℕ
-output_of (Ok (text, None)) = text
-output_of (Ok (text, Some fault)) = text ++ fault_line (Provision fault)
-output_of (Err fault) = fault_line fault
+-- what is known beside an answer of how its input begins
+abbrev pub opening_beside : Answer → List ℕ → Opening
+opening_beside (Err fault) input = opening_for fault input
+opening_beside (Ok text) input = Other
+
+-- what is written of an answer, as JSON or not; one object has both, the text of a procedure and its fault
+abbrev pub output_of : Bool → Opening → Answer → List ℕ
+output_of json opening (Ok (text, None)) = text
+output_of true opening (Ok (text, Some fault)) = text
+output_of false opening (Ok (text, Some fault)) = text ++ fault_text false (Provision fault) opening
+output_of json opening (Err fault) = fault_text json fault opening
 
 abbrev pub status_after : Answer → Status
 status_after (Ok (text, None)) = Done
@@ -71,10 +81,10 @@ ended false status = status
 abbrev pub SaysReading : Bool → Answer → Type 0
 SaysReading failed answer = (answer ≡ Err Io) ↔ (failed ≡ true)
 
--- the answer was written whole if no write failed, after what the writer held before, and the run ended so
-abbrev pub IsWritten : Answer → Option (List ℕ) → Option (List ℕ) → Bool → Status → Type 0
-IsWritten answer before after write_failed status =
-    (status ≡ ended write_failed (status_after answer)) × (write_failed ≡ false → Appends before after (output_of answer))
+-- an answer was written whole, as this output, if no write failed, after what the writer held before, and the run ended so
+abbrev pub IsWritten : List ℕ → Answer → Option (List ℕ) → Option (List ℕ) → Bool → Status → Type 0
+IsWritten output answer before after write_failed status =
+    (status ≡ ended write_failed (status_after answer)) × (write_failed ≡ false → Appends before after output)
 
 -- the run ends so exactly if a read or a write failed
 abbrev pub EndsByFailure : Bool → Bool → Status → Type 0
@@ -101,18 +111,18 @@ abbrev pub ending_after : Bool → Status → Remark → Ending
 ending_after true status remark = record { status = status; remark = Unwritten }
 ending_after false status remark = record { status = status; remark = remark }
 
--- such an answer was written, no more was read than it needs, and this is said beside it
-pub record IsAnswered {R W : Type 0} (remaining : R → Option (List ℕ)) (contents : W → Option (List ℕ)) (IsAnswer : List ℕ → Answer → Type 0) (input : List ℕ)
+-- such an answer was written, as JSON or not, no more was read than it needs, and this is said beside it
+pub record IsAnswered {R W : Type 0} (remaining : R → Option (List ℕ)) (contents : W → Option (List ℕ)) (json : Bool) (IsAnswer : List ℕ → Answer → Type 0) (input : List ℕ)
     (reader reader_after : CountedReader R) (writer writer_after : StoppingWriter W) (ending : Ending) : Type 0 where
   pub answer : Answer
   pub is_answer : IsAnswer input answer
   pub reading : SaysReading (reading_failed reader_after) answer
   pub taken : TakesWithinLimit (remaining_of remaining reader) (remaining_of remaining reader_after) (answer ≡ Err TooLong)
-  pub written : IsWritten answer (contents_of contents writer) (contents_of contents writer_after) (writing_failed writer_after) ending.status
+  pub written : IsWritten (output_of json (opening_beside answer input) answer) answer (contents_of contents writer) (contents_of contents writer_after) (writing_failed writer_after) ending.status
   pub remarked : IsSaidBeside (writing_failed writer_after) input answer ending.remark
 
--- one run of a command on a reader and a writer, before and after, that answers its input so
-pub record IsCommandRun {R W : Type 0} (remaining : R → Option (List ℕ)) (contents : W → Option (List ℕ)) (IsAnswer : List ℕ → Answer → Type 0)
+-- one run of a command on a reader and a writer, before and after, that answers its input so, as JSON or not
+pub record IsCommandRun {R W : Type 0} (remaining : R → Option (List ℕ)) (contents : W → Option (List ℕ)) (json : Bool) (IsAnswer : List ℕ → Answer → Type 0)
     (reader reader_after : CountedReader R) (writer writer_after : StoppingWriter W) (ending : Ending) : Type 0 where
   -- the reads are counted within their limit
   pub reads : reads_of reader_after ≤ read_limit
@@ -120,4 +130,4 @@ pub record IsCommandRun {R W : Type 0} (remaining : R → Option (List ℕ)) (co
   -- after a failed write nothing more is written
   pub stopped : writing_failed writer ≡ true → writer_after ≡ writer
   -- if the reader's bytes are known
-  pub answered : IfSome (remaining_of remaining reader) (λ input. IsAnswered remaining contents IsAnswer input reader reader_after writer writer_after ending)
+  pub answered : IfSome (remaining_of remaining reader) (λ input. IsAnswered remaining contents json IsAnswer input reader reader_after writer writer_after ending)

@@ -4,16 +4,16 @@ use Rattle.reports.specs.declared.fault.ReportFault.TheVariants.{GaveUp}
 use Rattle.command_line.specs.declared.fault.Fault.TheVariants.{Memory, Io, Report}
 use Rattle.command_line.specs.Commands.{IsAnswerOf}
 use Rattle.command_line.specs.Runs.{Answer}
-use Rattle.command_line.specs.declared.choice.commands.Choice.{Choice}
+use Rattle.command_line.specs.declared.choice.commands.Request.{Request}
 
 -- with `--bus` or without, it is an answer to the input, and, if no allocation and no read is refused, without it there is
 -- no other
-pub record IsPlainAnswer (choice : Bool → Choice) (input : List ℕ) (answer : Answer) : Type 0 where
-  pub plain : IsAnswerOf (choice false) input answer
-  pub alone : (other : Answer) → IsAnswerOf (choice false) input other → other ≢ Err Memory → other ≢ Err Io → other ≡ answer
+pub record IsPlainAnswer (request : Bool → Request) (input : List ℕ) (answer : Answer) : Type 0 where
+  pub plain : IsAnswerOf (request false) input answer
+  pub alone : (other : Answer) → IsAnswerOf (request false) input other → other ≢ Err Memory → other ≢ Err Io → other ≡ answer
 
 -- so is each answer with `--bus`, but for a reading that came to no end, a refused allocation and failed reads
-abbrev pub IsToldAlike : (Bool → Choice) → Type 0
-IsToldAlike choice =
-    (input : List ℕ) (answer : Answer) → IsAnswerOf (choice true) input answer → answer ≢ Err (Report GaveUp) → answer ≢ Err Memory → answer ≢ Err Io
-    → IsPlainAnswer choice input answer
+abbrev pub IsToldAlike : (Bool → Request) → Type 0
+IsToldAlike request =
+    (input : List ℕ) (answer : Answer) → IsAnswerOf (request true) input answer → answer ≢ Err (Report GaveUp) → answer ≢ Err Memory → answer ≢ Err Io
+    → IsPlainAnswer request input answer

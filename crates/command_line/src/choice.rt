@@ -5,8 +5,8 @@ ghost use Rattle.std.specs.Prelude.{[], string_bytes, option_map, MatchResult};
 ghost use Rattle.std.specs.List.{list_all};
 ghost use Rattle.clap.specs.declared.builder.command.Command.TheViews.{out-Command as fields_of};
 ghost use Rattle.clap.specs.Words.{Text, app_of, found_of, rows_of, rule_of, subcommand_rows_of, takes};
-ghost use Rattle.command_line.specs.Choice.{program, choice_of, choice_in, choice_with, flag_rule, command_app};
-ghost use Rattle.command_line.specs.Choice.{commands, faults_of, is_given, plain_choice};
+ghost use Rattle.command_line.specs.Choice.{program, request_of, request_in, request_with, choice_with, flag_rule, command_app};
+ghost use Rattle.command_line.specs.Choice.{commands, faults_of, is_given, plain_request};
 ghost use Rattle.command_line.specs.Program.{IsRefusalOf};
 ghost use Rattle.command_line.specs.Entries.{entry_of};
 
@@ -17,7 +17,7 @@ pub mod part;
 
 use clap::error::ErrorKind;
 use clap::{Arg, ArgAction, ArgMatches, Command};
-use commands::{Choice, CommandEntry, CommandName, Flag, command_named};
+use commands::{Choice, CommandEntry, CommandName, Flag, Request, command_named};
 use fault::ChoiceFault;
 use notices::VERSION_WITH_TEXTS;
 use std::alloc::{AllocError, Global};
@@ -85,7 +85,7 @@ fn has_flag(given: Option<&ArgMatches<'_>>, flag: &str) -> bool
     }
 }
 
-/// What a command asks for, by its matches; without any, no flag is given.
+/// A command with its own flags, by its matches; without any, no flag is given.
 fn choice_with(command: CommandName, given: Option<&ArgMatches<'_>>) -> Choice
     ensures { result ≡ choice_with command (option_map_or (λ matches. rows_of (found_of matches.now)) given.entry []) }
 {
@@ -93,9 +93,12 @@ fn choice_with(command: CommandName, given: Option<&ArgMatches<'_>>) -> Choice
         CommandName::Report(report) => Choice::Report {
             report,
             bus: has_flag(given, "bus"),
-            json: has_flag(given, "json"),
         },
         CommandName::Plan => Choice::Plan {
+            keep: has_flag(given, "keep"),
+        },
+        CommandName::Draw => Choice::Draw {
+            svg: has_flag(given, "svg"),
             keep: has_flag(given, "keep"),
         },
         CommandName::Check => Choice::Check {
@@ -112,46 +115,56 @@ fn choice_with(command: CommandName, given: Option<&ArgMatches<'_>>) -> Choice
     }
 }
 
+/// The same, and the form of the answer.
+fn request_with(command: CommandName, given: Option<&ArgMatches<'_>>) -> Request
+    ensures { result ≡ request_with command (option_map_or (λ matches. rows_of (found_of matches.now)) given.entry []) }
+{
+    Request {
+        choice: choice_with(command, given),
+        json: has_flag(given, "json"),
+    }
+}
+
 /// What the matches of the program ask for.
-fn chosen(matches: &ArgMatches<'_>) -> Choice
-    requires { IsSome (choice_in (subcommand_rows_of matches.now)) }
-    ensures { choice_in (subcommand_rows_of matches.now) ≡ Some result }
+fn requested(matches: &ArgMatches<'_>) -> Request
+    requires { IsSome (request_in (subcommand_rows_of matches.now)) }
+    ensures { request_in (subcommand_rows_of matches.now) ≡ Some result }
 {
     let (name, given) = matches.subcommand().unwrap();
     let entry = command_named(name).unwrap();
-    choice_with(entry.command, Some(given))
+    request_with(entry.command, Some(given))
 }
 
-// The choice of a command's name alone, for which `clap` need not be asked.
-fn plain_choice(words: &[String]) -> Option<Choice>
-    ensures answer { IfSome result (λ choice. choice_of (map string_bytes words.now) ≡ Some choice) }
+// What a command's name alone asks for; `clap` need not be asked.
+fn plain_request(words: &[String]) -> Option<Request>
+    ensures answer { IfSome result (λ request. request_of (map string_bytes words.now) ≡ Some request) }
     ensures taken { IfSome result (λ _. faults_of (map string_bytes words.now) ≡ []) }
 {
     let [_, name] = words else {
         return None;
     };
     let entry = command_named(name)?;
-    Some(choice_with(entry.command, None))
+    Some(request_with(entry.command, None))
 }
 
 // What the words ask for, as `clap` reads them.
-fn parsed(alloc: Global, words: &[String]) -> Result<Choice, ChoiceFault>
-    ensures answer { IfOk result (λ choice. choice_of (map string_bytes words.now) ≡ Some choice) }
+fn parsed(alloc: Global, words: &[String]) -> Result<Request, ChoiceFault>
+    ensures answer { IfOk result (λ request. request_of (map string_bytes words.now) ≡ Some request) }
     ensures taken { IfOk result (λ _. faults_of (map string_bytes words.now) ≡ []) }
     ensures refused { IfErr result (IsRefusalOf (map string_bytes words.now)) }
 {
     let matches = program(alloc)?.try_get_matches_from(words)?;
-    Ok(chosen(&matches))
+    Ok(requested(&matches))
 }
 
 /// What the words ask for, of which the first is the program's name.
-pub fn choice(alloc: Global, words: &[String]) -> Result<Choice, ChoiceFault>
-    ensures answer { IfOk result (λ choice. choice_of (map string_bytes words.now) ≡ Some choice) }
+pub fn request(alloc: Global, words: &[String]) -> Result<Request, ChoiceFault>
+    ensures answer { IfOk result (λ request. request_of (map string_bytes words.now) ≡ Some request) }
     ensures taken { IfOk result (λ _. faults_of (map string_bytes words.now) ≡ []) }
     ensures refused { IfErr result (IsRefusalOf (map string_bytes words.now)) }
 {
-    match plain_choice(words) {
-        Some(choice) => Ok(choice),
+    match plain_request(words) {
+        Some(request) => Ok(request),
         None => parsed(alloc, words),
     }
 }
@@ -161,8 +174,8 @@ pub fn names_choose_their_commands()
     ensures taken { (program_name : Text)
         → list_all (λ entry. takes program (program_name ∷ entry.name ∷ [])) commands ≡ true }
     ensures chosen { (program_name : Text)
-        → map (λ entry. choice_of (program_name ∷ entry.name ∷ [])) commands
-        ≡ map (λ entry. Some (plain_choice entry.command)) commands }
+        → map (λ entry. request_of (program_name ∷ entry.name ∷ [])) commands
+        ≡ map (λ entry. Some (plain_request entry.command)) commands }
 {}
 
 /// Help and the version come by their flags alone, `help` is no command, and some command is wanted.

@@ -1,6 +1,7 @@
 //! The program's commands: each reads its whole input and writes one answer.
 mod check_command;
 mod command;
+mod draw_command;
 mod outcome;
 mod over_bus;
 mod plan_command;

@@ -1,6 +1,7 @@
 //! What the program answers in place of a text: why it refuses its input, or that a certificate is bad.
 ghost use Rattle.std.specs.Prelude.{◌≡◌};
 ghost use Rattle.command_line.specs.Faults.{fault_of_report, fault_of_weights, fault_words, status_of, word_of};
+ghost use Rattle.command_line.specs.FaultTexts.{is_of_reading};
 ghost use Rattle.command_line.specs.declared.fault.Fault.TheVariants as fault;
 
 use crate::status::Status;
@@ -58,6 +59,16 @@ impl Fault {
             Fault::Bad(..) => Status::BadCertificate,
             Fault::Provision(_) => Status::NotProvisioned,
             _ => Status::Refused,
+        }
+    }
+
+    /// Whether it is a fault of reading an input, or want of memory.
+    pub fn is_of_reading(self) -> bool
+        ensures { result ≡ is_of_reading self }
+    {
+        match self {
+            Fault::Io | Fault::TooLong | Fault::Memory => true,
+            _ => false,
         }
     }
 

@@ -1,9 +1,10 @@
 //! Reading the program's input within its limits.
-ghost use Rattle.std.specs.Prelude.{◌≡◌, ◌≤◌, ◌<◌, length, IfSome, IfOk, IfErr, OnOk, vec_len};
+ghost use Rattle.std.specs.Prelude.{◌≡◌, ◌≤◌, ◌<◌, true, length, IfSome, IfOk, IfErr, OnOk, vec_len};
 ghost use Rattle.std.specs.Io.{ReadsAtMost};
 ghost use Rattle.std.specs.Io.KnownBytes.{ReadConsumes, IsAtEnd};
 ghost use Rattle.command_line.specs.CountedReader.{reads_of, reading_failed, remaining_of};
 ghost use Rattle.command_line.specs.Limits.{input_limit, read_limit};
+ghost use Rattle.command_line.specs.FaultTexts.{is_of_reading};
 ghost use Rattle.command_line.specs.Input.{IsReadOf, TakesWithinLimit, AnswersFailure};
 
 mod counted_reader;
@@ -31,6 +32,7 @@ pub fn read_input<R: Read>(alloc: Global, reader: &mut CountedReader<R>) -> Resu
     ensures limit { IfOk result (λ bytes. vec_len bytes ≤ input_limit) }
     ensures reads { reads_of reader.new ≤ read_limit }
     ensures failure { AnswersFailure (reading_failed reader.new) result }
+    ensures fault { IfErr result (λ fault. is_of_reading fault ≡ true) }
 
     // If the reader's bytes are known.
     ensures input { IfSome (remaining_of R.remaining reader.old) (λ input. IsReadOf input result) }

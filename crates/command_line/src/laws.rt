@@ -1,6 +1,6 @@
 //! What holds of two runs: one command after the other, and one command with a flag and without it.
 ghost use Rattle.std.specs.Prelude.{◌≡◌, ℕ, ◌≤◌, Bool, true, false, List, [], ◌∷◌, length, None, Ok};
-ghost use Rattle.command_line.specs.Commands.{IsAnswerOf};
+ghost use Rattle.command_line.specs.Commands.{IsAnswerOf, in_form};
 ghost use Rattle.command_line.specs.Limits.{input_limit};
 ghost use Rattle.command_line.specs.Parts.{parts_of};
 ghost use Rattle.command_line.specs.PlanThenCheck.{input_with, IsEnded, IsGoodBehind, IsGoodBehindInput, IsGoodInPlace};
@@ -10,19 +10,20 @@ ghost use Rattle.command_line.specs.declared.choice.commands.ReportName.{ReportN
 
 /// What `plan` writes, `check` calls good, and writes the plan: behind the input of `plan`, whose last line is ended, and a
 /// line `---`, where all of it is within the limit. With `--keep` it does so behind the image and the weights, as in the place
-/// of the kept paths, whose last line need not be ended. With `--first` it says that the plan is the first of the best.
+/// of the kept paths, whose last line need not be ended. With `--first` it says that the plan is the first of the best,
+/// and with `--json` it says the same as JSON.
 pub fn what_is_planned_is_good()
-    ensures nothing_kept { (input text : List ℕ) → IsEnded input → IsAnswerOf (Plan false) input (Ok (text, None))
+    ensures nothing_kept { (input text : List ℕ) → IsEnded input → IsAnswerOf (in_form false (Plan false)) input (Ok (text, None))
         → length (input_with input text) ≤ input_limit → IsGoodBehindInput input text }
     ensures kept { (image weights kept text input : List ℕ) → parts_of input ≡ image ∷ weights ∷ kept ∷ []
-        → IsAnswerOf (Plan true) input (Ok (text, None)) → IsGoodBehind image weights kept text }
+        → IsAnswerOf (in_form false (Plan true)) input (Ok (text, None)) → IsGoodBehind image weights kept text }
     ensures in_place { (input kept text : List ℕ) → IsEnded input → length (parts_of input) ≡ 2
-        → IsAnswerOf (Plan true) (input_with input kept) (Ok (text, None))
+        → IsAnswerOf (in_form false (Plan true)) (input_with input kept) (Ok (text, None))
         → length (input_with input text) ≤ input_limit → IsGoodInPlace input kept text }
 {}
 
 /// What a report prints with `--bus`, and how it ends, is what it prints without and how it ends then, with `--json` and without
 /// it, unless the module was not read whole, or an allocation or a read was refused.
 pub fn a_bus_changes_no_report()
-    ensures { (report : ReportName) (json : Bool) → IsToldAlike (λ bus. Report report bus json) }
+    ensures { (report : ReportName) (json : Bool) → IsToldAlike (λ bus. in_form json (Report report bus)) }
 {}

@@ -2,6 +2,7 @@
 #![tactic(auto)]
 
 pub mod choice;
+mod command_output;
 mod commands;
 mod ending;
 mod failure;
@@ -13,7 +14,6 @@ mod parts;
 mod program;
 mod remark;
 mod status;
-mod told;
 
 pub use fault::Fault;
 pub use input::{CountedReader, MAX_READS, read_input};

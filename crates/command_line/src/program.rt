@@ -3,13 +3,13 @@ ghost use Rattle.std.specs.Prelude.{◌≡◌, true};
 ghost use Rattle.command_line.specs.Program.{IsProgramRun, IsRemarkSaid, refusal_ending, refusal_remark, IsWordsRefusalSaid, words_of};
 ghost use Rattle.command_line.specs.StoppingWriter.{contents_of, writing_failed};
 
-use crate::choice::choice;
 use crate::choice::fault::choice_refused;
+use crate::choice::request;
 use crate::commands;
 use crate::ending::Ending;
 use crate::fault::Fault;
 use crate::input::CountedReader;
-use crate::output::{OutputFault, StoppingWriter, write_answer};
+use crate::output::{FaultForm, OutputFault, StoppingWriter, write_answer};
 use crate::remark::Remark;
 use crate::status::Status;
 use std::alloc::Global;
@@ -55,8 +55,8 @@ fn ending<R: Read, W: Write>(
         Ok(words) => words,
         Err(error) => return refused(words_refused(&error, writer), writer),
     };
-    match choice(alloc, words.as_slice()) {
-        Ok(choice) => commands::run(alloc, choice, reader, writer),
+    match request(alloc, words.as_slice()) {
+        Ok(request) => commands::run(alloc, request, reader, writer),
         Err(fault) => refused(choice_refused(&fault, writer), writer),
     }
 }
@@ -86,7 +86,7 @@ fn words_refused<W: Write>(error: &io::Error, writer: &mut StoppingWriter<W>) ->
     ensures stopped { writing_failed writer.old ≡ true → writer.new ≡ writer.old }
 {
     if error.kind() == ErrorKind::OutOfMemory {
-        return write_answer(writer, Err(Fault::Memory));
+        return write_answer(writer, Err(Fault::Memory), &FaultForm::Line);
     }
     match writer.put(b"error: a word of the command line is not UTF-8\n") {
         Ok(()) => Status::CommandLine,

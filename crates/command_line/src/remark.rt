@@ -2,7 +2,10 @@
 ghost use Rattle.std.specs.Prelude.{◌≡◌, None, Some};
 ghost use Rattle.command_line.specs.Remarks.{explained_text, remark_text, sentence_key, sentence_of};
 ghost use Rattle.command_line.specs.RemarksBeside.{IsRemarkBeside};
+ghost use Rattle.command_line.specs.Faults.{fault_words};
+ghost use Rattle.command_line.specs.Places.{first_word};
 ghost use Rattle.command_line.specs.Runs.{answer_of};
+ghost use Rattle.command_line.specs.declared.remark.opening.Opening.TheVariants.{Other};
 
 mod clue;
 mod named;
@@ -12,8 +15,8 @@ mod shown_byte;
 mod warnings;
 mod weights_lines;
 
+use crate::command_output::CommandOutput;
 use crate::fault::Fault;
-use crate::told::Told;
 pub use clue::Clue;
 use named::Named;
 use notices::sentence_by_code;
@@ -46,13 +49,13 @@ pub struct Explained {
 
 impl Remark {
     /// What is said beside this answer to an input that gives this clue.
-    pub fn beside(answer: &Result<Told, Fault>, clue: Clue) -> Remark
+    pub fn beside(answer: &Result<CommandOutput, Fault>, clue: Clue) -> Remark
         ensures { IsRemarkBeside (answer_of answer.now) clue result }
     {
         match answer {
-            Ok(told) => match told.fault {
+            Ok(output) => match output.fault {
                 Some(fault) => Remark::of(Fault::Provision(fault), clue),
-                None => Remark::Warned(told.warnings),
+                None => Remark::Warned(output.warnings),
             },
             Err(fault) => Remark::of(*fault, clue),
         }
@@ -67,13 +70,30 @@ impl Remark {
 }
 
 impl Explained {
-    // What is wrong and what to do; of IM1 by the cause.
-    fn sentence(self) -> &'static str
+    /// A fault of which the input tells nothing beside.
+    pub fn of(fault: Fault) -> Explained
+        ensures { result ≡ record { fault = fault; clue = record { opening = Other; weights_line = None } } }
+    {
+        Explained {
+            fault,
+            clue: Clue::none(),
+        }
+    }
+
+    /// The fault's code.
+    pub fn code(self) -> &'static str
+        ensures { result.now ≡ first_word (fault_words self.fault) }
+    {
+        Named::of(self.fault, None).code
+    }
+
+    /// What is wrong and what to do; of IM1 by the cause.
+    pub fn sentence(self) -> &'static str
         ensures { result.now ≡ sentence_of (sentence_key self.fault self.clue.opening) }
     {
         match self.fault {
             Fault::Image(ImageFault::BadHeader) => sentence(self.clue.opening.key()),
-            fault => sentence(Named::of(fault, None).code),
+            _ => sentence(self.code()),
         }
     }
 }

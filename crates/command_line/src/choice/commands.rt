@@ -10,6 +10,7 @@ pub enum ReportName {
     Apps,
     Monitors,
     Flags,
+    Details,
 }
 
 /// What the program is asked to do.
@@ -17,23 +18,28 @@ pub enum ReportName {
 pub enum CommandName {
     Report(ReportName),
     Plan,
+    Draw,
     Check,
     Provision,
     Trace,
 }
 
-/// What the command line asks for: a command, with its flags.
+/// A command, with the flags that are its own.
 #[derive(Clone, Copy)]
 pub enum Choice {
     Report {
         report: ReportName,
         /// Whether the module is to be read over a bus.
         bus: bool,
-        /// Whether the report is to be JSON.
-        json: bool,
     },
     Plan {
         /// Whether the plan is to keep data paths that the input names.
+        keep: bool,
+    },
+    Draw {
+        /// Whether the drawing is to be an SVG.
+        svg: bool,
+        /// As for `Plan`.
         keep: bool,
     },
     Check {
@@ -51,6 +57,14 @@ pub enum Choice {
         activate: bool,
         keep: bool,
     },
+}
+
+/// What the command line asks for: a command, and the form of its answer.
+#[derive(Clone, Copy)]
+pub struct Request {
+    pub choice: Choice,
+    /// Whether the answer is to be JSON.
+    pub json: bool,
 }
 
 /// A flag, given as `--name`.
@@ -82,7 +96,7 @@ const BUS: Flag = Flag {
 /// Asks for JSON.
 const JSON: Flag = Flag {
     name: "json",
-    help: "Print the report as JSON",
+    help: "Print the answer, or the fault, as JSON",
 };
 
 /// Asks for activation.
@@ -95,6 +109,12 @@ const ACTIVATE: Flag = Flag {
 const KEEP: Flag = Flag {
     name: "keep",
     help: "Keep data paths: a further part of the input names them, after the weights",
+};
+
+/// Asks for an SVG.
+const SVG: Flag = Flag {
+    name: "svg",
+    help: "Draw the plan as an SVG",
 };
 
 /// Asks whether a plan is the first of the best.
@@ -125,10 +145,12 @@ pub fn commands() -> &'static [CommandEntry]
         "apps" Report(Apps) [BUS JSON] "Print the Applications that the module advertises";
         "monitors" Report(Monitors) [BUS JSON] "Print what the module measures";
         "flags" Report(Flags) [BUS JSON] "Print the states of the module and its lanes, and the flags that are raised";
-        "plan" Plan [KEEP] "Print the plan that weighs most for an image and weights, with its certificate";
-        "check" Check [FIRST] "Judge a certificate for an image and weights, and print its plan if it is good";
-        "provision" Provision [ACTIVATE KEEP] "Put the plan into the Active Control Set of a simulated module, over a bus that does as a script says";
-        "trace" Trace [ACTIVATE KEEP] "Do what 'provision' does, and print each transaction";
+        "details" Report(Details) [BUS JSON] "Print all that the module says of itself, with names";
+        "plan" Plan [KEEP JSON] "Print the plan that weighs most for an image and weights, with its certificate";
+        "draw" Draw [SVG KEEP] "Draw the plan, and say for each host lane what else could have been done there";
+        "check" Check [FIRST JSON] "Judge a certificate for an image and weights, and print its plan if it is good";
+        "provision" Provision [ACTIVATE KEEP JSON] "Put the plan into the Active Control Set of a simulated module, over a bus that does as a script says";
+        "trace" Trace [ACTIVATE KEEP JSON] "Do what 'provision' does, and print each transaction";
     }
 }
 

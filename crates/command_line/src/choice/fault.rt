@@ -7,7 +7,7 @@ ghost use Rattle.command_line.specs.StoppingWriter.{contents_of, writing_failed}
 ghost use Rattle.command_line.specs.declared.choice.fault.ChoiceFault.TheVariants.{Memory};
 
 use crate::fault::Fault;
-use crate::output::{OutputFault, StoppingWriter, write_answer};
+use crate::output::{FaultForm, OutputFault, StoppingWriter, write_answer};
 use crate::status::Status;
 use clap::error::ErrorKind;
 use std::alloc::AllocError;
@@ -51,7 +51,7 @@ pub fn choice_refused<W: Write>(fault: &ChoiceFault, writer: &mut StoppingWriter
     ensures stopped { writing_failed writer.old ≡ true → writer.new ≡ writer.old }
 {
     let ChoiceFault::Line(error) = fault else {
-        return write_answer(writer, Err(Fault::Memory));
+        return write_answer(writer, Err(Fault::Memory), &FaultForm::Line);
     };
     match writer.put_text(error) {
         Ok(()) => status_of(error),

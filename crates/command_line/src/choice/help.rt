@@ -8,8 +8,8 @@ pub const OF_PROGRAM: &str = "An image text has a module's memory, in lines of h
 'tools/module-image FILE' that of a dump (eeprom, hexdump, i2cdump ..);
 'cmisctl COMMAND --help' says what else a command reads. docs/formats.md
 describes all texts, and docs/faults.md what each fault means.
-'plan' prints a certificate; 'check' prints its plan in words, and
-'provision' the control bytes.";
+'plan' prints a certificate; 'check' prints its plan in words, 'draw' as a
+picture, and 'provision' the control bytes.";
 
 // The end of a command's help: the parts of its input, its examples and a status of its own, if it has one. Each part is taken off
 // the first list, and its text put on the second.
@@ -53,21 +53,33 @@ pub fn of_command(command: CommandName) -> &'static str {
             ["inventory < examples/qsfp_dd_400g_dr4.txt" "inventory --bus < examples/qsfp28_100g_sr4.txt"
                 "inventory --json < examples/qsfp_dd_400g_dr4.txt"]),
         CommandName::Report(ReportName::Apps) => end!([image] []
-            ["apps < examples/osfp_800g_many_apps.txt" "apps --bus < examples/osfp_800g_many_apps.txt"]),
+            ["apps < examples/osfp_800g_many_apps.txt" "apps --bus < examples/osfp_800g_many_apps.txt"
+                "apps --json < examples/osfp_800g_many_apps.txt"]),
         CommandName::Report(ReportName::Monitors) => end!([image] []
-            ["monitors < examples/osfp_800g_dr8.txt" "monitors --bus < examples/osfp_800g_dr8.txt"]),
+            ["monitors < examples/osfp_800g_dr8.txt" "monitors --bus < examples/osfp_800g_dr8.txt"
+                "monitors --json < examples/osfp_800g_dr8.txt"]),
         CommandName::Report(ReportName::Flags) => end!([image] []
-            ["flags < examples/osfp_800g_overheated.txt" "flags --bus < examples/sfp_10g_lr_dim.txt"]),
+            ["flags < examples/osfp_800g_overheated.txt" "flags --bus < examples/sfp_10g_lr_dim.txt"
+                "flags --json < examples/sfp_10g_lr_dim.txt"]),
+        CommandName::Report(ReportName::Details) => end!([image] []
+            ["details < examples/qsfp28_100g_sr4.txt" "details --bus < examples/osfp_800g_dr8.txt"
+                "details --json < examples/sfp_10g_lr.txt"]),
         CommandName::Plan => end!([image weights kept] []
-            ["plan < examples/breakouts_400g_dr4.txt" "plan --keep < examples/keep_800g_dr8.txt"]),
+            ["plan < examples/breakouts_400g_dr4.txt" "plan --keep < examples/keep_800g_dr8.txt"
+                "plan --json < examples/breakouts_400g_dr4.txt"]),
+        CommandName::Draw => end!([image weights kept] []
+            ["draw < examples/breakouts_400g_dr4.txt" "draw --svg --keep < examples/keep_800g_dr8.txt"]),
         CommandName::Check => end!([image weights certificate] []
-            ["check < examples/check_800g_one_path.txt" "check --first < examples/check_800g_one_path.txt"]
+            ["check < examples/check_800g_one_path.txt" "check --first < examples/check_800g_one_path.txt"
+                "check --first --json < examples/check_800g_one_path.txt"]
             "4 the certificate is bad"),
         CommandName::Provision => end!([image weights kept script] []
-            ["provision --activate < examples/provision_400g_dr4.txt" "provision --keep < examples/add_800g_dr8.txt"]
+            ["provision --activate < examples/provision_400g_dr4.txt" "provision --keep < examples/add_800g_dr8.txt"
+                "provision --json < examples/provision_400g_dr4.txt"]
             "3 not provisioned or not activated"),
         CommandName::Trace => end!([image weights kept script] []
-            ["trace --activate < examples/provision_400g_dr4.txt" "trace --keep < examples/add_800g_dr8.txt"]
+            ["trace --activate < examples/provision_400g_dr4.txt" "trace --keep < examples/add_800g_dr8.txt"
+                "trace --json < examples/provision_400g_dr4.txt"]
             "3 not provisioned or not activated"),
     }
 }

@@ -23,8 +23,12 @@ impl Choice {
     {
         match self {
             Choice::Report { .. } => &[Part::Image],
-            Choice::Plan { keep: false } => &[Part::Image, Part::Weights],
-            Choice::Plan { keep: true } => &[Part::Image, Part::Weights, Part::Kept],
+            Choice::Plan { keep: false } | Choice::Draw { keep: false, .. } => {
+                &[Part::Image, Part::Weights]
+            }
+            Choice::Plan { keep: true } | Choice::Draw { keep: true, .. } => {
+                &[Part::Image, Part::Weights, Part::Kept]
+            }
             Choice::Check { .. } => &[Part::Image, Part::Weights, Part::Certificate],
             Choice::Provision { keep: false, .. } | Choice::Trace { keep: false, .. } => {
                 &[Part::Image, Part::Weights, Part::Script]

@@ -2,35 +2,36 @@ ghost use Rattle.std.specs.Prelude.{◌≡◌, ◌≢◌, ◌++◌, ◌∷◌, [
 ghost use Rattle.applications.specs.WeightFaults.{IsAnswer};
 ghost use Rattle.text_lines.specs.Lines.{text_of};
 ghost use Rattle.plan_certificate.specs.Certificates.{IsGood};
-ghost use Rattle.command_line.specs.CheckCommand.{IsCheckAnswer, SaysFirst, TellsGood, first_line, kept_lines};
+ghost use Rattle.command_line.specs.CheckCommand.{IsCheckAnswer, SaysFirst, TellsGood, first_lines, good_lines, kept_lines};
 ghost use Rattle.command_line.specs.PlanningInputs.{IsAdvertText};
 ghost use Rattle.command_line.specs.Runs.{IsOwnAnswer, answer_of};
 
 use super::planning_inputs::read_advert;
+use crate::command_output::CommandOutput;
 use crate::fault::Fault;
 use crate::remark::Warnings;
-use crate::told::Told;
 use applications::{Advert, Weights};
 use lane_planner::first_best;
 use plan_certificate::{Certificate, STATES, Verdict};
-use reports::plan_text;
+use reports::{good_json, plan_text};
 use std::alloc::{AllocError, Global};
 use text_lines::Spelled;
 
 /// Whether the certificate is good, and if it is, its plan, and whether that is the first of the best, if that is asked for.
 pub fn check(
     alloc: Global,
+    is_json: bool,
     tells_first: bool,
     image: &[u8],
     weights: &[u8],
     certificate: &[u8],
-) -> Result<Told, Fault>
-    ensures answer { IsOwnAnswer (IsCheckAnswer tells_first image.now weights.now certificate.now) (answer_of result) }
+) -> Result<CommandOutput, Fault>
+    ensures answer { IsOwnAnswer (IsCheckAnswer is_json tells_first image.now weights.now certificate.now) (answer_of result) }
     ensures read { IfErr result (λ fault. fault ≢ Fault.Io) }
 {
     let advert = read_advert(image)?;
     let weights = Weights::read(alloc, weights)?;
-    judged(alloc, tells_first, &advert, &weights, certificate)
+    judged(alloc, is_json, tells_first, &advert, &weights, certificate)
 }
 
 // What is told of the certificate. A function of its own, since a certificate has room for all states, which is blanked
@@ -38,20 +39,21 @@ pub fn check(
 #[inline(never)]
 fn judged(
     alloc: Global,
+    is_json: bool,
     tells_first: bool,
     advert: &Advert,
     weights: &Weights,
     text: &[u8],
-) -> Result<Told, Fault>
+) -> Result<CommandOutput, Fault>
     ensures answer { (image listed : List ℕ) → IsAdvertText image advert.now → IsAnswer listed (Ok weights.now)
-        → IsOwnAnswer (IsCheckAnswer tells_first image listed text.now) (answer_of result) }
+        → IsOwnAnswer (IsCheckAnswer is_json tells_first image listed text.now) (answer_of result) }
     ensures read { IfErr result (λ fault. fault ≢ Fault.Io) }
 {
     let mut read = Certificate::<STATES>::blank();
     match read.take(text) {
         Ok(()) => match plan_certificate::check(advert, weights, &read) {
-            Verdict::Good => Ok(Told {
-                text: good_text(alloc, tells_first, advert, weights, &read)?,
+            Verdict::Good => Ok(CommandOutput {
+                text: good_output(alloc, is_json, tells_first, advert, weights, &read)?,
                 fault: None,
                 warnings: Warnings::of(advert, weights, !read.plan.paths.is_empty()),
             }),
@@ -62,21 +64,64 @@ fn judged(
 }
 
 // What is told of a good certificate.
-fn good_text(
+fn good_output(
     alloc: Global,
+    is_json: bool,
     tells_first: bool,
     advert: &Advert,
     weights: &Weights,
     certificate: &Certificate<STATES>,
 ) -> Result<Vec<u8>, AllocError>
     requires { IsGood advert.now weights.now certificate.now }
-    ensures { IfOk result (λ text. TellsGood tells_first advert.now weights.now certificate.now text.items) }
+    ensures { IfOk result (λ text. TellsGood is_json tells_first advert.now weights.now certificate.now text.items) }
+{
+    let is_first = said_first(tells_first, advert, weights, certificate);
+    if is_json {
+        good_json(
+            alloc,
+            is_first,
+            advert,
+            weights,
+            &certificate.kept,
+            &certificate.plan,
+        )
+    } else {
+        good_text(alloc, is_first, advert, weights, certificate)
+    }
+}
+
+// Whether the plan is the first of the best, if that is asked for.
+fn said_first(
+    is_asked: bool,
+    advert: &Advert,
+    weights: &Weights,
+    certificate: &Certificate<STATES>,
+) -> Option<bool>
+    requires { IsGood advert.now weights.now certificate.now }
+    ensures { SaysFirst is_asked advert.now weights.now certificate.now result }
+{
+    if is_asked {
+        Some(first_best(advert, weights, certificate))
+    } else {
+        None
+    }
+}
+
+fn good_text(
+    alloc: Global,
+    is_first: Option<bool>,
+    advert: &Advert,
+    weights: &Weights,
+    certificate: &Certificate<STATES>,
+) -> Result<Vec<u8>, AllocError>
+    requires { IsGood advert.now weights.now certificate.now }
+    ensures { IfOk result (λ text. text.items ≡ text_of (good_lines is_first advert.now weights.now certificate.now)) }
 {
     let plan = plan_text(alloc, advert, weights, &certificate.plan)?;
     let mut text = b"good\n".to_vec(alloc)?;
     push_kept(&mut text, certificate.kept.paths.len())?;
     text.extend_from_slice(&plan)?;
-    push_first(&mut text, advert, weights, certificate, tells_first)?;
+    push_first(&mut text, is_first)?;
     Ok(text)
 }
 
@@ -91,33 +136,14 @@ fn push_kept(text: &mut Vec<u8>, count: usize) -> Result<(), AllocError>
     text.extend_from_slice(line.as_slice())
 }
 
-// Whether the plan is the first of the best, if that is asked for.
-fn push_first(
-    text: &mut Vec<u8>,
-    advert: &Advert,
-    weights: &Weights,
-    certificate: &Certificate<STATES>,
-    is_asked: bool,
-) -> Result<(), AllocError>
-    requires { IsGood advert.now weights.now certificate.now }
-    ensures { OnOk result ((lines : List (List ℕ)) × SaysFirst is_asked advert.now weights.now certificate.now lines
-        × (text.new.items ≡ text.old.items ++ text_of lines)) }
-{
-    if !is_asked {
-        return Ok(());
-    }
-    push_first_line(text, first_best(advert, weights, certificate))?;
-    Ok(())
-}
-
 #[tactic(auto, unfolding(crate::specs::CheckCommand::first_line))]
-fn push_first_line(text: &mut Vec<u8>, is_first: bool) -> Result<(), AllocError>
-    ensures { OnOk result (text.new.items ≡ text.old.items ++ (first_line is_first ++ 10 ∷ [])) }
+fn push_first(text: &mut Vec<u8>, is_first: Option<bool>) -> Result<(), AllocError>
+    ensures { OnOk result (text.new.items ≡ text.old.items ++ text_of (first_lines is_first)) }
 {
-    let line = if is_first {
-        "first yes\n"
-    } else {
-        "first no\n"
+    let line = match is_first {
+        None => return Ok(()),
+        Some(true) => "first yes\n",
+        Some(false) => "first no\n",
     };
     text.extend_from_slice(line.as_bytes())
 }

@@ -5,84 +5,119 @@ ghost use Rattle.command_line.specs.CountedReader.{reading_failed, reads_of, rem
 ghost use Rattle.command_line.specs.Input.{TakesWithinLimit};
 ghost use Rattle.command_line.specs.Limits.{input_limit, read_limit};
 ghost use Rattle.command_line.specs.PartsRead.{text_in};
-ghost use Rattle.command_line.specs.RemarksBeside.{opening_beside};
-ghost use Rattle.command_line.specs.Runs.{IsCommandRun, IsOwnAnswer, SaysReading, answer_of};
+ghost use Rattle.command_line.specs.Runs.{IsCommandRun, IsOwnAnswer, SaysReading, answer_of, opening_beside, output_of};
+ghost use Rattle.command_line.specs.FaultForms.{output_in};
 
 use super::check_command::check;
+use super::draw_command::draw;
 use super::plan_command::plan;
 use super::provision_command::provision;
 use super::report_commands::report;
 use super::texts::Texts;
-use crate::choice::commands::Choice;
+use crate::choice::commands::{Choice, Request};
 use crate::choice::part::Part;
+use crate::command_output::CommandOutput;
 use crate::ending::Ending;
 use crate::fault::Fault;
 use crate::input::{CountedReader, read_input};
-use crate::output::{StoppingWriter, write_answer};
+use crate::output::{FaultForm, StoppingWriter, write_answer};
 use crate::parts::parts;
 use crate::remark::{Clue, Remark};
-use crate::told::Told;
 use std::alloc::Global;
 use std::io::{Read, Write};
 
 /// Reads the whole input, and writes what the command that was chosen answers to it.
 pub fn run<R: Read, W: Write>(
     alloc: Global,
-    choice: Choice,
+    request: Request,
     reader: &mut CountedReader<R>,
     writer: &mut StoppingWriter<W>,
 ) -> Ending
-    ensures { IsCommandRun R.remaining W.contents (IsAnswerOf choice)
+    ensures { IsCommandRun R.remaining W.contents request.json (IsAnswerOf request)
         reader.old reader.new writer.old writer.new result }
 {
-    let (answer, clue) = read_and_answer(alloc, choice, reader);
+    let Reply { answer, clue, form } = read_and_answer(alloc, request, reader);
     let remark = Remark::beside(&answer, clue);
-    let status = write_answer(writer, answer);
+    let status = write_answer(writer, answer, &form);
     Ending::after(status, remark, writer)
 }
 
-// The answer to what is read, and what the input tells beside its fault.
-fn read_and_answer<R: Read>(
-    alloc: Global,
-    choice: Choice,
-    reader: &mut CountedReader<R>,
-) -> (Result<Told, Fault>, Clue)
+/// An answer, what its input tells beside its fault, and how the fault is written.
+#[derive(Drop)]
+struct Reply {
+    answer: Result<CommandOutput, Fault>,
+    clue: Clue,
+    form: FaultForm,
+}
+
+// The answer to what is read.
+#[tactic(auto, using(crate::proofs::FaultForms::of_reading))]
+fn read_and_answer<R: Read>(alloc: Global, request: Request, reader: &mut CountedReader<R>) -> Reply
     ensures reads { reads_of reader.new ≤ read_limit }
     ensures taken { TakesWithinLimit (remaining_of R.remaining reader.old)
-        (remaining_of R.remaining reader.new) (result.0 ≡ Err Fault.TooLong) }
-    ensures reading { SaysReading (reading_failed reader.new) (answer_of result.0) }
+        (remaining_of R.remaining reader.new) (result.answer ≡ Err Fault.TooLong) }
+    ensures reading { SaysReading (reading_failed reader.new) (answer_of result.answer) }
     ensures answer { IfSome (remaining_of R.remaining reader.old)
-        (λ input. IsAnswerOf choice input (answer_of result.0)) }
+        (λ input. IsAnswerOf request input (answer_of result.answer)) }
     ensures clue { IfSome (remaining_of R.remaining reader.old)
-        (λ input. result.1.opening ≡ opening_beside (answer_of result.0) input) }
+        (λ input. result.clue.opening ≡ opening_beside (answer_of result.answer) input) }
+    ensures output { output_in result.form (answer_of result.answer)
+        ≡ output_of request.json result.clue.opening (answer_of result.answer) }
 {
     let input = match read_input(alloc, reader) {
         Ok(input) => input,
-        Err(fault) => return (Err(fault), Clue::none()),
+        Err(fault) => {
+            return Reply {
+                answer: Err(fault),
+                clue: Clue::none(),
+                form: FaultForm::of_reading(request.json),
+            };
+        }
     };
-    let answer = answer(alloc, choice, &input);
-    let clue = Clue::of(&answer, &input);
-    (answer, clue)
+    answered(alloc, request, &input)
 }
 
-fn answer(alloc: Global, choice: Choice, input: &[u8]) -> Result<Told, Fault>
+// The answer to an input that was read; if there is no memory for the form of its fault, that is the answer.
+#[tactic(auto, using(crate::proofs::FaultForms::of_reading))]
+fn answered(alloc: Global, request: Request, input: &[u8]) -> Reply
     requires limit { length input.now ≤ input_limit }
-    ensures answer { IsAnswerOf choice input.now (answer_of result) }
+    ensures answer { IsAnswerOf request input.now (answer_of result.answer) }
+    ensures read { IfErr result.answer (λ fault. fault ≢ Fault.Io) }
+    ensures length { IfErr result.answer (λ fault. fault ≢ Fault.TooLong) }
+    ensures clue { result.clue.opening ≡ opening_beside (answer_of result.answer) input.now }
+    ensures output { output_in result.form (answer_of result.answer)
+        ≡ output_of request.json result.clue.opening (answer_of result.answer) }
+{
+    let answer = answer(alloc, request, input);
+    let clue = Clue::of(&answer, input);
+    match FaultForm::of(alloc, request.json, &answer, clue) {
+        Ok(form) => Reply { answer, clue, form },
+        Err(error) => Reply {
+            answer: Err(Fault::from(error)),
+            clue: Clue::none(),
+            form: FaultForm::of_reading(request.json),
+        },
+    }
+}
+
+fn answer(alloc: Global, request: Request, input: &[u8]) -> Result<CommandOutput, Fault>
+    requires limit { length input.now ≤ input_limit }
+    ensures answer { IsAnswerOf request input.now (answer_of result) }
     ensures read { IfErr result (λ fault. fault ≢ Fault.Io) }
     ensures length { IfErr result (λ fault. fault ≢ Fault.TooLong) }
 {
-    let read = choice.parts();
+    let read = request.choice.parts();
     let texts = parts(input, read.len())?;
     let texts = Texts {
         parts: read,
         texts: texts.as_slice(),
     };
-    answer_to(alloc, choice, &texts)
+    answer_to(alloc, request, &texts)
 }
 
 // What the command itself answers to the texts of its parts.
-fn answer_to(alloc: Global, choice: Choice, texts: &Texts<'_>) -> Result<Told, Fault>
-    ensures answer { IsOwnAnswer (IsAnswerToTexts choice
+fn answer_to(alloc: Global, request: Request, texts: &Texts<'_>) -> Result<CommandOutput, Fault>
+    ensures answer { IsOwnAnswer (IsAnswerToTexts request.choice request.json
         (text_in texts.now.parts.now (map (λ text. text.now) texts.now.texts.now))) (answer_of result) }
     ensures read { IfErr result (λ fault. fault ≢ Fault.Io) }
 {
@@ -90,19 +125,26 @@ fn answer_to(alloc: Global, choice: Choice, texts: &Texts<'_>) -> Result<Told, F
     let weights = texts.of(Part::Weights);
     let kept = texts.of(Part::Kept);
     let script = texts.of(Part::Script);
-    match choice {
-        Choice::Report {
-            report: name,
-            bus,
-            json,
-        } => report(alloc, name, bus, json, image),
-        Choice::Plan { .. } => plan(alloc, image, weights, kept),
-        Choice::Check { first } => check(alloc, first, image, weights, texts.of(Part::Certificate)),
+    let json = request.json;
+    match request.choice {
+        Choice::Report { report: name, bus } => report(alloc, name, bus, json, image),
+        Choice::Plan { .. } => plan(alloc, json, image, weights, kept),
+        Choice::Draw { svg, .. } => draw(alloc, svg, image, weights, kept),
+        Choice::Check { first } => {
+            check(
+                alloc,
+                json,
+                first,
+                image,
+                weights,
+                texts.of(Part::Certificate),
+            )
+        }
         Choice::Provision { activate, .. } => {
-            provision(alloc, false, activate, image, weights, kept, script)
+            provision(alloc, json, false, activate, image, weights, kept, script)
         }
         Choice::Trace { activate, .. } => {
-            provision(alloc, true, activate, image, weights, kept, script)
+            provision(alloc, json, true, activate, image, weights, kept, script)
         }
     }
 }

@@ -1,59 +1,102 @@
 // What is told of procedures.
-ghost use Rattle.std.specs.Prelude.{◌≡◌, ◌++◌, ◌∷◌, [], IfOk, OnOk, map, length, ◌≤◌};
+ghost use Rattle.std.specs.Prelude.{◌≡◌, ◌++◌, ◌∷◌, [], OnOk, map, length, ◌≤◌};
 ghost use Rattle.std.specs.Option.{option_map};
+ghost use Rattle.std.specs.Fmt.{decimal};
 ghost use Rattle.text_lines.specs.Lines.{text_of};
+ghost use Rattle.text_lines.specs.Words.{spaced};
 ghost use Rattle.control_sets.specs.Answers.{activated_steps, provisioned_steps};
-ghost use Rattle.command_line.specs.ProvisionCommand.{active_line, activated_line, outcome_fault, outcome_lines, provisioned_line};
+ghost use Rattle.command_line.specs.ProvisionCommand.{active_line, activated_line, line_if, outcome_fault, outcome_lines, outcome_of, provisioned_line};
 
-use super::session::Ended;
+use super::session::ProcedureResults;
 use control_sets::ProvisionFault;
+use reports::Outcome;
 use std::alloc::AllocError;
 use text_lines::{HexByte, Spelled, Spelling};
 
-/// Adds each success, and the active control bytes if there is no fault; answers the fault.
-pub fn push_outcome(
-    text: &mut Vec<u8>,
-    ended: Ended,
-    active: [u8; 8],
-) -> Result<Option<ProvisionFault>, AllocError>
-    ensures lines { OnOk result (text.new.items ≡ text.old.items
-        ++ text_of (outcome_lines (provisioned_steps ended.0) (option_map activated_steps ended.1) active)) }
-    ensures fault { IfOk result (λ fault. fault ≡ outcome_fault (provisioned_steps ended.0) (option_map activated_steps ended.1)) }
+/// What came of procedures: each success, and the active control bytes if there is no fault.
+pub fn outcome_of(ended: &ProcedureResults, active: [u8; 8]) -> Outcome
+    ensures { result ≡ outcome_of (provisioned_steps ended.now.0) (option_map activated_steps ended.now.1) active }
 {
-    let (provisioned, activated) = ended;
-    match provisioned {
-        Ok(provisioned) => push_provisioned(text, provisioned.steps)?,
-        Err(fault) => return Ok(Some(fault)),
+    match ended {
+        (Err(_), _) => outcome_with(None, None, None),
+        (Ok(first), None) => outcome_with(Some(first.steps), None, Some(active)),
+        (Ok(first), Some(Ok(second))) => {
+            outcome_with(Some(first.steps), Some(second.steps), Some(active))
+        }
+        (Ok(first), Some(Err(_))) => outcome_with(Some(first.steps), None, None),
     }
-    match activated {
-        Some(Ok(activated)) => push_activated(text, activated.steps)?,
-        Some(Err(fault)) => return Ok(Some(fault)),
-        None => {}
+}
+
+fn outcome_with(
+    provisioned: Option<u16>,
+    activated: Option<u16>,
+    active: Option<[u8; 8]>,
+) -> Outcome
+    ensures { result ≡ record { provisioned = provisioned; activated = activated; active = active } }
+{
+    Outcome {
+        provisioned,
+        activated,
+        active,
     }
-    push_active(text, active)?;
-    Ok(None)
+}
+
+/// The fault of the last that was made, if it has one.
+pub fn fault_of(ended: &ProcedureResults) -> Option<ProvisionFault>
+    ensures { result ≡ outcome_fault (provisioned_steps ended.now.0) (option_map activated_steps ended.now.1) }
+{
+    match ended {
+        (Err(fault), _) | (Ok(_), Some(Err(fault))) => Some(*fault),
+        (Ok(_), _) => None,
+    }
+}
+
+/// Adds a line for each.
+pub fn push_outcome(text: &mut Vec<u8>, outcome: Outcome) -> Result<(), AllocError>
+    ensures { OnOk result (text.new.items ≡ text.old.items ++ text_of (outcome_lines outcome)) }
+{
+    push_provisioned(text, outcome.provisioned)?;
+    push_activated(text, outcome.activated)?;
+    push_active(text, outcome.active)?;
+    Ok(())
 }
 
 #[tactic(auto, unfolding(crate::specs::ProvisionCommand::provisioned_line))]
-fn push_provisioned(text: &mut Vec<u8>, steps: u16) -> Result<(), AllocError>
-    ensures { OnOk result (text.new.items ≡ text.old.items ++ (provisioned_line steps ++ 10 ∷ [])) }
+fn push_provisioned(text: &mut Vec<u8>, steps: Option<u16>) -> Result<(), AllocError>
+    ensures { OnOk result (text.new.items ≡ text.old.items ++ text_of (line_if provisioned_line steps)) }
 {
-    let line = usize::from(steps).spelling().line_after("provisioned");
-    text.extend_from_slice(line.as_slice())
+    match steps {
+        Some(steps) => push_steps(text, "provisioned", steps),
+        None => Ok(()),
+    }
 }
 
 #[tactic(auto, unfolding(crate::specs::ProvisionCommand::activated_line))]
-fn push_activated(text: &mut Vec<u8>, steps: u16) -> Result<(), AllocError>
-    ensures { OnOk result (text.new.items ≡ text.old.items ++ (activated_line steps ++ 10 ∷ [])) }
+fn push_activated(text: &mut Vec<u8>, steps: Option<u16>) -> Result<(), AllocError>
+    ensures { OnOk result (text.new.items ≡ text.old.items ++ text_of (line_if activated_line steps)) }
 {
-    let line = usize::from(steps).spelling().line_after("activated");
+    match steps {
+        Some(steps) => push_steps(text, "activated", steps),
+        None => Ok(()),
+    }
+}
+
+fn push_steps(text: &mut Vec<u8>, word: &str, steps: u16) -> Result<(), AllocError>
+    requires { length word.now ≤ 20 }
+    ensures { OnOk result (text.new.items
+        ≡ text.old.items ++ text_of (spaced (word.now ∷ decimal steps ∷ []) ∷ [])) }
+{
+    let line = usize::from(steps).spelling().line_after(word);
     text.extend_from_slice(line.as_slice())
 }
 
 #[tactic(auto, unfolding(crate::specs::ProvisionCommand::active_line))]
-fn push_active(text: &mut Vec<u8>, active: [u8; 8]) -> Result<(), AllocError>
-    ensures { OnOk result (text.new.items ≡ text.old.items ++ (active_line active ++ 10 ∷ [])) }
+fn push_active(text: &mut Vec<u8>, active: Option<[u8; 8]>) -> Result<(), AllocError>
+    ensures { OnOk result (text.new.items ≡ text.old.items ++ text_of (line_if active_line active)) }
 {
+    let Some(active) = active else {
+        return Ok(());
+    };
     let line = ControlWords(active).spelling().line_after("active");
     text.extend_from_slice(line.as_slice())
 }

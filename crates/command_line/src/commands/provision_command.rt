@@ -1,28 +1,33 @@
 ghost use Rattle.std.specs.Prelude.{◌≡◌, ◌≢◌, IfErr, IfOk};
 ghost use Rattle.text_lines.specs.Lines.{text_of};
-ghost use Rattle.command_line.specs.ProvisionCommand.{IsProcedureAnswer, steps_lines};
+ghost use Rattle.command_line.specs.ProvisionCommand.{IsProcedureAnswer, steps_lines, told_output, told_text, told_tree};
+ghost use Rattle.report_entries.specs.EntryJson.{json_text};
 ghost use Rattle.command_line.specs.Runs.{IsOwnAnswer, answer_of};
 
-use super::outcome::push_outcome;
+use super::outcome::{fault_of, outcome_of, push_outcome};
 use super::session::{Session, carry_out, set_up};
+use crate::command_output::CommandOutput;
 use crate::fault::Fault;
-use crate::told::Told;
+use crate::remark::Explained;
 use bus_model::Step;
-use reports::trace_text;
+use control_sets::ProvisionFault;
+use reports::{Outcome, procedure_json, trace_text};
 use std::alloc::{AllocError, Global};
+use text_lines::Spelled;
 
 /// How the plan that is given was provisioned, and activated if that is asked for: how many steps were made and the control
 /// bytes that are active, or the fault, after each step, if these are shown.
 pub fn provision(
     alloc: Global,
+    is_json: bool,
     is_traced: bool,
     is_activated: bool,
     image: &[u8],
     weights: &[u8],
     kept: &[u8],
     script: &[u8],
-) -> Result<Told, Fault>
-    ensures answer { IsOwnAnswer (IsProcedureAnswer is_traced is_activated image.now weights.now kept.now script.now)
+) -> Result<CommandOutput, Fault>
+    ensures answer { IsOwnAnswer (IsProcedureAnswer is_json is_traced is_activated image.now weights.now kept.now script.now)
         (answer_of result) }
     ensures read { IfErr result (λ fault. fault ≢ Fault.Io) }
 {
@@ -34,13 +39,65 @@ pub fn provision(
         mut bus,
     } = set_up(alloc, image, weights, kept, script)?;
     let ended = carry_out(&mut bus, &advert, &plan, &kept, is_activated);
-    let mut text = steps_text(alloc, is_traced, bus.steps())?;
-    let fault = push_outcome(&mut text, ended, bus.device().active())?;
-    Ok(Told {
-        text,
+    let outcome = outcome_of(&ended, bus.device().active());
+    let fault = fault_of(&ended);
+    Ok(CommandOutput {
+        text: output(alloc, is_json, is_traced, bus.steps(), outcome, fault)?,
         fault,
         warnings,
     })
+}
+
+// What is told of steps, of what came of them, and of a fault.
+fn output(
+    alloc: Global,
+    is_json: bool,
+    is_traced: bool,
+    steps: &[Step],
+    outcome: Outcome,
+    fault: Option<ProvisionFault>,
+) -> Result<Vec<u8>, AllocError>
+    ensures { IfOk result (λ text. text.items ≡ told_output is_json is_traced steps.now outcome fault) }
+{
+    if is_json {
+        json(alloc, is_traced, steps, outcome, fault)
+    } else {
+        text(alloc, is_traced, steps, outcome)
+    }
+}
+
+fn text(
+    alloc: Global,
+    is_traced: bool,
+    steps: &[Step],
+    outcome: Outcome,
+) -> Result<Vec<u8>, AllocError>
+    ensures { IfOk result (λ text. text.items ≡ told_text is_traced steps.now outcome) }
+{
+    let mut text = steps_text(alloc, is_traced, steps)?;
+    push_outcome(&mut text, outcome)?;
+    Ok(text)
+}
+
+// The fault is the last member.
+fn json(
+    alloc: Global,
+    is_traced: bool,
+    steps: &[Step],
+    outcome: Outcome,
+    fault: Option<ProvisionFault>,
+) -> Result<Vec<u8>, AllocError>
+    ensures { IfOk result (λ text. text.items ≡ json_text (told_tree is_traced steps.now outcome fault)) }
+{
+    match fault {
+        None => procedure_json(alloc, is_traced, steps, outcome, &[], ""),
+        Some(fault) => {
+            let fault = Fault::Provision(fault);
+            let spelling = fault.spelling();
+            let sentence = Explained::of(fault).sentence();
+            procedure_json(alloc, is_traced, steps, outcome, spelling.words(), sentence)
+        }
+    }
 }
 
 // The steps, if they are shown.

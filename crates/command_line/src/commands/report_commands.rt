@@ -1,15 +1,14 @@
 ghost use Rattle.std.specs.Prelude.{◌≢◌, IfErr};
-ghost use Rattle.reports.specs.EntryJson.{ReportsJson};
-ghost use Rattle.reports.specs.EntryText.{entries_lines};
-ghost use Rattle.reports.specs.Lines.{Reports};
+ghost use Rattle.reports.specs.Answered.{Reports, ReportsJson};
+ghost use Rattle.report_entries.specs.EntryText.{entries_lines};
 ghost use Rattle.command_line.specs.ReportCommands.{IsReportAnswer, Prints, entries_of, printed, refusal_of};
 ghost use Rattle.command_line.specs.Runs.{IsOwnAnswer, answer_of};
 
 use super::over_bus::image_to_report;
 use crate::choice::commands::ReportName;
+use crate::command_output::CommandOutput;
 use crate::fault::Fault;
 use crate::remark::Warnings;
-use crate::told::Told;
 use paged_memory::Image;
 use reports::ReportFault;
 use std::alloc::Global;
@@ -21,12 +20,12 @@ pub fn report(
     is_over_bus: bool,
     is_json: bool,
     image: &[u8],
-) -> Result<Told, Fault>
+) -> Result<CommandOutput, Fault>
     ensures answer { IsOwnAnswer (IsReportAnswer name is_over_bus is_json image.now) (answer_of result) }
     ensures read { IfErr result (λ fault. fault ≢ Fault.Io) }
 {
     let image = image_to_report(alloc, image, is_over_bus)?;
-    Ok(Told {
+    Ok(CommandOutput {
         text: printed(alloc, name, is_json, &image)?,
         fault: None,
         warnings: Warnings::none(),
@@ -49,7 +48,7 @@ fn printed(
     }
 }
 
-#[tactic(auto, unfolding(reports::specs::Inventory::inventory_lines, reports::specs::Measured::monitors_lines, reports::specs::Warned::flags_lines))]
+#[tactic(auto, unfolding(reports::specs::Inventory::inventory_lines, reports::specs::MonitorsByFamily::monitors_lines, reports::specs::FlagsByFamily::flags_lines, reports::specs::Details::details_lines))]
 fn text(alloc: Global, name: ReportName, image: &Image) -> Result<Vec<u8>, ReportFault>
     ensures { Reports (refusal_of name image.now) (entries_lines (entries_of name image.now)) result }
 {
@@ -58,6 +57,7 @@ fn text(alloc: Global, name: ReportName, image: &Image) -> Result<Vec<u8>, Repor
         ReportName::Apps => reports::apps(alloc, image),
         ReportName::Monitors => reports::monitors(alloc, image),
         ReportName::Flags => reports::flags(alloc, image),
+        ReportName::Details => reports::details(alloc, image),
     }
 }
 
@@ -69,5 +69,6 @@ fn json(alloc: Global, name: ReportName, image: &Image) -> Result<Vec<u8>, Repor
         ReportName::Apps => reports::apps_json(alloc, image),
         ReportName::Monitors => reports::monitors_json(alloc, image),
         ReportName::Flags => reports::flags_json(alloc, image),
+        ReportName::Details => reports::details_json(alloc, image),
     }
 }

@@ -80,7 +80,7 @@ pub fn set_up(
 }
 
 /// How provisioning ended, and then activation if it was made.
-pub type Ended = (
+pub type ProcedureResults = (
     Result<Provisioned, ProvisionFault>,
     Option<Result<Activated, ProvisionFault>>,
 );
@@ -92,7 +92,7 @@ pub fn carry_out(
     plan: &Plan,
     kept: &Plan,
     is_activated: bool,
-) -> Ended
+) -> ProcedureResults
     requires admissible { IsAdmissible advert.now plan.now }
     requires keeps { Keeps kept.now plan.now }
     requires sound { IsSound bus.old.device }

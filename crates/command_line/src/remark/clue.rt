@@ -1,12 +1,11 @@
 ghost use Rattle.std.specs.Prelude.{◌≡◌, None};
-ghost use Rattle.command_line.specs.RemarksBeside.{opening_beside};
-ghost use Rattle.command_line.specs.Runs.{answer_of};
+ghost use Rattle.command_line.specs.Runs.{answer_of, opening_beside};
 ghost use Rattle.command_line.specs.declared.remark.opening.Opening.TheVariants.{Other};
 
 use super::opening::Opening;
 use super::weights_lines::odd_line_of_weights;
+use crate::command_output::CommandOutput;
 use crate::fault::Fault;
-use crate::told::Told;
 use paged_memory::ImageFault;
 
 /// What an input tells of a fault beside its code and its values.
@@ -30,7 +29,7 @@ impl Clue {
     }
 
     /// What the input tells of the fault that is answered to it.
-    pub fn of(answer: &Result<Told, Fault>, input: &[u8]) -> Clue
+    pub fn of(answer: &Result<CommandOutput, Fault>, input: &[u8]) -> Clue
         ensures { result.opening ≡ opening_beside (answer_of answer.now) input.now }
     {
         match answer {

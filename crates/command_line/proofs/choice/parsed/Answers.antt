@@ -1,9 +1,9 @@
 use Rattle.std.proofs.Common.{◌∙◌, ap, map, sym, string_bytes}
 use Rattle.clap.specs.Words.{App, app_of, fault_of, is_simple, is_simple_and_free, subcommand_of, takes}
 use Rattle.clap.proofs.CallerLemmas.{subcommand_required}
-use Rattle.command_line.specs.Choice.{choice_in}
+use Rattle.command_line.specs.Choice.{request_in}
 use Rattle.command_line.specs.ChoiceFault.{fault_by_kind}
-use Rattle.command_line.proofs.CommandLineLemmas.{choice_known, fault_among, from_error, is_some-option_map, needs_command, simple, simple_and_free}
+use Rattle.command_line.proofs.CommandLineLemmas.{request_known, fault_among, from_error, is_some-option_map, needs_command, simple, simple_and_free}
 use Rattle.command_line.proofs.choice.parsed.Goals as goal
 
 pub returns-in_err-matches-clause-refused : goal.returns-in_err-matches-clause-refused
@@ -16,21 +16,21 @@ returns-in_err-matches-clause-refused c =
       λ taken. ap (λ k. fault_by_kind k c.in_err-matches.field-0.0) (c.in_err-matches.ensures.passes (ap (λ a. takes a words) is_program ∙ taken)),
     )
 
-pub chosen-requires : goal.chosen-requires
-chosen-requires c =
+pub requested-requires : goal.requested-requires
+requested-requires c =
     let words = map string_bytes c.args.words.now in
     let is_program = c.in_ok-program.ensures.app in
     let met = c.in_ok-matches.ensures.matches (ap is_simple is_program ∙ simple) in
     let has = subcommand_required c.in_ok-program.field-0 c.in_ok-matches.matches c.in_ok-matches.ensures.parsed
     c.in_ok-program.ensures.local (ap (λ (a : App). a.top.subcommand_required) is_program ∙ needs_command) in
-    choice_known words _ (sym (met.1 ∙ ap (λ a. subcommand_of a words) is_program)) (is_some-option_map _ _ ∙ has)
+    request_known words _ (sym (met.1 ∙ ap (λ a. subcommand_of a words) is_program)) (is_some-option_map _ _ ∙ has)
 
 pub returns-clause-answer : goal.returns-clause-answer
 returns-clause-answer c =
     let words = map string_bytes c.args.words.now in
     let is_program = c.in_ok-program.ensures.app in
     let met = c.in_ok-matches.ensures.matches (ap is_simple is_program ∙ simple) in
-    ap choice_in (sym (met.1 ∙ ap (λ a. subcommand_of a words) is_program)) ∙ c.chosen.ensures
+    ap request_in (sym (met.1 ∙ ap (λ a. subcommand_of a words) is_program)) ∙ c.requested.ensures
 
 pub returns-clause-taken : goal.returns-clause-taken
 returns-clause-taken c =

@@ -5,10 +5,10 @@ use Rattle.command_line.proofs.program.ending.Goals as goal
 
 pub returns : goal.returns
 returns g c =
-    let ended = refusal_remarked (writing_failed c.choice_refused.new.writer) c.choice_refused.result c.refused-in-Err-choice.result c.refused-in-Err-choice.ensures in
+    let ended = refusal_remarked (writing_failed c.choice_refused.new.writer) c.choice_refused.result c.refused-in-Err-request.result c.refused-in-Err-request.ensures in
     rw c.in-Ok.is (inr (
-      c.in-Err-choice.fault,
-      rw c.as_slice.ensures.value at c.in-Err-choice.ensures.refused,
+      c.in-Err-request.fault,
+      rw c.as_slice.ensures.value at c.in-Err-request.ensures.refused,
       record {
         unread = refl;
         said = rw ended.0 c.choice_refused.ensures.said;

@@ -3,7 +3,7 @@ use Rattle.text_lines.specs.Lines.{text_of}
 use Rattle.plan_certificate.specs.Certificates.{Claim}
 use Rattle.plan_certificate.specs.declared.path.Path.{Path}
 use Rattle.reports.specs.PlanText.{plan_lines}
-use Rattle.command_line.specs.CheckCommand.{kept_lines}
+use Rattle.command_line.specs.CheckCommand.{first_lines, kept_lines}
 use Rattle.command_line.proofs.GoodTexts.{good_told}
 use Rattle.command_line.proofs.commands.check_command.good_text.Goals as goal
 
@@ -12,7 +12,6 @@ returns c =
     let advert = c.args.advert.now in
     let weights = c.args.weights.now in
     let certificate = c.args.certificate.now in
-    let first = c.in_ok-push_first.ensures in
     let count : c.len.result ≡ length certificate.kept = c.len.ensures.value
     ∙ ap (λ (l : List Path). length l) (ap (λ inside. inside.kept) c.certificate-inside.view_is ∙ ap (λ (claim : Claim). claim.kept) c.certificate.view_is) in
     let good : c.in_ok-text.text.items ≡ codes "good\n" = search rules in
@@ -21,9 +20,6 @@ returns c =
     let plan : c.deref.result.now ≡ text_of (plan_lines advert weights certificate.paths) =
     c.deref.ensures.value ∙ c.in_ok-plan.ensures
     ∙ ap (λ (paths : List Path). text_of (plan_lines advert weights paths)) (ap (λ inside. inside.plan) c.certificate-inside.view_is ∙ ap (λ (claim : Claim). claim.paths) c.certificate.view_is) in
-    record {
-      first_lines = first.0;
-      says_first = first.1;
-      told = first.2 ∙ ap (λ l. l ++ text_of first.0) (c.in_ok-extend_from_slice.ensures.items ∙ ap₂ (λ (a b : List ℕ). a ++ b) kept plan)
-          ∙ sym (good_told (kept_lines (length certificate.kept)) (plan_lines advert weights certificate.paths) first.0);
-    }
+    let first = first_lines c.args.is_first in
+    c.in_ok-push_first.ensures ∙ ap (λ l. l ++ text_of first) (c.in_ok-extend_from_slice.ensures.items ∙ ap₂ (λ (a b : List ℕ). a ++ b) kept plan)
+    ∙ sym (good_told (kept_lines (length certificate.kept)) (plan_lines advert weights certificate.paths) first)

@@ -12,13 +12,13 @@ pub returns-in-Err-clause-answer : goal.returns-in-Err-clause-answer
 returns-in-Err-clause-answer c = λ image listed is_advert are_weights.
     let text = c.args.text.now in
     let first : IsFirstFault most_states (lines_of text) c.in-Err.fault = subst (λ r. IfErr r (IsFirstFault most_states (lines_of text))) c.in-Err.is c.take.ensures.err in
-    let is : IsCheckAnswer c.args.tells_first image listed text (Err (Certificate c.in-Err.fault)) = ((c.args.advert.now, is_advert), (c.args.weights.now, are_weights), first) in
+    let is : IsCheckAnswer c.args.is_json c.args.tells_first image listed text (Err (Certificate c.in-Err.fault)) = ((c.args.advert.now, is_advert), (c.args.weights.now, are_weights), first) in
     is
 
-pub returns-in_ok-good_text-in-Good-clause-answer : goal.returns-in_ok-good_text-in-Good-clause-answer
-returns-in_ok-good_text-in-Good-clause-answer c = λ image listed is_advert are_weights.
+pub returns-in_ok-good_output-in-Good-clause-answer : goal.returns-in_ok-good_output-in-Good-clause-answer
+returns-in_ok-good_output-in-Good-clause-answer c = λ image listed is_advert are_weights.
     let text = c.args.text.now in
-    let good : IsGoodAnswer c.args.tells_first image listed text c.in_ok-good_text-in-Good.field-0.items = record {
+    let good : IsGoodAnswer c.args.is_json c.args.tells_first image listed text c.in_ok-good_output-in-Good.field-0.items = record {
       judged = record {
         advert = c.args.advert.now;
         weights = c.args.weights.now;
@@ -29,7 +29,7 @@ returns-in_ok-good_text-in-Good-clause-answer c = λ image listed is_advert are_
         is_verdict = sym c.in-Good.ensures.verdict;
       };
       is_best = c.in-Good.ensures.best refl;
-      told = c.in_ok-good_text-in-Good.ensures;
+      told = c.in_ok-good_output-in-Good.ensures;
     } in
     good
 

@@ -6,6 +6,9 @@ returns-in-Report-clause-answer c = rw c.in-Report.is (rw c.of-image.ensures at 
 pub returns-in-Plan-clause-answer : goal.returns-in-Plan-clause-answer
 returns-in-Plan-clause-answer c = rw c.in-Plan.is (rw (c.of-image.ensures, c.of-weights.ensures, c.of-kept.ensures) at c.plan.ensures.answer)
 
+pub returns-in-Draw-clause-answer : goal.returns-in-Draw-clause-answer
+returns-in-Draw-clause-answer c = rw c.in-Draw.is (rw (c.of-image.ensures, c.of-weights.ensures, c.of-kept.ensures) at c.draw.ensures.answer)
+
 pub returns-in-Check-clause-answer : goal.returns-in-Check-clause-answer
 returns-in-Check-clause-answer c = rw c.in-Check.is (rw (c.of-image.ensures, c.of-weights.ensures, c.of.ensures) at c.check.ensures.answer)
 

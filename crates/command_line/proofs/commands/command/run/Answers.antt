@@ -3,12 +3,12 @@ use Rattle.command_line.specs.CountedReader.{remaining_of}
 use Rattle.command_line.specs.Runs.{answer_of}
 use Rattle.command_line.specs.StoppingWriter.{writing_failed}
 use Rattle.command_line.specs.CountedReader.{reading_failed}
-use Rattle.command_line.proofs.RemarkLemmas.{ending_status, ends_by_failure, if_known_both, said_beside}
+use Rattle.command_line.proofs.RemarkLemmas.{ending_status, ends_by_failure, if_known_both, said_beside, written_as}
 use Rattle.command_line.proofs.commands.command.run.Goals as goal
 
 pub returns : goal.returns
 returns g c =
-    let answer = answer_of c.read_and_answer-answer.result.0 in
+    let answer = answer_of c.read_and_answer-answer.result.answer in
     let failed = writing_failed c.write_answer-status.new.writer in
     let status = ap (λ ending. ending.status) c.after.ensures ∙ ending_status failed c.write_answer-status.result c.beside-remark.result in
     record {
@@ -22,7 +22,8 @@ returns g c =
         taken =
             let taken = c.read_and_answer-answer.ensures.taken in
             (taken.0, record { consumed = taken.1.consumed; within = taken.1.within; at_once = λ more. ap answer_of (taken.1.at_once more) });
-        written = rw status c.write_answer-status.ensures.written;
+        written = rw status (written_as c.args.request.json answer input _ _ _ _ failed c.write_answer-status.result
+            c.read_and_answer-answer.ensures.output clue c.write_answer-status.ensures.written);
         remarked = rw c.after.ensures (said_beside failed c.write_answer-status.result input answer _ c.beside-remark.result c.beside-remark.ensures clue);
       }) c.read_and_answer-answer.ensures.answer c.read_and_answer-answer.ensures.clue;
     }

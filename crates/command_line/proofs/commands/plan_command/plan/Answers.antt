@@ -1,18 +1,17 @@
 use Rattle.std.proofs.lemmas.Result.{err_from_is_err_and}
-use Rattle.command_line.specs.PlanCommand.{IsPlanned}
 use Rattle.command_line.specs.PlanningInputs.{IsKeptRefusal}
-use Rattle.command_line.proofs.PlanAnswers.{advert_refused, is_given, weights_refused}
+use Rattle.command_line.proofs.PlanAnswers.{advert_refused, plan_told, weights_refused}
 use Rattle.command_line.proofs.commands.plan_command.plan.Goals as goal
 
 pub returns-in_err-advert-clause-answer : goal.returns-in_err-advert-clause-answer
 returns-in_err-advert-clause-answer c =
     let p = err_from_is_err_and c.from_residual.result c.from_residual.ensures.1 in
-    rw (p.1, p.2) (advert_refused c.args.image.now c.args.weights.now c.args.kept.now c.in_err-advert.field-0.0 c.in_err-advert.ensures)
+    rw (p.1, p.2) (advert_refused c.args.is_json c.args.image.now c.args.weights.now c.args.kept.now c.in_err-advert.field-0.0 c.in_err-advert.ensures)
 
 pub returns-in_err-weights-clause-answer : goal.returns-in_err-weights-clause-answer
 returns-in_err-weights-clause-answer c =
     let p = err_from_is_err_and c.from_residual-in_err-weights.result c.from_residual-in_err-weights.ensures.1 in
-    rw (p.1, p.2) (weights_refused c.args.image.now c.args.weights.now c.args.kept.now c.in_err-weights.field-0.0
+    rw (p.1, p.2) (weights_refused c.args.is_json c.args.image.now c.args.weights.now c.args.kept.now c.in_err-weights.field-0.0
     (c.in_ok-advert.advert, c.in_ok-advert.ensures) c.in_err-weights.ensures.answer)
 
 pub returns-in_err-kept-clause-answer : goal.returns-in_err-kept-clause-answer
@@ -29,14 +28,5 @@ returns-in_err-kept-clause-answer c =
 
 pub returns-clause-answer : goal.returns-clause-answer
 returns-clause-answer c =
-    let given = c.in_ok-text.ensures in
-    let all = given.certified in
-    let planned : IsPlanned c.args.image.now c.args.weights.now c.args.kept.now c.in_ok-text.text.items = record {
-      certificate = given.certificate;
-      given = is_given c.args.image.now c.args.weights.now c.args.kept.now c.in_ok-advert.advert c.in_ok-weights.weights c.in_ok-kept.kept given.certificate
-          all.keeps c.in_ok-advert.ensures c.in_ok-weights.ensures.answer c.in_ok-kept.ensures
-          all.good all.best all.first all.rising all.gains all.states all.judged;
-      told = given.written;
-      read_again = given.read_back;
-    } in
-    planned
+    plan_told c.args.is_json c.args.image.now c.args.weights.now c.args.kept.now c.in_ok-advert.advert c.in_ok-weights.weights c.in_ok-kept.kept _
+    c.in_ok-advert.ensures c.in_ok-weights.ensures.answer c.in_ok-kept.ensures c.in_ok-text.ensures

@@ -10,7 +10,7 @@ use Rattle.command_line.proofs.commands.provision_command.provision.Goals as goa
 pub returns-in_err-advert-clause-answer : goal.returns-in_err-advert-clause-answer
 returns-in_err-advert-clause-answer c =
     let p = err_from_is_err_and c.from_residual.result c.from_residual.ensures.1 in
-    rw (p.1, p.2) (refused_answer c.args.is_traced c.args.is_activated c.args.image.now c.args.weights.now c.args.kept.now c.args.script.now
+    rw (p.1, p.2) (refused_answer c.args.is_json c.args.is_traced c.args.is_activated c.args.image.now c.args.weights.now c.args.kept.now c.args.script.now
     c.in_err-advert.field-0.0 c.in_err-advert.ensures.answer)
 
 pub carry_out-ended-requires-clause-sound : goal.carry_out-ended-requires-clause-sound
@@ -25,9 +25,9 @@ returns-clause-answer c =
     let after = seen_at c.carry_out-ended.new.bus in
     let provisioned = provisioned_steps ended.0 in
     let activated = option_map activated_steps ended.1 in
-    let text = c.push_outcome.new.text.items in
-    let told = told_as c.args.is_traced after provisioned activated text c.in_ok-text.text.items c.active.result c.steps.result.now
-    c.in_ok-fault.ensures.lines c.in_ok-text.ensures c.steps.ensures (c.active.ensures ∙ ap active_bytes c.device.ensures) in
+    let text = c.in_ok-output.field-0.items in
+    let told = told_as c.args.is_json c.args.is_traced after provisioned activated text c.active.result c.steps.result.now c.outcome_of-outcome.result c.fault_of-fault.result
+    c.in_ok-output.ensures c.outcome_of-outcome.ensures c.steps.ensures (c.active.ensures ∙ ap active_bytes c.device.ensures) in
     carried c.args.image.now c.args.weights.now c.args.kept.now c.args.script.now c.in_ok-advert.field-0 c.in_ok-advert.ensures.answer
-    c.args.is_traced c.args.is_activated text after provisioned activated c.in_ok-fault.fault
-    c.carry_out-ended.ensures told c.in_ok-fault.ensures.fault
+    c.args.is_json c.args.is_traced c.args.is_activated text after provisioned activated c.fault_of-fault.result
+    c.carry_out-ended.ensures told c.fault_of-fault.ensures

@@ -1,9 +1,9 @@
 use Rattle.std.proofs.Common.{◌≡◌, ◌∙◌, ap, sym, Some, is_some, option_map, option_copied}
 use Rattle.clap.specs.Words.{found_of, rows_of, subcommand_rows_of}
-use Rattle.command_line.specs.Choice.{choice_in, entry_named}
+use Rattle.command_line.specs.Choice.{request_in, entry_named}
 use Rattle.command_line.specs.Entries.{entry_of}
 use Rattle.command_line.proofs.CommandLineLemmas.{is_some-option_map, met_before, met_from_parts}
-use Rattle.command_line.proofs.choice.chosen.Goals as goal
+use Rattle.command_line.proofs.choice.requested.Goals as goal
 
 pub unwrap-requires : goal.unwrap-requires
 unwrap-requires c = c.subcommand.ensures.variant ∙ (sym (is_some-option_map _ _) ∙ met_before (subcommand_rows_of c.args.matches.now) c.requires)
@@ -13,7 +13,7 @@ unwrap-entry-requires c =
     let met = met_from_parts _ _ c.unwrap.result.0.now (rows_of (found_of c.unwrap.result.1.now))
     (ap (option_map _) (sym c.unwrap.ensures) ∙ c.subcommand.ensures.name) (ap (option_map _) (sym c.unwrap.ensures) ∙ c.subcommand.ensures.rows) in
     sym (is_some-option_map _ _) ∙ (sym (is_some-option_map _ _) ∙ (ap is_some c.command_named.ensures
-    ∙ (sym (is_some-option_map _ _) ∙ (ap (λ m. is_some (choice_in m)) (sym met) ∙ c.requires))))
+    ∙ (sym (is_some-option_map _ _) ∙ (ap (λ m. is_some (request_in m)) (sym met) ∙ c.requires))))
 
 pub returns : goal.returns
 returns c =

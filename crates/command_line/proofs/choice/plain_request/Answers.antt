@@ -1,14 +1,14 @@
 use Rattle.std.proofs.Common.{◌≡◌, ◌∙◌, ap, sym, Some, string_bytes}
-use Rattle.command_line.specs.Choice.{choice_of, entry_named, faults_of}
+use Rattle.command_line.specs.Choice.{request_of, entry_named, faults_of}
 use Rattle.command_line.specs.Entries.{entry_of}
 use Rattle.command_line.proofs.PlainChoices.{chosen_alone, taken_alone, two_words, without_flags}
-use Rattle.command_line.proofs.choice.plain_choice.Goals as goal
+use Rattle.command_line.proofs.choice.plain_request.Goals as goal
 
 pub returns-clause-answer : goal.returns-clause-answer
 returns-clause-answer c =
     let two = two_words string_bytes c.args.words.now c.name-item.result c.in-len2.len_at_least c.in-len2.len_below c.name-item.is in
     let named : entry_named (string_bytes c.name-item.result) ≡ Some (entry_of c.in_ok-entry.entry.now) = sym (c.in_ok-entry.ensures ∙ ap entry_named c.deref.ensures) in
-    ap choice_of two.are ∙ (chosen_alone two.first _ _ named ∙ ap Some (sym (c.choice_with.ensures ∙ without_flags c.in_ok-entry.entry.now.command)))
+    ap request_of two.are ∙ (chosen_alone two.first _ _ named ∙ ap Some (sym (c.request_with.ensures ∙ without_flags c.in_ok-entry.entry.now.command)))
 
 pub returns-clause-taken : goal.returns-clause-taken
 returns-clause-taken c =
