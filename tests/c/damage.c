@@ -247,12 +247,25 @@ static int is_whole_answer(char **words, const char *last) {
         {"monitors", "temperature ", ""},         {"flags", "", ""},
         {"plan", "certificate ", "end\n"},        {"check", "good\n", "control "},
         {"provision", "provisioned ", "active "}, {"trace", "1 fetch A0 3 1 = ", "active "}};
-    if (has_word(words, "--json")) return begins(answer, "{\n  \"dovecounter\": 1,\n") && begins(last, "}\n");
     for (size_t form = 0; form < sizeof forms / sizeof *forms; form++) {
         if (strcmp(words[1], forms[form][0])) continue;
         return begins(answer, forms[form][1]) && begins(last, has_word(words, "--first") ? "first " : forms[form][2]);
     }
     return 0;
+}
+
+/* Whether it is one object that has what its status asks for. */
+static int is_well_formed_json(char **words, int status, const char *last) {
+    int faults = lines_with("  \"fault\": {\n"), bad = lines_with("  \"good\": false,\n");
+    int provisioning = lines_with("    \"code\": \"PV"), unread = lines_with("    \"code\": \"IO\"");
+    if (!begins(answer, "{\n  \"dovecounter\": 1,\n") || !begins(last, "}\n")) return 0;
+    switch (status) {
+    case 0: return faults == 0 && bad == 0;
+    case 1: return faults == 1 && bad == 0 && provisioning == 0 && unread == 0;
+    case 3: return faults == 1 && provisioning == 1 && (!strcmp(words[1], "provision") || !strcmp(words[1], "trace"));
+    case 4: return faults == 0 && bad == 1 && !strcmp(words[1], "check");
+    default: return 0;
+    }
 }
 
 /* Whether the answer has the form that its status asks for. */
@@ -264,6 +277,7 @@ static int is_well_formed(char **words, int status, size_t length) {
     const char *last = answer + length - 1;
     while (last > answer && last[-1] != '\n') last--;
     int faults = lines_with("fault "), bad = lines_with("bad ");
+    if (has_word(words, "--json")) return is_well_formed_json(words, WEXITSTATUS(status), last);
     switch (WEXITSTATUS(status)) {
     case 0: return faults == 0 && bad == 0 && is_whole_answer(words, last);
     case 1:
@@ -362,7 +376,7 @@ int main(int count, char **words) {
         int status = run(words[1], it->words, in, out, &length);
         int is_well = is_well_formed(it->words, status, length);
         if (is_well) it->runs[WEXITSTATUS(status)]++;
-        if (is_well && WEXITSTATUS(status) == 0 && !strcmp(it->words[1], "plan")) {
+        if (is_well && WEXITSTATUS(status) == 0 && !strcmp(it->words[1], "plan") && !has_word(it->words, "--json")) {
             is_well = is_judged_good(words[1], it->words, in, out, length);
             good++;
         }

@@ -487,7 +487,7 @@ static void try_other_numbers(const struct dovecounter_plan *plan) {
     dovecounter_provision(plan->control, 0xFF, &procedure);
     for (int i = 0; i < 7; i++) {
         other = procedure;
-        if (i == 0) other.saved.work = 3;
+        if (i == 0) other.saved.work = 5;
         if (i == 1) other.saved.selection = 3;
         if (i == 2) other.saved.fault.code = 8;
         if (i == 3) other.saved.work = 0;

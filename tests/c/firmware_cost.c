@@ -123,6 +123,17 @@ static void *measures(void *x) {
     return x;
 }
 
+static void *reads_weights(void *x) {
+    static const char text[] = "[host]\n0Dh = 101\n11h = 400\n";
+    size_t line;
+    dovecounter_weights((const uint8_t *)text, strlen(text), weights, &line);
+    return x;
+}
+static void *wakes(void *x) {
+    dovecounter_wake(&procedure);
+    return x;
+}
+
 static size_t used(void *(*run)(void *)) {
     pthread_attr_t attributes;
     pthread_t thread;
@@ -168,5 +179,7 @@ int main(void) {
     print_used("dovecounter_identity", identifies, alone);
     print_used("dovecounter_flags", flags_raised, alone);
     print_used("dovecounter_monitors", measures, alone);
+    print_used("dovecounter_weights", reads_weights, alone);
+    print_used("dovecounter_wake", wakes, alone);
     return 0;
 }

@@ -1,6 +1,6 @@
 /* first_best RUNS SEED FOLDER [keep]: writes, for each number N from 1 to RUNS, the files N, an input of the command plan for a
-   module made by chance, and N.wanted, the weight and the paths of the plan that is to be given. With keep, each third plan
-   keeps paths, and its input is one of plan --keep.
+   module made by chance, N.wanted, the weight and the paths of the plan that is to be given, and N.drawing, what draw is to say
+   of it, but for the names of interfaces. With keep, each third plan keeps paths, and its input is one of plan --keep.
 
    A plan is a set of data paths. All plans that the module can carry are gone through, and the first of the best without needless
    paths is what docs/planning.md, "The first best plan", says, and not how the planner finds it. */
@@ -74,23 +74,47 @@ static int is_kept(struct path p) { return of->kept.at[p.host].app && same(of->k
 
 static int weight_of(struct path p) { return of->weights[of->apps[p.app].host_id]; }
 
-static void judge(const struct plan *plan) {
-    seen++;
+static int keeps(const struct plan *plan) {
     for (int lane = 1; lane <= LANES; lane++) {
         struct path kept = of->kept.at[lane], p = plan->at[lane];
-        if (kept.app && !(p.app && same(p, kept))) return;
-        if (p.app && !weight_of(p) && !is_kept(p)) return;
+        if (kept.app && !(p.app && same(p, kept))) return 0;
     }
+    return 1;
+}
+
+static void judge(const struct plan *plan) {
+    seen++;
+    if (!keeps(plan)) return;
+    for (int lane = 1; lane <= LANES; lane++)
+        if (plan->at[lane].app && !weight_of(plan->at[lane]) && !is_kept(plan->at[lane])) return;
     if (!found || plan->weight > best.weight || (plan->weight == best.weight && comes_before(plan, &best)))
         best = *plan;
     found = 1;
 }
 
+/* What the heaviest plan weighs that agrees with the best below a host lane, and begins there the path of an Application and a
+   media lane, or (0, 0) leaves the lane free; -1 if none does. */
+static int most[LANES + 1][APPS + 1][LANES + 1];
+
+static void compare(const struct plan *plan) {
+    int free_from = 1;
+    if (!keeps(plan)) return;
+    for (int lane = 1; lane <= LANES; lane++) {
+        struct path p = plan->at[lane], q = best.at[lane];
+        int *most_here = &most[lane][p.app][p.app ? p.media : 0];
+        if ((p.app || lane >= free_from) && *most_here < plan->weight) *most_here = plan->weight;
+        if (p.app ? !q.app || !same(p, q) : q.app) return;
+        if (p.app) free_from = lane + of->apps[p.app].host_lanes;
+    }
+}
+
+static void (*each_plan)(const struct plan *) = judge;
+
 /* All plans that have this one's paths and others from a host lane on. */
 static void extend(struct plan *plan, int lane, int host, int media) {
     if (seen > 300000) return;
     if (lane > LANES) {
-        judge(plan);
+        each_plan(plan);
         return;
     }
     for (int app = 1; app <= of->count; app++)
@@ -165,6 +189,8 @@ static void write_paths(FILE *out, const char *word, const struct plan *plan) {
         if (plan->at[lane].app) fprintf(out, "%s %d %d %d\n", word, plan->at[lane].app, lane, plan->at[lane].media);
 }
 
+#include "drawing.h"
+
 static FILE *open_at(const char *folder, int number, const char *end) {
     char name[4096];
     snprintf(name, sizeof name, "%s/%d%s", folder, number, end);
@@ -188,7 +214,13 @@ int main(int argc, char **argv) {
         of = &m, found = 0, seen = 0;
         extend(&empty, 1, 0, 0);
         if (!found || seen > 300000) continue; /* too many plans to go through */
+        memset(most, -1, sizeof most);
+        each_plan = compare;
+        extend(&empty, 1, 0, 0);
+        each_plan = judge;
         FILE *in = open_at(argv[3], number, ""), *wanted = open_at(argv[3], number, ".wanted");
+        FILE *drawing = open_at(argv[3], number, ".drawing");
+        write_drawing(drawing);
         write_image(in, &m);
         if (keeping && number % 3 == 0) {
             fprintf(in, "---\n");
@@ -196,7 +228,7 @@ int main(int argc, char **argv) {
         }
         fprintf(wanted, "weight %d\n", best.weight);
         write_paths(wanted, "path", &best);
-        if (fclose(in) || fclose(wanted)) return 2;
+        if (fclose(in) || fclose(wanted) || fclose(drawing)) return 2;
         number++;
     }
     return 0;

@@ -1,5 +1,5 @@
 /* A simulated module, driven through the library for firmware as its header says: what is refused, and then a plan that is
-   provisioned and activated on it, over a bus that refuses and cuts short, and low power by the pin. */
+   provisioned and activated on it, over a bus that refuses and cuts short, low power by the pin, and waking up and going to sleep. */
 #include "expect.h"
 
 /* ---- a module with one Application ---- */
@@ -180,6 +180,24 @@ static void try_run(struct dovecounter_module module, const struct dovecounter_p
     expect_paths("and its lanes are DPActivated", &module, 4);
 }
 
+/* Whatever asks for low power, and in whichever state it is, the module wakes up and goes to sleep, with the other bits of its controls
+   as they were. */
+static void try_power(struct dovecounter_module module) {
+    struct dovecounter_procedure procedure;
+    module.control = (uint8_t)chance(256);
+    expect("the pin", DOVECOUNTER_DONE, dovecounter_module_pin(&module, (uint8_t)chance(2)));
+    for (unsigned ticks = chance(20); ticks > 0; ticks--) dovecounter_module_tick(&module);
+    unsigned others = module.control & 0xA7;
+    dovecounter_wake(&procedure);
+    carry_out(&module, procedure);
+    expect("awake, it is in ModuleReady", 3, module.state);
+    expect("its low power requests are cleared", others, module.control);
+    dovecounter_sleep(&procedure);
+    carry_out(&module, procedure);
+    expect("asleep, it is in ModuleLowPwr", 1, module.state);
+    expect("software asks for low power", others | 0x10, module.control);
+}
+
 int main(void) {
     static uint32_t weights[256];
     static const struct dovecounter_path kept[1];
@@ -192,6 +210,9 @@ int main(void) {
     expect("it has a plan", DOVECOUNTER_DONE, dovecounter_plan(halves, HALVES, weights, kept, 0, &plan));
     try_ranges(module);
     try_other_numbers(&module);
-    for (int run = 0; run < 1000; run++) try_run(module, &plan);
+    for (int run = 0; run < 1000; run++) {
+        try_run(module, &plan);
+        try_power(module);
+    }
     return judged("simulated");
 }
