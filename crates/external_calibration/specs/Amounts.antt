@@ -2,7 +2,6 @@
 -- printed unit)
 use Rattle.std.specs.Prelude.{ℕ, ◌^◌, ℤ, pos, ◌+ℤ◌, ◌*ℤ◌}
 use Rattle.std.specs.Int.{int_pow}
-use Rattle.field_tables.specs.declared.readings.Levels.{Levels}
 use Rattle.field_tables.specs.declared.units.Unit.{Unit}
 use Rattle.field_tables.specs.declared.units.Unit.TheVariants as units
 use Rattle.field_tables.specs.Units.{floor_div, millis_of}
@@ -38,19 +37,10 @@ on_polynomial constants reading =
 abbrev pub thousandths : Unit → ℕ → ℤ → ℤ
 thousandths unit halvings parts = floor_div (millis_of parts unit) (2 ^ halvings)
 
--- a reading's amount, in thousandths of the printed unit
+-- the amount of a reading, or of a limit, in thousandths of the printed unit
 unfoldable pub amount_of : Constants → Monitor → ℤ → ℤ
 amount_of constants Temperature reading = thousandths units.Temperature 8 (on_line constants.temperature reading)
 amount_of constants Vcc reading = thousandths units.Voltage 8 (on_line constants.vcc reading)
 amount_of constants TxBias reading = thousandths units.Bias 8 (on_line constants.tx_bias reading)
 amount_of constants TxPower reading = thousandths units.OpticalPower 8 (on_line constants.tx_power reading)
 amount_of constants RxPower reading = thousandths units.OpticalPower 149 (on_polynomial constants.rx_power reading)
-
--- Limits are calibrated as readings are.
-abbrev pub limits_of : Constants → Monitor → Levels ℤ → Levels ℤ
-limits_of constants monitor limits = record {
-  high_alarm = amount_of constants monitor limits.high_alarm;
-  low_alarm = amount_of constants monitor limits.low_alarm;
-  high_warning = amount_of constants monitor limits.high_warning;
-  low_warning = amount_of constants monitor limits.low_warning;
-}

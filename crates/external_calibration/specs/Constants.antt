@@ -1,42 +1,36 @@
--- Where the constants are. (SFF-8472, "External Calibration", "Calibration Constants for External Calibration Option": bytes 56
--- to 91 of device A2, the highest byte first)
-use Rattle.std.specs.Prelude.{ℕ, ◌+◌, ◌*◌, ◌^◌, List, slice_index}
-use Rattle.std.specs.Int.{cast_signed, w16}
+-- Where the constants are. (docs/fields.md, "SFF-8472"; SFF-8472, "External Calibration", "Calibration Constants for External
+-- Calibration Option")
+use Rattle.std.specs.Prelude.{ℕ, ◌+◌, ◌*◌, ◌^◌}
+use Rattle.paged_memory.specs.Images.{Memory}
+use Rattle.field_tables.specs.declared.field.Field.TheVariants.{SOffsets, SRxPowerCoefficients, SSlopes}
+use Rattle.field_tables.specs.Readings.{number_at, reading_at}
 use Rattle.external_calibration.specs.declared.constants.Line.{Line}
 use Rattle.external_calibration.specs.declared.constants.Polynomial.{Polynomial}
 use Rattle.external_calibration.specs.declared.constants.Constants.{Constants}
 
--- two bytes
-abbrev pub word_at : List ℕ → ℕ → ℕ
-word_at half address = slice_index half address * 2 ^ 8 + slice_index half (address + 1)
+-- an unsigned slope and a signed offset: 1 to 4 of Tx_I, Tx_PWR, T and V
+abbrev pub line_of : Memory → ℕ → Line
+line_of memory i = record { slope = number_at memory SSlopes i; offset = reading_at memory SOffsets i }
 
--- four bytes
-abbrev pub double_word_at : List ℕ → ℕ → ℕ
-double_word_at half address = word_at half address * 2 ^ 16 + word_at half (address + 2)
+-- a float of two words, the higher first
+abbrev pub coefficient : Memory → ℕ → ℕ
+coefficient memory i = number_at memory SRxPowerCoefficients i * 2 ^ 16 + number_at memory SRxPowerCoefficients (i + 1)
 
--- an unsigned slope and a signed offset
-abbrev pub line_at : List ℕ → ℕ → Line
-line_at half address = record {
-  slope = word_at half address;
-  offset = cast_signed w16 (word_at half (address + 2));
+-- Rx_PWR(4) to Rx_PWR(0)
+abbrev pub polynomial_of : Memory → Polynomial
+polynomial_of memory = record {
+  fourth = coefficient memory 1;
+  third = coefficient memory 3;
+  second = coefficient memory 5;
+  first = coefficient memory 7;
+  zeroth = coefficient memory 9;
 }
 
--- five floats
-abbrev pub polynomial_at : List ℕ → ℕ → Polynomial
-polynomial_at half address = record {
-  fourth = double_word_at half address;
-  third = double_word_at half (address + 4);
-  second = double_word_at half (address + 8);
-  first = double_word_at half (address + 12);
-  zeroth = double_word_at half (address + 16);
-}
-
--- Rx_PWR(4) to Rx_PWR(0); Tx_I, Tx_PWR, T and V, a slope and an offset each
-abbrev pub constants_of : List ℕ → Constants
-constants_of half = record {
-  rx_power = polynomial_at half 56;
-  tx_bias = line_at half 76;
-  tx_power = line_at half 80;
-  temperature = line_at half 84;
-  vcc = line_at half 88;
+unfoldable pub constants_of : Memory → Constants
+constants_of memory = record {
+  rx_power = polynomial_of memory;
+  tx_bias = line_of memory 1;
+  tx_power = line_of memory 2;
+  temperature = line_of memory 3;
+  vcc = line_of memory 4;
 }

@@ -2,9 +2,12 @@
 use Rattle.std.specs.Prelude.{ℕ, ◌+◌, ◌-◌, ◌*◌, [], ◌∷◌, not, Bool, Option, None, fold}
 use Rattle.std.specs.Option.{option_or}
 use Rattle.field_tables.specs.FirstFault.{first_fault}
+use Rattle.external_calibration.specs.declared.constants.Constants.{Constants}
 use Rattle.external_calibration.specs.declared.constants.Polynomial.{Polynomial}
 use Rattle.external_calibration.specs.declared.fault.CalibrationFault.{CalibrationFault}
 use Rattle.external_calibration.specs.declared.fault.CalibrationFault.TheVariants.{NotFinite, OutOfRange}
+use Rattle.external_calibration.specs.declared.monitor.Monitor.{Monitor}
+use Rattle.external_calibration.specs.declared.monitor.Monitor.TheVariants.{Temperature, Vcc, TxBias, TxPower, RxPower}
 use Rattle.external_calibration.specs.Floats.{is_below_power, is_finite}
 
 -- A reading of 16 bits is below 2^16. A constant that multiplies its power n is to be below 2^(48 - 16 n), so that the product is
@@ -26,3 +29,11 @@ refusal_of constants = fold option_or None (
     ∷ fault_of 0 constants.zeroth
     ∷ []
     )
+
+-- of the readings of a monitor: slopes and offsets are never refused
+abbrev pub refusal_by : Constants → Monitor → Option CalibrationFault
+refusal_by constants Temperature = None
+refusal_by constants Vcc = None
+refusal_by constants TxBias = None
+refusal_by constants TxPower = None
+refusal_by constants RxPower = refusal_of constants.rx_power

@@ -1,8 +1,7 @@
 //! Amounts of readings.
-ghost use Rattle.std.specs.Prelude.{◌≡◌, ◌<◌, ◌≤◌, ◌-◌, ◌*◌, ◌+ℤ◌, ◌*ℤ◌, IfOk, IsOk, IsTrue, MatchOption, Err, is_none};
+ghost use Rattle.std.specs.Prelude.{◌≡◌, ◌<◌, ◌≤◌, ◌-◌, ◌*◌, ◌+ℤ◌, ◌*ℤ◌, IsTrue, MatchOption, Ok, Err, is_none};
 ghost use Rattle.std.specs.Int.{int_pow};
-ghost use Rattle.field_tables.specs.Readings.{IsWord, LevelsAreWords};
-ghost use Rattle.external_calibration.specs.Amounts as spec;
+ghost use Rattle.field_tables.specs.Readings.{IsWord};
 ghost use Rattle.external_calibration.specs.Amounts.{amount_of, on_polynomial, thousandths};
 ghost use Rattle.external_calibration.specs.ExactSums.{IsSmall, value_of};
 ghost use Rattle.external_calibration.specs.Floats.{parts_of};
@@ -14,54 +13,42 @@ use crate::constants::{Constants, Polynomial};
 use crate::exact_sum::ExactSum;
 use crate::fault::CalibrationFault;
 use crate::monitor::Monitor;
-use field_tables::{Levels, Unit};
+use field_tables::Unit;
 
-/// Constants by which each reading of 16 bits has an amount.
-#[derive(Clone, Copy, Debug)]
-pub struct Calibration {
-    pub constants: Constants,
-    ghost accepted: { IsTrue (is_none (refusals.refusal_of constants.rx_power)) },
-}
-
-impl Calibration {
-    /// By these constants.
-    pub fn by(constants: Constants) -> Result<Calibration, CalibrationFault>
-        ensures refused { MatchOption (refusals.refusal_of constants.rx_power) (IsOk result) (λ fault. result ≡ Err fault) }
-        ensures kept { IfOk result (λ calibration. calibration.constants ≡ constants) }
+impl Constants {
+    /// What a reading of 16 bits amounts to, in thousandths of the printed unit, rounded down.
+    pub fn amount(&self, monitor: Monitor, reading: i32) -> Result<i64, CalibrationFault>
+        requires { IsWord reading }
+        ensures { MatchOption (refusals.refusal_by self.now monitor)
+            (result ≡ Ok (amount_of self.now monitor reading)) (λ fault. result ≡ Err fault) }
     {
-        match refusal_of(&constants.rx_power) {
+        match self.refusal(monitor) {
             Some(fault) => Err(fault),
-            None => Ok(Calibration { constants }),
+            None => Ok(self.accepted_amount(monitor, reading)),
         }
     }
 
-    /// What a reading of 16 bits amounts to, in thousandths of the printed unit, rounded down.
-    pub fn amount(&self, monitor: Monitor, reading: i32) -> i64
-        requires { IsWord reading }
-        ensures { result ≡ amount_of self.now.constants monitor reading }
+    /// Why no reading of a monitor has an amount.
+    pub fn refusal(&self, monitor: Monitor) -> Option<CalibrationFault>
+        ensures { result ≡ refusals.refusal_by self.now monitor }
     {
         match monitor {
-            Monitor::Temperature => self
-                .constants
-                .temperature
-                .amount(reading, Unit::Temperature),
-            Monitor::Vcc => self.constants.vcc.amount(reading, Unit::Voltage),
-            Monitor::TxBias => self.constants.tx_bias.amount(reading, Unit::Bias),
-            Monitor::TxPower => self.constants.tx_power.amount(reading, Unit::OpticalPower),
-            Monitor::RxPower => received_power(self.constants.rx_power, reading),
+            Monitor::RxPower => refusal_of(&self.rx_power),
+            _ => None,
         }
     }
 
-    /// What limits amount to.
-    pub fn limits(&self, monitor: Monitor, limits: &Levels<i32>) -> Levels<i64>
-        requires { LevelsAreWords limits.now }
-        ensures { result ≡ spec.limits_of self.now.constants monitor limits.now }
+    fn accepted_amount(&self, monitor: Monitor, reading: i32) -> i64
+        requires accepted { IsTrue (is_none (refusals.refusal_by self.now monitor)) }
+        requires word { IsWord reading }
+        ensures { result ≡ amount_of self.now monitor reading }
     {
-        Levels {
-            high_alarm: self.amount(monitor, limits.high_alarm),
-            low_alarm: self.amount(monitor, limits.low_alarm),
-            high_warning: self.amount(monitor, limits.high_warning),
-            low_warning: self.amount(monitor, limits.low_warning),
+        match monitor {
+            Monitor::Temperature => self.temperature.amount(reading, Unit::Temperature),
+            Monitor::Vcc => self.vcc.amount(reading, Unit::Voltage),
+            Monitor::TxBias => self.tx_bias.amount(reading, Unit::Bias),
+            Monitor::TxPower => self.tx_power.amount(reading, Unit::OpticalPower),
+            Monitor::RxPower => received_power(self.rx_power, reading),
         }
     }
 }

@@ -1,9 +1,11 @@
 //! The constants, as they stand in a module's memory.
-ghost use Rattle.std.specs.Prelude.{◌≡◌, ◌<◌, ◌+◌, length};
+ghost use Rattle.std.specs.Prelude.{◌≡◌, ◌≤◌, unsigned_abs};
+ghost use Rattle.field_tables.specs.Readings.{IsWord, reading_at};
+ghost use Rattle.field_tables.specs.declared.field.Field.TheVariants as fields;
 ghost use Rattle.external_calibration.specs.Constants as spec;
 
-use byteorder::{BigEndian, ByteOrder};
-use paged_memory::PAGE_LEN;
+use field_tables::{Field, lane, reading_at};
+use paged_memory::Image;
 
 /// What makes a reading an amount of so many steps: it is multiplied by the slope, and the offset is added.
 #[derive(Clone, Copy, Debug, PartialEq, Eq)]
@@ -35,46 +37,70 @@ pub struct Constants {
 }
 
 impl Constants {
-    /// Those in the lower half of device A2, of which they are bytes 56 to 91.
-    pub fn of(half: &[u8; PAGE_LEN]) -> Constants
-        ensures { result ≡ spec.constants_of half.now }
+    /// Those of a module of SFF-8472, or zeros if the half that they stand in is absent.
+    #[tactic(auto, unfolding(crate::specs::Constants::constants_of))]
+    pub fn of(image: &Image) -> Constants
+        ensures { result ≡ spec.constants_of image.now }
     {
         Constants {
-            rx_power: polynomial_at(half, 56),
-            tx_bias: line_at(half, 76),
-            tx_power: line_at(half, 80),
-            temperature: line_at(half, 84),
-            vcc: line_at(half, 88),
+            rx_power: polynomial_of(image),
+            tx_bias: line_of(image, 1),
+            tx_power: line_of(image, 2),
+            temperature: line_of(image, 3),
+            vcc: line_of(image, 4),
         }
     }
 }
 
-fn polynomial_at(half: &[u8; PAGE_LEN], address: usize) -> Polynomial
-    requires { address + 19 < PAGE_LEN }
-    ensures { result ≡ spec.polynomial_at half.now address }
+fn polynomial_of(image: &Image) -> Polynomial
+    ensures { result ≡ spec.polynomial_of image.now }
 {
     Polynomial {
-        fourth: double_word_at(half, address),
-        third: double_word_at(half, address + 4),
-        second: double_word_at(half, address + 8),
-        first: double_word_at(half, address + 12),
-        zeroth: double_word_at(half, address + 16),
+        fourth: coefficient(image, 1),
+        third: coefficient(image, 3),
+        second: coefficient(image, 5),
+        first: coefficient(image, 7),
+        zeroth: coefficient(image, 9),
     }
 }
 
-fn double_word_at(half: &[u8; PAGE_LEN], address: usize) -> u32
-    requires { address + 3 < PAGE_LEN }
-    ensures { result ≡ spec.double_word_at half.now address }
+// The float whose higher word is the value of this number, and whose lower word is the next value.
+fn coefficient(image: &Image, index: u8) -> u32
+    requires first { 1 ≤ index }
+    requires last { index ≤ 9 }
+    ensures { result ≡ spec.coefficient image.now index }
 {
-    BigEndian::read_u32(&half[address..])
+    let high = word(reading_at(image, Field::SRxPowerCoefficients, index));
+    let low = word(reading_at(image, Field::SRxPowerCoefficients, index + 1));
+    u32::from(high) * 65_536 + u32::from(low)
 }
 
-fn line_at(half: &[u8; PAGE_LEN], address: usize) -> Line
-    requires { address + 3 < PAGE_LEN }
-    ensures { result ≡ spec.line_at half.now address }
+fn word(reading: i32) -> u16
+    requires { IsWord reading }
+    ensures { result ≡ unsigned_abs reading }
+{
+    reading.unsigned_abs() as u16
+}
+
+fn line_of(image: &Image, index: u8) -> Line
+    requires first { 1 ≤ index }
+    requires last { index ≤ 4 }
+    ensures { result ≡ spec.line_of image.now index }
 {
     Line {
-        slope: BigEndian::read_u16(&half[address..]),
-        offset: BigEndian::read_u16(&half[address + 2..]).cast_signed(),
+        slope: word(reading_at(image, Field::SSlopes, index)),
+        offset: offset(image, index),
+    }
+}
+
+#[tactic(auto, unfolding(field_tables::specs::Readings::reading_at))]
+fn offset(image: &Image, index: u8) -> i16
+    requires first { 1 ≤ index }
+    requires last { index ≤ 4 }
+    ensures { result ≡ reading_at image.now fields.SOffsets index }
+{
+    match lane::<4>(image, Field::SOffsets, index) {
+        Ok(offset) => offset as i16,
+        Err(_) => 0,
     }
 }

@@ -11,7 +11,6 @@ mod laws;
 mod line;
 mod monitor;
 
-pub use calibration::Calibration;
 pub use constants::{Constants, Line, Polynomial};
 pub use fault::CalibrationFault;
 pub use laws::{neutral_constants_change_nothing, thousandths_are_the_greatest};
