@@ -1,5 +1,5 @@
 -- What the rows of details say of a module's memory. (docs/formats.md, "details"; this project's own)
-use Rattle.std.specs.Prelude.{ℕ, ◌+◌, ◌-◌, ◌*◌, ◌==◌, ◌&&◌, ◌||◌, not, nat_le, nat_lt, int_le, int_lt, if◌then◌else◌, Bool, true, false, ℤ, pos, ◌*ℤ◌, ◌-ℤ◌, unsigned_abs, List, [], ◌∷◌, Option, Some, None}
+use Rattle.std.specs.Prelude.{ℕ, ◌+◌, ◌-◌, ◌*◌, ◌==◌, ◌&&◌, ◌||◌, not, nat_le, nat_lt, int_le, int_lt, if◌then◌else◌, Bool, true, false, ℤ, pos, ◌*ℤ◌, ◌-ℤ◌, unsigned_abs, List, [], ◌∷◌, Option, Some, None, option_map}
 use Rattle.std.specs.List.{flat_map, list_any, range_with_len}
 use Rattle.code_names.specs.Names.{name_in}
 use Rattle.code_names.specs.Rows.{text_of}
@@ -25,8 +25,9 @@ use Rattle.module_details.specs.declared.item.Case.{Case}
 use Rattle.module_details.specs.declared.item.Case.TheVariants.{Within, Outside, Neither, LacksSince}
 use Rattle.module_details.specs.declared.item.Values.{Values}
 use Rattle.module_details.specs.declared.item.Values.TheVariants.{One, Lanes}
+use Rattle.module_details.specs.Measured.{calibrates, measured_fact, measured_power}
 use Rattle.module_details.specs.PowerClasses.{class_power, power_class}
-use Rattle.module_details.specs.Rows.{Row, Item, Word, Either, Yes, Named, Names, Number, Revision, Version, Text, Oui, Amount, Steps, StepsIfAny, PairIfAny, TenthsIfAny, Celsius, Percent, Temperature, Level, Milliwatts, ModuleState, PathState, ConfigStatus, FirstLane, BitRate, PowerClass, ClassPower}
+use Rattle.module_details.specs.Rows.{Row, Item, Word, Either, Yes, Named, Names, Number, Revision, Version, Text, Oui, Amount, Steps, StepsIfAny, PairIfAny, TenthsIfAny, Celsius, Percent, Temperature, Level, Milliwatts, Measured, MeasuredLevel, MeasuredMilliwatts, Calibrates, ModuleState, PathState, ConfigStatus, FirstLane, BitRate, PowerClass, ClassPower}
 
 -- ---- facts
 
@@ -93,6 +94,12 @@ percent_fact parts = facts.amount (floor_div (parts *ℤ pos 100000) 32767) unit
 abbrev pub temperature_fact : ℤ → Fact
 temperature_fact word = facts.amount (millis_of (signed_word word) steps.Temperature) units.Celsius
 
+abbrev pub level_fact : Option ℕ → Option Fact
+level_fact power = option_map facts.level power
+
+abbrev pub milliwatts_fact : Option ℕ → Option Fact
+milliwatts_fact power = option_map facts.milliwatts power
+
 -- no Application: the lane is in no data path
 abbrev pub first_lane_fact : ℕ → ℕ → Option Fact
 first_lane_fact app path = if_any (nat_lt 0 app) (facts.number (path + 1))
@@ -125,6 +132,10 @@ fact_at memory (Percent field) i = Some (percent_fact (reading_at memory field i
 fact_at memory (Temperature field) i = Some (temperature_fact (reading_at memory field i))
 fact_at memory (Level field) i = Some (facts.level (unsigned_abs (reading_at memory field i)))
 fact_at memory (Milliwatts field) i = Some (facts.milliwatts (unsigned_abs (reading_at memory field i)))
+fact_at memory (Measured monitor field) i = measured_fact memory monitor field i
+fact_at memory (MeasuredLevel monitor field) i = level_fact (measured_power memory monitor field i)
+fact_at memory (MeasuredMilliwatts monitor field) i = milliwatts_fact (measured_power memory monitor field i)
+fact_at memory (Calibrates monitor) i = Some (facts.yes (calibrates memory monitor))
 fact_at memory (ModuleState field) i = Some (facts.module_state (number_at memory field i))
 fact_at memory (PathState field) i = Some (facts.path_state (number_at memory field i))
 fact_at memory (ConfigStatus field) i = Some (facts.config_status (number_at memory field i))

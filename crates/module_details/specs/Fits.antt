@@ -9,7 +9,7 @@ use Rattle.module_details.specs.declared.item.Case.{Case}
 use Rattle.module_details.specs.declared.item.Case.TheVariants.{Within, Outside, Neither, LacksSince}
 use Rattle.module_details.specs.declared.item.Values.{Values}
 use Rattle.module_details.specs.declared.item.Values.TheVariants.{One, Lanes}
-use Rattle.module_details.specs.Rows.{Row, Item, Word, Either, Yes, Named, Names, Number, Revision, Version, Text, Oui, Amount, Steps, StepsIfAny, PairIfAny, TenthsIfAny, Celsius, Percent, Temperature, Level, Milliwatts, ModuleState, PathState, ConfigStatus, FirstLane, BitRate, PowerClass, ClassPower}
+use Rattle.module_details.specs.Rows.{Row, Item, Word, Either, Yes, Named, Names, Number, Revision, Version, Text, Oui, Amount, Steps, StepsIfAny, PairIfAny, TenthsIfAny, Celsius, Percent, Temperature, Level, Milliwatts, Measured, MeasuredLevel, MeasuredMilliwatts, Calibrates, ModuleState, PathState, ConfigStatus, FirstLane, BitRate, PowerClass, ClassPower}
 
 -- there is such a value
 abbrev pub has_value : Field → ℕ → Bool
@@ -40,6 +40,10 @@ item_fits (Percent field) i = has_value field i
 item_fits (Temperature field) i = has_value field i
 item_fits (Level field) i = has_value field i
 item_fits (Milliwatts field) i = has_value field i
+item_fits (Measured monitor field) i = has_value field i && is_some (row_of field).unit
+item_fits (MeasuredLevel monitor field) i = has_value field i
+item_fits (MeasuredMilliwatts monitor field) i = has_value field i
+item_fits (Calibrates monitor) i = true
 item_fits (ModuleState field) i = has_number field i
 item_fits (PathState field) i = has_number field i
 item_fits (ConfigStatus field) i = has_number field i

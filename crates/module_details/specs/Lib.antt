@@ -2,6 +2,7 @@ pub mod PowerClasses
 pub mod Rows
 pub mod RowTables
 pub mod Fits
+pub mod Measured
 pub mod Details
 pub mod CmisDetails
 pub mod QsfpDetails

@@ -6,7 +6,7 @@ use Rattle.module_details.specs.declared.item.Case.{Case}
 use Rattle.module_details.specs.declared.item.Item as rust_item
 use Rattle.module_details.specs.declared.item.Item.TheVariants as item
 use Rattle.module_details.specs.declared.item.Row as rust_row
-use Rattle.module_details.specs.Rows.{Row, Item, Word, Either, Yes, Named, Names, Number, Revision, Version, Text, Oui, Amount, Steps, StepsIfAny, PairIfAny, TenthsIfAny, Celsius, Percent, Temperature, Level, Milliwatts, ModuleState, PathState, ConfigStatus, FirstLane, BitRate, PowerClass, ClassPower}
+use Rattle.module_details.specs.Rows.{Row, Item, Word, Either, Yes, Named, Names, Number, Revision, Version, Text, Oui, Amount, Steps, StepsIfAny, PairIfAny, TenthsIfAny, Celsius, Percent, Temperature, Level, Milliwatts, Measured, MeasuredLevel, MeasuredMilliwatts, Calibrates, ModuleState, PathState, ConfigStatus, FirstLane, BitRate, PowerClass, ClassPower}
 
 -- given what the code's texts are
 abbrev pub item_of : {T : Type 0} → (T → List ℕ) → rust_item.Item T → Item
@@ -30,6 +30,10 @@ item_of text (item.Percent field) = Percent field
 item_of text (item.Temperature field) = Temperature field
 item_of text (item.Level field) = Level field
 item_of text (item.Milliwatts field) = Milliwatts field
+item_of text (item.Measured monitor field) = Measured monitor field
+item_of text (item.MeasuredLevel monitor field) = MeasuredLevel monitor field
+item_of text (item.MeasuredMilliwatts monitor field) = MeasuredMilliwatts monitor field
+item_of text (item.Calibrates monitor) = Calibrates monitor
 item_of text (item.ModuleState field) = ModuleState field
 item_of text (item.PathState field) = PathState field
 item_of text (item.ConfigStatus field) = ConfigStatus field

@@ -2,6 +2,7 @@
 -- this project's own)
 use Rattle.std.specs.Prelude.{ℕ, Bool, true, false, List, [], Option}
 use Rattle.code_names.specs.declared.table.Table.{Table}
+use Rattle.external_calibration.specs.declared.monitor.Monitor.{Monitor}
 use Rattle.field_tables.specs.declared.field.Field.{Field}
 use Rattle.field_tables.specs.declared.field.TextField.{TextField}
 use Rattle.report_entries.specs.declared.printed_unit.PrintedUnit.{PrintedUnit}
@@ -46,6 +47,13 @@ pub data Item : Type 0 where
   -- tenths of a microwatt, in dBm and in milliwatts
   Level : Field → Item
   Milliwatts : Field → Item
+  -- of SFF-8472, calibrated by the host if the module asks for that: what a monitor measures, or a limit
+  Measured : Monitor → Field → Item
+  -- the same of a power, in dBm and in milliwatts
+  MeasuredLevel : Monitor → Field → Item
+  MeasuredMilliwatts : Monitor → Field → Item
+  -- whether the constants of a monitor aren't refused
+  Calibrates : Monitor → Item
   ModuleState : Field → Item
   PathState : Field → Item
   ConfigStatus : Field → Item

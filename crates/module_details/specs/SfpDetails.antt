@@ -2,11 +2,12 @@
 -- Registers")
 use Rattle.std.specs.Prelude.{[], ◌∷◌, List, codes, None}
 use Rattle.code_names.specs.declared.table.Table.TheVariants as tables
+use Rattle.external_calibration.specs.declared.monitor.Monitor.TheVariants as monitors
 use Rattle.field_tables.specs.declared.field.Field.TheVariants as fields
 use Rattle.field_tables.specs.declared.field.TextField.TheVariants as texts
 use Rattle.report_entries.specs.declared.printed_unit.PrintedUnit.TheVariants as units
 use Rattle.module_details.specs.declared.item.Case.TheVariants.{Neither, Within}
-use Rattle.module_details.specs.Rows.{Row, Amount, BitRate, Either, Level, Milliwatts, Named, Names, Oui, PairIfAny, Steps, StepsIfAny, Text, Word, Yes, always, if_paged, of_lanes, of_value, unless}
+use Rattle.module_details.specs.Rows.{Row, Amount, BitRate, Calibrates, Either, Measured, MeasuredLevel, MeasuredMilliwatts, Named, Names, Oui, PairIfAny, Steps, StepsIfAny, Text, Word, Yes, always, if_paged, of_lanes, of_value, unless}
 
 -- what it is
 unfoldable pub identity_rows : List Row
@@ -95,17 +96,45 @@ status_rows =
     ∷ if_paged (always (codes "rate-select-1-set") (Yes fields.SRateSelect1Set))
     ∷ if_paged (always (codes "power-level-set") (Yes fields.SPowerLevel))
     ∷ if_paged (of_value 2 (always (codes "power-level-higher") (Yes fields.SPowerLevel)))
-    ∷ unless (Within fields.SExternal 1 1 1 ∷ []) (if_paged (always (codes "temperature") (Amount fields.STemperature None)))
-    ∷ unless (Within fields.SExternal 1 1 1 ∷ []) (if_paged (always (codes "vcc") (Amount fields.SVcc None)))
+    ∷ if_paged (always (codes "temperature") (Measured monitors.Temperature fields.STemperature))
+    ∷ if_paged (always (codes "vcc") (Measured monitors.Vcc fields.SVcc))
     ∷ unless (Within fields.SOptions 3 0 0 ∷ []) (if_paged (always (codes "laser-temperature") (Amount fields.SLaserTemperature None)))
     ∷ unless (Within fields.SOptions 3 0 0 ∷ []) (if_paged (always (codes "tec-current") (Steps fields.STecCurrent 100 units.Milliampere)))
-    ∷ unless (Within fields.SExternal 1 1 1 ∷ []) (if_paged (of_lanes 1 (always (codes "tx-power") (Level fields.STxPower))))
-    ∷ unless (Within fields.SExternal 1 1 1 ∷ []) (if_paged (of_lanes 1 (always (codes "tx-power-mw") (Milliwatts fields.STxPower))))
-    ∷ unless (Within fields.SExternal 1 1 1 ∷ []) (if_paged (of_lanes 1 (always (codes "tx-bias") (Amount fields.STxBias None))))
-    ∷ unless (Within fields.SExternal 1 1 1 ∷ []) (if_paged (of_lanes 1 (always (codes "rx-power") (Level fields.SRxPower))))
-    ∷ unless (Within fields.SExternal 1 1 1 ∷ []) (if_paged (of_lanes 1 (always (codes "rx-power-mw") (Milliwatts fields.SRxPower))))
+    ∷ if_paged (of_lanes 1 (always (codes "tx-power") (MeasuredLevel monitors.TxPower fields.STxPower)))
+    ∷ if_paged (of_lanes 1 (always (codes "tx-power-mw") (MeasuredMilliwatts monitors.TxPower fields.STxPower)))
+    ∷ if_paged (of_lanes 1 (always (codes "tx-bias") (Measured monitors.TxBias fields.STxBias)))
+    ∷ if_paged (of_lanes 1 (always (codes "rx-power") (MeasuredLevel monitors.RxPower fields.SRxPower)))
+    ∷ if_paged (of_lanes 1 (always (codes "rx-power-mw") (MeasuredMilliwatts monitors.RxPower fields.SRxPower)))
+    ∷ []
+
+-- what it measures and its limits, if the host has to calibrate them
+unfoldable pub calibrated_rows : List Row
+calibrated_rows =
+    unless (Within fields.SExternal 1 0 0 ∷ []) (if_paged (always (codes "rx-power-constants-usable") (Calibrates monitors.RxPower)))
+    ∷ unless (Within fields.SExternal 1 0 0 ∷ []) (if_paged (of_lanes 1 (always (codes "calibrated-tx-power") (Measured monitors.TxPower fields.STxPower))))
+    ∷ unless (Within fields.SExternal 1 0 0 ∷ []) (if_paged (of_lanes 1 (always (codes "calibrated-rx-power") (Measured monitors.RxPower fields.SRxPower))))
+    ∷ unless (Within fields.SExternal 1 0 0 ∷ Within fields.SEnhancedOptions 7 0 0 ∷ []) (if_paged (always (codes "temperature-high-alarm-limit") (Measured monitors.Temperature fields.STempLimits)))
+    ∷ unless (Within fields.SExternal 1 0 0 ∷ Within fields.SEnhancedOptions 7 0 0 ∷ []) (of_value 2 (if_paged (always (codes "temperature-low-alarm-limit") (Measured monitors.Temperature fields.STempLimits))))
+    ∷ unless (Within fields.SExternal 1 0 0 ∷ Within fields.SEnhancedOptions 7 0 0 ∷ []) (of_value 3 (if_paged (always (codes "temperature-high-warning-limit") (Measured monitors.Temperature fields.STempLimits))))
+    ∷ unless (Within fields.SExternal 1 0 0 ∷ Within fields.SEnhancedOptions 7 0 0 ∷ []) (of_value 4 (if_paged (always (codes "temperature-low-warning-limit") (Measured monitors.Temperature fields.STempLimits))))
+    ∷ unless (Within fields.SExternal 1 0 0 ∷ Within fields.SEnhancedOptions 7 0 0 ∷ []) (if_paged (always (codes "vcc-high-alarm-limit") (Measured monitors.Vcc fields.SVccLimits)))
+    ∷ unless (Within fields.SExternal 1 0 0 ∷ Within fields.SEnhancedOptions 7 0 0 ∷ []) (of_value 2 (if_paged (always (codes "vcc-low-alarm-limit") (Measured monitors.Vcc fields.SVccLimits))))
+    ∷ unless (Within fields.SExternal 1 0 0 ∷ Within fields.SEnhancedOptions 7 0 0 ∷ []) (of_value 3 (if_paged (always (codes "vcc-high-warning-limit") (Measured monitors.Vcc fields.SVccLimits))))
+    ∷ unless (Within fields.SExternal 1 0 0 ∷ Within fields.SEnhancedOptions 7 0 0 ∷ []) (of_value 4 (if_paged (always (codes "vcc-low-warning-limit") (Measured monitors.Vcc fields.SVccLimits))))
+    ∷ unless (Within fields.SExternal 1 0 0 ∷ Within fields.SEnhancedOptions 7 0 0 ∷ []) (if_paged (always (codes "tx-bias-high-alarm-limit") (Measured monitors.TxBias fields.STxBiasLimits)))
+    ∷ unless (Within fields.SExternal 1 0 0 ∷ Within fields.SEnhancedOptions 7 0 0 ∷ []) (of_value 2 (if_paged (always (codes "tx-bias-low-alarm-limit") (Measured monitors.TxBias fields.STxBiasLimits))))
+    ∷ unless (Within fields.SExternal 1 0 0 ∷ Within fields.SEnhancedOptions 7 0 0 ∷ []) (of_value 3 (if_paged (always (codes "tx-bias-high-warning-limit") (Measured monitors.TxBias fields.STxBiasLimits))))
+    ∷ unless (Within fields.SExternal 1 0 0 ∷ Within fields.SEnhancedOptions 7 0 0 ∷ []) (of_value 4 (if_paged (always (codes "tx-bias-low-warning-limit") (Measured monitors.TxBias fields.STxBiasLimits))))
+    ∷ unless (Within fields.SExternal 1 0 0 ∷ Within fields.SEnhancedOptions 7 0 0 ∷ []) (if_paged (always (codes "tx-power-high-alarm-limit") (Measured monitors.TxPower fields.STxPowerLimits)))
+    ∷ unless (Within fields.SExternal 1 0 0 ∷ Within fields.SEnhancedOptions 7 0 0 ∷ []) (of_value 2 (if_paged (always (codes "tx-power-low-alarm-limit") (Measured monitors.TxPower fields.STxPowerLimits))))
+    ∷ unless (Within fields.SExternal 1 0 0 ∷ Within fields.SEnhancedOptions 7 0 0 ∷ []) (of_value 3 (if_paged (always (codes "tx-power-high-warning-limit") (Measured monitors.TxPower fields.STxPowerLimits))))
+    ∷ unless (Within fields.SExternal 1 0 0 ∷ Within fields.SEnhancedOptions 7 0 0 ∷ []) (of_value 4 (if_paged (always (codes "tx-power-low-warning-limit") (Measured monitors.TxPower fields.STxPowerLimits))))
+    ∷ unless (Within fields.SExternal 1 0 0 ∷ Within fields.SEnhancedOptions 7 0 0 ∷ []) (if_paged (always (codes "rx-power-high-alarm-limit") (Measured monitors.RxPower fields.SRxPowerLimits)))
+    ∷ unless (Within fields.SExternal 1 0 0 ∷ Within fields.SEnhancedOptions 7 0 0 ∷ []) (of_value 2 (if_paged (always (codes "rx-power-low-alarm-limit") (Measured monitors.RxPower fields.SRxPowerLimits))))
+    ∷ unless (Within fields.SExternal 1 0 0 ∷ Within fields.SEnhancedOptions 7 0 0 ∷ []) (of_value 3 (if_paged (always (codes "rx-power-high-warning-limit") (Measured monitors.RxPower fields.SRxPowerLimits))))
+    ∷ unless (Within fields.SExternal 1 0 0 ∷ Within fields.SEnhancedOptions 7 0 0 ∷ []) (of_value 4 (if_paged (always (codes "rx-power-low-warning-limit") (Measured monitors.RxPower fields.SRxPowerLimits))))
     ∷ []
 
 -- all of them
 abbrev pub tables_of_rows : List (List Row)
-tables_of_rows = identity_rows ∷ compliance_rows ∷ options_rows ∷ status_rows ∷ []
+tables_of_rows = identity_rows ∷ compliance_rows ∷ options_rows ∷ status_rows ∷ calibrated_rows ∷ []

@@ -52,6 +52,7 @@ pub fn sfp_details(alloc: Global, image: &Image) -> Result<Vec<Entry>, AllocErro
     say_rows(&mut entries, image, undiagnosed, sfp_table::compliance())?;
     say_rows(&mut entries, image, undiagnosed, sfp_table::options())?;
     say_rows(&mut entries, image, undiagnosed, sfp_table::status())?;
+    say_rows(&mut entries, image, undiagnosed, sfp_table::calibrated())?;
     Ok(entries)
 }
 

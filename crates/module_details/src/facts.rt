@@ -1,5 +1,5 @@
 // The fact that an item has of a value of its field.
-ghost use Rattle.std.specs.Prelude.{◌≡◌, ◌≤◌, IsTrue, option_map, unsigned_abs};
+ghost use Rattle.std.specs.Prelude.{◌≡◌, ◌≤◌, IsTrue, option_map};
 ghost use Rattle.field_tables.specs.FieldRows.{row_of};
 ghost use Rattle.field_tables.specs.Readings.{IsWord, is_of_bytes};
 ghost use Rattle.report_entries.specs.Facts.{fact_of, texts_of};
@@ -8,6 +8,7 @@ ghost use Rattle.module_details.specs.Fits.{item_fits};
 ghost use Rattle.module_details.specs.RowTables.{item_in};
 
 use crate::item::Item;
+use crate::measured::{calibrates, measured, measured_power, power};
 use crate::power_class::{class_power, power_class};
 use arrayvec::ArrayVec;
 use code_names::{Table, name_of};
@@ -63,6 +64,14 @@ pub fn fact_at(image: &Image, item: &Item<&'static str>, index: u8) -> Option<Fa
         Item::Temperature(field) => Some(temperature(reading_at(image, field, index))),
         Item::Level(field) => Some(Fact::Level(power(reading_at(image, field, index)))),
         Item::Milliwatts(field) => Some(Fact::Milliwatts(power(reading_at(image, field, index)))),
+        Item::Measured(monitor, field) => measured(image, monitor, field, index),
+        Item::MeasuredLevel(monitor, field) => {
+            level_if_any(measured_power(image, monitor, field, index))
+        }
+        Item::MeasuredMilliwatts(monitor, field) => {
+            milliwatts_if_any(measured_power(image, monitor, field, index))
+        }
+        Item::Calibrates(monitor) => Some(Fact::Yes(calibrates(image, monitor))),
         Item::ModuleState(field) => Some(Fact::ModuleState(number_at(image, field, index))),
         Item::PathState(field) => Some(Fact::PathState(number_at(image, field, index))),
         Item::ConfigStatus(field) => Some(Fact::ConfigStatus(number_at(image, field, index))),
@@ -196,12 +205,22 @@ fn temperature(word: i32) -> Fact
     )
 }
 
-// Tenths of a microwatt.
-fn power(word: i32) -> u16
-    requires { IsWord word }
-    ensures { result ≡ unsigned_abs word }
+fn level_if_any(power: Option<u16>) -> Option<Fact>
+    ensures { option_map fact_of result ≡ spec.level_fact power }
 {
-    word.unsigned_abs() as u16
+    match power {
+        None => None,
+        Some(power) => Some(Fact::Level(power)),
+    }
+}
+
+fn milliwatts_if_any(power: Option<u16>) -> Option<Fact>
+    ensures { option_map fact_of result ≡ spec.milliwatts_fact power }
+{
+    match power {
+        None => None,
+        Some(power) => Some(Fact::Milliwatts(power)),
+    }
 }
 
 fn first_lane_if_any(app: u8, path: u8) -> Option<Fact>

@@ -1,5 +1,6 @@
 // A line of details as a row: its name, how its fact is had of a field, of which value or of which lanes, and when.
 use code_names::Table;
+use external_calibration::Monitor;
 use field_tables::{Field, TextField};
 use report_entries::PrintedUnit;
 
@@ -44,6 +45,14 @@ pub enum Item<T> {
     Level(Field),
     /// The same in milliwatts.
     Milliwatts(Field),
+    /// What a module of SFF-8472 measures, or a limit of that, calibrated by the host if it asks for that. Nothing if the constants
+    /// are refused.
+    Measured(Monitor, Field),
+    /// The same of a power, in dBm and in milliwatts. Nothing if it isn't a number of 16 bits in tenths of a microwatt.
+    MeasuredLevel(Monitor, Field),
+    MeasuredMilliwatts(Monitor, Field),
+    /// Whether the constants by which the host calibrates it aren't refused.
+    Calibrates(Monitor),
     ModuleState(Field),
     PathState(Field),
     ConfigStatus(Field),

@@ -5,6 +5,7 @@ mod apps;
 mod details;
 mod facts;
 mod item;
+mod measured;
 mod power_class;
 mod said_rows;
 mod tables;

@@ -10,6 +10,10 @@ macro_rules! item {
     (Amount $field:ident) => { Item::Amount(Field::$field, None) };
     (Amount $field:ident $power:ident) => { Item::Amount(Field::$field, Some(Field::$power)) };
     (TenthsIfAny $base:ident $power:ident $unit:ident) => { Item::TenthsIfAny(Field::$base, Field::$power, PrintedUnit::$unit) };
+    (Calibrates $monitor:ident) => { Item::Calibrates(Monitor::$monitor) };
+    (Measured $monitor:ident $field:ident) => { Item::Measured(Monitor::$monitor, Field::$field) };
+    (MeasuredLevel $monitor:ident $field:ident) => { Item::MeasuredLevel(Monitor::$monitor, Field::$field) };
+    (MeasuredMilliwatts $monitor:ident $field:ident) => { Item::MeasuredMilliwatts(Monitor::$monitor, Field::$field) };
     ($kind:ident $field:ident $step:literal $unit:ident) => { Item::$kind(Field::$field, $step, PrintedUnit::$unit) };
     ($kind:ident $field:ident $other:ident) => { Item::$kind(Field::$field, Field::$other) };
     ($kind:ident $field:ident) => { Item::$kind(Field::$field) };

@@ -1,27 +1,34 @@
 -- Memories that agree in halves have the same of each row of details that reads of these halves alone, which a test of rows tells.
 use Rattle.std.proofs.Common.{◌≡◌, inl, inr, ℕ, zero, suc, ◌≤◌, ◌∙◌, sym, ◌+◌, ◌-◌, ◌*◌, ◌^◌, ◌==◌, ◌&&◌, ◌||◌, Bool, true, false, List, [], ◌∷◌, ◌++◌, map, Option, Some, None, refl, ap, if◌then◌else◌, nat_le, arith}
 use Rattle.std.proofs.lemmas.Bool.{and_parts, not-true, or_cases, true≢false, leb-true}
-use Rattle.std.specs.Prelude.{ℤ, pos, ◌*ℤ◌, not, nat_lt, unsigned_abs}
+use Rattle.std.specs.Prelude.{ℤ, pos, ◌*ℤ◌, not, nat_lt, unsigned_abs, is_none, is_some}
 use Rattle.std.specs.List.{AllByRecursion, flat_map, list_all, list_any, range_with_len}
 use Rattle.paged_memory.specs.declared.key.Key.{Key}
 use Rattle.paged_memory.specs.Images.{Memory}
 use Rattle.code_names.specs.declared.table.Table.{Table}
+use Rattle.external_calibration.specs.Amounts.{amount_of}
+use Rattle.external_calibration.specs.Constants.{coefficient, constants_of, line_of}
+use Rattle.external_calibration.specs.Refusals.{refusal_by}
+use Rattle.external_calibration.specs.declared.constants.Constants.{Constants}
+use Rattle.external_calibration.specs.declared.monitor.Monitor.{Monitor}
 use Rattle.field_tables.specs.declared.field.Field.{Field}
-use Rattle.field_tables.specs.declared.field.Field.TheVariants.{QMaxPower, QPowerClass, QPowerClass8, QPowerClassHigh}
+use Rattle.field_tables.specs.declared.field.Field.TheVariants.{QMaxPower, QPowerClass, QPowerClass8, QPowerClassHigh, SExternal, SOffsets, SRxPowerCoefficients, SSlopes}
 use Rattle.field_tables.specs.FieldRows.{row_of}
 use Rattle.field_tables.specs.FieldValues.{field_key}
 use Rattle.field_tables.specs.Readings as readings
 use Rattle.field_tables.specs.Texts.{text_key}
 use Rattle.field_tables.specs.Units.{millis_of}
-use Rattle.field_tables.proofs.SameValues.{Agree, is_selection, same_numbers, same_reading_at, same_text}
+use Rattle.field_tables.proofs.SameValues.{Agree, is_selection, same_at, same_numbers, same_reading_at, same_text}
 use Rattle.module_decoding.specs.Amounts.{amount_at, doubled, length_in, times, unit_of}
 use Rattle.module_details.specs.declared.item.Case.{Case}
 use Rattle.module_details.specs.declared.item.Case.TheVariants.{Within, Outside, Neither, LacksSince}
 use Rattle.module_details.specs.declared.item.Values.{Values}
 use Rattle.module_details.specs.declared.item.Values.TheVariants.{One, Lanes}
-use Rattle.module_details.specs.Details.{amount_fact, applies, bit_rate, bit_rate_fact, celsius_fact, fact_at, fact_entries, first_lane_fact, if_any, is_positive, is_within, lane_entries, name_if_set, name_of, named_fact, names_fact, names_of, names_up_to, pair, pair_fact, percent_fact, row_entries, rows_entries, steps_fact, temperature_fact, text_fact, values_entries}
+use Rattle.module_details.specs.Details.{amount_fact, applies, bit_rate, bit_rate_fact, celsius_fact, fact_at, fact_entries, first_lane_fact, if_any, is_positive, is_within, lane_entries, level_fact, milliwatts_fact, name_if_set, name_of, named_fact, names_fact, names_of, names_up_to, pair, pair_fact, percent_fact, row_entries, rows_entries, steps_fact, temperature_fact, text_fact, values_entries}
+use Rattle.module_details.specs.Measured as measured
+use Rattle.module_details.specs.Measured.{calibrated, calibrates, measured_fact, measured_power}
 use Rattle.module_details.specs.PowerClasses.{class_power, power_class, power_of}
-use Rattle.module_details.specs.Rows.{Row, Item, Word, Either, Yes, Named, Names, Number, Revision, Version, Text, Oui, Amount, Steps, StepsIfAny, PairIfAny, TenthsIfAny, Celsius, Percent, Temperature, Level, Milliwatts, ModuleState, PathState, ConfigStatus, FirstLane, BitRate, PowerClass, ClassPower}
+use Rattle.module_details.specs.Rows.{Row, Item, Word, Either, Yes, Named, Names, Number, Revision, Version, Text, Oui, Amount, Steps, StepsIfAny, PairIfAny, TenthsIfAny, Celsius, Percent, Temperature, Level, Milliwatts, Measured, MeasuredLevel, MeasuredMilliwatts, Calibrates, ModuleState, PathState, ConfigStatus, FirstLane, BitRate, PowerClass, ClassPower}
 use Rattle.report_entries.specs.Entries.{Entry}
 use Rattle.report_entries.specs.Facts as facts
 use Rattle.report_entries.specs.Facts.{Fact}
@@ -42,6 +49,10 @@ value_in keys field i = field_in keys field && (nat_le 1 i && nat_le i (row_of f
 abbrev power_in : List Key → Option Field → Bool
 power_in keys None = true
 power_in keys (Some field) = value_in keys field 1
+
+-- by which the host calibrates, if it has to
+abbrev calibration_in : List Key → Bool
+calibration_in keys = value_in keys SExternal 1 && (field_in keys SRxPowerCoefficients && (field_in keys SSlopes && field_in keys SOffsets))
 
 abbrev item_in : List Key → Item → ℕ → Bool
 item_in keys (Word w) i = true
@@ -64,6 +75,10 @@ item_in keys (Percent field) i = value_in keys field i
 item_in keys (Temperature field) i = value_in keys field i
 item_in keys (Level field) i = value_in keys field i
 item_in keys (Milliwatts field) i = value_in keys field i
+item_in keys (Measured monitor field) i = value_in keys field i && calibration_in keys
+item_in keys (MeasuredLevel monitor field) i = value_in keys field i && calibration_in keys
+item_in keys (MeasuredMilliwatts monitor field) i = value_in keys field i && calibration_in keys
+item_in keys (Calibrates monitor) i = calibration_in keys
 item_in keys (ModuleState field) i = value_in keys field i
 item_in keys (PathState field) i = value_in keys field i
 item_in keys (ConfigStatus field) i = value_in keys field i
@@ -156,6 +171,77 @@ module _ (a b : Memory) (keys : List Key) (all : AllByRecursion (λ key. Agree a
       let class = class_same parts.1 in
       λ i. if eighth i then most i * 100 else power_of (class i)
 
+  -- value i, of a field that has so many by a test
+  counted_same : (field : Field) (i : ℕ) → field_in keys field ≡ true → (nat_le 1 i && nat_le i (row_of field).count) ≡ true → readings.reading_at a field i ≡ readings.reading_at b field i
+  counted_same field i e counted = same_at a b field i (field_agrees field e) (field_other field e) counted
+
+  coefficient_same : (i : ℕ) → field_in keys SRxPowerCoefficients ≡ true → (nat_le 1 i && nat_le i 10) ≡ true → (nat_le 1 (i + 1) && nat_le (i + 1) 10) ≡ true → coefficient a i ≡ coefficient b i
+  coefficient_same i e first second =
+      let high = counted_same SRxPowerCoefficients i e first in
+      let low = counted_same SRxPowerCoefficients (i + 1) e second in
+      λ j. unsigned_abs (high j) * 2 ^ 16 + unsigned_abs (low j)
+
+  line_same : (i : ℕ) → field_in keys SSlopes ≡ true → field_in keys SOffsets ≡ true → (nat_le 1 i && nat_le i 4) ≡ true → line_of a i ≡ line_of b i
+  line_same i slopes offsets counted =
+      let slope = counted_same SSlopes i slopes counted in
+      let offset = counted_same SOffsets i offsets counted in
+      λ j. record { slope = unsigned_abs (slope j); offset = offset j }
+
+  constants_same : calibration_in keys ≡ true → constants_of a ≡ constants_of b
+  unfolding constants_of
+  constants_same e =
+      let constants = and_parts (value_in keys SExternal 1) (field_in keys SRxPowerCoefficients && (field_in keys SSlopes && field_in keys SOffsets)) e in
+      let parts = and_parts (field_in keys SRxPowerCoefficients) (field_in keys SSlopes && field_in keys SOffsets) constants.1 in
+      let lines = and_parts (field_in keys SSlopes) (field_in keys SOffsets) parts.1 in
+      let fourth = coefficient_same 1 parts.0 refl refl in
+      let third = coefficient_same 3 parts.0 refl refl in
+      let second = coefficient_same 5 parts.0 refl refl in
+      let first = coefficient_same 7 parts.0 refl refl in
+      let zeroth = coefficient_same 9 parts.0 refl refl in
+      let bias = line_same 1 lines.0 lines.1 refl in
+      let power = line_same 2 lines.0 lines.1 refl in
+      let temperature = line_same 3 lines.0 lines.1 refl in
+      let vcc = line_same 4 lines.0 lines.1 refl in
+      λ j. record {
+        rx_power = record { fourth = fourth j; third = third j; second = second j; first = first j; zeroth = zeroth j };
+        tx_bias = bias j;
+        tx_power = power j;
+        temperature = temperature j;
+        vcc = vcc j;
+      }
+
+  external_same : calibration_in keys ≡ true → readings.bit a SExternal ≡ readings.bit b SExternal
+  external_same e = bit_same SExternal 1 (and_parts (value_in keys SExternal 1) (field_in keys SRxPowerCoefficients && (field_in keys SSlopes && field_in keys SOffsets)) e).0
+
+  calibrates_same : (monitor : Monitor) → calibration_in keys ≡ true → calibrates a monitor ≡ calibrates b monitor
+  unfolding calibrates
+  calibrates_same monitor e = ap (λ (c : Constants). is_none (refusal_by c monitor)) (constants_same e)
+
+  calibrated_same : (monitor : Monitor) (field : Field) (i : ℕ) → value_in keys field i ≡ true → calibration_in keys ≡ true → calibrated a monitor field i ≡ calibrated b monitor field i
+  unfolding calibrated
+  calibrated_same monitor field i e f =
+      let steps = reading_same field i e in
+      let constants = constants_same f in
+      λ j. if is_some (refusal_by (constants j) monitor) then None else Some (amount_of (constants j) monitor (steps j))
+
+  measured_same : (monitor : Monitor) (field : Field) (i : ℕ) → item_in keys (Measured monitor field) i ≡ true → measured_fact a monitor field i ≡ measured_fact b monitor field i
+  unfolding measured_fact
+  measured_same monitor field i e =
+      let parts = and_parts (value_in keys field i) (calibration_in keys) e in
+      let external = external_same parts.1 in
+      let by_host = calibrated_same monitor field i parts.0 parts.1 in
+      let by_module = amount_same field None i parts.0 refl in
+      λ j. if external j then measured.amount_fact (by_host j) monitor else Some (facts.amount (by_module j) (printed_in (unit_of field)))
+
+  measured_power_same : (monitor : Monitor) (field : Field) (i : ℕ) → item_in keys (Measured monitor field) i ≡ true → measured_power a monitor field i ≡ measured_power b monitor field i
+  unfolding measured_power
+  measured_power_same monitor field i e =
+      let parts = and_parts (value_in keys field i) (calibration_in keys) e in
+      let external = external_same parts.1 in
+      let by_host = calibrated_same monitor field i parts.0 parts.1 in
+      let by_module = reading_same field i parts.0 in
+      λ j. if external j then measured.power_in (by_host j) else Some (unsigned_abs (by_module j))
+
   fact_same : (item : Item) (i : ℕ) → item_in keys item i ≡ true → fact_at a item i ≡ fact_at b item i
   unfolding fact_at
   fact_same (Word w) i e = refl
@@ -190,6 +276,10 @@ module _ (a b : Memory) (keys : List Key) (all : AllByRecursion (λ key. Agree a
   fact_same (Temperature field) i e = ap (λ (z : ℤ). Some (temperature_fact z)) (reading_same field i e)
   fact_same (Level field) i e = ap (λ (z : ℤ). Some (facts.level (unsigned_abs z))) (reading_same field i e)
   fact_same (Milliwatts field) i e = ap (λ (z : ℤ). Some (facts.milliwatts (unsigned_abs z))) (reading_same field i e)
+  fact_same (Measured monitor field) i e = measured_same monitor field i e
+  fact_same (MeasuredLevel monitor field) i e = ap level_fact (measured_power_same monitor field i e)
+  fact_same (MeasuredMilliwatts monitor field) i e = ap milliwatts_fact (measured_power_same monitor field i e)
+  fact_same (Calibrates monitor) i e = ap (λ (set : Bool). Some (facts.yes set)) (calibrates_same monitor e)
   fact_same (ModuleState field) i e = ap (λ (n : ℕ). Some (facts.module_state n)) (number_same field i e)
   fact_same (PathState field) i e = ap (λ (n : ℕ). Some (facts.path_state n)) (number_same field i e)
   fact_same (ConfigStatus field) i e = ap (λ (n : ℕ). Some (facts.config_status n)) (number_same field i e)

@@ -124,7 +124,7 @@ module _ (a b : Memory) (agree : SfpAgree a b) where
   there e = agree.diagnostics (not-false (bit a SDiagPresent && not (bit a SAddressChange)) e)
 
   same_sfp_of : (lacking : Bool) → lacks_diagnostics a ≡ lacking → tables_entries a lacking sfp.tables_of_rows ≡ tables_entries b lacking sfp.tables_of_rows
-  unfolding sfp.identity_rows sfp.compliance_rows sfp.options_rows sfp.status_rows
+  unfolding sfp.identity_rows sfp.compliance_rows sfp.options_rows sfp.status_rows sfp.calibrated_rows
   same_sfp_of true is = tables_same a b (lower_key A0 ∷ []) (agree.low, tt) true sfp.tables_of_rows refl
   same_sfp_of false is = tables_same a b (lower_key A0 ∷ lower_key A2 ∷ []) (agree.low, (there is, tt)) false sfp.tables_of_rows refl
 

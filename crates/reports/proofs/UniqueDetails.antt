@@ -175,7 +175,7 @@ unfolding key_text qsfp.identity_rows qsfp.compliance_rows qsfp.options_rows qsf
 qsfp_new = refl
 
 sfp_new : are_new (tables_keys sfp.tables_of_rows) ≡ true
-unfolding key_text sfp.identity_rows sfp.compliance_rows sfp.options_rows sfp.status_rows
+unfolding key_text sfp.identity_rows sfp.compliance_rows sfp.options_rows sfp.status_rows sfp.calibrated_rows
 sfp_new = refl
 
 cmis_small : tables_small cmis.tables_of_rows ≡ true
@@ -187,7 +187,7 @@ unfolding qsfp.identity_rows qsfp.compliance_rows qsfp.options_rows qsfp.status_
 qsfp_small = refl
 
 sfp_small : tables_small sfp.tables_of_rows ≡ true
-unfolding sfp.identity_rows sfp.compliance_rows sfp.options_rows sfp.status_rows
+unfolding sfp.identity_rows sfp.compliance_rows sfp.options_rows sfp.status_rows sfp.calibrated_rows
 sfp_small = refl
 
 pub details_have_unique_keys : DetailsHaveUniqueKeys

@@ -1,5 +1,6 @@
 """Modules of SFF-8472: SFP, SFP+ and SFP28."""
 import random
+import struct
 
 from .parts import (
     Module,
@@ -74,7 +75,16 @@ def sff8472(chance: random.Random) -> Module:
 
 def calibrate(chance: random.Random, a2: bytearray, external: bool) -> None:
     """The constants of calibration, neutral ones if the module calibrates itself."""
-    put(a2, 68, 0x3F, 0x80)
+    constants = [0.0, 0.0, 0.0, 1.0, 0.0]
+    if external:
+        constants = [
+            chance.choice([0.0, chance.uniform(-1e-17, 1e-17)]),
+            chance.choice([0.0, chance.uniform(-1e-12, 1e-12)]),
+            chance.choice([0.0, chance.uniform(-1e-6, 1e-6)]),
+            chance.uniform(0.9, 1.1),
+            chance.choice([0.0, chance.uniform(-40, 40)]),
+        ]
+    put(a2, 56, *struct.pack(">5f", *constants))
     for address in (76, 80, 84, 88):
         put_word(a2, address, 256 + (chance.randint(-20, 20) if external else 0))
         put_word(a2, address + 2, chance.randint(-40, 40) if external else 0)

@@ -7,6 +7,7 @@ ghost use Rattle.module_details.specs.RowTables.{rows_in};
 
 use crate::item::{Case, Item, Line, Row, Values};
 use code_names::Table;
+use external_calibration::Monitor;
 use field_tables::{Field, TextField};
 use report_entries::PrintedUnit;
 
@@ -116,15 +117,15 @@ const STATUS: &[Line] = detail_table! {
     "rate-select-1-set": [Yes SRateSelect1Set] paged;
     "power-level-set": [Yes SPowerLevel] paged;
     "power-level-higher": [Yes SPowerLevel] (value 2) paged;
-    "temperature": [Amount STemperature] paged [Within SExternal 1 1 1];
-    "vcc": [Amount SVcc] paged [Within SExternal 1 1 1];
+    "temperature": [Measured Temperature STemperature] paged;
+    "vcc": [Measured Vcc SVcc] paged;
     "laser-temperature": [Amount SLaserTemperature] paged [Within SOptions 3 0 0];
     "tec-current": [Steps STecCurrent 100 Milliampere] paged [Within SOptions 3 0 0];
-    "tx-power": [Level STxPower] (lanes 1) paged [Within SExternal 1 1 1];
-    "tx-power-mw": [Milliwatts STxPower] (lanes 1) paged [Within SExternal 1 1 1];
-    "tx-bias": [Amount STxBias] (lanes 1) paged [Within SExternal 1 1 1];
-    "rx-power": [Level SRxPower] (lanes 1) paged [Within SExternal 1 1 1];
-    "rx-power-mw": [Milliwatts SRxPower] (lanes 1) paged [Within SExternal 1 1 1];
+    "tx-power": [MeasuredLevel TxPower STxPower] (lanes 1) paged;
+    "tx-power-mw": [MeasuredMilliwatts TxPower STxPower] (lanes 1) paged;
+    "tx-bias": [Measured TxBias STxBias] (lanes 1) paged;
+    "rx-power": [MeasuredLevel RxPower SRxPower] (lanes 1) paged;
+    "rx-power-mw": [MeasuredMilliwatts RxPower SRxPower] (lanes 1) paged;
 };
 
 /// How it is.
@@ -134,4 +135,39 @@ pub fn status() -> &'static [Line]
     ensures fit { IsTrue (list_all row_fits (rows_in result.now)) }
 {
     STATUS
+}
+
+const CALIBRATED: &[Line] = detail_table! {
+    "rx-power-constants-usable": [Calibrates RxPower] paged [Within SExternal 1 0 0];
+    "calibrated-tx-power": [Measured TxPower STxPower] (lanes 1) paged [Within SExternal 1 0 0];
+    "calibrated-rx-power": [Measured RxPower SRxPower] (lanes 1) paged [Within SExternal 1 0 0];
+    "temperature-high-alarm-limit": [Measured Temperature STempLimits] paged [Within SExternal 1 0 0] [Within SEnhancedOptions 7 0 0];
+    "temperature-low-alarm-limit": [Measured Temperature STempLimits] (value 2) paged [Within SExternal 1 0 0] [Within SEnhancedOptions 7 0 0];
+    "temperature-high-warning-limit": [Measured Temperature STempLimits] (value 3) paged [Within SExternal 1 0 0] [Within SEnhancedOptions 7 0 0];
+    "temperature-low-warning-limit": [Measured Temperature STempLimits] (value 4) paged [Within SExternal 1 0 0] [Within SEnhancedOptions 7 0 0];
+    "vcc-high-alarm-limit": [Measured Vcc SVccLimits] paged [Within SExternal 1 0 0] [Within SEnhancedOptions 7 0 0];
+    "vcc-low-alarm-limit": [Measured Vcc SVccLimits] (value 2) paged [Within SExternal 1 0 0] [Within SEnhancedOptions 7 0 0];
+    "vcc-high-warning-limit": [Measured Vcc SVccLimits] (value 3) paged [Within SExternal 1 0 0] [Within SEnhancedOptions 7 0 0];
+    "vcc-low-warning-limit": [Measured Vcc SVccLimits] (value 4) paged [Within SExternal 1 0 0] [Within SEnhancedOptions 7 0 0];
+    "tx-bias-high-alarm-limit": [Measured TxBias STxBiasLimits] paged [Within SExternal 1 0 0] [Within SEnhancedOptions 7 0 0];
+    "tx-bias-low-alarm-limit": [Measured TxBias STxBiasLimits] (value 2) paged [Within SExternal 1 0 0] [Within SEnhancedOptions 7 0 0];
+    "tx-bias-high-warning-limit": [Measured TxBias STxBiasLimits] (value 3) paged [Within SExternal 1 0 0] [Within SEnhancedOptions 7 0 0];
+    "tx-bias-low-warning-limit": [Measured TxBias STxBiasLimits] (value 4) paged [Within SExternal 1 0 0] [Within SEnhancedOptions 7 0 0];
+    "tx-power-high-alarm-limit": [Measured TxPower STxPowerLimits] paged [Within SExternal 1 0 0] [Within SEnhancedOptions 7 0 0];
+    "tx-power-low-alarm-limit": [Measured TxPower STxPowerLimits] (value 2) paged [Within SExternal 1 0 0] [Within SEnhancedOptions 7 0 0];
+    "tx-power-high-warning-limit": [Measured TxPower STxPowerLimits] (value 3) paged [Within SExternal 1 0 0] [Within SEnhancedOptions 7 0 0];
+    "tx-power-low-warning-limit": [Measured TxPower STxPowerLimits] (value 4) paged [Within SExternal 1 0 0] [Within SEnhancedOptions 7 0 0];
+    "rx-power-high-alarm-limit": [Measured RxPower SRxPowerLimits] paged [Within SExternal 1 0 0] [Within SEnhancedOptions 7 0 0];
+    "rx-power-low-alarm-limit": [Measured RxPower SRxPowerLimits] (value 2) paged [Within SExternal 1 0 0] [Within SEnhancedOptions 7 0 0];
+    "rx-power-high-warning-limit": [Measured RxPower SRxPowerLimits] (value 3) paged [Within SExternal 1 0 0] [Within SEnhancedOptions 7 0 0];
+    "rx-power-low-warning-limit": [Measured RxPower SRxPowerLimits] (value 4) paged [Within SExternal 1 0 0] [Within SEnhancedOptions 7 0 0];
+};
+
+/// What it measures and its limits, if the host has to calibrate them.
+#[tactic(auto, unfolding(crate::specs::SfpDetails::calibrated_rows))]
+pub fn calibrated() -> &'static [Line]
+    ensures rows { rows_in result.now ≡ spec.calibrated_rows }
+    ensures fit { IsTrue (list_all row_fits (rows_in result.now)) }
+{
+    CALIBRATED
 }
