@@ -35,6 +35,7 @@ _RULES = {
     "enum": (None, lambda value, wanted: any(_equals(value, one) for one in wanted)),
     "minimum": ("number", lambda value, wanted: value >= wanted),
     "maximum": ("number", lambda value, wanted: value <= wanted),
+    "exclusiveMinimum": ("number", lambda value, wanted: value > wanted),
     "exclusiveMaximum": ("number", lambda value, wanted: value < wanted),
     "pattern": ("string", lambda value, wanted: re.search(wanted, value) is not None),
     "minItems": ("array", lambda value, wanted: len(value) >= wanted),
@@ -62,6 +63,11 @@ def complaints(value, schema, whole, place="$"):
             yield from _complaints_within(value, word, wanted, schema, whole, place)
 
 
+def _matching(value, pattern):
+    """The names of an object that a pattern matches."""
+    return [name for name in value if re.search(pattern, name)] if isinstance(value, dict) else []
+
+
 def _complaints_within(value, word, wanted, schema, whole, place):
     """The same of a keyword that has schemas for the value or for its parts."""
     if word == "$ref":
@@ -76,8 +82,14 @@ def _complaints_within(value, word, wanted, schema, whole, place):
     elif word == "properties":
         for name in [name for name in wanted if isinstance(value, dict) and name in value]:
             yield from complaints(value[name], wanted[name], whole, f"{place}.{name}")
+    elif word == "patternProperties":
+        for pattern, of_pattern in wanted.items():
+            for name in _matching(value, pattern):
+                yield from complaints(value[name], of_pattern, whole, f"{place}.{name}")
     elif word == "additionalProperties" and wanted is False:
         unknown = set(value) - set(schema["properties"]) if isinstance(value, dict) else set()
+        for pattern in schema.get("patternProperties", {}):
+            unknown -= set(_matching(value, pattern))
         yield from (f"{place}.{name} has no place" for name in sorted(unknown))
     else:
         raise ValueError(f"a schema has the keyword {word}, which tests/lib/schemas.py does not know")
