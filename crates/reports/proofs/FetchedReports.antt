@@ -16,7 +16,7 @@ use Rattle.module_reading.proofs.RegionLaws.{begins_lower}
 use Rattle.reports.proofs.SameApps.{same_apps}
 use Rattle.reports.proofs.SameDetails.{same_details}
 use Rattle.reports.proofs.SameFamilies.{CmisAgree, FamilyAgrees, QsfpAgree, SfpAgree}
-use Rattle.reports.proofs.SameFlags.{same_flags}
+use Rattle.reports.proofs.SameFlags.{same_flags, same_told}
 use Rattle.reports.proofs.SameInventories.{same_inventory}
 use Rattle.reports.proofs.SameMonitors.{same_monitors}
 
@@ -50,4 +50,4 @@ module _ (a b : Memory) where
 pub fetched_reports : FetchedReportsSame
 fetched_reports old new history memory copy image start ran fetching =
     let agrees = family_agrees copy memory (fetched_agree old new history memory copy image start ran fetching) in
-    record { inventory = same_inventory copy memory agrees; apps = same_apps copy memory agrees; monitors = same_monitors copy memory agrees; flags = same_flags copy memory agrees; details = same_details copy memory agrees }
+    record { inventory = same_inventory copy memory agrees; apps = same_apps copy memory agrees; monitors = same_monitors copy memory agrees; flags = same_flags copy memory agrees; details = same_details copy memory agrees; told = same_told copy memory agrees }

@@ -20,7 +20,7 @@ use Rattle.reports.specs.Families.{of_sff}
 use Rattle.report_entries.specs.Flags.{raised}
 use Rattle.report_entries.specs.Rows.{rows_entries}
 use Rattle.reports.specs.SameReports.{IsSame}
-use Rattle.reports.specs.FlagsByFamily.{entries_in, fault_in, flags_entries, flags_fault}
+use Rattle.reports.specs.FlagsByFamily.{entries_in, fault_in, flags_entries, flags_fault, flags_told, told_in}
 use Rattle.reports.proofs.SameFamilies.{CmisAgree, FamilyAgrees, QsfpAgree, SfpAgree, by_family, no_sff, none_applies, same_flat, same_unless_flat}
 use Rattle.reports.proofs.SameMonitors.{are_diagnosed, same_qsfp_module}
 
@@ -50,6 +50,9 @@ module _ (a b : Memory) (agree : CmisAgree a b) where
     said = λ none i. same_states i ++ flags_entry (raised (same_all_flags i)) ∷ [];
   }
 
+  told_cmis : IsSame (fault_in Cmis) (told_in Cmis) a b
+  told_cmis = record { fault = same_cmis.fault; said = λ none. same_all_flags }
+
 -- ---- of a module of SFF-8636
 
 module _ (a b : Memory) (agree : QsfpAgree a b) where
@@ -59,6 +62,9 @@ module _ (a b : Memory) (agree : QsfpAgree a b) where
 
   same_qsfp : IsSame (fault_in Sff8636) (entries_in Sff8636) a b
   same_qsfp = record { fault = ap of_sff (same_qsfp_module a b agree); said = λ none. ap (λ (flags : List (Flag × Bool)). flags_entry (raised flags) ∷ []) same_qsfp_flags }
+
+  told_qsfp : IsSame (fault_in Sff8636) (told_in Sff8636) a b
+  told_qsfp = record { fault = same_qsfp.fault; said = λ none. same_qsfp_flags }
 
 -- ---- of a module of SFF-8472
 
@@ -97,6 +103,13 @@ module _ (a b : Memory) (agree : SfpAgree a b) where
     said = λ e. ap (λ (flags : List (Flag × Bool)). flags_entry (raised flags) ∷ []) (same_sfp_flags (agree.diagnostics (diagnosed (no_sff (sfp_refusals.flags_fault a) e))));
   }
 
+  told_sfp : IsSame (fault_in Sff8472) (told_in Sff8472) a b
+  told_sfp = record { fault = same_sfp.fault; said = λ e. same_sfp_flags (agree.diagnostics (diagnosed (no_sff (sfp_refusals.flags_fault a) e))) }
+
 pub same_flags : (a b : Memory) → FamilyAgrees a b → IsSame flags_fault flags_entries a b
 unfolding flags_fault flags_entries
 same_flags a b agrees = by_family fault_in entries_in a b agrees (same_cmis a b) (same_qsfp a b) (same_sfp a b)
+
+pub same_told : (a b : Memory) → FamilyAgrees a b → IsSame flags_fault flags_told a b
+unfolding flags_fault flags_told
+same_told a b agrees = by_family fault_in told_in a b agrees (told_cmis a b) (told_qsfp a b) (told_sfp a b)
