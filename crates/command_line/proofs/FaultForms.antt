@@ -1,7 +1,6 @@
 -- What is written in each form of a fault is what is to be written.
 use Rattle.std.proofs.Common.{◌≡◌, ℕ, Bool, true, false, List, Option, Some, None, Result, Ok, Err, IfOk, refl}
 use Rattle.std.specs.Fmt.{digits}
-use Rattle.control_sets.specs.declared.fault.ProvisionFault.{ProvisionFault}
 use Rattle.json.specs.Layout.{pretty_from}
 use Rattle.json.specs.Print.{escape_byte}
 use Rattle.notices.specs.Sentences.{sentences}
@@ -16,6 +15,8 @@ use Rattle.command_line.specs.declared.fault.Fault.{Fault}
 use Rattle.command_line.specs.declared.fault.Fault.TheVariants.{Memory, Io, TooLong}
 use Rattle.command_line.specs.declared.output.fault_form.FaultForm.{FaultForm}
 use Rattle.command_line.specs.declared.output.fault_form.FaultForm.TheVariants.{Line, Ready}
+use Rattle.command_line.specs.declared.told_fault.ToldFault.{ToldFault}
+use Rattle.command_line.specs.declared.told_fault.ToldFault.TheVariants.{Procedure, Metrics}
 use Rattle.command_line.specs.declared.remark.opening.Opening.{Opening}
 use Rattle.command_line.specs.declared.remark.opening.Opening.TheVariants.{Other}
 
@@ -32,9 +33,10 @@ of_reading true f is = reading_text f Other is
 of_reading false f is = refl
 
 -- an answer with a text, whose JSON has the fault
-text_alone : (opening : Opening) (text : List ℕ) (ended : Option ProvisionFault) → output_in Ready (Ok (text, ended)) ≡ output_of true opening (Ok (text, ended))
+text_alone : (opening : Opening) (text : List ℕ) (told : Option ToldFault) → output_in Ready (Ok (text, told)) ≡ output_of true opening (Ok (text, told))
 text_alone opening text None = refl
-text_alone opening text (Some f) = refl
+text_alone opening text (Some (Procedure f)) = refl
+text_alone opening text (Some (Metrics f)) = refl
 
 pub ready_if_ok : (json : Bool) (opening : Opening) (answer : Result CommandOutput Fault) (told : CommandOutput) → json ≡ true → answer ≡ Ok told
     → output_in Ready (answer_of answer) ≡ output_of json opening (answer_of answer)

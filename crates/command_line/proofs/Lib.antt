@@ -3,7 +3,9 @@ mod BusReadings
 mod CommandLineLemmas
 pub mod FaultForms
 mod FoldLemmas
+mod GivenWords
 mod GoodTexts
+mod MetricsAnswers
 mod OwnAnswers
 mod PartCuts
 mod PlainChoices
@@ -11,6 +13,7 @@ mod PlanAnswers
 mod DrawAnswers
 mod ProcedureAnswers
 mod SameOverBus
+mod SameMetrics
 mod ReportAnswers
 mod TextBehind
 mod CheckedPlans

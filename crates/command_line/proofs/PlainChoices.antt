@@ -1,12 +1,14 @@
 -- A command's name alone is taken by `clap`, and chooses that command without a flag.
-use Rattle.std.proofs.Common.{◌≡◌, ◌∙◌, ◌<◌, ◌≤◌, Bool, true, false, List, [], ◌∷◌, Some, map, find, length, slice_index_or, arith, ap, sym, refl, cond}
+use Rattle.std.proofs.Common.{◌≡◌, ◌∙◌, ◌<◌, ◌≤◌, Bool, true, false, List, [], ◌∷◌, Some, Result, Ok, map, find, length, slice_index_or, arith, ap, sym, refl, cond}
 use Rattle.std.specs.Str.{bytes_eq}
 use Rattle.std.proofs.lemmas.Slice.Eq.{bytes_eq-Decides}
 use Rattle.clap.specs.Words.{Text}
 use Rattle.clap.proofs.OnLiterals.{clap_on_literals}
 use Rattle.command_line.specs.Choice.{Entry, commands, entry_named, faults_of, plain_request, program, request_of, request_with}
 use Rattle.command_line.specs.declared.choice.commands.CommandName.{CommandName}
-use Rattle.command_line.specs.declared.choice.commands.CommandName.TheVariants.{Report, Plan, Draw, Check, Provision, Trace}
+use Rattle.command_line.specs.declared.choice.commands.CommandName.TheVariants.{Report, Metrics, Plan, Draw, Check, Provision, Trace}
+use Rattle.command_line.specs.declared.choice.commands.Request.{Request}
+use Rattle.command_line.specs.declared.choice.word_fault.WordFault.{WordFault}
 
 -- what is found passes the test
 found_passes : {X : Type 0} (p : X → Bool) (xs : List X) (x : X) → find p xs ≡ Some x → p x ≡ true
@@ -24,7 +26,11 @@ same_at_found f g p (y ∷ ys) x same met = elim (p y) as (λ b. cond b (Some y)
   | false ↦ λ rest. same_at_found f g p ys x (cc) rest
 ] met
 
-choices : (first : Text) → map (λ (entry : Entry). request_of (first ∷ entry.name ∷ [])) commands ≡ map (λ (entry : Entry). Some (plain_request entry.command)) commands
+-- what a name alone asks for
+abbrev pub plainly : CommandName → Result Request WordFault
+plainly command = Ok (plain_request command)
+
+choices : (first : Text) → map (λ (entry : Entry). request_of (first ∷ entry.name ∷ [])) commands ≡ map (λ (entry : Entry). Some (plainly entry.command)) commands
 unfolding clap_on_literals program commands
 choices first = refl
 
@@ -35,12 +41,13 @@ kinds first = refl
 its_name : (name : Text) (entry : Entry) → entry_named name ≡ Some entry → name ≡ entry.name
 its_name name entry met = sym ((bytes_eq-Decides entry.name name).0 (found_passes (λ (e : Entry). bytes_eq e.name name) commands entry met))
 
-pub chosen_alone : (first name : Text) (entry : Entry) → entry_named name ≡ Some entry → request_of (first ∷ name ∷ []) ≡ Some (plain_request entry.command)
+pub chosen_alone : (first name : Text) (entry : Entry) → entry_named name ≡ Some entry → request_of (first ∷ name ∷ []) ≡ Some (plainly entry.command)
 chosen_alone first name entry met = ap (λ n. request_of (first ∷ n ∷ [])) (its_name name entry met)
-    ∙ same_at_found (λ (e : Entry). request_of (first ∷ e.name ∷ [])) (λ (e : Entry). Some (plain_request e.command)) _ commands entry (choices first) met
+    ∙ same_at_found (λ (e : Entry). request_of (first ∷ e.name ∷ [])) (λ (e : Entry). Some (plainly e.command)) _ commands entry (choices first) met
 
-pub without_flags : (command : CommandName) → request_with command [] ≡ plain_request command
+pub without_flags : (command : CommandName) → request_with command [] ≡ plainly command
 without_flags (Report report) = refl
+without_flags Metrics = refl
 without_flags Plan = refl
 without_flags Draw = refl
 without_flags Check = refl

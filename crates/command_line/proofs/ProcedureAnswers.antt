@@ -1,6 +1,6 @@
 -- The answer of a command that carries out procedures, by what it sets up and does.
 use Rattle.std.proofs.Common.{◌≡◌, ◌∙◌, ◌-◌, ℕ, Bool, true, false, List, [], ◌∷◌, Option, Some, None, Result, Ok, Err, IfOk, refl, sym, subst, ap, ap₂, ◌++◌, ◌⊎◌, inl, inr, length, arith}
-use Rattle.std.specs.Prelude.{MatchOption, is_ok, slice_index}
+use Rattle.std.specs.Prelude.{MatchOption, is_ok, option_map, slice_index}
 use Rattle.std.proofs.lemmas.Grind.{common_steps}
 use Rattle.hex.specs.Hex.{encode_lower}
 use Rattle.text_lines.specs.Lines.{text_of}
@@ -37,6 +37,8 @@ use Rattle.reports.specs.declared.json_procedure.Outcome.{Outcome}
 use Rattle.command_line.specs.Runs.{IsOwnAnswer}
 use Rattle.command_line.specs.Sessions.{IsSessionOf}
 use Rattle.command_line.specs.declared.commands.session.Session.{Session}
+use Rattle.command_line.specs.declared.told_fault.ToldFault.{ToldFault}
+use Rattle.command_line.specs.declared.told_fault.ToldFault.TheVariants.{Procedure}
 use Rattle.command_line.specs.declared.fault.Fault.{Fault}
 use Rattle.command_line.specs.declared.fault.Fault.TheVariants as fault
 
@@ -127,17 +129,18 @@ new_at_rest memory given lane is = made_keeps (λ (l : Lane). l.kept ≡ None) (
 
 module _ (image listed kept script : List ℕ) (session : Session) (is : IsSessionOf image listed kept script session) where
   -- what a session's bus makes of the plan
-  pub carried : (json traced activate : Bool) (text : List ℕ) (after : ModuleBus) (provisioned : Ended) (activated : Option Ended) (ended : Option ProvisionFault)
+  pub carried : (json traced activate : Bool) (text : List ℕ) (after : ModuleBus) (provisioned : Ended) (activated : Option Ended) (ended : Option ProvisionFault) (told_fault : Option ToldFault)
       → CarriesOut activate session.advert session.plan session.kept (seen_at session.bus) after provisioned activated
-      → text ≡ told_output json traced after.steps (outcome_of provisioned activated (active_bytes after.state.1)) ended → ended ≡ outcome_fault provisioned activated → IsCarriedOut json traced activate image listed kept script text ended
-  carried json traced activate text after provisioned activated ended done told fault = record {
+      → text ≡ told_output json traced after.steps (outcome_of provisioned activated (active_bytes after.state.1)) ended → ended ≡ outcome_fault provisioned activated → told_fault ≡ option_map Procedure ended
+      → IsCarriedOut json traced activate image listed kept script text told_fault
+  carried json traced activate text after provisioned activated ended told_fault done told fault same = record {
     set_up = is.set_up;
     after = after;
     provisioned = provisioned;
     activated = activated;
     done = rw (is.advert, is.plan, is.kept, is.bus) at done;
-    told = told;
-    fault = fault;
+    told = told ∙ ap (told_output json traced after.steps (outcome_of provisioned activated (active_bytes after.state.1))) fault;
+    fault = same ∙ ap (option_map Procedure) fault;
   }
 
   session_module : session.bus.device ≡ start is.set_up.given.is_advert.memory delays

@@ -4,6 +4,10 @@ use Rattle.command_line.specs.Input.{IsReadOf}
 use Rattle.command_line.specs.Remarks.{opening_for}
 use Rattle.command_line.specs.RemarksBeside.{IsRemarkBeside}
 use Rattle.command_line.specs.Runs.{Answer, EndsByFailure, IsSaidBeside, IsWritten, SaysReading, ended, ending_after, opening_beside, output_of, status_after}
+use Rattle.reports.specs.declared.fault.ReportFault.TheVariants as report
+use Rattle.command_line.specs.Faults.{fault_of_told}
+use Rattle.command_line.specs.declared.told_fault.ToldFault.{ToldFault}
+use Rattle.command_line.specs.declared.told_fault.ToldFault.TheVariants.{Procedure, Metrics}
 use Rattle.command_line.specs.declared.fault.Fault.{Fault}
 use Rattle.command_line.specs.declared.fault.Fault.TheVariants as fault
 use Rattle.command_line.specs.declared.remark.Remark.{Remark}
@@ -28,11 +32,22 @@ with_opening : (f : Fault) (clue : Clue) (opening : Opening) (remark : Remark) �
     → remark ≡ Refused record { fault = f; clue = record { opening = opening; weights_line = clue.weights_line } }
 with_opening f clue opening remark is same = is ∙ ap (λ o. Refused record { fault = f; clue = record { opening = o; weights_line = clue.weights_line } }) same
 
+-- the input's beginning explains no fault that a text tells of
+told_opening : (told : ToldFault) (input : List ℕ) → Other ≡ opening_for (fault_of_told told) input
+told_opening (Procedure f) input = refl
+told_opening (Metrics report.Memory) input = refl
+told_opening (Metrics f) input = refl
+
+explained_as : (told : ToldFault) (clue : Clue) (input : List ℕ) (remark : Remark) → remark ≡ Refused record { fault = fault_of_told told; clue = clue } → clue.opening ≡ Other
+    → remark ≡ Refused record { fault = fault_of_told told; clue = record { opening = opening_for (fault_of_told told) input; weights_line = clue.weights_line } }
+explained_as told clue input remark is same =
+    with_opening (fault_of_told told) clue (opening_for (fault_of_told told) input) remark is (same ∙ told_opening told input)
+
 pub said_beside : (failed : Bool) (status : Status) (input : List ℕ) (answer : Answer) (clue : Clue) (remark : Remark) → IsRemarkBeside answer clue remark
     → clue.opening ≡ opening_beside answer input → IsSaidBeside failed input answer (ending_after failed status remark).remark
 said_beside true status input answer clue remark is same = refl
 said_beside false status input (Err f) clue remark is same = (clue.weights_line, with_opening f clue (opening_for f input) remark is same)
-said_beside false status input (Ok (text, Some f)) clue remark is same = (clue.weights_line, with_opening (fault.Provision f) clue Other remark is same)
+said_beside false status input (Ok (text, Some told)) clue remark is same = (clue.weights_line, explained_as told clue input remark is same)
 said_beside false status input (Ok (text, None)) clue remark is same = is
 
 -- what follows of two facts of the input holds of it, where it is known
@@ -54,7 +69,9 @@ refusal_remarked failed status ending is =
 -- of all answers a failed read alone ends so
 only_reading : (answer : Answer) → status_after answer ≡ ReadOrWrite → answer ≡ Err fault.Io
 only_reading (Ok (text, None)) ends = cc
-only_reading (Ok (text, Some f)) ends = cc
+only_reading (Ok (text, Some (Procedure f))) ends = cc
+only_reading (Ok (text, Some (Metrics report.Memory))) ends = cc
+only_reading (Ok (text, Some (Metrics f))) ends = cc
 only_reading (Err fault.Io) ends = refl
 only_reading (Err fault.Memory) ends = cc
 only_reading (Err fault.TooLong) ends = cc

@@ -20,7 +20,7 @@ use Rattle.command_line.specs.PartsRead.{text_in}
 use Rattle.command_line.specs.ReportCommands.{IsReported, entries_of, printed, refusal_of}
 use Rattle.command_line.specs.Parts.{parts_of}
 use Rattle.command_line.specs.Runs.{Answer, IsAnswerTo}
-use Rattle.command_line.specs.SameOverBus.{IsToldAlike}
+use Rattle.command_line.specs.SameOverBus.{IsGivenUp, IsToldAlike}
 use Rattle.command_line.specs.declared.choice.commands.Choice.TheVariants.{Report}
 use Rattle.command_line.specs.declared.choice.commands.ReportName.{ReportName}
 use Rattle.command_line.specs.declared.choice.commands.ReportName.TheVariants.{Inventory, Apps, Monitors, Flags, Details}
@@ -36,53 +36,24 @@ never_full memory g (after, (history, ran, is)) =
     absurd (omega (arith, ran.room, length-reverse history))
 
 -- so it has one fault
-reading_fault : (memory : Memory) (f : ReportFault) → IsFetchedFrom memory (Err f) → f ≡ report.GaveUp
+pub reading_fault : (memory : Memory) (f : ReportFault) → IsFetchedFrom memory (Err f) → f ≡ report.GaveUp
 reading_fault memory report.GaveUp is = refl
 reading_fault memory (report.Bus g) is = absurd (never_full memory g is)
 reading_fault memory f (after, (history, ran, is)) = absurd is.answered
 
-module _ (refusal : Memory → Option ReportFault) (text_of : Memory → List ℕ) where
-  -- ---- without the flag a text has one answer, by what reading it answers
+-- ---- a command that reads an image alone, whose text has one answer without the flag, and that with it unless the reading came to no end
 
-  abbrev told_of : Memory → Option ReportFault → Answer
-  told_of memory None = Ok (text_of memory, None)
-  told_of memory (Some f) = Err (fault.Report f)
-
-  abbrev told_by : Result Memory ImageFault → Answer
-  told_by (Ok memory) = told_of memory (refusal memory)
-  told_by (Err f) = Err (fault.Image f)
-
-  record IsTold (text : List ℕ) (answer : Answer) : Type 0 where
-    read : Result Memory ImageFault
-    is_read : IsAnswer (lines_of text) read
-    is_told : answer ≡ told_by read
-
-  is_told : (text : List ℕ) (a : Answer) → IsReported false refusal text_of text a → IsTold text a
-  is_told text (Ok (t, None)) (memory, is, none, said) =
-      record { read = Ok memory; is_read = is; is_told = (λ i. Ok (said i, None)) ∙ ap (told_of memory) (sym none) }
-  is_told text (Ok (t, Some f)) never = absurd never
-  is_told text (Err (fault.Report f)) (inl never) = absurd never
-  is_told text (Err (fault.Report f)) (inr (memory, is, some)) = record { read = Ok memory; is_read = is; is_told = ap (told_of memory) (sym some) }
-  is_told text (Err (fault.Image f)) first = record { read = Err f; is_read = first; is_told = refl }
-  is_told text (Err f) never = absurd never
-
-  one_answer : (text : List ℕ) (a b : Answer) → IsReported false refusal text_of text a → IsReported false refusal text_of text b → a ≡ b
-  one_answer text a b p q =
-      let first = is_told text a p in
-      let other = is_told text b q in
-      first.is_told ∙ (ap told_by (same_answer (lines_of text) first.read other.read first.is_read other.is_read) ∙ sym other.is_told)
-
-  -- ---- so an input has one, where no allocation and no read is refused
-
+module _ (IsMine : Bool → List ℕ → Answer → Type 0) (one_answer : (text : List ℕ) (a b : Answer) → IsMine false text a → IsMine false text b → a ≡ b)
+    (plain : (text : List ℕ) (a : Answer) → IsMine true text a → ¬ (IsGivenUp a) → IsMine false text a) where
   -- by what is the first to be judged of an input
   abbrev image_in : List ℕ → List ℕ
   image_in input = text_in (Image ∷ []) (parts_of input) Image
 
   abbrev IsAnswerOver : Bool → List ℕ → Answer → Type 0
-  IsAnswerOver over = IsAnswerTo (Image ∷ []) (λ texts. IsReported over refusal text_of (texts Image))
+  IsAnswerOver over = IsAnswerTo (Image ∷ []) (λ texts. IsMine over (texts Image))
 
   abbrev IsCut : List ℕ → Answer → Type 0
-  IsCut input a = ((length input ≤ input_limit) × (length (parts_of input) ≡ 1)) × IsReported false refusal text_of (image_in input) a
+  IsCut input a = ((length input ≤ input_limit) × (length (parts_of input) ≡ 1)) × IsMine false (image_in input) a
 
   abbrev IsMiscounted : List ℕ → Answer → Type 0
   IsMiscounted input a = ((length input ≤ input_limit) × (length (parts_of input) ≢ 1)) × (a ≡ Err (fault.Parts (length (parts_of input))))
@@ -110,50 +81,86 @@ module _ (refusal : Memory → Option ReportFault) (text_of : Memory → List �
   agree input a b (inr (inr p)) (inr (inl q)) = absurd (q.0.1 p.0.1)
   agree input a b (inr (inr p)) (inr (inr q)) = one_answer (image_in input) a b p.1 q.1
 
+  plain_to : (input : List ℕ) (a : Answer) → IsAnswerOver true input a → ¬ (IsGivenUp a)
+      → IsAnswerOver false input a
+  plain_to input (Ok told) is ended = (is.0, is.1, plain (image_in input) (Ok told) is.2 ended)
+  plain_to input (Err fault.Memory) is ended = tt
+  plain_to input (Err fault.Io) is ended = tt
+  plain_to input (Err fault.TooLong) is ended = is
+  plain_to input (Err (fault.Parts n)) is ended = is
+  plain_to input (Err f) is ended = (is.0, is.1, plain (image_in input) (Err f) is.2 ended)
+
+  pub told_alike : (input : List ℕ) (a : Answer) → IsAnswerOver true input a → ¬ (IsGivenUp a) → a ≢ Err fault.Memory → a ≢ Err fault.Io
+      → IsAnswerOver false input a × ((other : Answer) → IsAnswerOver false input other → other ≢ Err fault.Memory → other ≢ Err fault.Io → other ≡ a)
+  told_alike input a is ended memory read =
+      let plain = plain_to input a is ended in (
+        plain,
+        λ other is_too memory_too read_too. agree input other a (judged input other is_too memory_too read_too) (judged input a plain memory read),
+      )
+
+-- ---- reports
+
+module _ (refusal : Memory → Option ReportFault) (text_of : Memory → List ℕ) where
+  -- ---- without the flag a text has one answer, by what reading it answers
+
+  abbrev told_of : Memory → Option ReportFault → Answer
+  told_of memory None = Ok (text_of memory, None)
+  told_of memory (Some f) = Err (fault.Report f)
+
+  abbrev told_by : Result Memory ImageFault → Answer
+  told_by (Ok memory) = told_of memory (refusal memory)
+  told_by (Err f) = Err (fault.Image f)
+
+  record IsTold (text : List ℕ) (answer : Answer) : Type 0 where
+    read : Result Memory ImageFault
+    is_read : IsAnswer (lines_of text) read
+    is_told : answer ≡ told_by read
+
+  is_told : (text : List ℕ) (a : Answer) → IsReported false refusal text_of text a → IsTold text a
+  is_told text (Ok (t, None)) (memory, is, none, said) =
+      record { read = Ok memory; is_read = is; is_told = (λ i. Ok (said i, None)) ∙ ap (told_of memory) (sym none) }
+  is_told text (Ok (t, Some f)) never = absurd never
+  is_told text (Err (fault.Report f)) (inl never) = absurd never
+  is_told text (Err (fault.Report f)) (inr (memory, is, some)) = record { read = Ok memory; is_read = is; is_told = ap (told_of memory) (sym some) }
+  is_told text (Err (fault.Image f)) first = record { read = Err f; is_read = first; is_told = refl }
+  is_told text (Err f) never = absurd never
+
+  one_report : (text : List ℕ) (a b : Answer) → IsReported false refusal text_of text a → IsReported false refusal text_of text b → a ≡ b
+  one_report text a b p q =
+      let first = is_told text a p in
+      let other = is_told text b q in
+      first.is_told ∙ (ap told_by (same_answer (lines_of text) first.read other.read first.is_read other.is_read) ∙ sym other.is_told)
+
   -- ---- with it, it has the same
 
   module _ (law : FetchedReportsSame) (pick : (fetched memory : Memory) → ReportsSame fetched memory → IsSame refusal text_of fetched memory) where
     same : (memory fetched : Memory) → IsImage memory → IsFetchedFrom memory (Ok fetched) → IsSame refusal text_of fetched memory
     same memory fetched image (after, (history, ran, is)) = pick fetched memory (law (window_at_start memory) after history memory fetched image refl ran is)
 
-    plain : (text : List ℕ) (a : Answer) → IsReported true refusal text_of text a → a ≢ Err (fault.Report report.GaveUp) → IsReported false refusal text_of text a
-    plain text (Ok (t, None)) (fetched, read, none, said) ended =
+    plain_report : (text : List ℕ) (a : Answer) → IsReported true refusal text_of text a → ¬ (IsGivenUp a) → IsReported false refusal text_of text a
+    plain_report text (Ok (t, None)) (fetched, read, none, said) ended =
         let alike = same read.memory fetched read.is_text.image read.fetched in
         (read.memory, read.is_text, sym alike.fault ∙ none, said ∙ alike.said none)
-    plain text (Ok (t, Some f)) never ended = absurd never
-    plain text (Err (fault.Report f)) (inl unread) ended =
-        absurd (ended (ap (λ (g : ReportFault). Err (fault.Report g)) (reading_fault unread.memory f unread.fetched)))
-    plain text (Err (fault.Report f)) (inr (fetched, read, some)) ended =
+    plain_report text (Ok (t, Some f)) never ended = absurd never
+    plain_report text (Err (fault.Report f)) (inl unread) ended =
+        absurd (ended (ap (λ (g : ReportFault). Some (fault.Report g)) (reading_fault unread.memory f unread.fetched)))
+    plain_report text (Err (fault.Report f)) (inr (fetched, read, some)) ended =
         let alike = same read.memory fetched read.is_text.image read.fetched in
         inr (read.memory, read.is_text, sym alike.fault ∙ some)
-    plain text (Err (fault.Image f)) first ended = first
-    plain text (Err f) never ended = absurd never
-
-    plain_to : (input : List ℕ) (a : Answer) → IsAnswerOver true input a → a ≢ Err (fault.Report report.GaveUp)
-        → IsAnswerOver false input a
-    plain_to input (Ok told) is ended = (is.0, is.1, plain (image_in input) (Ok told) is.2 ended)
-    plain_to input (Err fault.Memory) is ended = tt
-    plain_to input (Err fault.Io) is ended = tt
-    plain_to input (Err fault.TooLong) is ended = is
-    plain_to input (Err (fault.Parts n)) is ended = is
-    plain_to input (Err f) is ended = (is.0, is.1, plain (image_in input) (Err f) is.2 ended)
-
-    pub told_alike : (input : List ℕ) (a : Answer) → IsAnswerOver true input a → a ≢ Err (fault.Report report.GaveUp) → a ≢ Err fault.Memory → a ≢ Err fault.Io
-        → IsAnswerOver false input a × ((other : Answer) → IsAnswerOver false input other → other ≢ Err fault.Memory → other ≢ Err fault.Io → other ≡ a)
-    told_alike input a is ended memory read =
-        let plain = plain_to input a is ended in (
-          plain,
-          λ other is_too memory_too read_too. agree input other a (judged input other is_too memory_too read_too) (judged input a plain memory read),
-        )
+    plain_report text (Err (fault.Image f)) first ended = first
+    plain_report text (Err f) never ended = absurd never
 
 -- what is printed of the same entries is the same, in each form
 printed_told_alike : (name : ReportName) (json : Bool) → ((fetched memory : Memory) → ReportsSame fetched memory → IsSame (refusal_of name) (entries_of name) fetched memory)
     → IsToldAlike (λ over. in_form json (Report name over))
 printed_told_alike name json pick input a is ended memory read =
-    let alike = told_alike (refusal_of name) (λ (m : Memory). printed json (entries_of name m)) fetched_reports (λ fetched image all.
-    let same = pick fetched image all in
-    record { fault = same.fault; said = λ none. ap (printed json) (same.said none) }) input a is ended memory read in
-    record { plain = alike.0; alone = alike.1 }
+    let text_of = λ (m : Memory). printed json (entries_of name m) in
+    let same : (fetched memory : Memory) → ReportsSame fetched memory → IsSame (refusal_of name) text_of fetched memory = λ fetched image all.
+    let alike = pick fetched image all in
+    record { fault = alike.fault; said = λ none. ap (printed json) (alike.said none) } in
+    let told = told_alike (λ over. IsReported over (refusal_of name) text_of) (one_report (refusal_of name) text_of)
+    (plain_report (refusal_of name) text_of fetched_reports same) input a is ended memory read in
+    record { plain = told.0; alone = told.1 }
 
 pub each_told_alike : (name : ReportName) (json : Bool) → IsToldAlike (λ over. in_form json (Report name over))
 each_told_alike Inventory json = printed_told_alike Inventory json (λ fetched memory all. all.inventory)

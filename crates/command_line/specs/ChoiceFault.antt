@@ -1,12 +1,19 @@
 -- Why a command line gives no choice, and what the program then says (docs/formats.md; this project's own).
-use Rattle.std.specs.Prelude.{◌≢◌, ⊤}
+use Rattle.std.specs.Prelude.{◌≡◌, ◌≢◌, ℕ, ⊤, List, Option, Some, None, Result, Ok, Err}
 use Rattle.clap.specs.Words.{IsAmong, Kinds, kind_of}
 use Rattle.clap.specs.declared.error.Error.{Error}
 use Rattle.clap.specs.declared.error.kind.ErrorKind.{ErrorKind}
 use Rattle.clap.specs.declared.error.kind.ErrorKind.TheVariants.{DisplayHelp, DisplayVersion}
 use Rattle.clap.specs.declared.error.kind.ErrorKind.TheVariants.{OutOfMemory}
 use Rattle.command_line.specs.declared.choice.fault.ChoiceFault.{ChoiceFault}
-use Rattle.command_line.specs.declared.choice.fault.ChoiceFault.TheVariants.{Memory, Line}
+use Rattle.command_line.specs.declared.choice.fault.ChoiceFault.TheVariants.{Memory, Line, Word}
+use Rattle.command_line.specs.declared.choice.word_fault.WordFault.{WordFault}
+use Rattle.command_line.specs.declared.choice.word_fault.WordFault.TheVariants.{Label}
+use Rattle.command_line.specs.declared.fault.Fault.TheVariants as fault
+use Rattle.command_line.specs.Faults.{fault_line}
+use Rattle.command_line.specs.WordFaults.{word_text}
+use Rattle.module_metrics.specs.declared.label_fault.LabelFault.{LabelFault}
+use Rattle.module_metrics.specs.declared.label_fault.LabelFault.TheVariants as label
 use Rattle.command_line.specs.declared.status.Status.{Status}
 use Rattle.command_line.specs.declared.status.Status.TheVariants as status
 
@@ -29,9 +36,31 @@ status_by_kind _ = status.CommandLine
 abbrev pub status_of_fault : ChoiceFault → Status
 status_of_fault Memory = status.Memory
 status_of_fault (Line error) = status_by_kind (kind_of error)
+status_of_fault (Word f) = status.CommandLine
+
+-- what the program says; of `clap`'s errors that is open
+abbrev pub refusal_text : ChoiceFault → Option (List ℕ)
+refusal_text Memory = Some (fault_line fault.Memory)
+refusal_text (Line error) = None
+refusal_text (Word f) = Some (word_text f)
 
 -- an allocation was refused, or the words are refused for one of these kinds, of which none is
 -- `OutOfMemory`
 abbrev pub IsFaultAmong : Kinds → ChoiceFault → Type 0
 IsFaultAmong kinds Memory = ⊤
 IsFaultAmong kinds (Line error) = IsAmong (kind_of error) kinds × (kind_of error ≢ OutOfMemory)
+IsFaultAmong kinds (Word f) = ⊥
+
+-- ---- words of flags
+
+-- a label's `Memory` is the program's
+abbrev pub fault_of_label : LabelFault → ChoiceFault
+fault_of_label label.Memory = Memory
+fault_of_label f = Word (Label f)
+
+-- what is answered is this, unless an allocation was refused
+abbrev pub Gives : {T : Type 0} → Result T WordFault → Result T ChoiceFault → Type 0
+Gives told (Ok given) = told ≡ Ok given
+Gives told (Err Memory) = ⊤
+Gives told (Err (Line error)) = ⊥
+Gives told (Err (Word f)) = told ≡ Err f

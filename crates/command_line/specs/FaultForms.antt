@@ -5,6 +5,7 @@ use Rattle.command_line.specs.FaultTexts.{reading_fault_text}
 use Rattle.command_line.specs.Runs.{Answer}
 use Rattle.command_line.specs.declared.fault.Fault.{Fault}
 use Rattle.command_line.specs.declared.fault.Fault.TheVariants.{Provision}
+use Rattle.command_line.specs.declared.told_fault.ToldFault.TheVariants.{Procedure, Metrics}
 use Rattle.command_line.specs.declared.output.fault_form.FaultForm.{FaultForm}
 use Rattle.command_line.specs.declared.output.fault_form.FaultForm.TheVariants.{Line, Json, Ready}
 
@@ -19,10 +20,11 @@ fault_in Line fault = fault_line fault
 fault_in (Json text) fault = text.items
 fault_in Ready fault = reading_fault_text fault
 
--- an answer; after the text of a procedure only a line comes, since its JSON has the fault
+-- an answer; after the text of a procedure only a line comes, since its JSON has the fault, as metrics have it
 abbrev pub output_in : FaultForm → Answer → List ℕ
 output_in form (Ok (text, None)) = text
-output_in Line (Ok (text, Some fault)) = text ++ fault_line (Provision fault)
-output_in (Json other) (Ok (text, Some fault)) = text
-output_in Ready (Ok (text, Some fault)) = text
+output_in form (Ok (text, Some (Metrics fault))) = text
+output_in Line (Ok (text, Some (Procedure fault))) = text ++ fault_line (Provision fault)
+output_in (Json other) (Ok (text, Some (Procedure fault))) = text
+output_in Ready (Ok (text, Some (Procedure fault))) = text
 output_in form (Err fault) = fault_in form fault

@@ -1,4 +1,7 @@
+pub mod GivenFlags
+pub mod MetricsChoice
 pub mod Choice
+pub mod WordFaults
 pub mod ChoiceFault
 pub mod Entries
 pub mod Status
@@ -21,6 +24,7 @@ pub mod RemarksBeside
 pub mod PartFaults
 pub mod OverBus
 pub mod ReportCommands
+pub mod MetricsCommand
 pub mod PlanningInputs
 pub mod GivenPlan
 pub mod PlanCommand

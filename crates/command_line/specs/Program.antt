@@ -10,14 +10,15 @@ use Rattle.std.specs.declared.io.ErrorKind.{ErrorKind}
 use Rattle.std.specs.declared.io.ErrorKind.TheVariants.{OutOfMemory}
 use Rattle.clap.specs.Words.{Text, takes}
 use Rattle.command_line.specs.Choice.{faults_of, program, request_of}
-use Rattle.command_line.specs.ChoiceFault.{IsFaultAmong, status_of_fault}
+use Rattle.command_line.specs.ChoiceFault.{IsFaultAmong, refusal_text, status_of_fault}
 use Rattle.command_line.specs.Commands.{IsAnswerOf}
 use Rattle.command_line.specs.Faults.{fault_line}
 use Rattle.command_line.specs.Runs.{IsCommandRun, ended, ending_after}
 use Rattle.command_line.specs.StoppingWriter.{contents_of, writing_failed}
 use Rattle.command_line.specs.declared.choice.commands.Request.{Request}
 use Rattle.command_line.specs.declared.choice.fault.ChoiceFault.{ChoiceFault}
-use Rattle.command_line.specs.declared.choice.fault.ChoiceFault.TheVariants.{Memory}
+use Rattle.command_line.specs.declared.choice.fault.ChoiceFault.TheVariants.{Memory, Word}
+use Rattle.command_line.specs.declared.choice.word_fault.WordFault.{WordFault}
 use Rattle.command_line.specs.declared.fault.Fault.TheVariants as fault
 use Rattle.command_line.specs.declared.input.counted_reader.CountedReader.{CountedReader}
 use Rattle.command_line.specs.declared.output.stopping_writer.StoppingWriter.{StoppingWriter}
@@ -28,15 +29,23 @@ use Rattle.command_line.specs.declared.remark.Remark.TheVariants.{Nothing, NoMem
 use Rattle.command_line.specs.declared.status.Status.{Status}
 use Rattle.command_line.specs.declared.status.Status.TheVariants as status
 
--- the words ask for nothing: `clap` refuses them, or an allocation was refused
-abbrev pub IsRefusalOf : List Text → ChoiceFault → Type 0
-IsRefusalOf words fault = IsFaultAmong (faults_of words) fault × (takes program words ≡ true → fault ≡ Memory)
+-- `clap` refuses the words, or an allocation was refused
+abbrev pub IsRefusalByClap : List Text → ChoiceFault → Type 0
+IsRefusalByClap words fault = IsFaultAmong (faults_of words) fault × (takes program words ≡ true → fault ≡ Memory)
 
--- a refusal was said, want of memory in its own line, and the run ended so
+-- `clap` takes the words, but one that follows a flag is wrong
+abbrev pub IsRefusalOfWord : List Text → ChoiceFault → Type 0
+IsRefusalOfWord words fault = (wrong : WordFault) × (fault ≡ Word wrong) × (faults_of words ≡ []) × (request_of words ≡ Some (Err wrong))
+
+-- the words ask for nothing
+abbrev pub IsRefusalOf : List Text → ChoiceFault → Type 0
+IsRefusalOf words fault = IsRefusalByClap words fault ⊎ IsRefusalOfWord words fault
+
+-- a refusal was said, all but `clap`'s in words that are known, and the run ended so
 abbrev pub IsRefusalSaid : ChoiceFault → Option (List ℕ) → Option (List ℕ) → Bool → Status → Type 0
 IsRefusalSaid refusal before after write_failed status =
     (status ≡ ended write_failed (status_of_fault refusal))
-    × (refusal ≡ Memory → write_failed ≡ false → Appends before after (fault_line fault.Memory))
+    × (write_failed ≡ false → IfSome (refusal_text refusal) (Appends before after))
 
 -- the words of a command line that could be read
 abbrev pub words_of : Result (Vec (String Global) Global) Error → Result (List Text) Error
@@ -81,7 +90,7 @@ pub record IsRefusalRun {R W : Type 0} (contents : W → Option (List ℕ)) (IsS
 abbrev pub IsProgramRun : {R W : Type 0} → (R → Option (List ℕ)) → (W → Option (List ℕ)) → Result (List Text) Error
     → CountedReader R → CountedReader R → StoppingWriter W → StoppingWriter W → Ending → Type 0
 IsProgramRun remaining contents (Ok words) reader reader_after writer writer_after ending =
-    ((request : Request) × (request_of words ≡ Some request) × IsCommandRun remaining contents request.json (IsAnswerOf request) reader reader_after writer writer_after ending)
+    ((request : Request) × (request_of words ≡ Some (Ok request)) × IsCommandRun remaining contents request.json (IsAnswerOf request) reader reader_after writer writer_after ending)
     ⊎ ((fault : ChoiceFault) × IsRefusalOf words fault × IsRefusalRun contents (IsRefusalSaid fault) reader reader_after writer writer_after ending)
 IsProgramRun remaining contents (Err error) reader reader_after writer writer_after ending =
     IsRefusalRun contents (IsWordsRefusalSaid error) reader reader_after writer writer_after ending

@@ -1,7 +1,7 @@
 -- What the commands `provision` and `trace` answer to the texts of their parts: the plan that is given is provisioned on a simulated
 -- module of the image, but for its kept paths, over a bus that does as the script says, and activated if that is asked
 -- for. (docs/formats.md, "Input", "provision" and "trace"; this project's own)
-use Rattle.std.specs.Prelude.{◌≡◌, ℕ, Bool, true, false, List, [], ◌∷◌, ◌++◌, codes, map, Option, Some, None, Result, Ok, Err, IfOk}
+use Rattle.std.specs.Prelude.{◌≡◌, ℕ, Bool, true, false, List, [], ◌∷◌, ◌++◌, codes, map, option_map, Option, Some, None, Result, Ok, Err, IfOk}
 use Rattle.std.specs.Fmt.{decimal}
 use Rattle.hex.specs.Hex.{encode_lower}
 use Rattle.text_lines.specs.Lines.{lines_of, text_of}
@@ -39,6 +39,8 @@ use Rattle.command_line.specs.declared.remark.opening.Opening.TheVariants.{Other
 use Rattle.command_line.specs.GivenPlan.{IsGiven}
 use Rattle.command_line.specs.PlanningInputs.{Advertises, ArePlanningInputs, IsAdvertRefusal, IsKeptRefusal, IsWeightsRefusal}
 use Rattle.command_line.specs.Runs.{Answer}
+use Rattle.command_line.specs.declared.told_fault.ToldFault.{ToldFault}
+use Rattle.command_line.specs.declared.told_fault.ToldFault.TheVariants.{Procedure}
 use Rattle.command_line.specs.declared.fault.Fault.{Fault}
 use Rattle.command_line.specs.declared.fault.Fault.TheVariants as fault
 
@@ -168,18 +170,18 @@ IsSetUpRefusal image weights kept script (fault.Weights f) = Advertises image ×
 IsSetUpRefusal image weights kept script f = IsAdvertRefusal image f
 
 -- what was done, and what is told of it
-pub record IsCarriedOut (json traced activate : Bool) (image_text weights_text kept_text script_text text : List ℕ) (ended : Option ProvisionFault) : Type 0 where
+pub record IsCarriedOut (json traced activate : Bool) (image_text weights_text kept_text script_text text : List ℕ) (told_fault : Option ToldFault) : Type 0 where
   pub set_up : IsSetUp image_text weights_text kept_text script_text
   pub after : ModuleBus
   pub provisioned : Ended
   pub activated : Option Ended
   pub done : CarriesOut activate set_up.given.advert set_up.certificate.paths set_up.certificate.kept (bus_at_start set_up.given.is_advert.memory set_up.script) after provisioned activated
-  pub told : text ≡ told_output json traced after.steps (outcome_of provisioned activated (active_bytes after.state.1)) ended
-  pub fault : ended ≡ outcome_fault provisioned activated
+  pub told : text ≡ told_output json traced after.steps (outcome_of provisioned activated (active_bytes after.state.1)) (outcome_fault provisioned activated)
+  pub fault : told_fault ≡ option_map Procedure (outcome_fault provisioned activated)
 
 -- the answer to the texts of an image, of weights, of kept paths and of a script, by whether it is JSON, the steps are shown and
 -- activation is asked for
 abbrev pub IsProcedureAnswer : Bool → Bool → Bool → List ℕ → List ℕ → List ℕ → List ℕ → Answer → Type 0
-IsProcedureAnswer json traced activate image weights kept script (Ok (text, ended)) =
-    IsCarriedOut json traced activate image weights kept script text ended
+IsProcedureAnswer json traced activate image weights kept script (Ok (text, told)) =
+    IsCarriedOut json traced activate image weights kept script text told
 IsProcedureAnswer json traced activate image weights kept script (Err f) = IsSetUpRefusal image weights kept script f

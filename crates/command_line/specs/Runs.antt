@@ -3,7 +3,6 @@
 use Rattle.std.specs.Prelude.{◌≡◌, ◌≢◌, ◌<◌, ◌≤◌, ◌↔◌, ◌||◌, ℕ, Bool, true, false, List, length, ◌++◌, Option, Some, None, IfSome, Result, Ok, Err}
 use Rattle.std.specs.Result.{result_map_both}
 use Rattle.std.specs.Io.KnownBytes.{Appends}
-use Rattle.control_sets.specs.declared.fault.ProvisionFault.{ProvisionFault}
 use Rattle.command_line.specs.declared.fault.Fault.{Fault}
 use Rattle.command_line.specs.declared.fault.Fault.TheVariants.{Memory, Io, TooLong, Parts, Provision}
 use Rattle.command_line.specs.declared.command_output.CommandOutput.{CommandOutput}
@@ -15,9 +14,11 @@ use Rattle.command_line.specs.declared.remark.Remark.{Remark}
 use Rattle.command_line.specs.declared.remark.Remark.TheVariants.{Unwritten, Refused, Warned}
 use Rattle.command_line.specs.declared.remark.warnings.Warnings.{Warnings}
 use Rattle.command_line.specs.declared.status.Status.{Status}
-use Rattle.command_line.specs.declared.status.Status.TheVariants.{Done, NotProvisioned, ReadOrWrite}
+use Rattle.command_line.specs.declared.status.Status.TheVariants.{Done, ReadOrWrite}
+use Rattle.command_line.specs.declared.told_fault.ToldFault.{ToldFault}
+use Rattle.command_line.specs.declared.told_fault.ToldFault.TheVariants.{Procedure, Metrics}
 use Rattle.command_line.specs.CountedReader.{reading_failed, reads_of, remaining_of}
-use Rattle.command_line.specs.Faults.{status_of}
+use Rattle.command_line.specs.Faults.{fault_of_told, status_of}
 use Rattle.command_line.specs.FaultTexts.{fault_text}
 use Rattle.command_line.specs.Input.{TakesWithinLimit}
 use Rattle.command_line.specs.Limits.{input_limit, read_limit}
@@ -28,9 +29,9 @@ use Rattle.command_line.specs.StoppingWriter.{contents_of, writing_failed}
 use Rattle.command_line.specs.declared.input.counted_reader.CountedReader.{CountedReader}
 use Rattle.command_line.specs.declared.output.stopping_writer.StoppingWriter.{StoppingWriter}
 
--- a text and the fault of the procedure that it tells of, if there is one, or a fault alone
+-- a text and the fault that it tells of, if there is one, or a fault alone
 abbrev pub Answer : Type 0
-Answer = Result (List ℕ × Option ProvisionFault) Fault
+Answer = Result (List ℕ × Option ToldFault) Fault
 
 -- what a function answers, as such a one
 abbrev pub answer_of : Result CommandOutput Fault → Answer
@@ -41,16 +42,17 @@ abbrev pub opening_beside : Answer → List ℕ → Opening
 opening_beside (Err fault) input = opening_for fault input
 opening_beside (Ok text) input = Other
 
--- what is written of an answer, as JSON or not; one object has both, the text of a procedure and its fault
+-- what is written of an answer, as JSON or not; metrics have their fault, and one object has both, the text of a procedure and its fault
 abbrev pub output_of : Bool → Opening → Answer → List ℕ
 output_of json opening (Ok (text, None)) = text
 output_of true opening (Ok (text, Some fault)) = text
-output_of false opening (Ok (text, Some fault)) = text ++ fault_text false (Provision fault) opening
+output_of false opening (Ok (text, Some (Procedure fault))) = text ++ fault_text false (Provision fault) opening
+output_of false opening (Ok (text, Some (Metrics fault))) = text
 output_of json opening (Err fault) = fault_text json fault opening
 
 abbrev pub status_after : Answer → Status
 status_after (Ok (text, None)) = Done
-status_after (Ok (text, Some fault)) = NotProvisioned
+status_after (Ok (text, Some told)) = status_of (fault_of_told told)
 status_after (Err fault) = status_of fault
 
 -- what a command itself answers to the texts of its parts, if no allocation was refused
@@ -98,7 +100,7 @@ IsExplained input fault remark =
 -- what is said beside an answer to this input that was written; what is warned of is left open
 abbrev pub IsRemarkOn : List ℕ → Answer → Remark → Type 0
 IsRemarkOn input (Err fault) remark = IsExplained input fault remark
-IsRemarkOn input (Ok (text, Some fault)) remark = IsExplained input (Provision fault) remark
+IsRemarkOn input (Ok (text, Some told)) remark = IsExplained input (fault_of_told told) remark
 IsRemarkOn input (Ok (text, None)) remark = (warnings : Warnings) × (remark ≡ Warned warnings)
 
 -- of one that was not written whole, that alone

@@ -1,36 +1,44 @@
 //! The command line: which command the words name, and which flags they give it.
 ghost use Rattle.std.specs.Prelude.{◌≡◌, ◌∷◌, map, codes, false, true, IfOk, IfErr, IfSome, IsSome, Some};
 ghost use Rattle.std.specs.Option.{option_map_or};
-ghost use Rattle.std.specs.Prelude.{[], string_bytes, option_map, MatchResult};
+ghost use Rattle.std.specs.Prelude.{[], string_bytes, option_map, MatchResult, Ok};
 ghost use Rattle.std.specs.List.{list_all};
 ghost use Rattle.clap.specs.declared.builder.command.Command.TheViews.{out-Command as fields_of};
-ghost use Rattle.clap.specs.Words.{Text, app_of, found_of, rows_of, rule_of, subcommand_rows_of, takes};
-ghost use Rattle.command_line.specs.Choice.{program, request_of, request_in, request_with, choice_with, flag_rule, command_app};
-ghost use Rattle.command_line.specs.Choice.{commands, faults_of, is_given, plain_request};
+ghost use Rattle.clap.specs.Words.{Text, all_of, app_of, first_of, found_of, rows_of, rule_of, subcommand_rows_of, takes};
+ghost use Rattle.command_line.specs.Choice.{program, request_of, request_in, request_with, choice_with, command_app};
+ghost use Rattle.command_line.specs.Choice.{commands, faults_of, plain_request};
+ghost use Rattle.command_line.specs.ChoiceFault.{Gives};
+ghost use Rattle.command_line.specs.GivenFlags.{flag_rule, is_given};
+ghost use Rattle.command_line.specs.MetricsChoice.{all_by, labels_in, metrics_with};
 ghost use Rattle.command_line.specs.Program.{IsRefusalOf};
-ghost use Rattle.command_line.specs.Entries.{entry_of};
+ghost use Rattle.command_line.specs.Entries.{entry_of, flag_of};
 
 pub mod commands;
 pub mod fault;
 mod help;
 pub mod part;
+pub mod word_fault;
 
 use clap::error::ErrorKind;
 use clap::{Arg, ArgAction, ArgMatches, Command};
-use commands::{Choice, CommandEntry, CommandName, Flag, Request, command_named};
+use commands::{Choice, CommandEntry, CommandName, Flag, Request, Takes, command_named};
 use fault::ChoiceFault;
+use module_metrics::Labels;
 use notices::VERSION_WITH_TEXTS;
 use std::alloc::{AllocError, Global};
+use word_fault::WordFault;
 
 /// The flag as an argument of its command.
 fn flag<'a>(alloc: Global, flag: &Flag) -> Arg<'a>
-    ensures rule { rule_of result ≡ flag_rule flag.now.name.now }
+    ensures rule { rule_of result ≡ flag_rule (flag_of flag.now) }
     ensures local { result.global ≡ false }
 {
-    Arg::new(alloc, flag.name)
-        .long(flag.name)
-        .action(ArgAction::SetTrue)
-        .help(flag.help)
+    let named = Arg::new(alloc, flag.name).long(flag.name).help(flag.help);
+    match flag.takes {
+        Takes::Nothing => named.action(ArgAction::SetTrue),
+        Takes::Word => named.action(ArgAction::Set).value_name(flag.word),
+        Takes::Words => named.action(ArgAction::Append).value_name(flag.word),
+    }
 }
 
 /// A command with its flags.
@@ -86,84 +94,152 @@ fn has_flag(given: Option<&ArgMatches<'_>>, flag: &str) -> bool
 }
 
 /// A command with its own flags, by its matches; without any, no flag is given.
-fn choice_with(command: CommandName, given: Option<&ArgMatches<'_>>) -> Choice
-    ensures { result ≡ choice_with command (option_map_or (λ matches. rows_of (found_of matches.now)) given.entry []) }
+fn choice_with(
+    alloc: Global,
+    command: CommandName,
+    given: Option<&ArgMatches<'_>>,
+) -> Result<Choice, ChoiceFault>
+    ensures { Gives (choice_with command (option_map_or (λ matches. rows_of (found_of matches.now)) given.entry [])) result }
 {
     match command {
-        CommandName::Report(report) => Choice::Report {
+        CommandName::Report(report) => Ok(Choice::Report {
             report,
             bus: has_flag(given, "bus"),
-        },
-        CommandName::Plan => Choice::Plan {
+        }),
+        CommandName::Metrics => metrics_with(alloc, given),
+        CommandName::Plan => Ok(Choice::Plan {
             keep: has_flag(given, "keep"),
-        },
-        CommandName::Draw => Choice::Draw {
+        }),
+        CommandName::Draw => Ok(Choice::Draw {
             svg: has_flag(given, "svg"),
             keep: has_flag(given, "keep"),
-        },
-        CommandName::Check => Choice::Check {
+        }),
+        CommandName::Check => Ok(Choice::Check {
             first: has_flag(given, "first"),
-        },
-        CommandName::Provision => Choice::Provision {
+        }),
+        CommandName::Provision => Ok(Choice::Provision {
             activate: has_flag(given, "activate"),
             keep: has_flag(given, "keep"),
-        },
-        CommandName::Trace => Choice::Trace {
+        }),
+        CommandName::Trace => Ok(Choice::Trace {
             activate: has_flag(given, "activate"),
             keep: has_flag(given, "keep"),
-        },
+        }),
     }
+}
+
+/// `metrics` with its flags, whose words have to be right.
+fn metrics_with(alloc: Global, given: Option<&ArgMatches<'_>>) -> Result<Choice, ChoiceFault>
+    ensures { Gives (metrics_with (option_map_or (λ matches. rows_of (found_of matches.now)) given.entry [])) result }
+{
+    let labels = labels_in(alloc, given)?;
+    let all = all_by(word_after(given, "flags"))?;
+    Ok(Choice::Metrics {
+        bus: has_flag(given, "bus"),
+        all,
+        labels,
+    })
+}
+
+// Whether the word asks for each flag of the module.
+fn all_by(word: Option<&str>) -> Result<bool, WordFault>
+    ensures { result ≡ all_by (option_map (λ word. word.now) word.entry) }
+{
+    match word {
+        Some(word) => {
+            if word == "all" {
+                Ok(true)
+            } else {
+                Err(WordFault::Flags)
+            }
+        }
+        None => Ok(false),
+    }
+}
+
+// The labels that the words give.
+fn labels_in(alloc: Global, given: Option<&ArgMatches<'_>>) -> Result<Labels, ChoiceFault>
+    ensures { Gives (labels_in (option_map_or (λ matches. rows_of (found_of matches.now)) given.entry [])) result }
+{
+    let mut labels = Labels::new(alloc);
+    let Some(words) = words_after(given, "label") else {
+        return Ok(labels);
+    };
+    for word in words {
+        labels.add(alloc, *word)?;
+    }
+    Ok(labels)
+}
+
+// The word that follows a flag.
+fn word_after<'a>(given: Option<&ArgMatches<'a>>, flag: &str) -> Option<&'a str>
+    ensures { option_map (λ word. word.now) result
+        ≡ first_of flag.now (option_map_or (λ matches. rows_of (found_of matches.now)) given.entry []) }
+{
+    given?.get_str(flag)
+}
+
+// The words that follow it each time that it is given.
+fn words_after<'b, 'a>(given: Option<&'b ArgMatches<'a>>, flag: &str) -> Option<&'b [&'a str]>
+    ensures { option_map (λ words. map (λ word. word.now) words.now) result
+        ≡ all_of flag.now (option_map_or (λ matches. rows_of (found_of matches.now)) given.entry []) }
+{
+    given?.get_strs(flag)
 }
 
 /// The same, and the form of the answer.
-fn request_with(command: CommandName, given: Option<&ArgMatches<'_>>) -> Request
-    ensures { result ≡ request_with command (option_map_or (λ matches. rows_of (found_of matches.now)) given.entry []) }
+fn request_with(
+    alloc: Global,
+    command: CommandName,
+    given: Option<&ArgMatches<'_>>,
+) -> Result<Request, ChoiceFault>
+    ensures { Gives (request_with command (option_map_or (λ matches. rows_of (found_of matches.now)) given.entry [])) result }
 {
-    Request {
-        choice: choice_with(command, given),
+    Ok(Request {
+        choice: choice_with(alloc, command, given)?,
         json: has_flag(given, "json"),
-    }
+    })
 }
 
 /// What the matches of the program ask for.
-fn requested(matches: &ArgMatches<'_>) -> Request
+fn requested(alloc: Global, matches: &ArgMatches<'_>) -> Result<Request, ChoiceFault>
     requires { IsSome (request_in (subcommand_rows_of matches.now)) }
-    ensures { request_in (subcommand_rows_of matches.now) ≡ Some result }
+    ensures { IfSome (request_in (subcommand_rows_of matches.now)) (λ asked. Gives asked result) }
 {
     let (name, given) = matches.subcommand().unwrap();
     let entry = command_named(name).unwrap();
-    request_with(entry.command, Some(given))
+    request_with(alloc, entry.command, Some(given))
 }
 
 // What a command's name alone asks for; `clap` need not be asked.
-fn plain_request(words: &[String]) -> Option<Request>
-    ensures answer { IfSome result (λ request. request_of (map string_bytes words.now) ≡ Some request) }
+fn plain_request(alloc: Global, words: &[String]) -> Option<Request>
+    ensures answer { IfSome result (λ request. request_of (map string_bytes words.now) ≡ Some (Ok request)) }
     ensures taken { IfSome result (λ _. faults_of (map string_bytes words.now) ≡ []) }
 {
     let [_, name] = words else {
         return None;
     };
     let entry = command_named(name)?;
-    Some(request_with(entry.command, None))
+    request_with(alloc, entry.command, None).ok()
 }
 
 // What the words ask for, as `clap` reads them.
 fn parsed(alloc: Global, words: &[String]) -> Result<Request, ChoiceFault>
-    ensures answer { IfOk result (λ request. request_of (map string_bytes words.now) ≡ Some request) }
+    ensures answer { IfOk result (λ request. request_of (map string_bytes words.now) ≡ Some (Ok request)) }
     ensures taken { IfOk result (λ _. faults_of (map string_bytes words.now) ≡ []) }
     ensures refused { IfErr result (IsRefusalOf (map string_bytes words.now)) }
 {
     let matches = program(alloc)?.try_get_matches_from(words)?;
-    Ok(requested(&matches))
+    requested(alloc, &matches)
 }
 
 /// What the words ask for, of which the first is the program's name.
 pub fn request(alloc: Global, words: &[String]) -> Result<Request, ChoiceFault>
-    ensures answer { IfOk result (λ request. request_of (map string_bytes words.now) ≡ Some request) }
+    ensures answer { IfOk result (λ request. request_of (map string_bytes words.now) ≡ Some (Ok request)) }
     ensures taken { IfOk result (λ _. faults_of (map string_bytes words.now) ≡ []) }
     ensures refused { IfErr result (IsRefusalOf (map string_bytes words.now)) }
 {
-    match plain_request(words) {
+    match plain_request(alloc, words) {
         Some(request) => Ok(request),
         None => parsed(alloc, words),
     }
@@ -175,7 +251,7 @@ pub fn names_choose_their_commands()
         → list_all (λ entry. takes program (program_name ∷ entry.name ∷ [])) commands ≡ true }
     ensures chosen { (program_name : Text)
         → map (λ entry. request_of (program_name ∷ entry.name ∷ [])) commands
-        ≡ map (λ entry. Some (plain_request entry.command)) commands }
+        ≡ map (λ entry. Some (Ok (plain_request entry.command))) commands }
 {}
 
 /// Help and the version come by their flags alone, `help` is no command, and some command is wanted.

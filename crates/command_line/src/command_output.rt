@@ -1,12 +1,12 @@
 //! What a command tells.
 
 use crate::remark::Warnings;
-use control_sets::ProvisionFault;
+use crate::told_fault::ToldFault;
 
-/// A text, why the procedure that it tells of ended without success, if it did, and what is odd about its plan.
+/// A text, the fault that it tells of, if there is one, and what is odd about its plan.
 #[derive(Drop)]
 pub struct CommandOutput {
     pub text: Vec<u8>,
-    pub fault: Option<ProvisionFault>,
+    pub fault: Option<ToldFault>,
     pub warnings: Warnings,
 }

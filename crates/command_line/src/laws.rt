@@ -5,7 +5,8 @@ ghost use Rattle.command_line.specs.Limits.{input_limit};
 ghost use Rattle.command_line.specs.Parts.{parts_of};
 ghost use Rattle.command_line.specs.PlanThenCheck.{input_with, IsEnded, IsGoodBehind, IsGoodBehindInput, IsGoodInPlace};
 ghost use Rattle.command_line.specs.SameOverBus.{IsToldAlike};
-ghost use Rattle.command_line.specs.declared.choice.commands.Choice.TheVariants.{Plan, Report};
+ghost use Rattle.module_metrics.specs.Exposition.{Label};
+ghost use Rattle.command_line.specs.declared.choice.commands.Choice.TheVariants.{Metrics, Plan, Report};
 ghost use Rattle.command_line.specs.declared.choice.commands.ReportName.{ReportName};
 
 /// What `plan` writes, `check` calls good, and writes the plan: behind the input of `plan`, whose last line is ended, and a
@@ -23,7 +24,9 @@ pub fn what_is_planned_is_good()
 {}
 
 /// What a report prints with `--bus`, and how it ends, is what it prints without and how it ends then, with `--json` and without
-/// it, unless the module was not read whole, or an allocation or a read was refused.
+/// it, unless the module was not read whole, or an allocation or a read was refused. So it is with metrics, whatever labels they
+/// have, and whether all flags are told or those that are raised.
 pub fn a_bus_changes_no_report()
-    ensures { (report : ReportName) (json : Bool) → IsToldAlike (λ bus. in_form json (Report report bus)) }
+    ensures reports { (report : ReportName) (json : Bool) → IsToldAlike (λ bus. in_form json (Report report bus)) }
+    ensures metrics { (labels : List Label) (all json : Bool) → IsToldAlike (λ bus. in_form json (Metrics bus all labels)) }
 {}

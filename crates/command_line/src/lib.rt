@@ -14,6 +14,7 @@ mod parts;
 mod program;
 mod remark;
 mod status;
+mod told_fault;
 
 pub use fault::Fault;
 pub use input::{CountedReader, MAX_READS, read_input};

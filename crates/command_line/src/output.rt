@@ -13,6 +13,7 @@ mod stopping_writer;
 use crate::command_output::CommandOutput;
 use crate::fault::Fault;
 use crate::status::Status;
+use crate::told_fault::ToldFault;
 pub use fault_form::FaultForm;
 use reading_fault::ReadingFault;
 use std::io;
@@ -63,7 +64,8 @@ fn write_output<W: Write>(
     }
     match output.fault {
         None => Status::Done,
-        Some(fault) => match form {
+        Some(ToldFault::Metrics(fault)) => Fault::from(fault).status(),
+        Some(ToldFault::Procedure(fault)) => match form {
             FaultForm::Line => write_fault(writer, Fault::Provision(fault), form),
             FaultForm::Json(_) => Status::NotProvisioned,
             FaultForm::Ready => Status::NotProvisioned,

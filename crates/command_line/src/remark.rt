@@ -54,7 +54,7 @@ impl Remark {
     {
         match answer {
             Ok(output) => match output.fault {
-                Some(fault) => Remark::of(Fault::Provision(fault), clue),
+                Some(told) => Remark::of(told.fault(), clue),
                 None => Remark::Warned(output.warnings),
             },
             Err(fault) => Remark::of(*fault, clue),

@@ -3,6 +3,8 @@ ghost use Rattle.std.specs.Prelude.{◌≡◌, map, option_copied, option_map};
 ghost use Rattle.command_line.specs.Choice.{commands, entry_named};
 ghost use Rattle.command_line.specs.Entries.{entry_of};
 
+use module_metrics::Labels;
+
 /// A report of a module.
 #[derive(Clone, Copy)]
 pub enum ReportName {
@@ -17,6 +19,7 @@ pub enum ReportName {
 #[derive(Clone, Copy)]
 pub enum CommandName {
     Report(ReportName),
+    Metrics,
     Plan,
     Draw,
     Check,
@@ -25,12 +28,20 @@ pub enum CommandName {
 }
 
 /// A command, with the flags that are its own.
-#[derive(Clone, Copy)]
+#[derive(Drop)]
 pub enum Choice {
     Report {
         report: ReportName,
         /// Whether the module is to be read over a bus.
         bus: bool,
+    },
+    Metrics {
+        /// As for `Report`.
+        bus: bool,
+        /// Whether each flag is to be told, raised or not.
+        all: bool,
+        /// What is added to all samples.
+        labels: Labels,
     },
     Plan {
         /// Whether the plan is to keep data paths that the input names.
@@ -60,17 +71,31 @@ pub enum Choice {
 }
 
 /// What the command line asks for: a command, and the form of its answer.
-#[derive(Clone, Copy)]
+#[derive(Drop)]
 pub struct Request {
     pub choice: Choice,
     /// Whether the answer is to be JSON.
     pub json: bool,
 }
 
-/// A flag, given as `--name`.
+/// What follows a flag.
+#[derive(Clone, Copy)]
+pub enum Takes {
+    /// Nothing: it is given as `--name`.
+    Nothing,
+    /// A word: it is given as `--name WORD`.
+    Word,
+    /// The same, and it may be given any number of times.
+    Words,
+}
+
+/// A flag.
 #[derive(Clone, Copy)]
 pub struct Flag {
     pub name: &'static str,
+    pub takes: Takes,
+    /// What help calls the word that follows.
+    pub word: &'static str,
     /// What help says of it.
     pub help: &'static str,
 }
@@ -90,36 +115,64 @@ pub struct CommandEntry {
 /// Asks for a reading over a bus.
 const BUS: Flag = Flag {
     name: "bus",
+    takes: Takes::Nothing,
+    word: "",
     help: "Read the module over a simulated bus, as a host does",
 };
 
 /// Asks for JSON.
 const JSON: Flag = Flag {
     name: "json",
+    takes: Takes::Nothing,
+    word: "",
     help: "Print the answer, or the fault, as JSON",
 };
 
 /// Asks for activation.
 const ACTIVATE: Flag = Flag {
     name: "activate",
+    takes: Takes::Nothing,
+    word: "",
     help: "Bring the plan's data paths up as well",
 };
 
 /// Asks for a plan that keeps data paths.
 const KEEP: Flag = Flag {
     name: "keep",
+    takes: Takes::Nothing,
+    word: "",
     help: "Keep data paths: a further part of the input names them, after the weights",
 };
 
 /// Asks for an SVG.
 const SVG: Flag = Flag {
     name: "svg",
+    takes: Takes::Nothing,
+    word: "",
     help: "Draw the plan as an SVG",
+};
+
+/// Asks for a label.
+const LABEL: Flag = Flag {
+    name: "label",
+    takes: Takes::Words,
+    word: "KEY=VALUE",
+    help: "Add a label to each sample; it may be given several times",
+};
+
+/// Asks for each flag of the module.
+const FLAGS: Flag = Flag {
+    name: "flags",
+    takes: Takes::Word,
+    word: "all",
+    help: "Tell of each flag whether it is raised, and not of those alone that are",
 };
 
 /// Asks whether a plan is the first of the best.
 const FIRST: Flag = Flag {
     name: "first",
+    takes: Takes::Nothing,
+    word: "",
     help: "Say whether the plan is the first of the best, which is the one that 'plan' prints",
 };
 
@@ -146,6 +199,7 @@ pub fn commands() -> &'static [CommandEntry]
         "monitors" Report(Monitors) [BUS JSON] "Print what the module measures";
         "flags" Report(Flags) [BUS JSON] "Print the states of the module and its lanes, and the flags that are raised";
         "details" Report(Details) [BUS JSON] "Print all that the module says of itself, with names";
+        "metrics" Metrics [BUS LABEL FLAGS] "Print what 'inventory', 'monitors' and 'flags' say, as metrics for Prometheus";
         "plan" Plan [KEEP JSON] "Print the plan that weighs most for an image and weights, with its certificate";
         "draw" Draw [SVG KEEP] "Draw the plan, and say for each host lane what else could have been done there";
         "check" Check [FIRST JSON] "Judge a certificate for an image and weights, and print its plan if it is good";

@@ -1,15 +1,18 @@
 //! Why a command line gives no choice, and what the program then says.
-ghost use Rattle.std.specs.Prelude.{◌≡◌, true};
-ghost use Rattle.command_line.specs.ChoiceFault.{fault_of_error, status_by_kind};
+ghost use Rattle.std.specs.Prelude.{◌≡◌, true, is_err};
+ghost use Rattle.command_line.specs.ChoiceFault.{fault_of_error, fault_of_label, status_by_kind};
+ghost use Rattle.command_line.specs.Runs.{ended};
 ghost use Rattle.clap.specs.Words.{kind_of};
 ghost use Rattle.command_line.specs.Program.{IsRefusalSaid};
 ghost use Rattle.command_line.specs.StoppingWriter.{contents_of, writing_failed};
-ghost use Rattle.command_line.specs.declared.choice.fault.ChoiceFault.TheVariants.{Memory};
+ghost use Rattle.command_line.specs.declared.choice.fault.ChoiceFault.TheVariants.{Memory, Word};
 
+use super::word_fault::WordFault;
 use crate::fault::Fault;
 use crate::output::{FaultForm, OutputFault, StoppingWriter, write_answer};
 use crate::status::Status;
 use clap::error::ErrorKind;
+use module_metrics::LabelFault;
 use std::alloc::AllocError;
 use std::io::Write;
 use thiserror::Error;
@@ -23,6 +26,9 @@ pub enum ChoiceFault {
     /// The words are refused, or ask for help.
     #[error(transparent)]
     Line(clap::Error),
+    /// The words are taken, but one that follows a flag is wrong.
+    #[error("{0}")]
+    Word(WordFault),
 }
 
 impl From<clap::Error> for ChoiceFault {
@@ -32,6 +38,25 @@ impl From<clap::Error> for ChoiceFault {
         match error.kind() {
             ErrorKind::OutOfMemory => ChoiceFault::Memory,
             _ => ChoiceFault::Line(error),
+        }
+    }
+}
+
+impl From<WordFault> for ChoiceFault {
+    ghost from_gives = { λ word fault. fault ≡ Word word };
+
+    fn from(word: WordFault) -> ChoiceFault {
+        ChoiceFault::Word(word)
+    }
+}
+
+impl From<LabelFault> for ChoiceFault {
+    ghost from_gives = { λ label fault. fault ≡ fault_of_label label };
+
+    fn from(fault: LabelFault) -> ChoiceFault {
+        match fault {
+            LabelFault::Memory => ChoiceFault::Memory,
+            _ => ChoiceFault::Word(WordFault::Label(fault)),
         }
     }
 }
@@ -50,11 +75,19 @@ pub fn choice_refused<W: Write>(fault: &ChoiceFault, writer: &mut StoppingWriter
         (contents_of W.contents writer.new) (writing_failed writer.new) result }
     ensures stopped { writing_failed writer.old ≡ true → writer.new ≡ writer.old }
 {
-    let ChoiceFault::Line(error) = fault else {
-        return write_answer(writer, Err(Fault::Memory), &FaultForm::Line);
-    };
-    match writer.put_text(error) {
-        Ok(()) => status_of(error),
+    match fault {
+        ChoiceFault::Memory => write_answer(writer, Err(Fault::Memory), &FaultForm::Line),
+        ChoiceFault::Line(error) => status_after(writer.put_text(error), status_of(error)),
+        ChoiceFault::Word(fault) => status_after(writer.put_text(*fault), Status::CommandLine),
+    }
+}
+
+// How the program ends once this was written.
+fn status_after(written: Result<(), OutputFault>, status: Status) -> Status
+    ensures { result ≡ ended (is_err written) status }
+{
+    match written {
+        Ok(()) => status,
         Err(OutputFault) => Status::ReadOrWrite,
     }
 }

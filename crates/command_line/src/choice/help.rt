@@ -64,6 +64,9 @@ pub fn of_command(command: CommandName) -> &'static str {
         CommandName::Report(ReportName::Details) => end!([image] []
             ["details < examples/qsfp28_100g_sr4.txt" "details --bus < examples/osfp_800g_dr8.txt"
                 "details --json < examples/sfp_10g_lr.txt"]),
+        CommandName::Metrics => end!([image] []
+            ["metrics < examples/osfp_800g_dr8.txt" "metrics --bus --label port=Ethernet0 < examples/qsfp28_100g_sr4.txt"
+                "metrics --flags all < examples/sfp_10g_lr_dim.txt"]),
         CommandName::Plan => end!([image weights kept] []
             ["plan < examples/breakouts_400g_dr4.txt" "plan --keep < examples/keep_800g_dr8.txt"
                 "plan --json < examples/breakouts_400g_dr4.txt"]),

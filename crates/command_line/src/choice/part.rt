@@ -18,11 +18,11 @@ pub enum Part {
 
 impl Choice {
     /// The parts that the input has, in their order.
-    pub fn parts(self) -> &'static [Part]
-        ensures { result.now ≡ parts_read self }
+    pub fn parts(&self) -> &'static [Part]
+        ensures { result.now ≡ parts_read self.now }
     {
         match self {
-            Choice::Report { .. } => &[Part::Image],
+            Choice::Report { .. } | Choice::Metrics { .. } => &[Part::Image],
             Choice::Plan { keep: false } | Choice::Draw { keep: false, .. } => {
                 &[Part::Image, Part::Weights]
             }

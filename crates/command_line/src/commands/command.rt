@@ -10,6 +10,7 @@ ghost use Rattle.command_line.specs.FaultForms.{output_in};
 
 use super::check_command::check;
 use super::draw_command::draw;
+use super::metrics_command::print_metrics;
 use super::plan_command::plan;
 use super::provision_command::provision;
 use super::report_commands::report;
@@ -36,7 +37,7 @@ pub fn run<R: Read, W: Write>(
     ensures { IsCommandRun R.remaining W.contents request.json (IsAnswerOf request)
         reader.old reader.new writer.old writer.new result }
 {
-    let Reply { answer, clue, form } = read_and_answer(alloc, request, reader);
+    let Reply { answer, clue, form } = read_and_answer(alloc, &request, reader);
     let remark = Remark::beside(&answer, clue);
     let status = write_answer(writer, answer, &form);
     Ending::after(status, remark, writer)
@@ -52,17 +53,21 @@ struct Reply {
 
 // The answer to what is read.
 #[tactic(auto, using(crate::proofs::FaultForms::of_reading))]
-fn read_and_answer<R: Read>(alloc: Global, request: Request, reader: &mut CountedReader<R>) -> Reply
+fn read_and_answer<R: Read>(
+    alloc: Global,
+    request: &Request,
+    reader: &mut CountedReader<R>,
+) -> Reply
     ensures reads { reads_of reader.new ≤ read_limit }
     ensures taken { TakesWithinLimit (remaining_of R.remaining reader.old)
         (remaining_of R.remaining reader.new) (result.answer ≡ Err Fault.TooLong) }
     ensures reading { SaysReading (reading_failed reader.new) (answer_of result.answer) }
     ensures answer { IfSome (remaining_of R.remaining reader.old)
-        (λ input. IsAnswerOf request input (answer_of result.answer)) }
+        (λ input. IsAnswerOf request.now input (answer_of result.answer)) }
     ensures clue { IfSome (remaining_of R.remaining reader.old)
         (λ input. result.clue.opening ≡ opening_beside (answer_of result.answer) input) }
     ensures output { output_in result.form (answer_of result.answer)
-        ≡ output_of request.json result.clue.opening (answer_of result.answer) }
+        ≡ output_of request.now.json result.clue.opening (answer_of result.answer) }
 {
     let input = match read_input(alloc, reader) {
         Ok(input) => input,
@@ -79,14 +84,14 @@ fn read_and_answer<R: Read>(alloc: Global, request: Request, reader: &mut Counte
 
 // The answer to an input that was read; if there is no memory for the form of its fault, that is the answer.
 #[tactic(auto, using(crate::proofs::FaultForms::of_reading))]
-fn answered(alloc: Global, request: Request, input: &[u8]) -> Reply
+fn answered(alloc: Global, request: &Request, input: &[u8]) -> Reply
     requires limit { length input.now ≤ input_limit }
-    ensures answer { IsAnswerOf request input.now (answer_of result.answer) }
+    ensures answer { IsAnswerOf request.now input.now (answer_of result.answer) }
     ensures read { IfErr result.answer (λ fault. fault ≢ Fault.Io) }
     ensures length { IfErr result.answer (λ fault. fault ≢ Fault.TooLong) }
     ensures clue { result.clue.opening ≡ opening_beside (answer_of result.answer) input.now }
     ensures output { output_in result.form (answer_of result.answer)
-        ≡ output_of request.json result.clue.opening (answer_of result.answer) }
+        ≡ output_of request.now.json result.clue.opening (answer_of result.answer) }
 {
     let answer = answer(alloc, request, input);
     let clue = Clue::of(&answer, input);
@@ -100,9 +105,9 @@ fn answered(alloc: Global, request: Request, input: &[u8]) -> Reply
     }
 }
 
-fn answer(alloc: Global, request: Request, input: &[u8]) -> Result<CommandOutput, Fault>
+fn answer(alloc: Global, request: &Request, input: &[u8]) -> Result<CommandOutput, Fault>
     requires limit { length input.now ≤ input_limit }
-    ensures answer { IsAnswerOf request input.now (answer_of result) }
+    ensures answer { IsAnswerOf request.now input.now (answer_of result) }
     ensures read { IfErr result (λ fault. fault ≢ Fault.Io) }
     ensures length { IfErr result (λ fault. fault ≢ Fault.TooLong) }
 {
@@ -116,8 +121,8 @@ fn answer(alloc: Global, request: Request, input: &[u8]) -> Result<CommandOutput
 }
 
 // What the command itself answers to the texts of its parts.
-fn answer_to(alloc: Global, request: Request, texts: &Texts<'_>) -> Result<CommandOutput, Fault>
-    ensures answer { IsOwnAnswer (IsAnswerToTexts request.choice request.json
+fn answer_to(alloc: Global, request: &Request, texts: &Texts<'_>) -> Result<CommandOutput, Fault>
+    ensures answer { IsOwnAnswer (IsAnswerToTexts request.now.choice request.now.json
         (text_in texts.now.parts.now (map (λ text. text.now) texts.now.texts.now))) (answer_of result) }
     ensures read { IfErr result (λ fault. fault ≢ Fault.Io) }
 {
@@ -126,25 +131,26 @@ fn answer_to(alloc: Global, request: Request, texts: &Texts<'_>) -> Result<Comma
     let kept = texts.of(Part::Kept);
     let script = texts.of(Part::Script);
     let json = request.json;
-    match request.choice {
-        Choice::Report { report: name, bus } => report(alloc, name, bus, json, image),
+    match &request.choice {
+        Choice::Report { report: name, bus } => report(alloc, *name, *bus, json, image),
+        Choice::Metrics { bus, all, labels } => print_metrics(alloc, *bus, *all, labels, image),
         Choice::Plan { .. } => plan(alloc, json, image, weights, kept),
-        Choice::Draw { svg, .. } => draw(alloc, svg, image, weights, kept),
+        Choice::Draw { svg, .. } => draw(alloc, *svg, image, weights, kept),
         Choice::Check { first } => {
             check(
                 alloc,
                 json,
-                first,
+                *first,
                 image,
                 weights,
                 texts.of(Part::Certificate),
             )
         }
         Choice::Provision { activate, .. } => {
-            provision(alloc, json, false, activate, image, weights, kept, script)
+            provision(alloc, json, false, *activate, image, weights, kept, script)
         }
         Choice::Trace { activate, .. } => {
-            provision(alloc, json, true, activate, image, weights, kept, script)
+            provision(alloc, json, true, *activate, image, weights, kept, script)
         }
     }
 }

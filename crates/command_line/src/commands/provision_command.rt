@@ -1,4 +1,4 @@
-ghost use Rattle.std.specs.Prelude.{◌≡◌, ◌≢◌, IfErr, IfOk};
+ghost use Rattle.std.specs.Prelude.{◌≡◌, ◌≢◌, IfErr, IfOk, option_map};
 ghost use Rattle.text_lines.specs.Lines.{text_of};
 ghost use Rattle.command_line.specs.ProvisionCommand.{IsProcedureAnswer, steps_lines, told_output, told_text, told_tree};
 ghost use Rattle.report_entries.specs.EntryJson.{json_text};
@@ -9,6 +9,7 @@ use super::session::{Session, carry_out, set_up};
 use crate::command_output::CommandOutput;
 use crate::fault::Fault;
 use crate::remark::Explained;
+use crate::told_fault::ToldFault;
 use bus_model::Step;
 use control_sets::ProvisionFault;
 use reports::{Outcome, procedure_json, trace_text};
@@ -43,9 +44,18 @@ pub fn provision(
     let fault = fault_of(&ended);
     Ok(CommandOutput {
         text: output(alloc, is_json, is_traced, bus.steps(), outcome, fault)?,
-        fault,
+        fault: told(fault),
         warnings,
     })
+}
+
+fn told(fault: Option<ProvisionFault>) -> Option<ToldFault>
+    ensures { result ≡ option_map ToldFault.Procedure fault }
+{
+    match fault {
+        Some(fault) => Some(ToldFault::Procedure(fault)),
+        None => None,
+    }
 }
 
 // What is told of steps, of what came of them, and of a fault.

@@ -21,4 +21,4 @@ returns c =
     (ap (option_map _) (sym c.unwrap.ensures) ∙ c.subcommand.ensures.name) (ap (option_map _) (sym c.unwrap.ensures) ∙ c.subcommand.ensures.rows) in
     let entry : entry_named c.unwrap.result.0.now ≡ Some (entry_of c.unwrap-entry.result.now) =
     sym c.command_named.ensures ∙ ap (λ o. option_map entry_of (option_copied o)) c.unwrap-entry.ensures in
-    rw (met, entry) (cc)
+    rw (met, entry) c.request_with.ensures

@@ -1,5 +1,9 @@
+use Rattle.command_line.proofs.SameMetrics.{metrics_told_alike}
 use Rattle.command_line.proofs.SameOverBus.{each_told_alike}
 use Rattle.command_line.proofs.laws.a_bus_changes_no_report.Goals as goal
 
-pub returns : goal.returns
-returns c = each_told_alike
+pub returns-clause-reports : goal.returns-clause-reports
+returns-clause-reports c = each_told_alike
+
+pub returns-clause-metrics : goal.returns-clause-metrics
+returns-clause-metrics c = metrics_told_alike

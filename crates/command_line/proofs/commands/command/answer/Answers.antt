@@ -8,11 +8,11 @@ use Rattle.command_line.proofs.OwnAnswers.{few_parts, own_answer}
 use Rattle.command_line.proofs.commands.command.answer.Goals as goal
 
 pub parts-requires-clause-room : goal.parts-requires-clause-room
-parts-requires-clause-room c = rw c.parts-read.ensures (few_parts c.args.request.choice)
+parts-requires-clause-room c = rw c.parts-read.ensures (few_parts c.args.request.now.choice)
 
 pub returns-clause-answer : goal.returns-clause-answer
 returns-clause-answer c =
-    let choice = c.args.request.choice in
+    let choice = c.args.request.now.choice in
     let input = c.args.input.now in
     let given = c.as_slice.result.now in
     let are : map (λ part. part.now) given ≡ parts_of input =
@@ -21,4 +21,4 @@ returns-clause-answer c =
     let read = ap (λ (parts : List Part). length parts) c.parts-read.ensures in
     let cut : length (parts_of input) ≡ length (parts_read choice) =
     omega (arith, simp length-map at counted, ap length c.as_slice.ensures.value, c.in_ok-texts.ensures.1, read) in
-    own_answer (parts_read choice) (IsAnswerToTexts choice c.args.request.json) input _ c.requires.limit cut (rw (are, c.parts-read.ensures) at c.answer_to.ensures.answer)
+    own_answer (parts_read choice) (IsAnswerToTexts choice c.args.request.now.json) input _ c.requires.limit cut (rw (are, c.parts-read.ensures) at c.answer_to.ensures.answer)

@@ -19,3 +19,6 @@ returns-in-Provision-clause-answer c =
 pub returns-in-Trace-clause-answer : goal.returns-in-Trace-clause-answer
 returns-in-Trace-clause-answer c =
     rw c.in-Trace.is (rw (c.of-image.ensures, c.of-weights.ensures, c.of-kept.ensures, c.of-script.ensures) at c.provision-in-Trace.ensures.answer)
+
+pub returns-in-Metrics-clause-answer : goal.returns-in-Metrics-clause-answer
+returns-in-Metrics-clause-answer c = rw c.in-Metrics.is (rw c.of-image.ensures at c.print_metrics.ensures.answer)

@@ -29,5 +29,5 @@ returns-clause-answer c =
     let told = told_as c.args.is_json c.args.is_traced after provisioned activated text c.active.result c.steps.result.now c.outcome_of-outcome.result c.fault_of-fault.result
     c.in_ok-output.ensures c.outcome_of-outcome.ensures c.steps.ensures (c.active.ensures ∙ ap active_bytes c.device.ensures) in
     carried c.args.image.now c.args.weights.now c.args.kept.now c.args.script.now c.in_ok-advert.field-0 c.in_ok-advert.ensures.answer
-    c.args.is_json c.args.is_traced c.args.is_activated text after provisioned activated c.fault_of-fault.result
-    c.carry_out-ended.ensures told c.fault_of-fault.ensures
+    c.args.is_json c.args.is_traced c.args.is_activated text after provisioned activated c.fault_of-fault.result c.told.result
+    c.carry_out-ended.ensures told c.fault_of-fault.ensures c.told.ensures

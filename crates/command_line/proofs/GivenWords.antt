@@ -1,0 +1,118 @@
+-- What is answered to words that `clap` takes: what they ask for, or that a word of a flag is wrong.
+use Rattle.std.proofs.Common.{◌≡◌, ◌∙◌, ◌+◌, ◌<◌, ℕ, suc, arith, length, drop, drop-cons, get_or, subst, Bool, Bor, true, List, [], ◌∷◌, Option, Some, None, IfSome, Result, Ok, Err, IfOk, IfErr, is_some, map, ap, sym, refl, inl, inr}
+use Rattle.std.specs.Prelude.{MatchOption}
+use Rattle.std.specs.Result.{result_ok}
+use Rattle.clap.specs.Words.{Row, Text, first_of}
+use Rattle.module_metrics.specs.CommonLabels.{Adds, IsAdded, label_fault}
+use Rattle.module_metrics.specs.Exposition.{Label}
+use Rattle.module_metrics.specs.declared.label_fault.LabelFault.{LabelFault}
+use Rattle.module_metrics.specs.declared.label_fault.LabelFault.TheVariants as label
+use Rattle.command_line.specs.Choice.{faults_of, request_of}
+use Rattle.command_line.specs.ChoiceFault.{Gives, fault_of_label}
+use Rattle.command_line.specs.GivenFlags.{bus, flags_flag, is_given}
+use Rattle.command_line.specs.MetricsChoice.{all_by, labels_in, labels_with, metrics_with, more_labels, then_with}
+use Rattle.command_line.specs.Program.{IsRefusalOf}
+use Rattle.command_line.specs.declared.choice.commands.Choice.TheVariants.{Metrics}
+use Rattle.command_line.specs.declared.choice.commands.Request.{Request}
+use Rattle.command_line.specs.declared.choice.fault.ChoiceFault.{ChoiceFault}
+use Rattle.command_line.specs.declared.choice.fault.ChoiceFault.TheVariants.{Memory, Line, Word}
+use Rattle.command_line.specs.declared.choice.word_fault.WordFault.{WordFault}
+
+-- a fault is that of what is done after it
+pub given_then : {A B : Type 0} (f : A → Result B WordFault) (told : Result A WordFault) (e : ChoiceFault) → Gives told (Err e) → Gives (then_with f told) (Err e)
+given_then f told Memory gives = tt
+given_then f told (Line error) gives = absurd gives
+given_then f told (Word w) gives = ap (then_with f) gives
+
+-- ---- labels
+
+-- labels, and those of words after them, as the code has the words
+abbrev pub labels_of : List Label → List (Bor Text) → Result (List Label) WordFault
+labels_of labels words = labels_with labels (map (λ word. word.now) words)
+
+module _ (old new : List Label) (w : Text) (ws : List Text) where
+  abbrev after : Option LabelFault → Result (List Label) WordFault
+  after o = then_with (λ more. labels_with more ws) (more_labels old w o)
+
+  abbrev AddsBy : {T : Type 0} → Result T LabelFault → Option LabelFault → Type 0
+  AddsBy result o = MatchOption o (IsAdded old new w result) (λ fault. (result ≡ Err fault) × (new ≡ old))
+
+  added_by : {T : Type 0} (t : T) (o : Option LabelFault) → label_fault old w ≡ o → AddsBy (Ok t) o → labels_with old (w ∷ ws) ≡ labels_with new ws
+  added_by t None is added = ap after is ∙ ap (λ (ls : List Label). labels_with ls ws) (sym added)
+  added_by t (Some fault) is added = absurd cc
+
+  pub label_added : {T : Type 0} (t : T) → Adds old new w (Ok t) → labels_with old (w ∷ ws) ≡ labels_with new ws
+  label_added t adds = added_by t (label_fault old w) refl adds
+
+  wrong_by : (fault : LabelFault) → label_fault old w ≡ Some fault → Gives (labels_with old (w ∷ ws)) (Err (fault_of_label fault))
+  wrong_by label.Memory is = tt
+  wrong_by fault is = ap after is
+
+  refused_by : {T : Type 0} (r : Result T LabelFault) (fault : LabelFault) (o : Option LabelFault) → r ≡ Err fault → label_fault old w ≡ o → AddsBy r o
+      → Gives (labels_with old (w ∷ ws)) (Err (fault_of_label fault))
+  refused_by (Ok t) fault o same is adds = absurd cc
+  refused_by (Err f) fault None same is adds =
+      let memory : fault ≡ label.Memory = cc in
+      rw memory tt
+  refused_by (Err f) fault (Some g) same is adds =
+      let one : fault ≡ g = cc in
+      rw one (wrong_by g is)
+
+  pub label_refused : {T : Type 0} (r : Result T LabelFault) (fault : LabelFault) → r ≡ Err fault → Adds old new w r
+      → Gives (labels_with old (w ∷ ws)) (Err (fault_of_label fault))
+  label_refused r fault same adds = refused_by r fault (label_fault old w) same refl adds
+
+-- the same of the word at a place, and those after it
+module _ (old new : List Label) (words : List (Bor Text)) (i : ℕ) (d : Bor Text) (within : i < length words) where
+  place_known : labels_of old (drop i words) ≡ labels_with old ((get_or words i d).now ∷ map (λ word. word.now) (drop (i + 1) words))
+  place_known =
+      let next : suc i ≡ i + 1 = omega arith in
+      ap (labels_of old) (drop-cons words i d within) ∙ ap (λ (n : ℕ). labels_of old (get_or words i d ∷ drop n words)) next
+
+  pub word_added : {T : Type 0} (t : T) → Adds old new (get_or words i d).now (Ok t) → labels_of old (drop i words) ≡ labels_of new (drop (i + 1) words)
+  word_added t adds = place_known ∙ label_added old new (get_or words i d).now (map (λ word. word.now) (drop (i + 1) words)) t adds
+
+  pub word_refused : {T : Type 0} (r : Result T LabelFault) (fault : LabelFault) → r ≡ Err fault → Adds old new (get_or words i d).now r
+      → Gives (labels_of old (drop i words)) (Err (fault_of_label fault))
+  word_refused r fault same adds = subst (λ (told : Result (List Label) WordFault). Gives told (Err (fault_of_label fault))) (sym place_known)
+      (label_refused old new (get_or words i d).now (map (λ word. word.now) (drop (i + 1) words)) r fault same adds)
+
+-- ---- the flags of `metrics`
+
+module _ (rows : List Row) (labels : List Label) (are : labels_in rows ≡ Ok labels) where
+  pub metrics_given : (all : Bool) → all_by (first_of flags_flag rows) ≡ Ok all → metrics_with rows ≡ Ok (Metrics (is_given bus rows) all labels)
+  metrics_given all is = ap (then_with (λ ls. then_with (λ x. Ok (Metrics (is_given bus rows) x ls)) (all_by (first_of flags_flag rows)))) are
+      ∙ ap (then_with (λ x. Ok (Metrics (is_given bus rows) x labels))) is
+
+  pub metrics_wrong : (w : WordFault) → all_by (first_of flags_flag rows) ≡ Err w → metrics_with rows ≡ Err w
+  metrics_wrong w is = ap (then_with (λ ls. then_with (λ x. Ok (Metrics (is_given bus rows) x ls)) (all_by (first_of flags_flag rows)))) are
+      ∙ ap (then_with (λ x. Ok (Metrics (is_given bus rows) x labels))) is
+
+-- ---- what words ask for
+
+pub given_alone : (asked : Option (Result Request WordFault)) (told : Result Request WordFault) (r : Result Request ChoiceFault) (o : Option Request)
+    → asked ≡ Some told → Gives told r → o ≡ result_ok r → IfSome o (λ request. asked ≡ Some (Ok request))
+given_alone asked told (Ok request) o is gives same = rw same (is ∙ ap Some gives)
+given_alone asked told (Err e) o is gives same = rw same tt
+
+pub if_any : {T : Type 0} (o : Option T) (P : Type 0) → P → IfSome o (λ _. P)
+if_any None P p = tt
+if_any (Some x) P p = p
+
+pub if_ok : {T E : Type 0} (r : Result T E) (P : Type 0) → P → IfOk r (λ _. P)
+if_ok (Ok x) P p = p
+if_ok (Err e) P p = tt
+
+pub asked_for : (o : Option (Result Request WordFault)) (r : Result Request ChoiceFault) → is_some o ≡ true → IfSome o (λ asked. Gives asked r)
+    → IfOk r (λ request. o ≡ Some (Ok request))
+asked_for None r some gives = absurd cc
+asked_for (Some told) (Ok request) some gives = ap Some gives
+asked_for (Some told) (Err e) some gives = tt
+
+pub refused_for : (words : List Text) (o : Option (Result Request WordFault)) (r : Result Request ChoiceFault) → is_some o ≡ true → IfSome o (λ asked. Gives asked r)
+    → request_of words ≡ o → faults_of words ≡ [] → IfErr r (IsRefusalOf words)
+refused_for words None r some gives is none = absurd cc
+refused_for words (Some told) (Ok request) some gives is none = tt
+refused_for words (Some told) (Err Memory) some gives is none = inl (tt, λ _. refl)
+refused_for words (Some told) (Err (Line error)) some gives is none = absurd gives
+refused_for words (Some told) (Err (Word w)) some gives is none = inr (w, refl, none, is ∙ ap Some gives)

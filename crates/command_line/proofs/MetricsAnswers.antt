@@ -1,0 +1,25 @@
+-- The answer of `metrics`, by what reporting the image, or the fault alone, answers.
+use Rattle.std.proofs.Common.{◌≡◌, ℕ, Bool, List, Option, Result, Ok, Err, IfOk, IfErr, inl, inr}
+use Rattle.paged_memory.specs.Images.{Memory}
+use Rattle.module_metrics.specs.Exposition.{Label}
+use Rattle.reports.specs.declared.fault.ReportFault.{ReportFault}
+use Rattle.command_line.specs.MetricsCommand.{AreMetricsOf, IsFaultAlone, IsMetricsAnswer}
+use Rattle.command_line.specs.OverBus.{IsToReport, IsUnread}
+use Rattle.command_line.specs.Runs.{IsOwnAnswer, answer_of}
+use Rattle.command_line.specs.declared.command_output.CommandOutput.{CommandOutput}
+use Rattle.command_line.specs.declared.fault.Fault.{Fault}
+use Rattle.command_line.specs.declared.fault.Fault.TheVariants as fault
+
+module _ (bus all : Bool) (labels : List Label) (image : List ℕ) where
+  abbrev IsOwn : Result CommandOutput Fault → Type 0
+  IsOwn answer = IsOwnAnswer (IsMetricsAnswer bus all labels image) (answer_of answer)
+
+  pub of_memory : (memory : Memory) → IsToReport bus image memory → (answer : Result CommandOutput Fault)
+      → IfOk answer (λ output. AreMetricsOf all labels memory output.text.items output.fault) → IfErr answer (λ f. f ≡ fault.Memory) → IsOwn answer
+  of_memory memory read (Ok output) are none = inl (memory, read, are)
+  of_memory memory read (Err f) are none = rw none tt
+
+  pub of_fault_alone : (f : ReportFault) → IsUnread bus image f → (answer : Result CommandOutput Fault)
+      → IfOk answer (λ output. IsFaultAlone labels f output.text.items output.fault) → IfErr answer (λ g. g ≡ fault.Memory) → IsOwn answer
+  of_fault_alone f unread (Ok output) alone none = inr (f, unread, alone)
+  of_fault_alone f unread (Err g) alone none = rw none tt

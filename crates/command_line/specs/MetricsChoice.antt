@@ -1,0 +1,43 @@
+-- What the flags of `metrics` ask for, and why their words are wrong. (docs/formats.md, "Metrics"; this project's own)
+use Rattle.std.specs.Prelude.{Bool, true, false, if◌then◌else◌, List, [], ◌∷◌, ◌++◌, Option, Some, None, Result, Ok, Err, codes, unwrap_or}
+use Rattle.std.specs.Str.{bytes_eq}
+use Rattle.clap.specs.Words.{Row, Text, all_of, first_of}
+use Rattle.module_metrics.specs.CommonLabels.{key_of, label_fault, value_of}
+use Rattle.module_metrics.specs.Exposition.{Label, label}
+use Rattle.module_metrics.specs.declared.label_fault.LabelFault.{LabelFault}
+use Rattle.command_line.specs.GivenFlags.{bus, flags_flag, is_given, label_flag}
+use Rattle.command_line.specs.declared.choice.commands.Choice.{Choice}
+use Rattle.command_line.specs.declared.choice.commands.Choice.TheVariants.{Metrics}
+use Rattle.command_line.specs.declared.choice.word_fault.WordFault.{WordFault}
+use Rattle.command_line.specs.declared.choice.word_fault.WordFault.TheVariants as word
+
+-- each flag of the module is asked for by the word `all`
+abbrev pub all_by : Option Text → Result Bool WordFault
+all_by None = Ok false
+all_by (Some w) = if bytes_eq w (codes "all") then Ok true else Err word.Flags
+
+-- one label more, unless it has a fault
+abbrev pub more_labels : List Label → Text → Option LabelFault → Result (List Label) WordFault
+more_labels labels w None = Ok (labels ++ label (key_of w) (value_of w) ∷ [])
+more_labels labels w (Some fault) = Err (word.Label fault)
+
+abbrev pub with_label : List Label → Text → Result (List Label) WordFault
+with_label labels w = more_labels labels w (label_fault labels w)
+
+-- what is done with a success
+abbrev pub then_with : {A B : Type 0} → (A → Result B WordFault) → Result A WordFault → Result B WordFault
+then_with f (Ok x) = f x
+then_with f (Err fault) = Err fault
+
+-- labels, and those of words after them; the first fault is that of all
+abbrev pub labels_with : List Label → List Text → Result (List Label) WordFault
+labels_with labels [] = Ok labels
+labels_with labels (w ∷ ws) = then_with (λ more. labels_with more ws) (with_label labels w)
+
+abbrev pub labels_in : List Row → Result (List Label) WordFault
+labels_in rows = labels_with [] (unwrap_or (all_of label_flag rows) [])
+
+-- the labels are judged before the word of `--flags`
+abbrev pub metrics_with : List Row → Result Choice WordFault
+metrics_with rows =
+    then_with (λ labels. then_with (λ all. Ok (Metrics (is_given bus rows) all labels)) (all_by (first_of flags_flag rows))) (labels_in rows)

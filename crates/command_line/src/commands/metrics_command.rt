@@ -1,0 +1,71 @@
+ghost use Rattle.std.specs.Prelude.{◌≡◌, ◌≢◌, IfErr, IfOk, option_map};
+ghost use Rattle.command_line.specs.MetricsCommand.{AreMetricsOf, IsFaultAlone, IsMetricsAnswer};
+ghost use Rattle.command_line.specs.Runs.{IsOwnAnswer, answer_of};
+
+use super::over_bus::image_to_report;
+use crate::command_output::CommandOutput;
+use crate::fault::Fault;
+use crate::remark::Warnings;
+use crate::told_fault::ToldFault;
+use module_metrics::{Answer, Labels, fault_metrics, metrics};
+use paged_memory::Image;
+use reports::ReportFault;
+use std::alloc::Global;
+
+/// What the reports of the module of an image say, or of what is read of it over a bus, as metrics with these labels. Of its flags those
+/// that are raised are told, or all.
+pub fn print_metrics(
+    alloc: Global,
+    is_over_bus: bool,
+    all: bool,
+    labels: &Labels,
+    image: &[u8],
+) -> Result<CommandOutput, Fault>
+    ensures answer { IsOwnAnswer (IsMetricsAnswer is_over_bus all labels.now image.now) (answer_of result) }
+    ensures read { IfErr result (λ fault. fault ≢ Fault.Io) }
+{
+    match image_to_report(alloc, image, is_over_bus) {
+        Ok(image) => of_image(alloc, all, labels, &image),
+        Err(Fault::Report(fault)) => of_fault(alloc, labels, fault),
+        Err(fault) => Err(fault),
+    }
+}
+
+// Those of an image, of whose reports one may have a fault.
+fn of_image(
+    alloc: Global,
+    all: bool,
+    labels: &Labels,
+    image: &Image,
+) -> Result<CommandOutput, Fault>
+    ensures told { IfOk result (λ output. AreMetricsOf all labels.now image.now output.text.items output.fault) }
+    ensures memory { IfErr result (λ fault. fault ≡ Fault.Memory) }
+{
+    let Answer { text, fault } = metrics(alloc, image, labels, all)?;
+    Ok(CommandOutput {
+        text,
+        fault: told(fault),
+        warnings: Warnings::none(),
+    })
+}
+
+// There is no image to report on, since reading it ended with this fault.
+fn of_fault(alloc: Global, labels: &Labels, fault: ReportFault) -> Result<CommandOutput, Fault>
+    ensures told { IfOk result (λ output. IsFaultAlone labels.now fault output.text.items output.fault) }
+    ensures memory { IfErr result (λ fault. fault ≡ Fault.Memory) }
+{
+    Ok(CommandOutput {
+        text: fault_metrics(alloc, fault, labels)?,
+        fault: told(Some(fault)),
+        warnings: Warnings::none(),
+    })
+}
+
+fn told(fault: Option<ReportFault>) -> Option<ToldFault>
+    ensures { result ≡ option_map ToldFault.Metrics fault }
+{
+    match fault {
+        Some(fault) => Some(ToldFault::Metrics(fault)),
+        None => None,
+    }
+}
