@@ -200,7 +200,7 @@ static const char good[] = "certificate 1\nweight 400\npath 1 1 1\nstate 0 00 40
 static void try_check(void) {
     struct dovecounter_judgement judgement;
     check_text("a good certificate", good, DOVECOUNTER_DONE, 0, 0);
-    check_text("CT1", "certificate 3\n", DOVECOUNTER_BAD_LINE, 0, 0);
+    check_text("CT1", "certificate 5\n", DOVECOUNTER_BAD_LINE, 0, 0);
     check_text("CT2", "certificate 1\nweight 0\nstate 1 00 0\nstate 0 00 0\nend\n", DOVECOUNTER_OUT_OF_ORDER, 0, 0);
     check_text("CT3",
                "certificate 1\nweight 0\npath 1 1 1\npath 1 1 1\npath 1 1 1\npath 1 1 1\npath 1 1 1\npath 1 1 1\n"

@@ -41,8 +41,10 @@ begins_otherwise first line is other e = other (sym is ∙ ap (λ l. get_or l 0 
 
 is_not_dashes : (line : Line) → line_text line ≢ codes "---"
 unfolding line_words
-is_not_dashes Header = begins_otherwise 99 (line_text Header) refl (λ e. omega arith)
-is_not_dashes KeptHeader = begins_otherwise 99 (line_text KeptHeader) refl (λ e. omega arith)
+is_not_dashes (Header false) = begins_otherwise 99 (line_text (Header false)) refl (λ e. omega arith)
+is_not_dashes (Header true) = begins_otherwise 99 (line_text (Header true)) refl (λ e. omega arith)
+is_not_dashes (KeptHeader false) = begins_otherwise 99 (line_text (KeptHeader false)) refl (λ e. omega arith)
+is_not_dashes (KeptHeader true) = begins_otherwise 99 (line_text (KeptHeader true)) refl (λ e. omega arith)
 is_not_dashes (Weight weight) = begins_otherwise 119 (line_text (Weight weight)) refl (λ e. omega arith)
 is_not_dashes (KeepLine path) = begins_otherwise 107 (line_text (KeepLine path)) refl (λ e. omega arith)
 is_not_dashes (PathLine path) = begins_otherwise 112 (line_text (PathLine path)) refl (λ e. omega arith)

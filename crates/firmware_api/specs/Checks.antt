@@ -9,7 +9,7 @@ use Rattle.plan_certificate.specs.Limits.{most_states}
 use Rattle.plan_certificate.specs.declared.verdict.Verdict.{Verdict}
 use Rattle.plan_certificate.specs.declared.verdict.Verdict.TheVariants.{Good, Bad}
 use Rattle.plan_certificate.specs.declared.verdict.Reason.{Reason}
-use Rattle.plan_certificate.specs.declared.verdict.Reason.TheVariants.{PathNotAllowed, LaneTwice, WeightWrong, NoStart, NotClosed, TooLow, StartNotWeight, KeptNotAdmissible, KeptMissing}
+use Rattle.plan_certificate.specs.declared.verdict.Reason.TheVariants.{PathNotAllowed, LaneTwice, WeightWrong, NoStart, NotClosed, TooLow, StartNotWeight, KeptNotAdmissible, KeptMissing, PairingDiffers}
 use Rattle.plan_certificate.specs.Certificates.{Claim, IsGood}
 use Rattle.plan_certificate.specs.CertificateFaults.{IsAnswer}
 use Rattle.plan_certificate.specs.CertificateText.{IsTextOf}
@@ -33,6 +33,7 @@ reason_number TooLow = 6
 reason_number StartNotWeight = 7
 reason_number KeptNotAdmissible = 8
 reason_number KeptMissing = 9
+reason_number PairingDiffers = 10
 
 abbrev pub judgement_of : Verdict → Judgement
 judgement_of Good = record { reason = 0; number = 0 }

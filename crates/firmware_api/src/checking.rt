@@ -90,5 +90,6 @@ fn reason_number(reason: Reason) -> u8
         Reason::StartNotWeight => 7,
         Reason::KeptNotAdmissible => 8,
         Reason::KeptMissing => 9,
+        Reason::PairingDiffers => 10,
     }
 }
