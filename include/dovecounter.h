@@ -363,7 +363,7 @@ struct dovecounter_plan {
 
    If `paired` is not 0, the module pairs first lanes: a path that begins at the second of its Application's first host lanes takes the
    second of its first media lanes, and so on. If it is 0, it may take any of them. No register of a module says which holds, or lets a
-   host choose media lanes, so hand over 1 if in doubt: such a plan is allowed for 0 too. cmisctl plans for 0.
+   host choose media lanes, so hand over 1 if in doubt: such a plan is allowed for 0 too. cmisctl plans for 0, and with --paired for 1.
 
    To provision the plan and leave the kept data paths alone, hand plan->control and plan->outside to dovecounter_provision,
    and then plan->control and plan->lanes to dovecounter_activate. To keep paths of this plan in a later one, save plan->paths, also
@@ -402,9 +402,9 @@ uint32_t dovecounter_check(const struct dovecounter_half *halves, size_t half_co
 /* No certificate's text is longer. */
 #define DOVECOUNTER_CERTIFICATE_SIZE 74046
 
-/* Writes to the buffer the text of the certificate of the plan that dovecounter_plan gives for the same arguments: if
-   `paired` is 0, what the command plan of cmisctl prints, or plan --keep if paths are kept, byte for byte, with the end of its last line
-   and without a NUL. Writes to *text_length how many bytes the text has, also if the buffer is too small; the buffer stays as it is
+/* Writes to the buffer the text of the certificate of the plan that dovecounter_plan gives for the same arguments: what
+   the command plan of cmisctl prints, with --keep if paths are kept and with --paired if `paired` is not 0, byte for byte, with the end
+   of its last line and without a NUL. Writes to *text_length how many bytes the text has, also if the buffer is too small; the buffer stays as it is
    then. The bytes of the buffer after the text stay, too. dovecounter_check judges the certificate good for the same `paired`.
 
    status   if

@@ -98,7 +98,7 @@ def test_what_an_image_advertises_and_its_plans_are_what_the_program_prints(
 
 def test_a_module_that_pairs_first_lanes() -> None:
     certificate = "\n".join(cmisctl("plan", DR4.to_text(), table(WEIGHTS)))
-    paired = certificate.replace("certificate 1\n", "certificate 3\n")
+    paired = "\n".join(cmisctl("plan --paired", DR4.to_text(), table(WEIGHTS)))
     assert check(DR4, WEIGHTS, certificate) == check(DR4, WEIGHTS, paired, True) == Judgement(None, 0)
     assert check(DR4, WEIGHTS, paired) == check(DR4, WEIGHTS, certificate, True) == Judgement("VR10", 0)
     apart = [DataPath(2, 3, 1)]
