@@ -43,20 +43,20 @@ use Rattle.command_line.specs.declared.fault.Fault.{Fault}
 use Rattle.command_line.specs.declared.fault.Fault.TheVariants as fault
 
 -- a refusal of the texts is the command's own
-pub refused_answer : (json traced activate paired : Bool) (image listed kept script : List ℕ) (f : Fault) → IsSetUpRefusal paired image listed kept script f
-    → IsOwnAnswer (IsProcedureAnswer json traced activate paired image listed kept script) (Err f)
-refused_answer json traced activate paired image listed kept script fault.Memory is = tt
-refused_answer json traced activate paired image listed kept script fault.Io is = absurd is
-refused_answer json traced activate paired image listed kept script fault.TooLong is = absurd is
-refused_answer json traced activate paired image listed kept script (fault.Parts n) is = absurd is
-refused_answer json traced activate paired image listed kept script f is = is
+pub refused_answer : (json traced activate : Bool) (image listed kept script : List ℕ) (f : Fault) → IsSetUpRefusal image listed kept script f
+    → IsOwnAnswer (IsProcedureAnswer json traced activate image listed kept script) (Err f)
+refused_answer json traced activate image listed kept script fault.Memory is = tt
+refused_answer json traced activate image listed kept script fault.Io is = absurd is
+refused_answer json traced activate image listed kept script fault.TooLong is = absurd is
+refused_answer json traced activate image listed kept script (fault.Parts n) is = absurd is
+refused_answer json traced activate image listed kept script f is = is
 
-module _ (paired : Bool) (image listed kept script : List ℕ) where
-  pub weights_refused : (f : WeightsFault) → Advertises paired image → IsAnswer listed (Err f) → IsSetUpRefusal paired image listed kept script (fault_of_weights f)
+module _ (image listed kept script : List ℕ) where
+  pub weights_refused : (f : WeightsFault) → Advertises image → IsAnswer listed (Err f) → IsSetUpRefusal image listed kept script (fault_of_weights f)
   weights_refused weights.Memory told is = tt
   weights_refused f told is = (told, (λ same. absurd cc, is))
 
-  pub advert_refused : (f : Fault) → IsAdvertRefusal image f → IsSetUpRefusal paired image listed kept script f
+  pub advert_refused : (f : Fault) → IsAdvertRefusal image f → IsSetUpRefusal image listed kept script f
   advert_refused fault.Memory is = tt
   advert_refused (fault.Module g) is = absurd is
   advert_refused (fault.Script g) is = absurd is
@@ -127,12 +127,12 @@ new_at_rest : (memory : Memory) (given : Delays) → HasNoApply (start memory gi
 unfolding start
 new_at_rest memory given lane is = made_keeps (λ (l : Lane). l.kept ≡ None) (start_lane memory) no_lane (λ n. refl) refl all_lanes (lane - 1)
 
-module _ (paired : Bool) (image listed kept script : List ℕ) (session : Session) (is : IsSessionOf paired image listed kept script session) where
+module _ (image listed kept script : List ℕ) (session : Session) (is : IsSessionOf image listed kept script session) where
   -- what a session's bus makes of the plan
   pub carried : (json traced activate : Bool) (text : List ℕ) (after : ModuleBus) (provisioned : Ended) (activated : Option Ended) (ended : Option ProvisionFault) (told_fault : Option ToldFault)
       → CarriesOut activate session.advert session.plan session.kept (seen_at session.bus) after provisioned activated
       → text ≡ told_output json traced after.steps (outcome_of provisioned activated (active_bytes after.state.1)) ended → ended ≡ outcome_fault provisioned activated → told_fault ≡ option_map Procedure ended
-      → IsCarriedOut json traced activate paired image listed kept script text told_fault
+      → IsCarriedOut json traced activate image listed kept script text told_fault
   carried json traced activate text after provisioned activated ended told_fault done told fault same = record {
     set_up = is.set_up;
     after = after;

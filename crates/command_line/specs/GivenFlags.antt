@@ -34,9 +34,6 @@ activate = codes "activate"
 abbrev pub keep : Text
 keep = codes "keep"
 
-abbrev pub paired : Text
-paired = codes "paired"
-
 abbrev pub svg : Text
 svg = codes "svg"
 

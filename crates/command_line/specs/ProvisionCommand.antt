@@ -146,32 +146,32 @@ told_output true traced steps outcome refused = json_text (told_tree traced step
 told_output false traced steps outcome refused = told_text traced steps outcome
 
 -- the texts are those of an image, of weights, of kept paths and of a script; their plan, and the module that the image makes
-pub record IsSetUp (paired : Bool) (image_text weights_text kept_text script_text : List ℕ) : Type 0 where
+pub record IsSetUp (image_text weights_text kept_text script_text : List ℕ) : Type 0 where
   pub certificate : Claim
-  pub given : IsGiven paired image_text weights_text kept_text certificate
+  pub given : IsGiven image_text weights_text kept_text certificate
   pub script : List Directive
   pub is_script : IsTextOf (lines_of script_text) script
   pub starts : start_fault given.is_advert.memory delays ≡ None
 
 -- the image makes no module
-pub record IsNoModule (paired : Bool) (image_text weights_text kept_text script_text : List ℕ) (refused : SimFault) : Type 0 where
-  pub inputs : ArePlanningInputs paired image_text weights_text kept_text
+pub record IsNoModule (image_text weights_text kept_text script_text : List ℕ) (refused : SimFault) : Type 0 where
+  pub inputs : ArePlanningInputs image_text weights_text kept_text
   pub script : List Directive
   pub is_script : IsTextOf (lines_of script_text) script
   pub stops : start_fault inputs.is_advert.memory delays ≡ Some refused
 
 -- the first of the texts that is none
-abbrev pub IsSetUpRefusal : Bool → List ℕ → List ℕ → List ℕ → List ℕ → Fault → Type 0
-IsSetUpRefusal paired image weights kept script fault.Memory = Unit {0}
-IsSetUpRefusal paired image weights kept script (fault.Module f) = IsNoModule paired image weights kept script f
-IsSetUpRefusal paired image weights kept script (fault.Script f) = ArePlanningInputs paired image weights kept × IsFirstFault (lines_of script) f
-IsSetUpRefusal paired image weights kept script (fault.Kept f) = IsKeptRefusal paired image weights kept f
-IsSetUpRefusal paired image weights kept script (fault.Weights f) = Advertises paired image × IsWeightsRefusal weights f
-IsSetUpRefusal paired image weights kept script f = IsAdvertRefusal image f
+abbrev pub IsSetUpRefusal : List ℕ → List ℕ → List ℕ → List ℕ → Fault → Type 0
+IsSetUpRefusal image weights kept script fault.Memory = Unit {0}
+IsSetUpRefusal image weights kept script (fault.Module f) = IsNoModule image weights kept script f
+IsSetUpRefusal image weights kept script (fault.Script f) = ArePlanningInputs image weights kept × IsFirstFault (lines_of script) f
+IsSetUpRefusal image weights kept script (fault.Kept f) = IsKeptRefusal image weights kept f
+IsSetUpRefusal image weights kept script (fault.Weights f) = Advertises image × IsWeightsRefusal weights f
+IsSetUpRefusal image weights kept script f = IsAdvertRefusal image f
 
 -- what was done, and what is told of it
-pub record IsCarriedOut (json traced activate paired : Bool) (image_text weights_text kept_text script_text text : List ℕ) (told_fault : Option ToldFault) : Type 0 where
-  pub set_up : IsSetUp paired image_text weights_text kept_text script_text
+pub record IsCarriedOut (json traced activate : Bool) (image_text weights_text kept_text script_text text : List ℕ) (told_fault : Option ToldFault) : Type 0 where
+  pub set_up : IsSetUp image_text weights_text kept_text script_text
   pub after : ModuleBus
   pub provisioned : Ended
   pub activated : Option Ended
@@ -179,9 +179,9 @@ pub record IsCarriedOut (json traced activate paired : Bool) (image_text weights
   pub told : text ≡ told_output json traced after.steps (outcome_of provisioned activated (active_bytes after.state.1)) (outcome_fault provisioned activated)
   pub fault : told_fault ≡ option_map Procedure (outcome_fault provisioned activated)
 
--- the answer to the texts of an image, of weights, of kept paths and of a script, by whether it is JSON, the steps are shown,
--- activation is asked for and the module pairs first lanes
-abbrev pub IsProcedureAnswer : Bool → Bool → Bool → Bool → List ℕ → List ℕ → List ℕ → List ℕ → Answer → Type 0
-IsProcedureAnswer json traced activate paired image weights kept script (Ok (text, told)) =
-    IsCarriedOut json traced activate paired image weights kept script text told
-IsProcedureAnswer json traced activate paired image weights kept script (Err f) = IsSetUpRefusal paired image weights kept script f
+-- the answer to the texts of an image, of weights, of kept paths and of a script, by whether it is JSON, the steps are shown and
+-- activation is asked for
+abbrev pub IsProcedureAnswer : Bool → Bool → Bool → List ℕ → List ℕ → List ℕ → List ℕ → Answer → Type 0
+IsProcedureAnswer json traced activate image weights kept script (Ok (text, told)) =
+    IsCarriedOut json traced activate image weights kept script text told
+IsProcedureAnswer json traced activate image weights kept script (Err f) = IsSetUpRefusal image weights kept script f

@@ -109,26 +109,21 @@ fn choice_with(
         CommandName::Metrics => metrics_with(alloc, given),
         CommandName::Plan => Ok(Choice::Plan {
             keep: has_flag(given, "keep"),
-            paired: has_flag(given, "paired"),
         }),
         CommandName::Draw => Ok(Choice::Draw {
             svg: has_flag(given, "svg"),
             keep: has_flag(given, "keep"),
-            paired: has_flag(given, "paired"),
         }),
         CommandName::Check => Ok(Choice::Check {
             first: has_flag(given, "first"),
-            paired: has_flag(given, "paired"),
         }),
         CommandName::Provision => Ok(Choice::Provision {
             activate: has_flag(given, "activate"),
             keep: has_flag(given, "keep"),
-            paired: has_flag(given, "paired"),
         }),
         CommandName::Trace => Ok(Choice::Trace {
             activate: has_flag(given, "activate"),
             keep: has_flag(given, "keep"),
-            paired: has_flag(given, "paired"),
         }),
     }
 }

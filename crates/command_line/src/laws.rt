@@ -11,16 +11,16 @@ ghost use Rattle.command_line.specs.declared.choice.commands.ReportName.{ReportN
 
 /// What `plan` writes, `check` calls good, and writes the plan: behind the input of `plan`, whose last line is ended, and a
 /// line `---`, where all of it is within the limit. With `--keep` it does so behind the image and the weights, as in the place
-/// of the kept paths, whose last line need not be ended. What `plan --paired` writes, `check --paired` does. With `--first` it says that the plan is the first of the best,
+/// of the kept paths, whose last line need not be ended. With `--first` it says that the plan is the first of the best,
 /// and with `--json` it says the same as JSON.
 pub fn what_is_planned_is_good()
-    ensures nothing_kept { (paired : Bool) (input text : List ℕ) → IsEnded input → IsAnswerOf (in_form false (Plan false paired)) input (Ok (text, None))
-        → length (input_with input text) ≤ input_limit → IsGoodBehindInput paired input text }
-    ensures kept { (paired : Bool) (image weights kept text input : List ℕ) → parts_of input ≡ image ∷ weights ∷ kept ∷ []
-        → IsAnswerOf (in_form false (Plan true paired)) input (Ok (text, None)) → IsGoodBehind paired image weights kept text }
-    ensures in_place { (paired : Bool) (input kept text : List ℕ) → IsEnded input → length (parts_of input) ≡ 2
-        → IsAnswerOf (in_form false (Plan true paired)) (input_with input kept) (Ok (text, None))
-        → length (input_with input text) ≤ input_limit → IsGoodInPlace paired input kept text }
+    ensures nothing_kept { (input text : List ℕ) → IsEnded input → IsAnswerOf (in_form false (Plan false)) input (Ok (text, None))
+        → length (input_with input text) ≤ input_limit → IsGoodBehindInput input text }
+    ensures kept { (image weights kept text input : List ℕ) → parts_of input ≡ image ∷ weights ∷ kept ∷ []
+        → IsAnswerOf (in_form false (Plan true)) input (Ok (text, None)) → IsGoodBehind image weights kept text }
+    ensures in_place { (input kept text : List ℕ) → IsEnded input → length (parts_of input) ≡ 2
+        → IsAnswerOf (in_form false (Plan true)) (input_with input kept) (Ok (text, None))
+        → length (input_with input text) ≤ input_limit → IsGoodInPlace input kept text }
 {}
 
 /// What a report prints with `--bus`, and how it ends, is what it prints without and how it ends then, with `--json` and without

@@ -83,7 +83,6 @@ reasons =
     ∷ stands_for 7 (codes "VR7")
     ∷ stands_for 8 (codes "VR8")
     ∷ stands_for 9 (codes "VR9")
-    ∷ stands_for 10 (codes "VR10")
     ∷ []
 
 -- the sentence of the fault, or the row's own text

@@ -97,7 +97,6 @@ pub fn reasons() -> &'static [Numbered]
         7 "VR7" "";
         8 "VR8" "";
         9 "VR9" "";
-        10 "VR10" "";
     }
 }
 

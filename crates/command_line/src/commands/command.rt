@@ -134,32 +134,23 @@ fn answer_to(alloc: Global, request: &Request, texts: &Texts<'_>) -> Result<Comm
     match &request.choice {
         Choice::Report { report: name, bus } => report(alloc, *name, *bus, json, image),
         Choice::Metrics { bus, all, labels } => print_metrics(alloc, *bus, *all, labels, image),
-        Choice::Plan { paired, .. } => plan(alloc, json, *paired, image, weights, kept),
-        Choice::Draw { svg, paired, .. } => draw(alloc, *svg, *paired, image, weights, kept),
-        Choice::Check { first, paired } => {
+        Choice::Plan { .. } => plan(alloc, json, image, weights, kept),
+        Choice::Draw { svg, .. } => draw(alloc, *svg, image, weights, kept),
+        Choice::Check { first } => {
             check(
                 alloc,
                 json,
                 *first,
-                *paired,
                 image,
                 weights,
                 texts.of(Part::Certificate),
             )
         }
-        Choice::Provision {
-            activate,
-            paired,
-            ..
-        } => provision(
-            alloc, json, false, *activate, *paired, image, weights, kept, script,
-        ),
-        Choice::Trace {
-            activate,
-            paired,
-            ..
-        } => provision(
-            alloc, json, true, *activate, *paired, image, weights, kept, script,
-        ),
+        Choice::Provision { activate, .. } => {
+            provision(alloc, json, false, *activate, image, weights, kept, script)
+        }
+        Choice::Trace { activate, .. } => {
+            provision(alloc, json, true, *activate, image, weights, kept, script)
+        }
     }
 }

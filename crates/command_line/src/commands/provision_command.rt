@@ -23,13 +23,12 @@ pub fn provision(
     is_json: bool,
     is_traced: bool,
     is_activated: bool,
-    is_paired: bool,
     image: &[u8],
     weights: &[u8],
     kept: &[u8],
     script: &[u8],
 ) -> Result<CommandOutput, Fault>
-    ensures answer { IsOwnAnswer (IsProcedureAnswer is_json is_traced is_activated is_paired image.now weights.now kept.now script.now)
+    ensures answer { IsOwnAnswer (IsProcedureAnswer is_json is_traced is_activated image.now weights.now kept.now script.now)
         (answer_of result) }
     ensures read { IfErr result (λ fault. fault ≢ Fault.Io) }
 {
@@ -39,7 +38,7 @@ pub fn provision(
         kept,
         warnings,
         mut bus,
-    } = set_up(alloc, is_paired, image, weights, kept, script)?;
+    } = set_up(alloc, image, weights, kept, script)?;
     let ended = carry_out(&mut bus, &advert, &plan, &kept, is_activated);
     let outcome = outcome_of(&ended, bus.device().active());
     let fault = fault_of(&ended);

@@ -53,17 +53,16 @@ fn delays() -> Delays
 /// The session of the texts of an image, of weights, of kept paths and of a script.
 pub fn set_up(
     alloc: Global,
-    is_paired: bool,
     image: &[u8],
     weights: &[u8],
     kept: &[u8],
     script: &[u8],
 ) -> Result<Session, Fault>
-    ensures answer { MatchResult result (IsSessionOf is_paired image.now weights.now kept.now script.now)
-        (IsSetUpRefusal is_paired image.now weights.now kept.now script.now) }
+    ensures answer { MatchResult result (IsSessionOf image.now weights.now kept.now script.now)
+        (IsSetUpRefusal image.now weights.now kept.now script.now) }
     ensures read { IfErr result (λ fault. fault ≢ Fault.Io) }
 {
-    let (image, advert) = read_module(is_paired, image)?;
+    let (image, advert) = read_module(image)?;
     let weights = Weights::read(alloc, weights)?;
     let kept = read_kept(&advert, kept)?;
     let script = Script::read(script)?;
