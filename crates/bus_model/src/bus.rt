@@ -3,7 +3,7 @@
 use crate::device::Dev;
 use crate::operation::{MAX_FETCH, Op, Reply};
 use arrayvec::ArrayVec;
-use text_lines::{PrintedWords, ToWords};
+use text_lines::{Spelled, Spelling};
 use thiserror::Error;
 
 /// Why a transaction was not made.
@@ -16,17 +16,17 @@ pub enum BusFault {
     BadShape,
 }
 
-impl ToWords for BusFault {
+impl Spelled for BusFault {
     ghost use Rattle.bus_model.specs.FaultWords.{bus_fault_words};
 
     ghost words = { bus_fault_words };
 
     ghost most = { 1 };
 
-    fn to_words(&self) -> PrintedWords {
+    fn spelling(&self) -> Spelling {
         match self {
-            BusFault::TraceFull => PrintedWords::of("BU1"),
-            BusFault::BadShape => PrintedWords::of("BU2"),
+            BusFault::TraceFull => Spelling::of("BU1"),
+            BusFault::BadShape => Spelling::of("BU2"),
         }
     }
 }

@@ -1,11 +1,11 @@
 pub mod DisjointLanes
-pub mod DecisionKinds
+pub mod StepKinds
 pub mod KeptLanes
 mod FreeLanes
 pub mod GainLaws
 mod Places
 mod JoinedNumbers
-pub mod DecisionEnds
+pub mod StepEnds
 pub mod ReachedStates
 mod Marking
 mod MarkingEnds

@@ -8,8 +8,8 @@ use crate::metric::{
     Metric, Sample, add_metric, add_sample, no_labels, no_samples, one_label, one_sample,
 };
 use crate::name::{AmountHelp, AmountName, Scope};
-use field_tables::PerLimit;
-use report_entries::{LimitKind, PrintedUnit};
+use field_tables::Levels;
+use report_entries::{Level, PrintedUnit};
 use std::alloc::{AllocError, Global};
 
 /// Adds the metric of an amount of the module.
@@ -93,50 +93,44 @@ pub fn add_limits(
     metrics: &mut Vec<Metric>,
     name: &'static str,
     unit: PrintedUnit,
-    limits: PerLimit<i64>,
+    levels: Levels<i64>,
 ) -> Result<(), AllocError>
     ensures { OnOk result (metrics_in metrics.new
-        ≡ metrics_in metrics.old ++ limits_metric name.now unit limits ∷ []) }
+        ≡ metrics_in metrics.old ++ limits_metric name.now unit levels ∷ []) }
 {
-    let samples = limit_samples(alloc, unit, limits)?;
+    let samples = limit_samples(alloc, unit, levels)?;
     add_amounts(alloc, metrics, Scope::Limit, name, unit, samples)
 }
 
 fn limit_samples(
     alloc: Global,
     unit: PrintedUnit,
-    limits: PerLimit<i64>,
+    levels: Levels<i64>,
 ) -> Result<Vec<Sample>, AllocError>
-    ensures { IfOk result (λ samples. samples_in samples ≡ limit_samples unit limits) }
+    ensures { IfOk result (λ samples. samples_in samples ≡ limit_samples unit levels) }
 {
     let mut samples = no_samples(alloc);
     add_limit(
         alloc,
         &mut samples,
         unit,
-        LimitKind::HighAlarm,
-        limits.high_alarm,
+        Level::HighAlarm,
+        levels.high_alarm,
+    )?;
+    add_limit(alloc, &mut samples, unit, Level::LowAlarm, levels.low_alarm)?;
+    add_limit(
+        alloc,
+        &mut samples,
+        unit,
+        Level::HighWarning,
+        levels.high_warning,
     )?;
     add_limit(
         alloc,
         &mut samples,
         unit,
-        LimitKind::LowAlarm,
-        limits.low_alarm,
-    )?;
-    add_limit(
-        alloc,
-        &mut samples,
-        unit,
-        LimitKind::HighWarning,
-        limits.high_warning,
-    )?;
-    add_limit(
-        alloc,
-        &mut samples,
-        unit,
-        LimitKind::LowWarning,
-        limits.low_warning,
+        Level::LowWarning,
+        levels.low_warning,
     )?;
     Ok(samples)
 }
@@ -146,12 +140,12 @@ fn add_limit(
     alloc: Global,
     samples: &mut Vec<Sample>,
     unit: PrintedUnit,
-    limit: LimitKind,
+    level: Level,
     millis: i64,
 ) -> Result<(), AllocError>
     ensures { OnOk result (samples_in samples.new
-        ≡ samples_in samples.old ++ limit_sample unit limit millis ∷ []) }
+        ≡ samples_in samples.old ++ limit_sample unit level millis ∷ []) }
 {
-    let labels = one_label(alloc, "limit", limit.name())?;
+    let labels = one_label(alloc, "limit", level.name())?;
     add_sample(samples, labels, millis, scale_of(unit))
 }

@@ -23,7 +23,7 @@ pub mod WrittenCertificates
 mod Numbered
 pub mod MoveLists
 mod MoveOrder
-pub mod MoveDecisions
+pub mod MoveSteps
 pub mod EachMove
 pub mod HeaviestMoves
 mod MoveFlaws
