@@ -32,7 +32,8 @@ fn label_sentence(fault: LabelFault) -> &'static str
     match fault {
         LabelFault::Memory => "out of memory",
         LabelFault::NoValue => "the word after '--label' has to be KEY=VALUE",
-        LabelFault::BadKey => "the key of a '--label' has to be a letter or '_', and then letters, digits and '_'; '__' may not begin it",
+        LabelFault::BadKey =>
+            "the key of a '--label' has to be a letter or '_', and then letters, digits and '_'; '__' may not begin it",
         LabelFault::Taken => "samples have the key of this '--label' by themselves",
         LabelFault::Twice => "two '--label' have the same key",
     }
@@ -47,6 +48,9 @@ impl fmt::Display for WordFault {
 
     fn fmt<W: fmt::Write>(&self, f: &mut fmt::Formatter<W>) -> fmt::Result {
         let sentence = self.sentence();
-        write!(f, "error: {sentence}\n\nFor more information, try '--help'.\n")
+        write!(
+            f,
+            "error: {sentence}\n\nFor more information, try '--help'.\n"
+        )
     }
 }
