@@ -63,9 +63,14 @@ def complaints(value, schema, whole, place="$"):
             yield from _complaints_within(value, word, wanted, schema, whole, place)
 
 
+@functools.lru_cache(maxsize=None)
+def _matches(pattern, name):
+    return re.search(pattern, name) is not None
+
+
 def _matching(value, pattern):
     """The names of an object that a pattern matches."""
-    return [name for name in value if re.search(pattern, name)] if isinstance(value, dict) else []
+    return [name for name in value if _matches(pattern, name)] if isinstance(value, dict) else []
 
 
 def _complaints_within(value, word, wanted, schema, whole, place):
@@ -101,10 +106,11 @@ def _validator(name):
     return jsonschema.Draft202012Validator(SCHEMAS[name])
 
 
-def refusal(name, value):
-    """Why the schema of this name refuses a value; None if it doesn't. Fails if jsonschema finds otherwise."""
+def refusal(name, value, twice=True):
+    """Why the schema of this name refuses a value; None if it doesn't. Fails if jsonschema, asked too unless `twice` is false, finds
+    otherwise."""
     found = next(complaints(value, SCHEMAS[name], SCHEMAS[name]), None)
-    if jsonschema and _validator(name).is_valid(value) != (found is None):
+    if twice and jsonschema and _validator(name).is_valid(value) != (found is None):
         raise AssertionError(f"jsonschema does not agree on {name}: {found}: {json.dumps(value)}")
     return found
 
