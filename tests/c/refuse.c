@@ -1,18 +1,18 @@
-/* Preloaded: refuses the growths whose numbers stand in $REFUSE, counted from 1 and with spaces between them, and no other. A
- * number with a plus sign before it means each growth from there on. */
+/* Preloaded: refuses the allocations whose numbers stand in $REFUSE, counted from 1 and with spaces between them, and no other. A
+ * number with a plus sign before it means each allocation from there on. */
 #define _GNU_SOURCE
 #include <dlfcn.h>
 #include <stdlib.h>
 
 static int is_refused(void) {
-    static unsigned long growths;
+    static unsigned long allocations;
     const char *text = getenv("REFUSE");
     char *rest;
-    growths++;
+    allocations++;
     for (; text && *text; text = rest) {
         unsigned long number = strtoul(text, &rest, 10);
         if (rest == text) break;
-        if (growths == number || (*text == '+' && growths > number)) return 1;
+        if (allocations == number || (*text == '+' && allocations > number)) return 1;
         while (*rest == ' ') rest++;
     }
     return 0;

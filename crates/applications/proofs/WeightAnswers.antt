@@ -34,7 +34,7 @@ fault-members document host host_is other_is = weights_fault-by document (Some h
 pub host_members-of : (document host : Members) → Some host ≡ host_table document → host_members (Some document) ≡ members_of host
 host_members-of document host host_is = ap (λ (h : Option Members). option_map_or members_of h []) (sym host_is)
 
--- no fault is want of memory
+-- no fault says that memory ran out
 abbrev is_memory : WeightsFault → Bool
 is_memory Memory = true
 is_memory _ = false

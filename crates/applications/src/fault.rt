@@ -1,5 +1,5 @@
 use paged_memory::Key;
-use text_lines::{Spelled, Spelling};
+use text_lines::{PrintedWords, ToWords};
 use thiserror::Error;
 
 /// Why a module's Applications are not read.
@@ -20,21 +20,21 @@ pub enum AdvertFault {
     BadSum(u8),
 }
 
-impl Spelled for AdvertFault {
+impl ToWords for AdvertFault {
     ghost use Rattle.applications.specs.FaultWords.{advert_fault_words};
 
     ghost words = { advert_fault_words };
 
     ghost most = { 5 };
 
-    fn spelling(&self) -> Spelling {
+    fn to_words(&self) -> PrintedWords {
         match self {
-            AdvertFault::NotCmis(identifier) => Spelling::of("AD1").and(identifier),
-            AdvertFault::Revision(revision) => Spelling::of("AD2").and(revision),
-            AdvertFault::FlatMemory => Spelling::of("AD3"),
-            AdvertFault::Absent(key) => Spelling::of("AD4").and(key),
-            AdvertFault::BadSum(page) => Spelling::of("AD5").and(page),
-            AdvertFault::NotEightLanes(identifier) => Spelling::of("AD6").and(identifier),
+            AdvertFault::NotCmis(identifier) => PrintedWords::of("AD1").and(identifier),
+            AdvertFault::Revision(revision) => PrintedWords::of("AD2").and(revision),
+            AdvertFault::FlatMemory => PrintedWords::of("AD3"),
+            AdvertFault::Absent(key) => PrintedWords::of("AD4").and(key),
+            AdvertFault::BadSum(page) => PrintedWords::of("AD5").and(page),
+            AdvertFault::NotEightLanes(identifier) => PrintedWords::of("AD6").and(identifier),
         }
     }
 }

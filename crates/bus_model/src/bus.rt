@@ -3,7 +3,7 @@
 use crate::device::Dev;
 use crate::operation::{MAX_FETCH, Op, Reply};
 use arrayvec::ArrayVec;
-use text_lines::{Spelled, Spelling};
+use text_lines::{PrintedWords, ToWords};
 use thiserror::Error;
 
 /// Why a transaction was not made.
@@ -16,17 +16,17 @@ pub enum BusFault {
     BadShape,
 }
 
-impl Spelled for BusFault {
+impl ToWords for BusFault {
     ghost use Rattle.bus_model.specs.FaultWords.{bus_fault_words};
 
     ghost words = { bus_fault_words };
 
     ghost most = { 1 };
 
-    fn spelling(&self) -> Spelling {
+    fn to_words(&self) -> PrintedWords {
         match self {
-            BusFault::TraceFull => Spelling::of("BU1"),
-            BusFault::BadShape => Spelling::of("BU2"),
+            BusFault::TraceFull => PrintedWords::of("BU1"),
+            BusFault::BadShape => PrintedWords::of("BU2"),
         }
     }
 }

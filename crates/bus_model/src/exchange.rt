@@ -17,7 +17,7 @@ fn tick_all<D: Device>(device: &mut D, count: u16)
 }
 
 // Lets the directives come that stand before the next transaction.
-fn settle<D: Device>(script: &mut Script, device: &mut D)
+fn run_idle_directives<D: Device>(script: &mut Script, device: &mut D)
     ensures { (script.new, D.state device.new) ≡ settled D.conduct script.old (D.state device.old) }
 {
     while let Some(directive) = script.first() {
@@ -51,7 +51,7 @@ fn pass_on<D: Device>(device: &mut D, op: &Op) -> Reply
 }
 
 // Gives the device the first bytes of a store.
-fn give<D: Device>(device: &mut D, op: &Op, kept: u8)
+fn store_prefix<D: Device>(device: &mut D, op: &Op, kept: u8)
     requires { IsWellShaped op.now }
     ensures { D.state device.new ≡ given D.conduct op.now kept (D.state device.old) }
 {
@@ -64,7 +64,7 @@ fn give<D: Device>(device: &mut D, op: &Op, kept: u8)
 }
 
 // What comes of a transaction under the next directive.
-fn obey<D: Device>(script: &Script, device: &mut D, op: &Op) -> Reply
+fn apply_directive<D: Device>(script: &Script, device: &mut D, op: &Op) -> Reply
     requires { IsWellShaped op.now }
     ensures gives { (result, D.state device.new) ≡ obeyed D.conduct op.now script.now (D.state device.old) }
     ensures answers { Answers op.now result }
@@ -72,7 +72,7 @@ fn obey<D: Device>(script: &Script, device: &mut D, op: &Op) -> Reply
     match script.first() {
         Some(Directive::Nack(_)) => Reply::Refused,
         Some(Directive::Cut(kept)) => {
-            give(device, op, kept);
+            store_prefix(device, op, kept);
             Reply::Refused
         }
         _ => pass_on(device, op),
@@ -86,8 +86,8 @@ pub(crate) fn exchange<D: Device>(script: &mut Script, device: &mut D, op: &Op) 
         ≡ transacted D.conduct op.now (script.old, D.state device.old) }
     ensures answers { Answers op.now result }
 {
-    settle(script, device);
-    let reply = obey(script, device, op);
+    run_idle_directives(script, device);
+    let reply = apply_directive(script, device, op);
     script.spend();
     device.tick();
     reply

@@ -1,4 +1,4 @@
-use text_lines::{Spelled, Spelling};
+use text_lines::{PrintedWords, ToWords};
 use thiserror::Error;
 
 /// Why a text is no script. Lines count from 1.
@@ -11,17 +11,17 @@ pub enum ScriptFault {
     TooLong,
 }
 
-impl Spelled for ScriptFault {
+impl ToWords for ScriptFault {
     ghost use Rattle.bus_model.specs.FaultWords.{script_fault_words};
 
     ghost words = { script_fault_words };
 
     ghost most = { 2 };
 
-    fn spelling(&self) -> Spelling {
+    fn to_words(&self) -> PrintedWords {
         match self {
-            ScriptFault::BadLine(line) => Spelling::of("BU3").and(line),
-            ScriptFault::TooLong => Spelling::of("BU4"),
+            ScriptFault::BadLine(line) => PrintedWords::of("BU3").and(line),
+            ScriptFault::TooLong => PrintedWords::of("BU4"),
         }
     }
 }

@@ -7,7 +7,7 @@ use std::{env, io};
 
 /// The words of the command line, of which the first is the program's name.
 fn words(rt: &HostRuntime) -> io::Result<Vec<String>> {
-    // Word by word, since `collect` tries again if its first growth is refused.
+    // Word by word, since `collect` tries again if its first allocation is refused.
     let mut words = Vec::new(rt.alloc());
     for word in env::args(rt)? {
         words.push(word)?;

@@ -32,7 +32,7 @@ use Rattle.sim_module.proofs.Provisioned.{active_if_none}
 use Rattle.sim_module.proofs.SoundModule.{made_keeps, sound_start}
 use Rattle.command_line.specs.Faults.{fault_of_weights}
 use Rattle.command_line.specs.PlanningInputs.{Advertises, IsAdvertRefusal}
-use Rattle.command_line.specs.ProvisionCommand.{Activates, CarriesOut, Ended, GoesOn, IsCarriedOut, IsProcedureAnswer, IsSetUpRefusal, ModuleBus, Provisions, control_words, delays, line_if, outcome_fault, outcome_lines, outcome_of, active_line, activated_line, provisioned_line, told_output}
+use Rattle.command_line.specs.ProvisionCommand.{Activates, CarriesOut, StepsOrFault, GoesOn, IsCarriedOut, IsProcedureAnswer, IsSetUpRefusal, ModuleBus, Provisions, control_words, delays, line_if, outcome_fault, outcome_lines, outcome_of, active_line, activated_line, provisioned_line, told_output}
 use Rattle.reports.specs.declared.json_procedure.Outcome.{Outcome}
 use Rattle.command_line.specs.Runs.{IsOwnAnswer}
 use Rattle.command_line.specs.Sessions.{IsSessionOf}
@@ -81,7 +81,7 @@ abbrev pub bus_with : List Directive → SimModule → ModuleBus
 bus_with script module' = record { steps = []; room = 8192; state = (script, module') }
 
 -- activation was made, or it was not
-pub goes_on_made : (activate : Bool) (advert : Advertised) (paths : List Path) (provisioned : Result Provisioned ProvisionFault) (between after : ModuleBus) (ended : Ended)
+pub goes_on_made : (activate : Bool) (advert : Advertised) (paths : List Path) (provisioned : Result Provisioned ProvisionFault) (between after : ModuleBus) (ended : StepsOrFault)
     → activate ≡ true → is_ok provisioned ≡ true → Activates advert paths between after ended → GoesOn activate advert paths (provisioned_steps provisioned) between after (Some ended)
 goes_on_made true advert paths (Ok p) between after ended wanted is made = made
 goes_on_made true advert paths (Err f) between after ended wanted is made = absurd cc
@@ -116,7 +116,7 @@ pub outcome_text : (old : List ℕ) (outcome : Outcome)
 outcome_text old outcome = grind (arith, common_steps)
 
 -- what is told, by what the bus has
-pub told_as : (json traced : Bool) (bus : ModuleBus) (provisioned : Ended) (activated : Option Ended) (text active : List ℕ) (steps : List Step) (outcome : Outcome) (ended : Option ProvisionFault)
+pub told_as : (json traced : Bool) (bus : ModuleBus) (provisioned : StepsOrFault) (activated : Option StepsOrFault) (text active : List ℕ) (steps : List Step) (outcome : Outcome) (ended : Option ProvisionFault)
     → text ≡ told_output json traced steps outcome ended → outcome ≡ outcome_of provisioned activated active → steps ≡ bus.steps → active ≡ active_bytes bus.state.1
     → text ≡ told_output json traced bus.steps (outcome_of provisioned activated (active_bytes bus.state.1)) ended
 told_as json traced bus provisioned activated text active steps outcome ended told is same shown =
@@ -125,11 +125,11 @@ told_as json traced bus provisioned activated text active steps outcome ended to
 -- a new module is in no apply
 new_at_rest : (memory : Memory) (given : Delays) → HasNoApply (start memory given)
 unfolding start
-new_at_rest memory given lane is = made_keeps (λ (l : Lane). l.kept ≡ None) (start_lane memory) no_lane (λ n. refl) refl all_lanes (lane - 1)
+new_at_rest memory given lane is = made_keeps (λ (l : Lane). l.applying ≡ None) (start_lane memory) no_lane (λ n. refl) refl all_lanes (lane - 1)
 
 module _ (image listed kept script : List ℕ) (session : Session) (is : IsSessionOf image listed kept script session) where
   -- what a session's bus makes of the plan
-  pub carried : (json traced activate : Bool) (text : List ℕ) (after : ModuleBus) (provisioned : Ended) (activated : Option Ended) (ended : Option ProvisionFault) (told_fault : Option ToldFault)
+  pub carried : (json traced activate : Bool) (text : List ℕ) (after : ModuleBus) (provisioned : StepsOrFault) (activated : Option StepsOrFault) (ended : Option ProvisionFault) (told_fault : Option ToldFault)
       → CarriesOut activate session.advert session.plan session.kept (seen_at session.bus) after provisioned activated
       → text ≡ told_output json traced after.steps (outcome_of provisioned activated (active_bytes after.state.1)) ended → ended ≡ outcome_fault provisioned activated → told_fault ≡ option_map Procedure ended
       → IsCarriedOut json traced activate image listed kept script text told_fault
@@ -160,26 +160,26 @@ module _ (image listed kept script : List ℕ) (session : Session) (is : IsSessi
   session_keeps = rw (is.kept, is.plan) is.set_up.given.is_good.keeps
 
 -- after a success the control bytes are active, and no apply is in progress
-rests_after : (advert : Advertised) (paths kept : List Path) (before between : ModuleBus) (provisioned : Ended) → IsSound before.state.1 × HasNoApply before.state.1
+rests_after : (advert : Advertised) (paths kept : List Path) (before between : ModuleBus) (provisioned : StepsOrFault) → IsSound before.state.1 × HasNoApply before.state.1
     → Provisions advert paths kept before between provisioned
     → IfOk provisioned (λ steps. IsAtRest (control_bytes advert paths) between.state.1)
 rests_after advert paths kept before between (Ok steps) begins (history, ran, outcome) =
     active_if_none (lanes_outside advert kept) before between history (control_bytes advert paths) steps begins ran outcome
 rests_after advert paths kept before between (Err f) begins made = tt
 
-active_at_rest : (control : List ℕ) (bus : ModuleBus) (provisioned : Ended) → IfOk provisioned (λ steps. IsAtRest control bus.state.1)
+active_at_rest : (control : List ℕ) (bus : ModuleBus) (provisioned : StepsOrFault) → IfOk provisioned (λ steps. IsAtRest control bus.state.1)
     → IfOk provisioned (λ steps. active_bytes bus.state.1 ≡ control)
 active_at_rest control bus (Ok steps) rest = rest.active
 active_at_rest control bus (Err f) rest = tt
 
-pub active_after : (advert : Advertised) (paths kept : List Path) (before between : ModuleBus) (provisioned : Ended) → IsSound before.state.1 × HasNoApply before.state.1
+pub active_after : (advert : Advertised) (paths kept : List Path) (before between : ModuleBus) (provisioned : StepsOrFault) → IsSound before.state.1 × HasNoApply before.state.1
     → Provisions advert paths kept before between provisioned
     → IfOk provisioned (λ steps. active_bytes between.state.1 ≡ control_bytes advert paths)
 active_after advert paths kept before between provisioned begins made =
     active_at_rest (control_bytes advert paths) between provisioned (rests_after advert paths kept before between provisioned begins made)
 
 -- and they stay so, whether activation is made or not
-still_at_rest : (activate : Bool) (advert : Advertised) (paths : List Path) (between after : ModuleBus) (provisioned : Ended) (activated : Option Ended)
+still_at_rest : (activate : Bool) (advert : Advertised) (paths : List Path) (between after : ModuleBus) (provisioned : StepsOrFault) (activated : Option StepsOrFault)
     → IfOk provisioned (λ steps. IsAtRest (control_bytes advert paths) between.state.1) → GoesOn activate advert paths provisioned between after activated
     → IfOk provisioned (λ steps. IsAtRest (control_bytes advert paths) after.state.1)
 still_at_rest activate advert paths between after (Err f) activated rest goes_on = tt
@@ -189,7 +189,7 @@ still_at_rest true advert paths between after (Ok steps) None rest goes_on = abs
 still_at_rest false advert paths between after (Ok steps) None rest goes_on = subst (λ (bus : ModuleBus). IsAtRest (control_bytes advert paths) bus.state.1) (sym goes_on) rest
 still_at_rest false advert paths between after (Ok steps) (Some ended) rest goes_on = absurd goes_on
 
-pub still_active_after : (activate : Bool) (advert : Advertised) (paths kept : List Path) (before between after : ModuleBus) (provisioned : Ended) (activated : Option Ended)
+pub still_active_after : (activate : Bool) (advert : Advertised) (paths kept : List Path) (before between after : ModuleBus) (provisioned : StepsOrFault) (activated : Option StepsOrFault)
     → IsSound before.state.1 × HasNoApply before.state.1 → Provisions advert paths kept before between provisioned → GoesOn activate advert paths provisioned between after activated
     → IfOk provisioned (λ steps. active_bytes after.state.1 ≡ control_bytes advert paths)
 still_active_after activate advert paths kept before between after provisioned activated begins made goes_on =

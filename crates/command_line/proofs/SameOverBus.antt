@@ -7,7 +7,7 @@ use Rattle.paged_memory.specs.Images.{Memory}
 use Rattle.paged_memory.specs.ImageFaults.{IsAnswer}
 use Rattle.paged_memory.specs.ImageText.{IsImage}
 use Rattle.paged_memory.specs.declared.fault.ImageFault.{ImageFault}
-use Rattle.paged_memory.specs.Paging.{History}
+use Rattle.paged_memory.specs.PageAddressing.{History}
 use Rattle.paged_memory.proofs.OneAnswer.{same_answer}
 use Rattle.reports.proofs.FetchedReports.{fetched_reports}
 use Rattle.reports.specs.SameReports.{FetchedReportsSame, IsSame, ReportsSame}

@@ -27,7 +27,7 @@ abbrev pub fault_text : Bool → Fault → Opening → List ℕ
 fault_text true fault opening = json_text (fault_tree fault opening)
 fault_text false fault opening = fault_line fault
 
--- the faults of reading an input, and want of memory: they have no values
+-- the faults of reading an input, and out of memory: they have no values
 abbrev pub is_of_reading : Fault → Bool
 is_of_reading Memory = true
 is_of_reading Io = true

@@ -57,22 +57,22 @@ abbrev pub bus_at_start : Memory → List Directive → ModuleBus
 bus_at_start memory script = record { steps = []; room = 8192; state = (script, start memory delays) }
 
 -- number of steps, or why the procedure ended without success
-abbrev pub Ended : Type 0
-Ended = Result ℕ ProvisionFault
+abbrev pub StepsOrFault : Type 0
+StepsOrFault = Result ℕ ProvisionFault
 
 -- to provision these paths, on the lanes outside the kept ones, makes one of the other and ends so
-abbrev pub Provisions : Advertised → List Path → List Path → ModuleBus → ModuleBus → Ended → Type 0
+abbrev pub Provisions : Advertised → List Path → List Path → ModuleBus → ModuleBus → StepsOrFault → Type 0
 Provisions advert paths kept before after ended =
     MakesHistory (script_rules conduct) before after
     (λ history. IsProvisioning (control_bytes advert paths) (lanes_outside advert kept) (IsFull after) history ended)
 
-abbrev pub Activates : Advertised → List Path → ModuleBus → ModuleBus → Ended → Type 0
+abbrev pub Activates : Advertised → List Path → ModuleBus → ModuleBus → StepsOrFault → Type 0
 Activates advert paths before after ended =
     MakesHistory (script_rules conduct) before after
     (λ history. IsActivation (control_bytes advert paths) (plan_lanes advert paths) (IsFull after) history ended)
 
 -- activation follows a success of provisioning, if it is asked for, and else no step is made
-abbrev pub GoesOn : Bool → Advertised → List Path → Ended → ModuleBus → ModuleBus → Option Ended → Type 0
+abbrev pub GoesOn : Bool → Advertised → List Path → StepsOrFault → ModuleBus → ModuleBus → Option StepsOrFault → Type 0
 GoesOn true advert paths (Ok steps) before after (Some ended) = Activates advert paths before after ended
 GoesOn true advert paths (Err fault) before after None = after ≡ before
 GoesOn false advert paths provisioned before after None = after ≡ before
@@ -80,7 +80,7 @@ GoesOn activate advert paths provisioned before after activated = ⊥
 
 -- both procedures, as far as they are made; after a success of the first the control bytes are active, and still so at the
 -- end, whatever comes of the second
-pub record CarriesOut (activate : Bool) (advert : Advertised) (paths kept : List Path) (before after : ModuleBus) (provisioned : Ended) (activated : Option Ended) : Type 0 where
+pub record CarriesOut (activate : Bool) (advert : Advertised) (paths kept : List Path) (before after : ModuleBus) (provisioned : StepsOrFault) (activated : Option StepsOrFault) : Type 0 where
   pub between : ModuleBus
   pub provisions : Provisions advert paths kept before between provisioned
   pub active : IfOk provisioned (λ steps. active_bytes between.state.1 ≡ control_bytes advert paths)
@@ -101,13 +101,13 @@ unfoldable pub active_line : List ℕ → List ℕ
 active_line bytes = spaced (codes "active" ∷ control_words bytes)
 
 -- what came of them: each success, and the active bytes if there is no fault
-abbrev pub outcome_of : Ended → Option Ended → List ℕ → Outcome
+abbrev pub outcome_of : StepsOrFault → Option StepsOrFault → List ℕ → Outcome
 outcome_of (Err fault) activated active = record { provisioned = None; activated = None; active = None }
 outcome_of (Ok steps) None active = record { provisioned = Some steps; activated = None; active = Some active }
 outcome_of (Ok steps) (Some (Ok more)) active = record { provisioned = Some steps; activated = Some more; active = Some active }
 outcome_of (Ok steps) (Some (Err fault)) active = record { provisioned = Some steps; activated = None; active = None }
 
-abbrev pub outcome_fault : Ended → Option Ended → Option ProvisionFault
+abbrev pub outcome_fault : StepsOrFault → Option StepsOrFault → Option ProvisionFault
 outcome_fault (Err fault) activated = Some fault
 outcome_fault (Ok steps) None = None
 outcome_fault (Ok steps) (Some (Ok more)) = None
@@ -173,8 +173,8 @@ IsSetUpRefusal image weights kept script f = IsAdvertRefusal image f
 pub record IsCarriedOut (json traced activate : Bool) (image_text weights_text kept_text script_text text : List ℕ) (told_fault : Option ToldFault) : Type 0 where
   pub set_up : IsSetUp image_text weights_text kept_text script_text
   pub after : ModuleBus
-  pub provisioned : Ended
-  pub activated : Option Ended
+  pub provisioned : StepsOrFault
+  pub activated : Option StepsOrFault
   pub done : CarriesOut activate set_up.given.advert set_up.certificate.paths set_up.certificate.kept (bus_at_start set_up.given.is_advert.memory set_up.script) after provisioned activated
   pub told : text ≡ told_output json traced after.steps (outcome_of provisioned activated (active_bytes after.state.1)) (outcome_fault provisioned activated)
   pub fault : told_fault ≡ option_map Procedure (outcome_fault provisioned activated)

@@ -13,7 +13,7 @@ use plan_certificate::{CertificateFault, KeptFault, Reason};
 use reports::ReportFault;
 use sim_module::SimFault;
 use std::alloc::AllocError;
-use text_lines::{Spelled, Spelling};
+use text_lines::{PrintedWords, ToWords};
 
 /// Why no text, or no more of it, is the answer to the input.
 #[derive(Clone, Copy, Debug, PartialEq, Eq)]
@@ -62,7 +62,7 @@ impl Fault {
         }
     }
 
-    /// Whether it is a fault of reading an input, or want of memory.
+    /// Whether it is a fault of reading an input, or out of memory.
     pub fn is_of_reading(self) -> bool
         ensures { result ≡ is_of_reading self }
     {
@@ -83,27 +83,27 @@ impl Fault {
     }
 }
 
-impl Spelled for Fault {
+impl ToWords for Fault {
     ghost words = { fault_words };
 
     ghost most = { 6 };
 
-    fn spelling(&self) -> Spelling {
+    fn to_words(&self) -> PrintedWords {
         match self {
-            Fault::Memory => Spelling::of("memory"),
-            Fault::Io => Spelling::of("IO"),
-            Fault::TooLong => Spelling::of("PT2"),
-            Fault::Parts(count) => Spelling::of("PT1").and(count),
-            Fault::Image(fault) => fault.spelling(),
-            Fault::Report(fault) => fault.spelling(),
-            Fault::Advert(fault) => fault.spelling(),
-            Fault::Weights(fault) => fault.spelling(),
-            Fault::Kept(fault) => fault.spelling(),
-            Fault::Certificate(fault) => fault.spelling(),
-            Fault::Bad(reason, number) => reason.spelling().and(number),
-            Fault::Script(fault) => fault.spelling(),
-            Fault::Module(fault) => fault.spelling(),
-            Fault::Provision(fault) => fault.spelling(),
+            Fault::Memory => PrintedWords::of("memory"),
+            Fault::Io => PrintedWords::of("IO"),
+            Fault::TooLong => PrintedWords::of("PT2"),
+            Fault::Parts(count) => PrintedWords::of("PT1").and(count),
+            Fault::Image(fault) => fault.to_words(),
+            Fault::Report(fault) => fault.to_words(),
+            Fault::Advert(fault) => fault.to_words(),
+            Fault::Weights(fault) => fault.to_words(),
+            Fault::Kept(fault) => fault.to_words(),
+            Fault::Certificate(fault) => fault.to_words(),
+            Fault::Bad(reason, number) => reason.to_words().and(number),
+            Fault::Script(fault) => fault.to_words(),
+            Fault::Module(fault) => fault.to_words(),
+            Fault::Provision(fault) => fault.to_words(),
         }
     }
 }

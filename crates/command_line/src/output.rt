@@ -19,7 +19,7 @@ use reading_fault::ReadingFault;
 use std::io;
 use std::io::Write;
 pub use stopping_writer::StoppingWriter;
-use text_lines::Spelled;
+use text_lines::ToWords;
 use thiserror::Error;
 
 /// A write or the flush failed.
@@ -96,7 +96,7 @@ fn put_fault<W: Write>(
 {
     match form {
         FaultForm::Line => {
-            let line = fault.spelling().line_after(fault.word());
+            let line = fault.to_words().line_after(fault.word());
             writer.put(line.as_slice())
         }
         FaultForm::Json(text) => writer.put(text),

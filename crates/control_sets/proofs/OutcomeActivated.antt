@@ -7,7 +7,7 @@ use Rattle.control_sets.specs.declared.fault.ProvisionFault.{ProvisionFault}
 use Rattle.control_sets.specs.declared.fault.ProvisionFault.TheVariants.{Rejected, StagedDiffers, ActiveDiffers, GaveUp, Bus, ModuleState, Reserved}
 use Rattle.control_sets.specs.declared.procedures.task.Task.{Task}
 use Rattle.control_sets.specs.declared.procedures.task.Task.TheVariants.{FindReady, Deinitialize, CheckActive, AwaitActivated}
-use Rattle.control_sets.specs.declared.procedures.judgement.Judgement.TheVariants.{NotYet}
+use Rattle.control_sets.specs.declared.procedures.judgement.ReplyJudgement.TheVariants.{NotYet}
 use Rattle.control_sets.specs.Pages.{History, selection}
 use Rattle.control_sets.specs.Tasks.{activation, operation, page_of}
 use Rattle.control_sets.specs.Judgements.{differing_lane, judged}

@@ -12,8 +12,8 @@ use Rattle.bus_model.specs.Operations.{Answers}
 use Rattle.control_sets.specs.declared.fault.ProvisionFault.{ProvisionFault}
 use Rattle.control_sets.specs.declared.procedures.task.Task.{Task}
 use Rattle.control_sets.specs.declared.procedures.task.Task.TheVariants.{FindReady, Deinitialize, AwaitDeactivated, Stage, CheckStaged, Apply, AwaitApplied, CheckActive, AwaitActivated}
-use Rattle.control_sets.specs.declared.procedures.judgement.Judgement.{Judgement}
-use Rattle.control_sets.specs.declared.procedures.judgement.Judgement.TheVariants.{Met, NotYet, Fails}
+use Rattle.control_sets.specs.declared.procedures.judgement.ReplyJudgement.{ReplyJudgement}
+use Rattle.control_sets.specs.declared.procedures.judgement.ReplyJudgement.TheVariants.{Met, NotYet, Fails}
 use Rattle.control_sets.specs.Pages.{EachStep, History}
 use Rattle.control_sets.specs.Tasks.{operation, page_of}
 use Rattle.control_sets.specs.Judgements.{judged, judged_done, judgement}
@@ -46,12 +46,12 @@ Found task (Bytes bytes) = Condition task bytes.items
 Found task Done = judged_done (operation task) ≡ Met
 Found task Refused = ⊥
 
-met_told : (task : Task) (bytes : List ℕ) (judgement : Judgement) → Told task bytes judgement → is_met judgement ≡ true → Condition task bytes
+met_told : (task : Task) (bytes : List ℕ) (judgement : ReplyJudgement) → Told task bytes judgement → is_met judgement ≡ true → Condition task bytes
 met_told task bytes Met t e = t.0
 met_told task bytes NotYet t e = cc
 met_told task bytes (Fails fault) t e = cc
 
-told_met : (task : Task) (bytes : List ℕ) (judgement : Judgement) → Told task bytes judgement → Condition task bytes → is_met judgement ≡ true
+told_met : (task : Task) (bytes : List ℕ) (judgement : ReplyJudgement) → Told task bytes judgement → Condition task bytes → is_met judgement ≡ true
 told_met task bytes Met t c = refl
 told_met task bytes NotYet t c = absurd (t.0 c)
 told_met task bytes (Fails fault) t c = absurd (t.0 c)
@@ -135,13 +135,13 @@ stands task (step ∷ before) eight fits e = elim (or_cases (meets task step bef
   | inr earlier ↦ inr (stands task before eight fits.1 earlier)
 ]
 
-shows_by : (task : Task) (step : Step) (before : History) (bytes : List ℕ) (fault : ProvisionFault) (judgement : Judgement) → judgement_at task step before ≡ judgement → Told task bytes judgement → Shows task fault bytes →
+shows_by : (task : Task) (step : Step) (before : History) (bytes : List ℕ) (fault : ProvisionFault) (judgement : ReplyJudgement) → judgement_at task step before ≡ judgement → Told task bytes judgement → Shows task fault bytes →
     (shown : ProvisionFault) × (judgement_at task step before ≡ Fails shown)
 shows_by task step before bytes fault Met e t s = absurd (t.1 fault s)
 shows_by task step before bytes fault NotYet e t s = absurd (t.1 fault s)
 shows_by task step before bytes fault (Fails shown) e t s = (shown, e)
 
-fault_is : (judgement : Judgement) (fault : ProvisionFault) → fault_in judgement ≡ Some fault → judgement ≡ Fails fault
+fault_is : (judgement : ReplyJudgement) (fault : ProvisionFault) → fault_in judgement ≡ Some fault → judgement ≡ Fails fault
 fault_is Met fault e = cc
 fault_is NotYet fault e = cc
 fault_is (Fails shown) fault e = ap Fails (ap held e) where
@@ -149,7 +149,7 @@ fault_is (Fails shown) fault e = ap Fails (ap held e) where
   held None = shown
   held (Some fault) = fault
 
-told_shows : (task : Task) (bytes : List ℕ) (judgement : Judgement) (fault : ProvisionFault) → Told task bytes judgement → judgement ≡ Fails fault → Shows task fault bytes
+told_shows : (task : Task) (bytes : List ℕ) (judgement : ReplyJudgement) (fault : ProvisionFault) → Told task bytes judgement → judgement ≡ Fails fault → Shows task fault bytes
 told_shows task bytes judgement fault t e = let t' = subst (Told task bytes) e t in t'.1
 
 shows_by_reply : (task : Task) (step : Step) (fault : ProvisionFault) (reply : Reply) → HasEight task → step.op ≡ operation task → step.reply ≡ reply → Answers (operation task) reply → judgement task reply ≡ Fails fault → Reads (operation task) (Shows task fault) step
@@ -190,7 +190,7 @@ pub no_fault_of : (first : List Task) (task : Task) (rest : List Task) (step : S
 no_fault_of [] task rest step before e = (none_else _ _ e).0
 no_fault_of (other ∷ first) task rest step before e = no_fault_of first task rest step before (none_else _ _ e).1
 
-met_as : (first : List Task) (task : Task) (rest : List Task) (step : Step) (before : History) (judged : Judgement) → judgement_at task step before ≡ judged → (judged ≡ NotYet → ⊥) → fault_in (judgement_at task step before) ≡ None → meets task step before ≡ true
+met_as : (first : List Task) (task : Task) (rest : List Task) (step : Step) (before : History) (judged : ReplyJudgement) → judgement_at task step before ≡ judged → (judged ≡ NotYet → ⊥) → fault_in (judgement_at task step before) ≡ None → meets task step before ≡ true
 met_as first task rest step before Met e decides none = ap is_met e
 met_as first task rest step before NotYet e decides none = absurd (decides refl)
 met_as first task rest step before (Fails fault) e decides none = let h : None ≡ Some fault = sym none ∙ ap fault_in e in cc

@@ -11,7 +11,7 @@ use Rattle.control_sets.specs.declared.fault.ProvisionFault.{ProvisionFault}
 use Rattle.control_sets.specs.declared.fault.ProvisionFault.TheVariants.{Rejected, StagedDiffers, ActiveDiffers, GaveUp, Bus, ModuleState, Reserved}
 use Rattle.control_sets.specs.declared.procedures.task.Task.{Task}
 use Rattle.control_sets.specs.declared.procedures.task.Task.TheVariants.{FindReady, Deinitialize, AwaitDeactivated, Stage, CheckStaged, Apply, AwaitApplied, CheckActive}
-use Rattle.control_sets.specs.declared.procedures.judgement.Judgement.TheVariants.{NotYet}
+use Rattle.control_sets.specs.declared.procedures.judgement.ReplyJudgement.TheVariants.{NotYet}
 use Rattle.control_sets.specs.Pages.{History, selection}
 use Rattle.control_sets.specs.Tasks.{operation, page_of, provisioning}
 use Rattle.control_sets.specs.Judgements.{differing_lane, judged, met_in, met_unless}

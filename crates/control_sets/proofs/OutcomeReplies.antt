@@ -13,8 +13,8 @@ use Rattle.control_sets.specs.declared.fault.ProvisionFault.{ProvisionFault}
 use Rattle.control_sets.specs.declared.fault.ProvisionFault.TheVariants.{Rejected, StagedDiffers, ActiveDiffers, ModuleState, Reserved}
 use Rattle.control_sets.specs.declared.procedures.task.Task.{Task}
 use Rattle.control_sets.specs.declared.procedures.task.Task.TheVariants.{FindReady, Deinitialize, AwaitDeactivated, Stage, CheckStaged, Apply, AwaitApplied, CheckActive, AwaitActivated}
-use Rattle.control_sets.specs.declared.procedures.judgement.Judgement.{Judgement}
-use Rattle.control_sets.specs.declared.procedures.judgement.Judgement.TheVariants.{Met, NotYet, Fails}
+use Rattle.control_sets.specs.declared.procedures.judgement.ReplyJudgement.{ReplyJudgement}
+use Rattle.control_sets.specs.declared.procedures.judgement.ReplyJudgement.TheVariants.{Met, NotYet, Fails}
 use Rattle.control_sets.specs.Judgements.{all_lanes_have, at_lane, differing_lane, is_rejection, is_reserved_state, is_reserved_status, judged, lowest_lane, met_if, met_in, met_unless, unless_rejected, unless_reserved}
 use Rattle.control_sets.specs.OutcomeCodes.{AllHave, DiffersAt, HasSuch, IsInNoState, IsInOtherState, IsLowestReserved, IsReady, IsRejectedAt, IsRejection, IsReservedPathState, IsReservedStatus, NoneHas, module_code}
 use Rattle.control_sets.proofs.OutcomeWords.{contradicts}
@@ -48,7 +48,7 @@ abbrev pub ShowsNone : Task → List ℕ → Type 0
 ShowsNone task bytes = (fault : ProvisionFault) → Shows task fault bytes → ⊥
 
 -- what a judgement says
-abbrev pub Told : Task → List ℕ → Judgement → Type 0
+abbrev pub Told : Task → List ℕ → ReplyJudgement → Type 0
 Told task bytes Met = Condition task bytes × ShowsNone task bytes
 Told task bytes NotYet = (Condition task bytes → ⊥) × ShowsNone task bytes
 Told task bytes (Fails fault) = (Condition task bytes → ⊥) × Shows task fault bytes

@@ -13,11 +13,11 @@ use Rattle.datapath_states.specs.Lanes.{code_in, codes_in}
 use Rattle.datapath_states.specs.StateCodes.{code_of}
 use Rattle.datapath_states.specs.declared.state.PathState.{PathState}
 use Rattle.datapath_states.specs.declared.state.PathState.TheVariants.{Activated, Deactivated}
-use Rattle.paged_memory.specs.declared.paging.Selected.{Selected}
-use Rattle.paged_memory.specs.declared.paging.Selected.TheVariants.{Open, Page, Unknown}
-use Rattle.control_sets.specs.declared.procedures.judgement.Judgement.{Judgement}
-use Rattle.control_sets.specs.declared.procedures.judgement.Judgement.TheVariants.{Met, NotYet}
-use Rattle.control_sets.specs.declared.procedures.next.Next.TheVariants.{Do}
+use Rattle.paged_memory.specs.declared.page_addressing.KnownPage.{KnownPage}
+use Rattle.paged_memory.specs.declared.page_addressing.KnownPage.TheVariants.{Open, Page, Unknown}
+use Rattle.control_sets.specs.declared.procedures.judgement.ReplyJudgement.{ReplyJudgement}
+use Rattle.control_sets.specs.declared.procedures.judgement.ReplyJudgement.TheVariants.{Met, NotYet}
+use Rattle.control_sets.specs.declared.procedures.next.ProcedureNext.TheVariants.{Do}
 use Rattle.control_sets.specs.declared.procedures.procedure.Procedure.{Procedure}
 use Rattle.control_sets.specs.declared.procedures.procedure.Work.{Work}
 use Rattle.control_sets.specs.declared.procedures.procedure.Work.TheVariants.{Activation, Provisioning}
@@ -40,12 +40,12 @@ use Rattle.control_sets.proofs.Turns.{at_start, fault_told, follows, met_after, 
 
 -- ---- what lanes tell, by a test of which lanes are looked at
 
-abbrev states_told : (ℕ → Bool) → PathState → List ℕ → Judgement
+abbrev states_told : (ℕ → Bool) → PathState → List ℕ → ReplyJudgement
 states_told has state codes =
     unless_reserved codes (find (λ lane. has lane && is_reserved_state (at_lane codes lane)) (range_with_len 1 8))
     (met_if (list_all (λ lane. not (has lane) || at_lane codes lane == code_of state) (range_with_len 1 8)))
 
-abbrev statuses_told : (ℕ → Bool) → List ℕ → Judgement
+abbrev statuses_told : (ℕ → Bool) → List ℕ → ReplyJudgement
 statuses_told has codes =
     unless_reserved codes (find (λ lane. has lane && is_reserved_status (at_lane codes lane)) (range_with_len 1 8))
     (unless_rejected codes (find (λ lane. has lane && is_rejection (at_lane codes lane)) (range_with_len 1 8))
@@ -67,13 +67,13 @@ byte_of_run first count byte from to is fits = ap byte_of (sym (lanes_in-mask fi
 -- ---- one step more
 
 -- so many tasks are met by so many steps
-abbrev come_to : Work → ℕ → ℕ → Selected → Procedure
+abbrev come_to : Work → ℕ → ℕ → KnownPage → Procedure
 come_to work met steps selected = record { work = work; met = met; tracker = record { steps = steps; selection = selected }; fault = None }
 
 abbrev task_at : Work → ℕ → Task
 task_at work met = get_or (tasks_of work) met FindReady
 
-turn : (work : Work) (met steps : ℕ) (selected after : Selected) (history : History) (op : Op) (reply : Reply) (judged : Judgement) → IsAt (tasks_of work) history (come_to work met steps selected) →
+turn : (work : Work) (met steps : ℕ) (selected after : KnownPage) (history : History) (op : Op) (reply : Reply) (judged : ReplyJudgement) → IsAt (tasks_of work) history (come_to work met steps selected) →
     next (come_to work met steps selected) ≡ Do op → IsReplyTo (next (come_to work met steps selected)) reply → judged ≡ judgement_by selected (task_at work met) reply →
     after ≡ selection_after selected (step_with (operation_by selected (task_at work met)) reply) →
     IsAt (tasks_of work) (step_with op reply ∷ history) (record { work = work; met = met_after judged met; tracker = record { steps = steps + 1; selection = after }; fault = fault_told judged })
@@ -99,7 +99,7 @@ module _ (lanes : Lanes) (bits : ℕ) (states early late : List ℕ) (is : byte_
   abbrev work : Work
   work = Provisioning pairs lanes
 
-  abbrev Is : History → ℕ → ℕ → Selected → Type 0
+  abbrev Is : History → ℕ → ℕ → KnownPage → Type 0
   Is history met steps selected = IsAt (provisioning pairs lanes) history (come_to work met steps selected)
 
   begins : Is [] 0 0 Unknown
@@ -176,7 +176,7 @@ provisioned_beside =
 abbrev bringing_up : Work
 bringing_up = Activation pairs every_lane
 
-abbrev Comes : History → ℕ → ℕ → Selected → Type 0
+abbrev Comes : History → ℕ → ℕ → KnownPage → Type 0
 Comes history met steps selected = IsAt (activation pairs every_lane) history (come_to bringing_up met steps selected)
 
 abbrev found_active : History

@@ -7,8 +7,8 @@ use Rattle.bus_model.specs.declared.operation.Op.{Op}
 use Rattle.bus_model.specs.declared.operation.Step.{Step}
 use Rattle.control_sets.specs.declared.procedures.task.Task.{Task}
 use Rattle.control_sets.specs.declared.procedures.task.Task.TheVariants.{FindReady, Deinitialize, AwaitDeactivated, Stage, CheckStaged, Apply, AwaitApplied, CheckActive, AwaitActivated}
-use Rattle.control_sets.specs.declared.procedures.judgement.Judgement.{Judgement}
-use Rattle.control_sets.specs.declared.procedures.judgement.Judgement.TheVariants.{Met, NotYet, Fails}
+use Rattle.control_sets.specs.declared.procedures.judgement.ReplyJudgement.{ReplyJudgement}
+use Rattle.control_sets.specs.declared.procedures.judgement.ReplyJudgement.TheVariants.{Met, NotYet, Fails}
 use Rattle.bus_model.specs.SameOperation.{same_op}
 use Rattle.control_sets.specs.Pages.{EachStep, History, is_page_confirmed, is_open, read_selection, selection}
 use Rattle.control_sets.specs.Tasks.{operation, page_of}
@@ -182,7 +182,7 @@ pub judged_at : (task : Task) (step : Step) (before : History) → step.op ≡ o
 judged_at task step before is there =
     ap (λ (b : Bool). if b then judgement task step.reply else NotYet) (and_from _ _ (ops_same (operation task) step.op (sym is)) there)
 
-pub judged_by : (task : Task) (step : Step) (before : History) (judged : Judgement) → judged ≢ NotYet → judgement_at task step before ≡ judged →
+pub judged_by : (task : Task) (step : Step) (before : History) (judged : ReplyJudgement) → judged ≢ NotYet → judgement_at task step before ≡ judged →
     (step.op ≡ operation task) × (is_on (page_of task) before ≡ true) × (judgement task step.reply ≡ judged)
 judged_by task step before judged some e =
     let test = same_op (operation task) step.op && is_on (page_of task) before in
@@ -193,7 +193,7 @@ judged_by task step before judged some e =
       | inr no_ ↦ absurd (some (sym (sym (ap (λ (b : Bool). if b then judgement task step.reply else NotYet) no_) ∙ e)))
     ]
 
-pub met_is : (judged : Judgement) → is_met judged ≡ true → judged ≡ Met
+pub met_is : (judged : ReplyJudgement) → is_met judged ≡ true → judged ≡ Met
 met_is Met e = refl
 met_is NotYet e = cc
 met_is (Fails fault) e = cc

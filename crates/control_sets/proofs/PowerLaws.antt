@@ -16,10 +16,10 @@ use Rattle.module_states.specs.declared.state.ModuleState.TheVariants.{LowPwr, P
 use Rattle.module_states.specs.Codes.{state_at}
 use Rattle.control_sets.specs.declared.fault.ProvisionFault.{ProvisionFault}
 use Rattle.control_sets.specs.declared.fault.ProvisionFault.TheVariants.{Rejected, StagedDiffers, ActiveDiffers, GaveUp, Bus, ModuleState, Reserved}
-use Rattle.control_sets.specs.declared.procedures.judgement.Judgement.{Judgement}
-use Rattle.control_sets.specs.declared.procedures.judgement.Judgement.TheVariants.{Met, NotYet, Fails}
-use Rattle.control_sets.specs.declared.procedures.next.Next.{Next}
-use Rattle.control_sets.specs.declared.procedures.next.Next.TheVariants.{Do, Done}
+use Rattle.control_sets.specs.declared.procedures.judgement.ReplyJudgement.{ReplyJudgement}
+use Rattle.control_sets.specs.declared.procedures.judgement.ReplyJudgement.TheVariants.{Met, NotYet, Fails}
+use Rattle.control_sets.specs.declared.procedures.next.ProcedureNext.{ProcedureNext}
+use Rattle.control_sets.specs.declared.procedures.next.ProcedureNext.TheVariants.{Do, Done}
 use Rattle.control_sets.specs.declared.procedures.power.Power.{Power}
 use Rattle.control_sets.specs.declared.procedures.power.Power.TheVariants.{Awake, Asleep}
 use Rattle.control_sets.specs.declared.procedures.power.PowerChange.{PowerChange}
@@ -414,7 +414,7 @@ abbrev Comes : Power → Result PowerStage ProvisionFault → History → Type 0
 Comes power (Ok now) history = IsAtStage power now history
 Comes power (Err fault) history = IsEnded power (Err fault) history
 
-judged_comes : (power : Power) (history : History) (op : Op) (bytes : ArrayVec ℕ) (judgement : Judgement) → op ≡ read_module_state → judged_power power (module_code bytes.items) ≡ judgement
+judged_comes : (power : Power) (history : History) (op : Op) (bytes : ArrayVec ℕ) (judgement : ReplyJudgement) → op ≡ read_module_state → judged_power power (module_code bytes.items) ≡ judgement
     → IsStored power history → Comes power (stage_judged judgement) (step_with op (Bytes bytes) ∷ history)
 judged_comes power history op bytes Met is judged stored = ((bytes.items, (is, refl), met_says power (module_code bytes.items) judged), is, stored)
 judged_comes power history op bytes NotYet is judged stored = inl ((is, waits power op (Bytes bytes) judged), stored)

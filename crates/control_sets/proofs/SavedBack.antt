@@ -1,7 +1,7 @@
 -- The numbers of a procedure are those of that procedure.
 use Rattle.std.proofs.Common.{◌≡◌, Option, Some, None, refl}
 use Rattle.bus_model.specs.declared.bus.BusFault.TheVariants.{TraceFull, BadShape}
-use Rattle.paged_memory.specs.declared.paging.Selected.{Selected}
+use Rattle.paged_memory.specs.declared.page_addressing.KnownPage.{KnownPage}
 use Rattle.control_sets.specs.declared.fault.ProvisionFault.{ProvisionFault}
 use Rattle.control_sets.specs.declared.fault.ProvisionFault.TheVariants.{Rejected, StagedDiffers, ActiveDiffers, GaveUp, Bus, ModuleState, Reserved}
 use Rattle.control_sets.specs.declared.procedures.procedure.saved.SavedProcedure.{SavedProcedure}
@@ -19,7 +19,7 @@ fault_back (Some (Bus BadShape)) = refl
 fault_back (Some (ModuleState code)) = refl
 fault_back (Some (Reserved code)) = refl
 
-pub saved_back : (saved : SavedProcedure) (work : Work) (selected : Selected) (fault : Option ProvisionFault) →
+pub saved_back : (saved : SavedProcedure) (work : Work) (selected : KnownPage) (fault : Option ProvisionFault) →
     work_numbered saved.work saved.control saved.lanes ≡ Some work → selected_numbered saved.selection saved.page ≡ Some selected → fault_in saved.fault ≡ Some fault →
     restored saved ≡ Some (record { work = work; met = saved.met; tracker = record { steps = saved.steps; selection = selected }; fault = fault })
 unfolding restored

@@ -4,10 +4,10 @@ use Rattle.std.proofs.lemmas.Bool.{and_parts, and_from, or_cases, or_right}
 use Rattle.std.specs.List.{list_all, AllByRecursion}
 use Rattle.bus_model.specs.declared.operation.Step.{Step}
 use Rattle.control_sets.specs.declared.fault.ProvisionFault.{ProvisionFault}
-use Rattle.control_sets.specs.declared.procedures.judgement.Judgement.{Judgement}
-use Rattle.control_sets.specs.declared.procedures.judgement.Judgement.TheVariants.{NotYet}
-use Rattle.paged_memory.specs.declared.paging.Paging.TheVariants.{BankAndPage}
-use Rattle.paged_memory.specs.declared.paging.Selected.{Selected}
+use Rattle.control_sets.specs.declared.procedures.judgement.ReplyJudgement.{ReplyJudgement}
+use Rattle.control_sets.specs.declared.procedures.judgement.ReplyJudgement.TheVariants.{NotYet}
+use Rattle.paged_memory.specs.declared.page_addressing.PageAddressing.TheVariants.{BankAndPage}
+use Rattle.paged_memory.specs.declared.page_addressing.KnownPage.{KnownPage}
 use Rattle.paged_memory.specs.KnownPages.{Tells, is_awaited, missing_page}
 use Rattle.paged_memory.proofs.KnownPageLaws.{OnePage, is_confirmed, one_page}
 use Rattle.control_sets.specs.declared.procedures.task.Task.{Task}
@@ -77,7 +77,7 @@ pub unmet_stays : (step : Step) (history : History) (tasks : List Task) → Sile
 unmet_stays step history [] silent e = refl
 unmet_stays step history (task ∷ tasks) silent e =
     let parts = and_parts _ _ e in
-    and_from _ _ (ap (λ (judged : Judgement). not (is_met judged || was_met task history)) silent.0 ∙ parts.0) (unmet_stays step history tasks silent.1 parts.1)
+    and_from _ _ (ap (λ (judged : ReplyJudgement). not (is_met judged || was_met task history)) silent.0 ∙ parts.0) (unmet_stays step history tasks silent.1 parts.1)
 
 pub no_fault_of : (step : Step) (before : History) (tasks : List Task) → Silent step before tasks → fault_by tasks step before ≡ None
 no_fault_of step before [] silent = refl
@@ -118,11 +118,11 @@ read_back_silent step before [] e = tt
 read_back_silent step before (task ∷ tasks) e = (judged_read_back task step before e, read_back_silent step before tasks e)
 
 -- where no page is missing, the one that is needed is confirmed
-pub on_page : (selected : Selected) (page : Option ℕ) (before : History) → Tells BankAndPage selected before → missing_page selected page ≡ None → is_on page before ≡ true
+pub on_page : (selected : KnownPage) (page : Option ℕ) (before : History) → Tells BankAndPage selected before → missing_page selected page ≡ None → is_on page before ≡ true
 on_page selected None before told e = refl
 on_page selected (Some page) before told e = is_confirmed BankAndPage selected page before told e
 
-module _ (selected : Selected) (step : Step) (before : History) (task : Task) (earlier later : List Task) (told : Tells BankAndPage selected before) (apart : all_apart (earlier ++ task ∷ later) ≡ true) where
+module _ (selected : KnownPage) (step : Step) (before : History) (task : Task) (earlier later : List Task) (told : Tells BankAndPage selected before) (apart : all_apart (earlier ++ task ∷ later) ≡ true) where
   silent_with : (missing : Option ℕ) → missing_page selected (page_of task) ≡ missing → step.op ≡ operation_with task missing → Silent step before earlier × Silent step before later
   silent_with None none e =
       let one = one_page BankAndPage selected before told in

@@ -4,11 +4,11 @@ use Rattle.control_sets.specs.declared.procedures.task.Task.{Task}
 use Rattle.control_sets.specs.declared.procedures.task.Task.TheVariants.{FindReady, Deinitialize, AwaitDeactivated, Stage, CheckStaged, Apply, AwaitApplied, CheckActive, AwaitActivated}
 use Rattle.bus_model.specs.SameOperation.{same_op}
 use Rattle.bus_model.proofs.SameOperations.{ops_same}
-use Rattle.paged_memory.specs.declared.paging.Paging.TheVariants.{BankAndPage}
+use Rattle.paged_memory.specs.declared.page_addressing.PageAddressing.TheVariants.{BankAndPage}
 use Rattle.paged_memory.specs.KnownPages.{IsApart}
 use Rattle.control_sets.specs.Pages.{History, may_select, read_selection, selection}
 use Rattle.bus_model.specs.declared.operation.Step.{Step}
-use Rattle.control_sets.specs.declared.procedures.judgement.Judgement.TheVariants.{NotYet}
+use Rattle.control_sets.specs.declared.procedures.judgement.ReplyJudgement.TheVariants.{NotYet}
 use Rattle.control_sets.specs.Procedures.{is_on, judgement_at}
 use Rattle.control_sets.specs.Judgements.{judgement}
 use Rattle.control_sets.specs.Tasks.{operation, page_of}

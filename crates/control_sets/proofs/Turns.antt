@@ -10,17 +10,17 @@ use Rattle.bus_model.specs.declared.operation.Op.{Op}
 use Rattle.bus_model.specs.declared.operation.Reply.{Reply}
 use Rattle.bus_model.specs.declared.operation.Step.{Step}
 use Rattle.control_sets.specs.declared.procedures.page_tracker.PageTracker.{PageTracker}
-use Rattle.paged_memory.specs.declared.paging.Paging.TheVariants.{BankAndPage}
-use Rattle.paged_memory.specs.declared.paging.Selected.TheVariants.{Unknown}
+use Rattle.paged_memory.specs.declared.page_addressing.PageAddressing.TheVariants.{BankAndPage}
+use Rattle.paged_memory.specs.declared.page_addressing.KnownPage.TheVariants.{Unknown}
 use Rattle.paged_memory.specs.KnownPages.{Tells}
 use Rattle.paged_memory.proofs.KnownPageLaws.{tells_nothing}
 use Rattle.control_sets.specs.declared.procedures.task.Task.{Task}
-use Rattle.control_sets.specs.declared.procedures.judgement.Judgement.{Judgement}
-use Rattle.control_sets.specs.declared.procedures.judgement.Judgement.TheVariants.{Met, NotYet, Fails}
+use Rattle.control_sets.specs.declared.procedures.judgement.ReplyJudgement.{ReplyJudgement}
+use Rattle.control_sets.specs.declared.procedures.judgement.ReplyJudgement.TheVariants.{Met, NotYet, Fails}
 use Rattle.control_sets.specs.declared.fault.ProvisionFault.{ProvisionFault}
 use Rattle.control_sets.specs.declared.fault.ProvisionFault.TheVariants.{GaveUp}
-use Rattle.control_sets.specs.declared.procedures.next.Next.{Next}
-use Rattle.control_sets.specs.declared.procedures.next.Next.TheVariants.{Do, Done}
+use Rattle.control_sets.specs.declared.procedures.next.ProcedureNext.{ProcedureNext}
+use Rattle.control_sets.specs.declared.procedures.next.ProcedureNext.TheVariants.{Do, Done}
 use Rattle.control_sets.specs.declared.procedures.procedure.Procedure.{Procedure}
 use Rattle.bus_model.specs.Operations.{Answers}
 use Rattle.control_sets.specs.Pages.{History}
@@ -112,17 +112,17 @@ module _ (tasks : List Task) (history : History) (met : ℕ) (d : Task) (tracker
   }
 
 -- what the judgement of a reply makes of the tasks that were met, and of the fault
-abbrev pub met_after : Judgement → ℕ → ℕ
+abbrev pub met_after : ReplyJudgement → ℕ → ℕ
 met_after Met met = met + 1
 met_after NotYet met = met
 met_after (Fails fault) met = met
 
-abbrev pub fault_told : Judgement → Option ProvisionFault
+abbrev pub fault_told : ReplyJudgement → Option ProvisionFault
 fault_told Met = None
 fault_told NotYet = None
 fault_told (Fails fault) = Some fault
 
-told_with : (tasks : List Task) (history : History) (met : ℕ) (d : Task) (tracker tracker' : PageTracker) (step : Step) (judged : Judgement) → judged ≡ judgement_at (get_or tasks met d) step history →
+told_with : (tasks : List Task) (history : History) (met : ℕ) (d : Task) (tracker tracker' : PageTracker) (step : Step) (judged : ReplyJudgement) → judged ≡ judgement_at (get_or tasks met d) step history →
     all_apart tasks ≡ true → met < length tasks → tracker.steps < most_steps → Answers step.op step.reply → UnderWay tasks (take met tasks) (drop met tasks) tracker history →
     step.op ≡ operation_by tracker.selection (get_or tasks met d) → tracker'.steps ≡ tracker.steps + 1 → tracker'.selection ≡ selection_after tracker.selection step →
     HasCome tasks (step ∷ history) (met_after judged met) tracker' (fault_told judged)
@@ -130,11 +130,11 @@ told_with tasks history met d tracker tracker' step Met e apart more fewer answe
 told_with tasks history met d tracker tracker' step NotYet e apart more fewer answers come done count selection = told_not_yet tasks history met d tracker tracker' step apart more fewer answers come done count selection (sym e)
 told_with tasks history met d tracker tracker' step (Fails fault) e apart more fewer answers come done count selection = told_fault tasks history met d tracker tracker' step apart more fewer answers come done count selection fault (sym e)
 
-abbrev op_in : Op → Next → Op
+abbrev op_in : Op → ProcedureNext → Op
 op_in d (Do op) = op
 op_in d (Done answer) = d
 
-pub told : (old : Procedure) (d : Task) (tracker' : PageTracker) (reply : Reply) (judged : Judgement) → IsReplyTo (next old) reply →
+pub told : (old : Procedure) (d : Task) (tracker' : PageTracker) (reply : Reply) (judged : ReplyJudgement) → IsReplyTo (next old) reply →
     let task = get_or (tasks_of old.work) old.met d in
     let made = step_with (operation_by old.tracker.selection task) reply in
     judged ≡ judgement_by old.tracker.selection task reply → tracker'.steps ≡ old.tracker.steps + 1 → tracker'.selection ≡ selection_after old.tracker.selection made →
@@ -155,7 +155,7 @@ told old d tracker' reply judged answers judgement count selection tasks history
     }
 
 -- the same, for the task as it is found
-pub told_by : (old : Procedure) (task : Task) (tracker' : PageTracker) (reply : Reply) (judged : Judgement) → Some task ≡ slice_get (tasks_of old.work) old.met → IsReplyTo (next old) reply →
+pub told_by : (old : Procedure) (task : Task) (tracker' : PageTracker) (reply : Reply) (judged : ReplyJudgement) → Some task ≡ slice_get (tasks_of old.work) old.met → IsReplyTo (next old) reply →
     let made = step_with (operation_by old.tracker.selection task) reply in
     judged ≡ judgement_by old.tracker.selection task reply → tracker'.steps ≡ old.tracker.steps + 1 → tracker'.selection ≡ selection_after old.tracker.selection made →
     (tasks : List Task) (history : History) (op : Op) → IsAt tasks history old → next old ≡ Do op →

@@ -22,11 +22,11 @@ use Rattle.control_sets.specs.declared.fault.ProvisionFault.{ProvisionFault}
 use Rattle.control_sets.specs.declared.fault.ProvisionFault.TheVariants.{Rejected, StagedDiffers, ActiveDiffers, ModuleState, Reserved}
 use Rattle.control_sets.specs.declared.procedures.task.Task.{Task}
 use Rattle.control_sets.specs.declared.procedures.task.Task.TheVariants.{FindReady, Deinitialize, AwaitDeactivated, Stage, CheckStaged, Apply, AwaitApplied, CheckActive, AwaitActivated}
-use Rattle.control_sets.specs.declared.procedures.judgement.Judgement.{Judgement}
-use Rattle.control_sets.specs.declared.procedures.judgement.Judgement.TheVariants.{Met, NotYet, Fails}
+use Rattle.control_sets.specs.declared.procedures.judgement.ReplyJudgement.{ReplyJudgement}
+use Rattle.control_sets.specs.declared.procedures.judgement.ReplyJudgement.TheVariants.{Met, NotYet, Fails}
 use Rattle.control_sets.specs.Tasks.{operation}
 
-abbrev pub met_if : Bool → Judgement
+abbrev pub met_if : Bool → ReplyJudgement
 met_if true = Met
 met_if false = NotYet
 
@@ -58,41 +58,41 @@ is_reserved_status code = is_none (status_at code)
 abbrev pub is_rejection : ℕ → Bool
 is_rejection code = (nat_le 2 code && nat_le code 7) || (nat_le 13 code && nat_le code 15)
 
-abbrev pub unless_reserved : List ℕ → Option ℕ → Judgement → Judgement
+abbrev pub unless_reserved : List ℕ → Option ℕ → ReplyJudgement → ReplyJudgement
 unless_reserved codes None judged = judged
 unless_reserved codes (Some lane) judged = Fails (Reserved (at_lane codes lane))
 
-abbrev pub unless_rejected : List ℕ → Option ℕ → Judgement → Judgement
+abbrev pub unless_rejected : List ℕ → Option ℕ → ReplyJudgement → ReplyJudgement
 unless_rejected codes None judged = judged
 unless_rejected codes (Some lane) judged = Fails (Rejected lane (at_lane codes lane))
 
-abbrev pub met_unless : (ℕ → ProvisionFault) → Option ℕ → Judgement
+abbrev pub met_unless : (ℕ → ProvisionFault) → Option ℕ → ReplyJudgement
 met_unless fault None = Met
 met_unless fault (Some lane) = Fails (fault lane)
 
-abbrev pub met_in : ℕ → Option State → Judgement
+abbrev pub met_in : ℕ → Option State → ReplyJudgement
 met_in code None = Fails (Reserved code)
 met_in code (Some Ready) = Met
 met_in code (Some state) = Fails (ModuleState code)
 
 -- by the code of a module state
-abbrev pub judged_module : ℕ → Judgement
+abbrev pub judged_module : ℕ → ReplyJudgement
 judged_module code = met_in code (module_state_at code)
 
 -- by data path states: reserved codes are looked for in the lanes of one set, and the lanes of another wait for a
 -- state
-abbrev pub judged_states : Lanes → Lanes → PathState → List ℕ → Judgement
+abbrev pub judged_states : Lanes → Lanes → PathState → List ℕ → ReplyJudgement
 judged_states looked waiting state codes =
     unless_reserved codes (lowest_lane is_reserved_state looked codes) (met_if (all_lanes_have (code_of state) waiting codes))
 
 -- by configuration statuses: a reserved code counts before a rejection, and ConfigSuccess is 1
-abbrev pub judged_statuses : Lanes → List ℕ → Judgement
+abbrev pub judged_statuses : Lanes → List ℕ → ReplyJudgement
 judged_statuses lanes codes =
     unless_reserved codes (lowest_lane is_reserved_status lanes codes)
     (unless_rejected codes (lowest_lane is_rejection lanes codes) (met_if (all_lanes_have 1 lanes codes)))
 
 -- what the bytes that were read say of the task; a store has none
-unfoldable pub judged : Task → List ℕ → Judgement
+unfoldable pub judged : Task → List ℕ → ReplyJudgement
 judged FindReady bytes = judged_module (number_in_byte CModuleState (slice_index bytes 0))
 judged (Deinitialize bits) bytes = NotYet
 judged (AwaitDeactivated lanes) bytes = judged_states lanes lanes Deactivated (codes_in bytes 8)
@@ -108,12 +108,12 @@ abbrev pub HasCount : Op → ℕ → Type 0
 HasCount (Fetch dev offset count) number = number ≡ count
 HasCount (Store dev offset bytes) number = ⊥
 
-abbrev pub judged_done : Op → Judgement
+abbrev pub judged_done : Op → ReplyJudgement
 judged_done (Store dev offset bytes) = Met
 judged_done (Fetch dev offset count) = NotYet
 
 -- a store is met if it was taken; what was refused is made again
-abbrev pub judgement : Task → Reply → Judgement
+abbrev pub judgement : Task → Reply → ReplyJudgement
 judgement task (Bytes bytes) = judged task bytes.items
 judgement task Done = judged_done (operation task)
 judgement task Refused = NotYet

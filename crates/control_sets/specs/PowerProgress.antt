@@ -11,10 +11,10 @@ use Rattle.module_states.specs.declared.state.ModuleState.TheVariants.{LowPwr, P
 use Rattle.module_states.specs.Codes.{state_at}
 use Rattle.control_sets.specs.declared.fault.ProvisionFault.{ProvisionFault}
 use Rattle.control_sets.specs.declared.fault.ProvisionFault.TheVariants.{GaveUp, ModuleState, Reserved}
-use Rattle.control_sets.specs.declared.procedures.judgement.Judgement.{Judgement}
-use Rattle.control_sets.specs.declared.procedures.judgement.Judgement.TheVariants.{Met, NotYet, Fails}
-use Rattle.control_sets.specs.declared.procedures.next.Next.{Next}
-use Rattle.control_sets.specs.declared.procedures.next.Next.TheVariants.{Do, Done}
+use Rattle.control_sets.specs.declared.procedures.judgement.ReplyJudgement.{ReplyJudgement}
+use Rattle.control_sets.specs.declared.procedures.judgement.ReplyJudgement.TheVariants.{Met, NotYet, Fails}
+use Rattle.control_sets.specs.declared.procedures.next.ProcedureNext.{ProcedureNext}
+use Rattle.control_sets.specs.declared.procedures.next.ProcedureNext.TheVariants.{Do, Done}
 use Rattle.control_sets.specs.declared.procedures.power.Power.{Power}
 use Rattle.control_sets.specs.declared.procedures.power.Power.TheVariants.{Awake, Asleep}
 use Rattle.control_sets.specs.declared.procedures.power.PowerChange.{PowerChange}
@@ -35,19 +35,19 @@ operation_at power (stage.Found byte) = Some (set_controls (wanted_controls powe
 operation_at power stage.Stored = Some read_module_state
 operation_at power stage.Met = None
 
-abbrev pub next_op : ℕ → Option Op → Next
+abbrev pub next_op : ℕ → Option Op → ProcedureNext
 next_op steps None = Done (Ok steps)
 next_op steps (Some op) = if nat_lt steps most_steps then Do op else Done (Err GaveUp)
 
-abbrev pub next_by : Option ProvisionFault → ℕ → Option Op → Next
+abbrev pub next_by : Option ProvisionFault → ℕ → Option Op → ProcedureNext
 next_by None steps op = next_op steps op
 next_by (Some fault) steps op = Done (Err fault)
 
 -- what is asked for next
-abbrev pub power_next : PowerChange → Next
+abbrev pub power_next : PowerChange → ProcedureNext
 power_next change = next_by change.fault change.steps (operation_at change.power change.stage)
 
-abbrev pub judged_awake : ℕ → Option State → Judgement
+abbrev pub judged_awake : ℕ → Option State → ReplyJudgement
 judged_awake code None = Fails (Reserved code)
 judged_awake code (Some Ready) = Met
 judged_awake code (Some Fault) = Fails (ModuleState code)
@@ -55,7 +55,7 @@ judged_awake code (Some LowPwr) = NotYet
 judged_awake code (Some PwrUp) = NotYet
 judged_awake code (Some PwrDn) = NotYet
 
-abbrev pub judged_asleep : ℕ → Option State → Judgement
+abbrev pub judged_asleep : ℕ → Option State → ReplyJudgement
 judged_asleep code None = Fails (Reserved code)
 judged_asleep code (Some LowPwr) = Met
 judged_asleep code (Some Fault) = Fails (ModuleState code)
@@ -64,12 +64,12 @@ judged_asleep code (Some PwrUp) = NotYet
 judged_asleep code (Some PwrDn) = NotYet
 
 -- what the code of a module state says
-abbrev pub judged_power : Power → ℕ → Judgement
+abbrev pub judged_power : Power → ℕ → ReplyJudgement
 judged_power Awake code = judged_awake code (state_at code)
 judged_power Asleep code = judged_asleep code (state_at code)
 
 -- where a change stands after the state was read
-abbrev pub stage_judged : Judgement → Result PowerStage ProvisionFault
+abbrev pub stage_judged : ReplyJudgement → Result PowerStage ProvisionFault
 stage_judged Met = Ok stage.Met
 stage_judged NotYet = Ok stage.Stored
 stage_judged (Fails fault) = Err fault

@@ -11,8 +11,8 @@ use Rattle.bus_model.specs.Runs.{IsFull, Ran, Rules, Seen}
 use Rattle.control_sets.specs.declared.fault.ProvisionFault.{ProvisionFault}
 use Rattle.control_sets.specs.declared.fault.ProvisionFault.TheVariants.{GaveUp, Bus}
 use Rattle.control_sets.specs.declared.procedures.task.Task.{Task}
-use Rattle.control_sets.specs.declared.procedures.judgement.Judgement.{Judgement}
-use Rattle.control_sets.specs.declared.procedures.judgement.Judgement.TheVariants.{Met, NotYet, Fails}
+use Rattle.control_sets.specs.declared.procedures.judgement.ReplyJudgement.{ReplyJudgement}
+use Rattle.control_sets.specs.declared.procedures.judgement.ReplyJudgement.TheVariants.{Met, NotYet, Fails}
 use Rattle.bus_model.specs.SameOperation.{same_op}
 use Rattle.control_sets.specs.Pages.{History, selection, read_selection, is_page_confirmed, is_open}
 use Rattle.control_sets.specs.OutcomeAnswers.{most_steps}
@@ -25,10 +25,10 @@ is_on None before = true
 is_on (Some page) before = is_page_confirmed page before
 
 -- what a step says of a task: nothing, unless it is the task's operation on the page that it needs
-abbrev pub judgement_at : Task → Step → History → Judgement
+abbrev pub judgement_at : Task → Step → History → ReplyJudgement
 judgement_at task step before = if same_op (operation task) step.op && is_on (page_of task) before then judgement task step.reply else NotYet
 
-abbrev pub is_met : Judgement → Bool
+abbrev pub is_met : ReplyJudgement → Bool
 is_met Met = true
 is_met NotYet = false
 is_met (Fails fault) = false
@@ -65,7 +65,7 @@ abbrev pub EachAnswers : History → Type 0
 EachAnswers history = AllByRecursion (λ step. Answers step.op step.reply) history
 
 -- the fault that a judgement is
-abbrev pub fault_in : Judgement → Option ProvisionFault
+abbrev pub fault_in : ReplyJudgement → Option ProvisionFault
 fault_in Met = None
 fault_in NotYet = None
 fault_in (Fails fault) = Some fault

@@ -6,11 +6,11 @@ use Rattle.std.specs.Option.{option_map}
 use Rattle.bus_model.specs.declared.operation.Op.{Op}
 use Rattle.control_sets.specs.declared.fault.ProvisionFault.{ProvisionFault}
 use Rattle.control_sets.specs.declared.procedures.task.Task.{Task}
-use Rattle.paged_memory.specs.declared.paging.Paging.TheVariants.{BankAndPage}
+use Rattle.paged_memory.specs.declared.page_addressing.PageAddressing.TheVariants.{BankAndPage}
 use Rattle.paged_memory.specs.KnownPages.{Tells}
 use Rattle.control_sets.specs.declared.procedures.page_tracker.PageTracker.{PageTracker}
-use Rattle.control_sets.specs.declared.procedures.next.Next.{Next}
-use Rattle.control_sets.specs.declared.procedures.next.Next.TheVariants.{Do, Done}
+use Rattle.control_sets.specs.declared.procedures.next.ProcedureNext.{ProcedureNext}
+use Rattle.control_sets.specs.declared.procedures.next.ProcedureNext.TheVariants.{Do, Done}
 use Rattle.control_sets.specs.declared.procedures.procedure.Work.{Work}
 use Rattle.control_sets.specs.declared.procedures.procedure.Work.TheVariants.{Provisioning, Activation}
 use Rattle.control_sets.specs.declared.procedures.procedure.Procedure.{Procedure}
@@ -25,7 +25,7 @@ tasks_of (Provisioning control lanes) = provisioning control lanes
 tasks_of (Activation control lanes) = activation control lanes
 
 -- the operation that the procedure asks for, or its end
-abbrev pub next : Procedure → Next
+abbrev pub next : Procedure → ProcedureNext
 next procedure = next_after procedure.fault procedure.tracker (slice_get (tasks_of procedure.work) procedure.met)
 
 -- the steps that a procedure may still make
@@ -76,6 +76,6 @@ pub record GoesOnBy (tasks : List Task) (history : History) (op : Op) : Type 0 w
   pub fewer : length history < most_steps
 
 -- what comes after these steps
-abbrev pub Follows : List Task → History → Next → Type 0
+abbrev pub Follows : List Task → History → ProcedureNext → Type 0
 Follows tasks history (Do op) = GoesOnBy tasks history op
 Follows tasks history (Done answer) = HasEnded tasks history answer

@@ -5,8 +5,8 @@ use Rattle.std.specs.Option.{option_map}
 use Rattle.field_tables.specs.LaneSets.{lanes_in}
 use Rattle.bus_model.specs.declared.bus.BusFault.{BusFault}
 use Rattle.bus_model.specs.declared.bus.BusFault.TheVariants.{TraceFull, BadShape}
-use Rattle.paged_memory.specs.declared.paging.Selected.{Selected}
-use Rattle.paged_memory.specs.declared.paging.Selected.TheVariants.{Unknown, Open, Page}
+use Rattle.paged_memory.specs.declared.page_addressing.KnownPage.{KnownPage}
+use Rattle.paged_memory.specs.declared.page_addressing.KnownPage.TheVariants.{Unknown, Open, Page}
 use Rattle.control_sets.specs.declared.fault.ProvisionFault.{ProvisionFault}
 use Rattle.control_sets.specs.declared.fault.ProvisionFault.TheVariants.{Rejected, StagedDiffers, ActiveDiffers, GaveUp, Bus, ModuleState, Reserved}
 use Rattle.control_sets.specs.declared.procedures.procedure.saved.SavedProcedure.{SavedProcedure}
@@ -23,7 +23,7 @@ work_numbered number control lanes =
     else None)
 
 -- 0 if nothing is known, 1 if a read back is awaited, 2 if the page was read back
-abbrev pub selected_numbered : ℕ → ℕ → Option Selected
+abbrev pub selected_numbered : ℕ → ℕ → Option KnownPage
 selected_numbered number page =
     if number == 0 then Some Unknown
     else (if number == 1 then Some Open
@@ -31,7 +31,7 @@ selected_numbered number page =
     else None))
 
 -- the page that was read back; 0 if none was
-abbrev pub page_read_back : Selected → ℕ
+abbrev pub page_read_back : KnownPage → ℕ
 page_read_back Unknown = 0
 page_read_back Open = 0
 page_read_back (Page page) = page
@@ -80,7 +80,7 @@ abbrev pub saved_fault : Option ProvisionFault → SavedFault
 saved_fault None = numbers 0 0 0
 saved_fault (Some fault) = numbers_of fault
 
-abbrev pub procedure_of : SavedProcedure → Option Work → Option Selected → Option (Option ProvisionFault) → Option Procedure
+abbrev pub procedure_of : SavedProcedure → Option Work → Option KnownPage → Option (Option ProvisionFault) → Option Procedure
 procedure_of saved (Some work) (Some selected) (Some fault) =
     Some (record { work = work; met = saved.met; tracker = record { steps = saved.steps; selection = selected }; fault = fault })
 procedure_of saved work selected fault = None

@@ -1,5 +1,5 @@
 use bus_model::BusFault;
-use text_lines::{Spelled, Spelling};
+use text_lines::{PrintedWords, ToWords};
 use thiserror::Error;
 
 /// Why control bytes are refused.
@@ -30,22 +30,22 @@ pub enum ProvisionFault {
     Reserved(u8),
 }
 
-impl Spelled for ProvisionFault {
+impl ToWords for ProvisionFault {
     ghost use Rattle.control_sets.specs.FaultWords.{provision_fault_words};
 
     ghost words = { provision_fault_words };
 
     ghost most = { 3 };
 
-    fn spelling(&self) -> Spelling {
+    fn to_words(&self) -> PrintedWords {
         match self {
-            ProvisionFault::Rejected(lane, status) => Spelling::of("PV1").and(lane).and(status),
-            ProvisionFault::StagedDiffers(lane) => Spelling::of("PV2").and(lane),
-            ProvisionFault::ActiveDiffers(lane) => Spelling::of("PV3").and(lane),
-            ProvisionFault::GaveUp => Spelling::of("PV4"),
-            ProvisionFault::Bus(fault) => Spelling::of("PV5").and(fault),
-            ProvisionFault::ModuleState(code) => Spelling::of("PV6").and(code),
-            ProvisionFault::Reserved(code) => Spelling::of("PV7").and(code),
+            ProvisionFault::Rejected(lane, status) => PrintedWords::of("PV1").and(lane).and(status),
+            ProvisionFault::StagedDiffers(lane) => PrintedWords::of("PV2").and(lane),
+            ProvisionFault::ActiveDiffers(lane) => PrintedWords::of("PV3").and(lane),
+            ProvisionFault::GaveUp => PrintedWords::of("PV4"),
+            ProvisionFault::Bus(fault) => PrintedWords::of("PV5").and(fault),
+            ProvisionFault::ModuleState(code) => PrintedWords::of("PV6").and(code),
+            ProvisionFault::Reserved(code) => PrintedWords::of("PV7").and(code),
         }
     }
 }

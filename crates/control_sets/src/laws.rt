@@ -29,7 +29,7 @@ ghost use Rattle.control_sets.specs.OutcomeOfPower.{IsPowerChange};
 ghost use Rattle.control_sets.specs.OutcomeSuccess.{ReadsActive};
 ghost use Rattle.control_sets.specs.PowerControls.{set_controls, read_controls};
 ghost use Rattle.control_sets.specs.PowerProgress.{IsPowerAt, power_next};
-ghost use Rattle.control_sets.specs.declared.procedures.next.Next.TheVariants.{Done};
+ghost use Rattle.control_sets.specs.declared.procedures.next.ProcedureNext.TheVariants.{Done};
 ghost use Rattle.control_sets.specs.declared.procedures.power.Power.{Power};
 ghost use Rattle.control_sets.specs.declared.procedures.power.Power.TheVariants.{Asleep, Awake};
 ghost use Rattle.control_sets.specs.declared.procedures.power.PowerChange.{PowerChange};

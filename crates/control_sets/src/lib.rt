@@ -14,6 +14,6 @@ pub use fault::{ControlFault, ProvisionFault};
 pub use host_path::{HostPath, agree, control_at, paths_of};
 pub use plan_bytes::{bytes_of, lanes_of, lanes_outside};
 pub use procedures::{
-    Activated, MAX_STEPS, Next, Power, PowerChange, PowerStage, Procedure, Provisioned, SavedFault,
-    SavedProcedure, activate, can_have, change_power, provision, provision_keeping,
+    Activated, MAX_STEPS, Power, PowerChange, PowerStage, Procedure, ProcedureNext, Provisioned,
+    SavedFault, SavedProcedure, activate, can_have, change_power, provision, provision_keeping,
 };

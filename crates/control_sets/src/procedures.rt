@@ -9,7 +9,7 @@ mod runner;
 mod saved_fault;
 mod task;
 
-pub use next::Next;
+pub use next::ProcedureNext;
 pub use page_tracker::MAX_STEPS;
 pub use power::{Power, PowerChange, PowerStage, change_power};
 pub use procedure::{Procedure, SavedProcedure, can_have};

@@ -3,7 +3,7 @@
 use Rattle.std.specs.Prelude.{Bool, true, false, IsTrue}
 use Rattle.std.specs.Bool.{IsFalse}
 use Rattle.module_states.specs.Machines.{Machine}
-use Rattle.datapath_states.specs.declared.machine.Inputs.{Inputs}
+use Rattle.datapath_states.specs.declared.machine.PathInputs.{PathInputs}
 use Rattle.datapath_states.specs.declared.state.PathState.{PathState}
 use Rattle.datapath_states.specs.declared.state.PathState.TheVariants.{Init, Deinit, TxTurnOn, TxTurnOff}
 use Rattle.datapath_states.specs.Transitions.{next_of}
@@ -16,13 +16,13 @@ is_transient TxTurnOn = true
 is_transient TxTurnOff = true
 is_transient _ = false
 
-abbrev pub machine : Machine PathState Inputs
+abbrev pub machine : Machine PathState PathInputs
 machine = record { next = next_of; is_transient = is_transient; is_done = λ inputs. inputs.done }
 
 -- inputs of a lane that is down
-abbrev pub IsDown : Inputs → Type 0
+abbrev pub IsDown : PathInputs → Type 0
 IsDown inputs = IsTrue inputs.down
 
 -- inputs of a lane that isn't
-abbrev pub IsUp : Inputs → Type 0
+abbrev pub IsUp : PathInputs → Type 0
 IsUp inputs = IsFalse inputs.down

@@ -2,7 +2,7 @@
 -- as a table.
 use Rattle.std.specs.Prelude.{Bool, not, ◌&&◌, ◌==◌, List, [], ◌∷◌, find}
 use Rattle.std.specs.Option.{option_map_or}
-use Rattle.datapath_states.specs.declared.machine.Inputs.{Inputs}
+use Rattle.datapath_states.specs.declared.machine.PathInputs.{PathInputs}
 use Rattle.datapath_states.specs.declared.state.PathState.{PathState}
 use Rattle.datapath_states.specs.declared.state.PathState.TheVariants.{Deactivated, Init, Deinit, Activated, TxTurnOn, TxTurnOff, Initialized}
 use Rattle.datapath_states.specs.StateCodes.{code_of}
@@ -10,10 +10,10 @@ use Rattle.datapath_states.specs.StateCodes.{code_of}
 -- a row of the table: a state, a condition on the inputs, and the state after
 pub record Transition : Type 0 where
   pub state : PathState
-  pub condition : Inputs → Bool
+  pub condition : PathInputs → Bool
   pub next : PathState
 
-abbrev pub row : PathState → (Inputs → Bool) → PathState → Transition
+abbrev pub row : PathState → (PathInputs → Bool) → PathState → Transition
 row state condition next = record { state = state; condition = condition; next = next }
 
 abbrev pub transitions : List Transition
@@ -29,9 +29,9 @@ transitions =
     ∷ []
 
 -- the row is of this state, and its condition holds
-abbrev pub fits : PathState → Inputs → Transition → Bool
+abbrev pub fits : PathState → PathInputs → Transition → Bool
 fits state inputs transition = (code_of transition.state == code_of state) && transition.condition inputs
 
 -- the state after a turn is that of the row that fits; if none does, the state stays
-unfoldable pub next_of : PathState → Inputs → PathState
+unfoldable pub next_of : PathState → PathInputs → PathState
 next_of state inputs = option_map_or (λ transition. transition.next) (find (fits state inputs) transitions) state

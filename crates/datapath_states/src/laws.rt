@@ -3,7 +3,7 @@
 
 ghost use Rattle.std.specs.Prelude.{◌≡◌, ◌≢◌, ℕ, ◌≤◌, ◌↔◌, Some, not, IsTrue, All, count_by};
 ghost use Rattle.std.specs.Bool.{IsFalse};
-ghost use Rattle.datapath_states.specs.declared.machine.Inputs.{Inputs};
+ghost use Rattle.datapath_states.specs.declared.machine.PathInputs.{PathInputs};
 ghost use Rattle.datapath_states.specs.declared.state.PathState.{PathState};
 ghost use Rattle.datapath_states.specs.declared.status.ConfigStatus.{ConfigStatus};
 ghost use Rattle.module_states.specs.Machines.{ArrivesIn};
@@ -30,15 +30,15 @@ pub fn codes_name_statuses()
 
 /// No two rows of the table fit at once, so their order says nothing.
 pub fn rows_exclude_each_other()
-    ensures { (state : PathState) (inputs : Inputs) →
+    ensures { (state : PathState) (inputs : PathInputs) →
         count_by (fits state inputs) transitions ≤ 1 }
 {}
 
 /// A transient state is left if and only if its step is done. No other state looks at that.
 pub fn transient_states_wait()
-    ensures transient { (state : PathState) (inputs : Inputs) → IsTrue (is_transient state) →
+    ensures transient { (state : PathState) (inputs : PathInputs) → IsTrue (is_transient state) →
         (next_of state inputs ≡ state) ↔ IsFalse inputs.done }
-    ensures steady { (state : PathState) (inputs : Inputs) → IsFalse (is_transient state) →
+    ensures steady { (state : PathState) (inputs : PathInputs) → IsFalse (is_transient state) →
         next_of state (record inputs { done = not inputs.done }) ≡ next_of state inputs }
 {}
 

@@ -10,8 +10,8 @@ mod nibbles;
 mod state;
 mod status;
 
-pub use fault::CodeFault;
-pub use machine::{Inputs, next};
+pub use fault::PathCodeFault;
+pub use machine::{PathInputs, next};
 pub use nibbles::lanes;
 pub use state::{PathState, state_of};
 pub use status::{ConfigStatus, status_of};

@@ -5,7 +5,7 @@ use crate::PathState;
 
 /// What the machine looks at in a turn.
 #[derive(Clone, Copy, Debug, PartialEq, Eq)]
-pub struct Inputs {
+pub struct PathInputs {
     /// The lane is to be deactivated, or kept so.
     pub down: bool,
     /// The step of a transient state is done.
@@ -14,7 +14,7 @@ pub struct Inputs {
 
 /// The state after a turn.
 #[tactic(auto, unfolding(crate::specs::Transitions::next_of))]
-pub fn next(state: PathState, inputs: Inputs) -> PathState
+pub fn next(state: PathState, inputs: PathInputs) -> PathState
     ensures { result ≡ next_of state inputs }
 {
     match state {

@@ -3,7 +3,7 @@ ghost use Rattle.std.specs.Option.{ok_or};
 ghost use Rattle.datapath_states.specs.Names.{name_of};
 ghost use Rattle.datapath_states.specs.StateCodes.{code_of, state_at};
 
-use crate::CodeFault;
+use crate::PathCodeFault;
 use std::fmt;
 
 /// The state of a data path, as each of its lanes reports it.
@@ -45,8 +45,8 @@ impl fmt::Display for PathState {
 }
 
 /// The state that a code stands for.
-pub fn state_of(code: u8) -> Result<PathState, CodeFault>
-    ensures { result ≡ ok_or (state_at code) (CodeFault.Reserved code) }
+pub fn state_of(code: u8) -> Result<PathState, PathCodeFault>
+    ensures { result ≡ ok_or (state_at code) (PathCodeFault.Reserved code) }
 {
     match code {
         1 => Ok(PathState::Deactivated),
@@ -56,6 +56,6 @@ pub fn state_of(code: u8) -> Result<PathState, CodeFault>
         5 => Ok(PathState::TxTurnOn),
         6 => Ok(PathState::TxTurnOff),
         7 => Ok(PathState::Initialized),
-        _ => Err(CodeFault::Reserved(code)),
+        _ => Err(PathCodeFault::Reserved(code)),
     }
 }

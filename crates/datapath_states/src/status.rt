@@ -3,7 +3,7 @@ ghost use Rattle.std.specs.Option.{ok_or};
 ghost use Rattle.datapath_states.specs.Names.{status_name};
 ghost use Rattle.datapath_states.specs.StatusCodes.{status_at, status_code_of};
 
-use crate::CodeFault;
+use crate::PathCodeFault;
 use std::fmt;
 
 /// What became of the last configuration command on a lane.
@@ -63,8 +63,8 @@ impl fmt::Display for ConfigStatus {
 }
 
 /// The status that a code stands for.
-pub fn status_of(code: u8) -> Result<ConfigStatus, CodeFault>
-    ensures { result ≡ ok_or (status_at code) (CodeFault.Reserved code) }
+pub fn status_of(code: u8) -> Result<ConfigStatus, PathCodeFault>
+    ensures { result ≡ ok_or (status_at code) (PathCodeFault.Reserved code) }
 {
     match code {
         0 => Ok(ConfigStatus::Undefined),
@@ -77,6 +77,6 @@ pub fn status_of(code: u8) -> Result<ConfigStatus, CodeFault>
         7 => Ok(ConfigStatus::RejectedPartialDataPath),
         12 => Ok(ConfigStatus::InProgress),
         13..=15 => Ok(ConfigStatus::Custom(code)),
-        _ => Err(CodeFault::Reserved(code)),
+        _ => Err(PathCodeFault::Reserved(code)),
     }
 }

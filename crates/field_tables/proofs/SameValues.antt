@@ -22,14 +22,14 @@ use Rattle.field_tables.specs.declared.field.Field.{Field}
 use Rattle.field_tables.specs.declared.field.Field.TheVariants.{CBankSelect, CPageSelect, QPageSelect}
 use Rattle.field_tables.specs.declared.field.Sum.{Sum}
 use Rattle.field_tables.specs.declared.field.TextField.{TextField}
-use Rattle.field_tables.specs.declared.readings.Levels.{Levels}
+use Rattle.field_tables.specs.declared.readings.PerLimit.{PerLimit}
 use Rattle.field_tables.specs.declared.spans.Span.{Span}
 use Rattle.field_tables.specs.FieldRows.{row_of}
 use Rattle.field_tables.specs.FieldValues.{field_key, value_in}
 use Rattle.field_tables.specs.Halves.{byte_in, is_absent}
 use Rattle.field_tables.specs.Layouts.{Place}
 use Rattle.field_tables.specs.Numbers.{bit_in, number_in, signed_by}
-use Rattle.field_tables.specs.Readings.{all_bits, all_numbers, all_readings, bit, bit_at as bit_of, is_sum_right, level_bits, limits_of, number, number_at, reading, reading_at, text}
+use Rattle.field_tables.specs.Readings.{all_bits, all_numbers, all_readings, bit, bit_at as bit_of, is_sum_right, limit_bits, limits_of, number, number_at, reading, reading_at, text}
 use Rattle.field_tables.specs.RowPlaces.{place_of}
 use Rattle.field_tables.specs.Spans.{bytes_in}
 use Rattle.field_tables.specs.Sums.{sum_key, sum_matches, sum_row}
@@ -202,9 +202,9 @@ module _ (a b : Memory) where
       let last = value 4 (omega arith) (omega arith) in
       λ i. record { high_alarm = one i; low_alarm = two i; high_warning = three i; low_warning = last i }
 
-  pub same_levels : (field : Field) → Agree a b (field_key field) → is_selection field ≡ false → nat_le 4 (row_of field).count ≡ true → level_bits a field ≡ level_bits b field
-  same_levels field agree other counted =
-      ap (λ (levels : Levels ℤ). record {
+  pub same_limit_bits : (field : Field) → Agree a b (field_key field) → is_selection field ≡ false → nat_le 4 (row_of field).count ≡ true → limit_bits a field ≡ limit_bits b field
+  same_limit_bits field agree other counted =
+      ap (λ (levels : PerLimit ℤ). record {
         high_alarm = unsigned_abs levels.high_alarm == 1;
         low_alarm = unsigned_abs levels.low_alarm == 1;
         high_warning = unsigned_abs levels.high_warning == 1;

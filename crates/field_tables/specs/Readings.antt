@@ -8,7 +8,7 @@ use Rattle.field_tables.specs.declared.field.Sum.{Sum}
 use Rattle.field_tables.specs.declared.layout.Row.{Row}
 use Rattle.field_tables.specs.declared.layout.Sign.{Sign}
 use Rattle.field_tables.specs.declared.layout.Sign.TheVariants.{Unsigned, Signed}
-use Rattle.field_tables.specs.declared.readings.Levels.{Levels}
+use Rattle.field_tables.specs.declared.readings.PerLimit.{PerLimit}
 use Rattle.field_tables.specs.RowPlaces.{width_by}
 use Rattle.field_tables.specs.FieldValues.{of_each, value_of}
 use Rattle.field_tables.specs.Sums.{sum_right_of}
@@ -39,7 +39,7 @@ abbrev pub all_readings : Memory → Field → List ℤ
 all_readings memory field = of_each field (reading_at memory field)
 
 -- the four values of a field of limits
-abbrev pub limits_of : Memory → Field → Levels ℤ
+abbrev pub limits_of : Memory → Field → PerLimit ℤ
 limits_of memory field = record {
   high_alarm = reading_at memory field 1;
   low_alarm = reading_at memory field 2;
@@ -47,8 +47,8 @@ limits_of memory field = record {
   low_warning = reading_at memory field 4;
 }
 
-abbrev pub LevelsAreWords : Levels ℤ → Type 0
-LevelsAreWords limits = IsWord limits.high_alarm × IsWord limits.low_alarm × IsWord limits.high_warning × IsWord limits.low_warning
+abbrev pub LimitsAreWords : PerLimit ℤ → Type 0
+LimitsAreWords limits = IsWord limits.high_alarm × IsWord limits.low_alarm × IsWord limits.high_warning × IsWord limits.low_warning
 
 -- value i of a field of numbers
 abbrev pub number_at : Memory → Field → ℕ → ℕ
@@ -75,8 +75,8 @@ abbrev pub all_bits : Memory → Field → List Bool
 all_bits memory field = of_each field (bit_at memory field)
 
 -- the four values of a field of flags
-abbrev pub level_bits : Memory → Field → Levels Bool
-level_bits memory field = record {
+abbrev pub limit_bits : Memory → Field → PerLimit Bool
+limit_bits memory field = record {
   high_alarm = bit_at memory field 1;
   low_alarm = bit_at memory field 2;
   high_warning = bit_at memory field 3;

@@ -26,8 +26,8 @@ pub use lane_set::LaneSet;
 pub use laws::{each_entry_is_within_its_half, no_bit_means_two_things};
 pub use layout::{Layout, Part, Row, Sign};
 pub use readings::{
-    Levels, all_bits, all_numbers, all_readings, bit, bit_at, is_sum_right, level_bits, limits_of,
-    number, number_at, reading, reading_at, text,
+    PerLimit, all_bits, all_numbers, all_readings, bit, bit_at, is_sum_right, limit_bits,
+    limits_of, number, number_at, reading, reading_at, text,
 };
 pub use registers::register;
 pub use sff_fault::SffFault;

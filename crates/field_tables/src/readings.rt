@@ -3,7 +3,7 @@ ghost use Rattle.std.specs.Prelude.{◌≡◌, ◌^◌, ◌<◌, ◌≤◌, All,
 ghost use Rattle.field_tables.specs.FieldRows.{row_of};
 ghost use Rattle.field_tables.specs.RowPlaces.{width_by};
 ghost use Rattle.field_tables.specs.Readings as spec;
-ghost use Rattle.field_tables.specs.Readings.{LevelsAreWords, IsWord, is_of_bytes};
+ghost use Rattle.field_tables.specs.Readings.{LimitsAreWords, IsWord, is_of_bytes};
 
 use crate::field::{Field, Sum, TextField};
 use crate::values::value_of;
@@ -13,7 +13,7 @@ use paged_memory::Image;
 
 /// What there is for each limit of a monitored value: the limits themselves, or flags that tell whether they are passed.
 #[derive(Clone, Copy, Debug, PartialEq, Eq)]
-pub struct Levels<T> {
+pub struct PerLimit<T> {
     pub high_alarm: T,
     pub low_alarm: T,
     pub high_warning: T,
@@ -54,12 +54,12 @@ pub fn all_readings<const N: usize>(image: &Image, field: Field) -> [i32; N]
 }
 
 /// The four limits that a field has, in steps of its unit, or zeros if its page is absent.
-pub fn limits_of(image: &Image, field: Field) -> Levels<i32>
+pub fn limits_of(image: &Image, field: Field) -> PerLimit<i32>
     requires { 4 ≡ (row_of field).count }
     ensures value { result ≡ spec.limits_of image.now field }
-    ensures words { LevelsAreWords result }
+    ensures words { LimitsAreWords result }
 {
-    Levels {
+    PerLimit {
         high_alarm: reading_at(image, field, 1),
         low_alarm: reading_at(image, field, 2),
         high_warning: reading_at(image, field, 3),
@@ -138,12 +138,12 @@ pub fn all_bits<const N: usize>(image: &Image, field: Field) -> [bool; N]
 }
 
 /// The four flags that a field has; none is raised if its page is absent.
-pub fn level_bits(image: &Image, field: Field) -> Levels<bool>
+pub fn limit_bits(image: &Image, field: Field) -> PerLimit<bool>
     requires bytes { IsTrue (is_of_bytes (row_of field)) }
     requires count { 4 ≡ (row_of field).count }
-    ensures { result ≡ spec.level_bits image.now field }
+    ensures { result ≡ spec.limit_bits image.now field }
 {
-    Levels {
+    PerLimit {
         high_alarm: bit_at(image, field, 1),
         low_alarm: bit_at(image, field, 2),
         high_warning: bit_at(image, field, 3),

@@ -1,5 +1,5 @@
 use paged_memory::Key;
-use text_lines::{Spelled, Spelling};
+use text_lines::{PrintedWords, ToWords};
 use thiserror::Error;
 
 /// Why an SFF module's memory is not read.
@@ -20,21 +20,21 @@ pub enum SffFault {
     ExternalCalibration,
 }
 
-impl Spelled for SffFault {
+impl ToWords for SffFault {
     ghost use Rattle.field_tables.specs.SffFaultWords.{sff_fault_words};
 
     ghost words = { sff_fault_words };
 
     ghost most = { 5 };
 
-    fn spelling(&self) -> Spelling {
+    fn to_words(&self) -> PrintedWords {
         match self {
-            SffFault::WrongIdentifier(identifier) => Spelling::of("SF1").and(identifier),
-            SffFault::FlatMemory => Spelling::of("SF2"),
-            SffFault::Absent(key) => Spelling::of("SF3").and(key),
-            SffFault::NoDiagnostics => Spelling::of("SF4"),
-            SffFault::ExternalCalibration => Spelling::of("SF5"),
-            SffFault::AddressChange => Spelling::of("SF6"),
+            SffFault::WrongIdentifier(identifier) => PrintedWords::of("SF1").and(identifier),
+            SffFault::FlatMemory => PrintedWords::of("SF2"),
+            SffFault::Absent(key) => PrintedWords::of("SF3").and(key),
+            SffFault::NoDiagnostics => PrintedWords::of("SF4"),
+            SffFault::ExternalCalibration => PrintedWords::of("SF5"),
+            SffFault::AddressChange => PrintedWords::of("SF6"),
         }
     }
 }

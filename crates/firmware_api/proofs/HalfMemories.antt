@@ -7,11 +7,11 @@ use Rattle.paged_memory.specs.KeyOrder.{key_cmp}
 use Rattle.paged_memory.specs.Images.{Memory}
 use Rattle.paged_memory.specs.declared.key.Key.{Key}
 use Rattle.paged_memory.proofs.KeyLaws.{keys_total}
-use Rattle.firmware_api.specs.declared.half.Half.{Half}
+use Rattle.firmware_api.specs.declared.half.HalfBytes.{HalfBytes}
 use Rattle.firmware_api.specs.Halves.{key_of, memory_of}
 
 -- the half before this place is put last
-pub memory_with : (halves : List Half) (place : ℕ) (d : Half) → 0 < place → place ≤ length halves →
+pub memory_with : (halves : List HalfBytes) (place : ℕ) (d : HalfBytes) → 0 < place → place ≤ length halves →
     memory_of (drop (place - 1) halves) ≡ finmap.insert (memory_of (drop place halves)) (key_of (get_or halves (place - 1) d)) (get_or halves (place - 1) d).bytes
 unfolding memory_of
 memory_with halves place d some within =
@@ -24,19 +24,19 @@ at_most : (known : Bool) (n k : ℕ) → n ≤ k → cond known n (n + 1) ≤ su
 at_most true n k few = omega (arith, few)
 at_most false n k few = omega (arith, few)
 
-pub memory_has_few : (halves : List Half) → finmap.len (memory_of halves) ≤ length halves
+pub memory_has_few : (halves : List HalfBytes) → finmap.len (memory_of halves) ≤ length halves
 unfolding memory_of
 memory_has_few [] = rw (finmap.len-empty key_cmp (List ℕ)) (omega arith)
 memory_has_few (half ∷ halves) =
     let memory : Memory = memory_of halves in
     rw (finmap.len-insert keys_total memory (key_of half) half.bytes) (at_most (finmap.contains_key memory (key_of half)) (finmap.len memory) (length halves) (memory_has_few halves))
 
-pub no_halves : (halves : List Half) → memory_of (drop (length halves) halves) ≡ finmap.empty
+pub no_halves : (halves : List HalfBytes) → memory_of (drop (length halves) halves) ≡ finmap.empty
 unfolding memory_of
 no_halves halves = ap memory_of (drop-length halves)
 
 -- there is room for one half more
-pub has_room : (halves : List Half) (place : ℕ) → 0 < place → place ≤ length halves → length halves ≤ 16 → finmap.len (memory_of (drop place halves)) < 16
+pub has_room : (halves : List HalfBytes) (place : ℕ) → 0 < place → place ≤ length halves → length halves ≤ 16 → finmap.len (memory_of (drop place halves)) < 16
 has_room halves place some within few =
     let most = memory_has_few (drop place halves) in
     omega (arith, some, within, few, most, length-drop place halves)

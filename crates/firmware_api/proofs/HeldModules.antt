@@ -16,7 +16,7 @@ use Rattle.sim_module.specs.Lanes.{active_bytes}
 use Rattle.sim_module.specs.Record.{bare, module_of}
 use Rattle.sim_module.specs.SavedModules.{restored}
 use Rattle.sim_module.specs.Starts.{start, start_fault}
-use Rattle.firmware_api.specs.declared.half.Half.{Half}
+use Rattle.firmware_api.specs.declared.half.HalfBytes.{HalfBytes}
 use Rattle.firmware_api.specs.declared.status.Refusal.{Refusal}
 use Rattle.firmware_api.specs.declared.status.Refusal.TheVariants.{NoStart, NoModule}
 use Rattle.firmware_api.specs.Halves.{memory_of}
@@ -60,7 +60,7 @@ passes (Some refusal) fault made sim none is = cc
 abbrev IsNew : Memory → Delays → Result SimModule SimFault → Type 0
 IsNew memory delays made = MatchOption (start_fault memory delays) (made ≡ Ok (start memory delays)) (λ fault. made ≡ Err fault)
 
-pub begun_fault : (halves : List Half) (delays : Delays) (image : Memory) (made : Result SimModule SimFault) (fault : SimFault) →
+pub begun_fault : (halves : List HalfBytes) (delays : Delays) (image : Memory) (made : Result SimModule SimFault) (fault : SimFault) →
     unless_refused (half_refusal halves) (memory_of halves) ≡ Ok image → IsNew image delays made → made ≡ Err fault → begun halves delays ≡ Err (NoStart fault)
 begun_fault halves delays image made fault reads new is =
     let same = right_value (half_refusal halves) (memory_of halves) image reads in
@@ -88,7 +88,7 @@ held_with (Some refusal) fault read right advert sim none reads is = cc
 abbrev IsRead : Memory → Result Advertised AdvertFault → Type 0
 IsRead memory read = MatchOption (advert_fault memory) (read ≡ Ok (advertised_by memory)) (λ fault. read ≡ Err fault)
 
-pub held_is : (halves : List Half) (numbers : SavedModule) (image : Memory) (read : Result Advertised AdvertFault) (advert : Advertised)
+pub held_is : (halves : List HalfBytes) (numbers : SavedModule) (image : Memory) (read : Result Advertised AdvertFault) (advert : Advertised)
     (sim : Option SimModule) → unless_refused (half_refusal halves) (memory_of halves) ≡ Ok image → IsRead image read → read ≡ Ok advert →
     sim ≡ module_in (record { image = image; advert = advert }) numbers → held halves numbers ≡ module_or sim
 held_is halves numbers image read advert sim reads advertises is made =

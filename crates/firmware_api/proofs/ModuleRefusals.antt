@@ -8,7 +8,7 @@ use Rattle.paged_memory.specs.Images.{Memory}
 use Rattle.applications.specs.Advertised.{Advertised, advertised_by}
 use Rattle.applications.specs.Refusals.{advert_fault}
 use Rattle.applications.specs.declared.fault.AdvertFault.{AdvertFault}
-use Rattle.firmware_api.specs.declared.half.Half.{Half}
+use Rattle.firmware_api.specs.declared.half.HalfBytes.{HalfBytes}
 use Rattle.firmware_api.specs.declared.status.Refusal.{Refusal}
 use Rattle.firmware_api.specs.declared.status.Refusal.TheVariants.{TooManyHalves, NoPlace, Advert}
 use Rattle.firmware_api.specs.Halves.{has_place, memory_of, module_refusal}
@@ -21,15 +21,15 @@ is_not_below : (m n : ℕ) (b : Bool) → nat_lt m n ≡ b → n ≤ m → nat_l
 is_not_below m n true e over = absurd (omega (arith, over, ltb-true m n e))
 is_not_below m n false e over = e
 
-pub too_many : (halves : List Half) → 16 < length halves → module_refusal halves ≡ Some TooManyHalves
+pub too_many : (halves : List HalfBytes) → 16 < length halves → module_refusal halves ≡ Some TooManyHalves
 unfolding module_refusal
 too_many halves more = rw (is_below 16 (length halves) _ refl more) refl
 
-pub no_place : (halves : List Half) → length halves ≤ 16 → list_all has_place halves ≡ false → module_refusal halves ≡ Some NoPlace
+pub no_place : (halves : List HalfBytes) → length halves ≤ 16 → list_all has_place halves ≡ false → module_refusal halves ≡ Some NoPlace
 unfolding module_refusal
 no_place halves few some = rw (is_not_below 16 (length halves) _ refl few, some) refl
 
-pub placed : (halves : List Half) → length halves ≤ 16 → list_all has_place halves ≡ true →
+pub placed : (halves : List HalfBytes) → length halves ≤ 16 → list_all has_place halves ≡ true →
     module_refusal halves ≡ option_map Advert (advert_fault (memory_of halves))
 unfolding module_refusal
 placed halves few all = rw (is_not_below 16 (length halves) _ refl few, all) refl
@@ -48,26 +48,26 @@ passes_on (Some fault) read advert answers = ap passed answers
 abbrev pub IsRead : Result Advertised AdvertFault → Memory → Type 0
 IsRead read memory = MatchOption (advert_fault memory) (read ≡ Ok (advertised_by memory)) (λ fault. read ≡ Err fault)
 
-abbrev pub IsPassed : Result Advertised Refusal → List Half → Type 0
+abbrev pub IsPassed : Result Advertised Refusal → List HalfBytes → Type 0
 IsPassed told halves = MatchOption (module_refusal halves) (told ≡ Ok (advertised_by (memory_of halves))) (λ refusal. told ≡ Err refusal)
 
-pub reads : (halves : List Half) (memory : Memory) (read : Result Advertised AdvertFault) → length halves ≤ 16 → list_all has_place halves ≡ true →
+pub reads : (halves : List HalfBytes) (memory : Memory) (read : Result Advertised AdvertFault) → length halves ≤ 16 → list_all has_place halves ≡ true →
     memory ≡ memory_of halves → IsRead read memory → IsPassed (passed read) halves
 reads halves memory read few all same is =
     rw (placed halves few all) (passes_on (advert_fault (memory_of halves)) read (advertised_by (memory_of halves)) (subst (IsRead read) same is))
 
-few : (halves : List Half) → module_refusal halves ≡ None → length halves ≤ 16
+few : (halves : List HalfBytes) → module_refusal halves ≡ None → length halves ≤ 16
 unfolding module_refusal
 few halves none = by (nat_lt 16 (length halves)) (if not (list_all has_place halves) then Some NoPlace else option_map Advert (advert_fault (memory_of halves))) refl none where
   by : (many : Bool) (later : Option Refusal) → nat_lt 16 (length halves) ≡ many → (if many then Some TooManyHalves else later) ≡ None → length halves ≤ 16
   by true later e none = absurd (let same = none in cc)
   by false later e none = ltb-false 16 (length halves) e
 
-few_by : (halves : List Half) (advert : Advertised) (found : Option Refusal) → module_refusal halves ≡ found →
+few_by : (halves : List HalfBytes) (advert : Advertised) (found : Option Refusal) → module_refusal halves ≡ found →
     MatchOption found (◌≡◌ {A = Result Advertised Refusal} (Ok advert) (Ok (advertised_by (memory_of halves)))) (λ refusal. ◌≡◌ {A = Result Advertised Refusal} (Ok advert) (Err refusal)) → length halves ≤ 16
 few_by halves advert None e read = few halves e
 few_by halves advert (Some refusal) e read = absurd (let same = read in cc)
 
 -- of halves that a module's Applications were read of
-pub few_if_read : (halves : List Half) (advert : Advertised) → IsPassed (Ok advert) halves → length halves ≤ 16
+pub few_if_read : (halves : List HalfBytes) (advert : Advertised) → IsPassed (Ok advert) halves → length halves ≤ 16
 few_if_read halves advert read = few_by halves advert (module_refusal halves) refl read

@@ -6,8 +6,8 @@ use Rattle.std.specs.List.{list_all}
 use Rattle.std.proofs.lemmas.Bool.{and_from}
 use Rattle.std.proofs.lemmas.List.{append-nil, take-take}
 use Rattle.bus_model.specs.declared.operation.Reply.{Reply}
-use Rattle.paged_memory.specs.declared.paging.Selected.{Selected}
-use Rattle.paged_memory.specs.Paging.{History}
+use Rattle.paged_memory.specs.declared.page_addressing.KnownPage.{KnownPage}
+use Rattle.paged_memory.specs.PageAddressing.{History}
 use Rattle.control_sets.specs.SavedNumbers.{selected_numbered}
 use Rattle.module_reading.specs.declared.pieces.PieceReading.{PieceReading}
 use Rattle.module_reading.specs.ImageReading as whole
@@ -15,7 +15,7 @@ use Rattle.module_reading.specs.JoinedPieces.{HasJoinedOutcome}
 use Rattle.module_reading.specs.PieceReading as pieces
 use Rattle.module_reading.proofs.PieceReplies.{placed, sized}
 use Rattle.module_reading.proofs.PieceTold.{outcomes}
-use Rattle.firmware_api.specs.declared.half.Half.{Half}
+use Rattle.firmware_api.specs.declared.half.HalfBytes.{HalfBytes}
 use Rattle.firmware_api.specs.declared.reading.numbers.SavedReading.{SavedReading}
 use Rattle.firmware_api.specs.Halves.{has_place, key_of, memory_of}
 use Rattle.firmware_api.specs.SavedReadings.{IsFit, IsReadAt, halves_in, is_sound, reading_in, reading_magic}
@@ -29,17 +29,17 @@ outcome piece history saved read (other, other_is, was, wait) is =
 -- ---- the halves
 
 -- the half stands before those that were there
-pub front : (half : Half) (copied halves : List Half) (n : ℕ) → copied ≡ take 4 halves → n < 5 → take (n + 1) (half ∷ (copied ++ [])) ≡ half ∷ take n halves
+pub front : (half : HalfBytes) (copied halves : List HalfBytes) (n : ℕ) → copied ≡ take 4 halves → n < 5 → take (n + 1) (half ∷ (copied ++ [])) ≡ half ∷ take n halves
 front half copied halves n is few =
     let one : suc n ≡ n + 1 = omega arith in
-    let rest : take n (copied ++ []) ≡ take n halves = ap (λ (l : List Half). take n l) (append-nil copied ∙ is) ∙ take-take n 4 halves (omega (arith, few)) in
-    subst (λ (k : ℕ). take k (half ∷ (copied ++ [])) ≡ half ∷ take n halves) one (ap (λ (l : List Half). half ∷ l) rest)
+    let rest : take n (copied ++ []) ≡ take n halves = ap (λ (l : List HalfBytes). take n l) (append-nil copied ∙ is) ∙ take-take n 4 halves (omega (arith, few)) in
+    subst (λ (k : ℕ). take k (half ∷ (copied ++ [])) ≡ half ∷ take n halves) one (ap (λ (l : List HalfBytes). half ∷ l) rest)
 
 pub both : (a b : Bool) → IsTrue a → IsTrue b → IsTrue (a && b)
 both true b one other = other
 both false b one other = one
 
-pub grows : (half : Half) (rest : List Half) → map.insert (memory_of rest) (key_of half) half.bytes ≡ memory_of (half ∷ rest)
+pub grows : (half : HalfBytes) (rest : List HalfBytes) → map.insert (memory_of rest) (key_of half) half.bytes ≡ memory_of (half ∷ rest)
 unfolding memory_of
 grows half rest = refl
 
@@ -76,7 +76,7 @@ sound saved magic settled count piece read wait =
     and_from _ _ (eq-eqb saved.magic reading_magic magic) (and_from _ _ (le-leb _ _ settled) (and_from _ _ (le-leb _ _ count)
     (and_from _ _ (lt-ltb _ _ piece) (and_from _ _ (lt-ltb _ _ read) (le-leb _ _ wait)))))
 
-pub saved_back : (saved : SavedReading) (selected : Selected) → is_sound saved ≡ true → list_all has_place (halves_in saved) ≡ true → selected_numbered saved.selection saved.page ≡ Some selected →
+pub saved_back : (saved : SavedReading) (selected : KnownPage) → is_sound saved ≡ true → list_all has_place (halves_in saved) ≡ true → selected_numbered saved.selection saved.page ≡ Some selected →
     reading_in saved ≡ Some (record {
       reading = record { image = memory_of (halves_in saved); settled = saved.settled; steps = saved.steps; selected = selected; accepted = saved.accepted == 1 };
       piece = saved.piece;

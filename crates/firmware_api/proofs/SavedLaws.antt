@@ -3,8 +3,8 @@ use Rattle.std.proofs.Common.{◌≡◌, ℕ, List, ◌∷◌, Option, Some, ap,
 use Rattle.std.specs.Option.{option_map, unwrap_or}
 use Rattle.bus_model.specs.declared.operation.Op.{Op}
 use Rattle.bus_model.specs.declared.operation.Reply.{Reply}
-use Rattle.control_sets.specs.declared.procedures.next.Next.{Next}
-use Rattle.control_sets.specs.declared.procedures.next.Next.TheVariants.{Do, Done}
+use Rattle.control_sets.specs.declared.procedures.next.ProcedureNext.{ProcedureNext}
+use Rattle.control_sets.specs.declared.procedures.next.ProcedureNext.TheVariants.{Do, Done}
 use Rattle.control_sets.specs.declared.procedures.power.Power.{Power}
 use Rattle.control_sets.specs.declared.procedures.power.PowerChange.{PowerChange}
 use Rattle.control_sets.specs.declared.procedures.procedure.Procedure.{Procedure}
@@ -37,12 +37,12 @@ same_tasks a b same = cc
 same_power : (a b : PowerChange) → Some (OfPower a) ≡ Some (OfPower b) → a ≡ b
 same_power a b same = cc
 
-pub asked_is_next : (saved : KeptProcedure) (kept : Kept) (next : Next) →
+pub asked_is_next : (saved : KeptProcedure) (kept : Kept) (next : ProcedureNext) →
     procedure_in saved ≡ Some kept → asked saved ≡ Some next → next_of kept ≡ next
 asked_is_next saved kept next is asks =
     same_some (next_of kept) next (sym (ap (option_map next_of) is) ∙ asks)
 
-pub saved_follows : (tasks : List Task) (history : History) (saved : KeptProcedure) (next : Next) →
+pub saved_follows : (tasks : List Task) (history : History) (saved : KeptProcedure) (next : ProcedureNext) →
     IsSavedAt tasks history saved → asked saved ≡ Some next → Follows tasks history next
 saved_follows tasks history saved next (procedure, is, at, wait) asks =
     subst (Follows tasks history) (asked_is_next saved (OfTasks procedure) next is asks) (follows procedure tasks history at)

@@ -16,7 +16,7 @@ use Rattle.plan_certificate.specs.CertificateText.{IsTextOf}
 use Rattle.plan_certificate.specs.Plans.{IsBest}
 use Rattle.plan_certificate.specs.Verdicts.{verdict}
 use Rattle.firmware_api.specs.declared.checking.Judgement.{Judgement}
-use Rattle.firmware_api.specs.declared.half.Half.{Half}
+use Rattle.firmware_api.specs.declared.half.HalfBytes.{HalfBytes}
 use Rattle.firmware_api.specs.declared.status.Refusal.{Refusal}
 use Rattle.firmware_api.specs.declared.status.Refusal.TheVariants.{Certificate}
 use Rattle.firmware_api.specs.Halves.{memory_of, module_refusal}
@@ -49,7 +49,7 @@ IsTextJudged advert weights text judged =
     (read : Result Claim CertificateFault) × IsAnswer most_states (lines_of text) read × (judged ≡ judgement_by advert weights read)
 
 -- refusals of the halves come first
-abbrev pub IsJudged : List Half → HostWeights → List ℕ → Result Judgement Refusal → Type 0
+abbrev pub IsJudged : List HalfBytes → HostWeights → List ℕ → Result Judgement Refusal → Type 0
 IsJudged halves weights text judged =
     MatchOption (module_refusal halves) (IsTextJudged (advertised_by (memory_of halves)) weights text judged) (λ refusal. judged ≡ Err refusal)
 
@@ -69,5 +69,5 @@ IsTextShownBest advert weights text =
     × IsBest advert weights certificate.kept certificate.paths
 
 -- the same for the module whose memory has these halves
-abbrev pub IsShownBest : List Half → HostWeights → List ℕ → Type 0
+abbrev pub IsShownBest : List HalfBytes → HostWeights → List ℕ → Type 0
 IsShownBest halves weights text = IsTextShownBest (advertised_by (memory_of halves)) weights text

@@ -10,29 +10,29 @@ use Rattle.paged_memory.specs.declared.key.Key.{Key}
 use Rattle.paged_memory.specs.Keys.{lower_key, upper_key}
 use Rattle.paged_memory.specs.Images.{Memory, most_pages}
 use Rattle.applications.specs.Refusals.{advert_fault}
-use Rattle.firmware_api.specs.declared.half.Half.{Half}
+use Rattle.firmware_api.specs.declared.half.HalfBytes.{HalfBytes}
 use Rattle.firmware_api.specs.declared.status.Refusal.{Refusal}
 use Rattle.firmware_api.specs.declared.status.Refusal.TheVariants.{TooManyHalves, NoPlace, Advert}
 
 -- the device is A0h or A2h; a lower half is of bank 0 and page 0
-abbrev pub has_place : Half → Bool
+abbrev pub has_place : HalfBytes → Bool
 has_place half =
     (half.device == 160 || half.device == 162)
     && (half.upper == 1 || half.upper == 0 && half.bank == 0 && half.page == 0)
 
-abbrev pub device_of : Half → Dev
+abbrev pub device_of : HalfBytes → Dev
 device_of half = if half.device == 162 then A2 else A0
 
 -- of a half that has a place
-abbrev pub key_of : Half → Key
+abbrev pub key_of : HalfBytes → Key
 key_of half = if half.upper == 0 then lower_key (device_of half) else upper_key (device_of half) half.bank half.page
 
 -- of halves at one place the first counts
-unfoldable pub memory_of : List Half → Memory
+unfoldable pub memory_of : List HalfBytes → Memory
 memory_of halves = finmap.from_entries (map (λ half. (key_of half, half.bytes)) halves)
 
 -- of the halves themselves, or of the module that has them: the first that applies
-unfoldable pub module_refusal : List Half → Option Refusal
+unfoldable pub module_refusal : List HalfBytes → Option Refusal
 module_refusal halves =
     if nat_lt most_pages (length halves) then Some TooManyHalves
     else (if not (list_all has_place halves) then Some NoPlace

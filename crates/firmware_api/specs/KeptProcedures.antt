@@ -2,8 +2,8 @@
 use Rattle.std.specs.Prelude.{◌≡◌, List, ◌∷◌, Option, Some, None}
 use Rattle.bus_model.specs.declared.operation.Op.{Op}
 use Rattle.bus_model.specs.declared.operation.Reply.{Reply}
-use Rattle.control_sets.specs.declared.procedures.next.Next.{Next}
-use Rattle.control_sets.specs.declared.procedures.next.Next.TheVariants as next
+use Rattle.control_sets.specs.declared.procedures.next.ProcedureNext.{ProcedureNext}
+use Rattle.control_sets.specs.declared.procedures.next.ProcedureNext.TheVariants as next
 use Rattle.control_sets.specs.declared.procedures.power.PowerChange.{PowerChange}
 use Rattle.control_sets.specs.declared.procedures.procedure.Procedure.{Procedure}
 use Rattle.control_sets.specs.declared.procedures.task.Task.{Task}
@@ -22,7 +22,7 @@ kept_as None (Some change) = Some (OfPower change)
 kept_as None None = None
 
 -- what it asks for
-abbrev pub next_of : Kept → Next
+abbrev pub next_of : Kept → ProcedureNext
 next_of (OfTasks procedure) = progress.next procedure
 next_of (OfPower change) = power_next change
 

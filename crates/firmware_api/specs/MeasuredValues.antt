@@ -4,7 +4,7 @@ use Rattle.std.specs.Prelude.{ℕ, ◌==◌, nat_le, if◌then◌else◌, Bool, 
 use Rattle.std.specs.List.{range_with_len}
 use Rattle.paged_memory.specs.Images.{Memory}
 use Rattle.field_tables.specs.declared.field.Field.{Field}
-use Rattle.field_tables.specs.declared.readings.Levels.{Levels}
+use Rattle.field_tables.specs.declared.readings.PerLimit.{PerLimit}
 use Rattle.field_tables.specs.FieldRows.{row_of}
 use Rattle.field_tables.specs.Readings.{number}
 use Rattle.module_decoding.specs.Amounts.{amount_at, limit_amounts}
@@ -26,7 +26,7 @@ reserved_multiplier = 2
 
 -- ---- values and limits
 
-abbrev pub limits_of : Levels ℤ → Limits
+abbrev pub limits_of : PerLimit ℤ → Limits
 limits_of levels = record {
   high_alarm = levels.high_alarm;
   low_alarm = levels.low_alarm;

@@ -11,7 +11,7 @@ use Rattle.plan_certificate.specs.Verdicts.{kept_fault}
 use Rattle.lane_planner.specs.FirstBest.{IsFirstBest}
 use Rattle.control_sets.specs.ControlBytes.{control_bytes}
 use Rattle.control_sets.specs.PlanLanes.{lanes_outside, plan_lanes}
-use Rattle.firmware_api.specs.declared.half.Half.{Half}
+use Rattle.firmware_api.specs.declared.half.HalfBytes.{HalfBytes}
 use Rattle.firmware_api.specs.declared.planning.LanePlan.{LanePlan}
 use Rattle.firmware_api.specs.declared.status.Refusal.{Refusal}
 use Rattle.firmware_api.specs.declared.status.Refusal.TheVariants.{KeptNotAdmissible, TooManyKept}
@@ -28,7 +28,7 @@ refusal_before (Some refusal) later = Some refusal
 refusal_before None later = later
 
 -- refusals of the halves come first
-abbrev pub plan_refusal : List Half → List Path → Option Refusal
+abbrev pub plan_refusal : List HalfBytes → List Path → Option Refusal
 plan_refusal halves kept = refusal_before (module_refusal halves) (kept_refusal (advertised_by (memory_of halves)) kept)
 
 -- what stands after the last path

@@ -6,8 +6,8 @@ use Rattle.bus_model.specs.declared.operation.Reply.{Reply}
 use Rattle.bus_model.specs.Operations.{Answers}
 use Rattle.control_sets.specs.declared.fault.ProvisionFault.{ProvisionFault}
 use Rattle.control_sets.specs.declared.procedures.procedure.Procedure.{Procedure}
-use Rattle.control_sets.specs.declared.procedures.next.Next.{Next}
-use Rattle.control_sets.specs.declared.procedures.next.Next.TheVariants as next
+use Rattle.control_sets.specs.declared.procedures.next.ProcedureNext.{ProcedureNext}
+use Rattle.control_sets.specs.declared.procedures.next.ProcedureNext.TheVariants as next
 use Rattle.control_sets.specs.declared.procedures.task.Task.{Task}
 use Rattle.control_sets.specs.declared.procedures.power.Power.{Power}
 use Rattle.control_sets.specs.declared.procedures.power.PowerChange.{PowerChange}
@@ -48,17 +48,17 @@ IsSavedPowerAt power history kept =
     × (kept.wait ≡ wait_for history (power_next change))
 
 -- what the procedure with these numbers asks for, if one has them
-abbrev pub asked : KeptProcedure → Option Next
+abbrev pub asked : KeptProcedure → Option ProcedureNext
 asked kept = option_map next_of (procedure_in kept)
 
 -- what C is told of that
-abbrev pub IsNextTold : ℕ → Operation → ℕ → Option Next → Type 0
+abbrev pub IsNextTold : ℕ → Operation → ℕ → Option ProcedureNext → Type 0
 IsNextTold status after wait None = status ≡ status_of NoProcedure
 IsNextTold status after wait (Some (next.Do op)) = (status ≡ done) × (after ≡ operation_of op wait)
 IsNextTold status after wait (Some (next.Done answer)) = status ≡ status_of Ended
 
 -- which status tells of a reply: it is taken if and only if the operation can have it
-abbrev pub IsReplyTold : ℕ → Option Reply → Option Next → Type 0
+abbrev pub IsReplyTold : ℕ → Option Reply → Option ProcedureNext → Type 0
 IsReplyTold status reply None = status ≡ status_of NoProcedure
 IsReplyTold status reply (Some (next.Done answer)) = status ≡ status_of Ended
 IsReplyTold status None (Some (next.Do op)) = status ≡ status_of NoReply
@@ -70,7 +70,7 @@ answer_of (Ok steps) = record { steps = steps; fault = saved_fault None }
 answer_of (Err fault) = record { steps = 0; fault = saved_fault (Some fault) }
 
 -- what C is told of the end
-abbrev pub IsAnswerTold : ℕ → Answer → Option Next → Type 0
+abbrev pub IsAnswerTold : ℕ → Answer → Option ProcedureNext → Type 0
 IsAnswerTold status after None = status ≡ status_of NoProcedure
 IsAnswerTold status after (Some (next.Do op)) = status ≡ status_of NotEnded
 IsAnswerTold status after (Some (next.Done answer)) = (status ≡ done) × (after ≡ answer_of answer)

@@ -7,16 +7,16 @@ use Rattle.std.specs.Option.{option_map}
 use Rattle.bus_model.specs.declared.operation.Reply.{Reply}
 use Rattle.bus_model.specs.declared.operation.Reply.TheVariants.{Bytes, Done, Refused}
 use Rattle.bus_model.specs.Operations.{Answers}
-use Rattle.paged_memory.specs.Paging.{History}
+use Rattle.paged_memory.specs.PageAddressing.{History}
 use Rattle.control_sets.specs.SavedNumbers.{selected_numbered}
 use Rattle.module_reading.specs.declared.pieces.PieceReading.{PieceReading}
-use Rattle.module_reading.specs.declared.reading.Next.{Next}
-use Rattle.module_reading.specs.declared.reading.Next.TheVariants as next
+use Rattle.module_reading.specs.declared.reading.ReadingNext.{ReadingNext}
+use Rattle.module_reading.specs.declared.reading.ReadingNext.TheVariants as next
 use Rattle.module_reading.specs.declared.reading.Reading.{Reading}
 use Rattle.module_reading.specs.ImageReading as whole
 use Rattle.module_reading.specs.JoinedPieces.{WasToldPieces}
 use Rattle.module_reading.specs.PieceReading as pieces
-use Rattle.firmware_api.specs.declared.half.Half.{Half}
+use Rattle.firmware_api.specs.declared.half.HalfBytes.{HalfBytes}
 use Rattle.firmware_api.specs.declared.operation.Operation.{Operation}
 use Rattle.firmware_api.specs.declared.reading.numbers.SavedReading.{SavedReading}
 use Rattle.firmware_api.specs.declared.status.Refusal.{Refusal}
@@ -34,7 +34,7 @@ abbrev pub piece_for : ℕ → ℕ
 piece_for most = 8 * ((if nat_lt most 128 then most else 128) / 8)
 
 -- the halves that were read, the newest first
-abbrev pub halves_in : SavedReading → List Half
+abbrev pub halves_in : SavedReading → List HalfBytes
 halves_in saved = take saved.count saved.halves
 
 -- what stands in each reading: DCR1, in ASCII
@@ -89,18 +89,18 @@ IsReadAt piece history saved =
     (read : PieceReading) × (reading_in saved ≡ Some read) × WasToldPieces piece history read × (saved.wait ≡ wait_after history)
 
 -- what the reading with these numbers asks for, if one has them
-abbrev pub asked : SavedReading → Option Next
+abbrev pub asked : SavedReading → Option ReadingNext
 asked saved = option_map pieces.next (reading_in saved)
 
 -- what C is told of that
-abbrev pub IsReadingNextTold : ℕ → Operation → ℕ → Option Next → Type 0
+abbrev pub IsReadingNextTold : ℕ → Operation → ℕ → Option ReadingNext → Type 0
 IsReadingNextTold status after wait None = status ≡ status_of NoProcedure
 IsReadingNextTold status after wait (Some (next.Do op)) = (status ≡ done) × (after ≡ operation_of op wait)
 IsReadingNextTold status after wait (Some next.Complete) = status ≡ status_of Ended
 IsReadingNextTold status after wait (Some next.GiveUp) = status ≡ status_of GaveUp
 
 -- which status tells of a reply: it is taken if and only if the operation can have it
-abbrev pub IsReadingReplyTold : ℕ → Option Reply → Option Next → Type 0
+abbrev pub IsReadingReplyTold : ℕ → Option Reply → Option ReadingNext → Type 0
 IsReadingReplyTold status reply None = status ≡ status_of NoProcedure
 IsReadingReplyTold status reply (Some next.Complete) = status ≡ status_of Ended
 IsReadingReplyTold status reply (Some next.GiveUp) = status ≡ status_of Ended
@@ -109,6 +109,6 @@ IsReadingReplyTold status (Some reply) (Some (next.Do op)) =
     (Answers op reply → status ≡ done) × (¬ (Answers op reply) → status ≡ status_of NoReply)
 
 -- the half came into the image, or the image is as it was
-abbrev pub HasHalf : Option Half → Reading → Reading → Type 0
+abbrev pub HasHalf : Option HalfBytes → Reading → Reading → Type 0
 HasHalf None reading later = whole.Leaves reading later
 HasHalf (Some half) reading later = whole.Puts reading (key_of half) half.bytes later × IsTrue (has_place half)

@@ -18,7 +18,7 @@ use Rattle.sim_module.specs.SavedModules.{restored}
 use Rattle.sim_module.specs.ShownBytes.{fetched}
 use Rattle.sim_module.specs.Starts.{start, start_fault}
 use Rattle.sim_module.specs.Stores.{stored}
-use Rattle.firmware_api.specs.declared.half.Half.{Half}
+use Rattle.firmware_api.specs.declared.half.HalfBytes.{HalfBytes}
 use Rattle.firmware_api.specs.declared.status.Refusal.{Refusal}
 use Rattle.firmware_api.specs.declared.status.Refusal.TheVariants.{TooManyHalves, NoPlace, Advert, NoStart, NoModule, NoRange, NotTaken}
 use Rattle.firmware_api.specs.Halves.{has_place, memory_of}
@@ -26,7 +26,7 @@ use Rattle.paged_memory.specs.Images.{most_pages}
 use Rattle.firmware_api.specs.Plans.{refusal_before}
 
 -- of the halves themselves
-abbrev pub half_refusal : List Half → Option Refusal
+abbrev pub half_refusal : List HalfBytes → Option Refusal
 half_refusal halves =
     if nat_lt most_pages (length halves) then Some TooManyHalves
     else (if not (list_all has_place halves) then Some NoPlace
@@ -37,12 +37,12 @@ unless_refused None value = Ok value
 unless_refused (Some refusal) value = Err refusal
 
 -- the module of the halves at the start, or why there is none
-abbrev pub begun : List Half → Delays → Result SimModule Refusal
+abbrev pub begun : List HalfBytes → Delays → Result SimModule Refusal
 begun halves delays =
     unless_refused (refusal_before (half_refusal halves) (option_map NoStart (start_fault (memory_of halves) delays))) (start (memory_of halves) delays)
 
 -- what never changes of the module that has these halves
-abbrev pub fixed_by : List Half → Fixed
+abbrev pub fixed_by : List HalfBytes → Fixed
 fixed_by halves = record { image = memory_of halves; advert = advertised_by (memory_of halves) }
 
 -- the module of which this never changes, and the rest has these numbers
@@ -56,7 +56,7 @@ held_by None None None = Err NoModule
 held_by None None (Some sim) = Ok sim
 
 -- the module that has these halves and these numbers, or why there is none
-abbrev pub held : List Half → SavedModule → Result SimModule Refusal
+abbrev pub held : List HalfBytes → SavedModule → Result SimModule Refusal
 held halves numbers = held_by (half_refusal halves) (advert_fault (memory_of halves)) (module_in (fixed_by halves) numbers)
 
 -- why numbers alone are not those of a module

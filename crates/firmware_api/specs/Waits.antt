@@ -6,9 +6,9 @@ use Rattle.bus_model.specs.declared.operation.Reply.{Reply}
 use Rattle.bus_model.specs.declared.operation.Reply.TheVariants.{Bytes, Done, Refused}
 use Rattle.bus_model.specs.declared.operation.Step.{Step}
 use Rattle.bus_model.specs.SameOperation.{same_device}
-use Rattle.paged_memory.specs.Paging.{History}
-use Rattle.control_sets.specs.declared.procedures.next.Next.{Next}
-use Rattle.control_sets.specs.declared.procedures.next.Next.TheVariants as next
+use Rattle.paged_memory.specs.PageAddressing.{History}
+use Rattle.control_sets.specs.declared.procedures.next.ProcedureNext.{ProcedureNext}
+use Rattle.control_sets.specs.declared.procedures.next.ProcedureNext.TheVariants as next
 
 abbrev pub is_refused : Reply → Bool
 is_refused (Bytes bytes) = false
@@ -22,7 +22,7 @@ is_same_fetch (Fetch dev offset count) (Store dev' offset' bytes) = false
 is_same_fetch (Store dev offset bytes) other = false
 
 -- the step before brought nothing: it was refused, or the same is fetched once more
-abbrev pub waits_after : Step → Next → Bool
+abbrev pub waits_after : Step → ProcedureNext → Bool
 waits_after step (next.Do op) = is_refused step.reply || is_same_fetch step.op op
 waits_after step (next.Done answer) = false
 
@@ -30,6 +30,6 @@ abbrev pub wait_number : Bool → ℕ
 wait_number wait = if wait then 1 else 0
 
 -- after these steps, the newest first
-abbrev pub wait_for : History → Next → ℕ
+abbrev pub wait_for : History → ProcedureNext → ℕ
 wait_for [] wanted = 0
 wait_for (step ∷ before) wanted = wait_number (waits_after step wanted)

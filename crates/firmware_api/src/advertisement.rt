@@ -4,7 +4,7 @@ ghost use Rattle.firmware_api.specs.Advertisements.{advertisement_of, applicatio
 ghost use Rattle.firmware_api.specs.Halves.{memory_of, module_refusal};
 ghost use Rattle.firmware_api.specs.Statuses.{done, status_by};
 
-use crate::half::{Half, read_advert};
+use crate::half::{HalfBytes, read_advert};
 use crate::status::DONE;
 use applications::{Advert, App, MAX_APPS};
 
@@ -42,7 +42,7 @@ pub struct Advertisement {
 /// Puts into `advertisement` what the module whose memory has these halves advertises.
 #[unsafe(no_mangle)]
 pub extern "C" fn dovecounter_advertisement(
-    halves: &[Half],
+    halves: &[HalfBytes],
     advertisement: &mut Advertisement,
 ) -> u32
     ensures status { result ≡ status_by (module_refusal halves.now) }

@@ -6,7 +6,7 @@ ghost use Rattle.firmware_api.specs.Plans.{plan_refusal};
 ghost use Rattle.firmware_api.specs.Statuses.{status_of};
 ghost use Rattle.firmware_api.specs.WrittenCertificates.{IsCertificatePut, IsTextPut};
 
-use crate::half::{Half, read_advert};
+use crate::half::{HalfBytes, read_advert};
 use crate::planning::kept_plan;
 use crate::status::{DONE, Refusal};
 use applications::{Advert, Weights};
@@ -17,7 +17,7 @@ use plan_certificate::{Path, Plan};
 /// `text_length`, which it also does if the buffer is too small.
 #[unsafe(no_mangle)]
 pub extern "C" fn dovecounter_certificate(
-    halves: &[Half],
+    halves: &[HalfBytes],
     weights: &[u32; 256],
     kept: &[Path],
     buffer: &mut [u8],
@@ -43,7 +43,7 @@ pub extern "C" fn dovecounter_certificate(
 
 // The length of that text, which is put into the buffer if there is room for it.
 fn put(
-    halves: &[Half],
+    halves: &[HalfBytes],
     weights: &[u32; 256],
     kept: &[Path],
     buffer: &mut [u8],

@@ -2,7 +2,7 @@ ghost use Rattle.std.specs.Prelude.{◌≡◌, ◌≢◌, IfOk};
 ghost use Rattle.firmware_api.specs.Checks.{IsJudged, IsShownBest, IsTextJudged, IsTextShownBest, IsTold, judgement_of, reason_number};
 ghost use Rattle.firmware_api.specs.Statuses.{done};
 
-use crate::half::{Half, read_advert};
+use crate::half::{HalfBytes, read_advert};
 use crate::status::{DONE, Refusal};
 use applications::{Advert, Weights};
 use plan_certificate::{Certificate, Reason, STATES, Verdict, check};
@@ -20,7 +20,7 @@ pub struct Judgement {
 /// Puts into `judgement` what the certificate with this text is worth for the module whose memory has these halves.
 #[unsafe(no_mangle)]
 pub extern "C" fn dovecounter_check(
-    halves: &[Half],
+    halves: &[HalfBytes],
     weights: &[u32; 256],
     text: &[u8],
     judgement: &mut Judgement,
@@ -38,7 +38,7 @@ pub extern "C" fn dovecounter_check(
     }
 }
 
-fn judged(halves: &[Half], weights: &[u32; 256], text: &[u8]) -> Result<Judgement, Refusal>
+fn judged(halves: &[HalfBytes], weights: &[u32; 256], text: &[u8]) -> Result<Judgement, Refusal>
     ensures judged { IsJudged halves.now weights.now text.now result }
     ensures best { IfOk result (λ judged. judged.reason ≡ 0 → IsShownBest halves.now weights.now text.now) }
 {

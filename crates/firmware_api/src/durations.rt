@@ -3,7 +3,7 @@ ghost use Rattle.firmware_api.specs.Durations.{durations_of, longest};
 ghost use Rattle.firmware_api.specs.Halves.{memory_of, module_refusal};
 ghost use Rattle.firmware_api.specs.Statuses.{done, status_by};
 
-use crate::half::{Half, image_of, read_advert};
+use crate::half::{HalfBytes, image_of, read_advert};
 use crate::status::{DONE, Refusal};
 use field_tables::{Field, number};
 use paged_memory::Image;
@@ -22,7 +22,7 @@ pub struct Durations {
 
 /// Puts into `durations` how long states of the module whose memory has these halves last at most.
 #[unsafe(no_mangle)]
-pub extern "C" fn dovecounter_durations(halves: &[Half], durations: &mut Durations) -> u32
+pub extern "C" fn dovecounter_durations(halves: &[HalfBytes], durations: &mut Durations) -> u32
     ensures status { result ≡ status_by (module_refusal halves.now) }
     ensures done { result ≡ done → durations.new ≡ durations_of (memory_of halves.now) }
     ensures refused { result ≢ done → durations.new ≡ durations.old }
@@ -37,7 +37,7 @@ pub extern "C" fn dovecounter_durations(halves: &[Half], durations: &mut Duratio
 }
 
 #[tactic(auto, using(crate::proofs::ModuleRefusals::few_if_read))]
-fn read_durations(halves: &[Half]) -> Result<Durations, Refusal>
+fn read_durations(halves: &[HalfBytes]) -> Result<Durations, Refusal>
     ensures { MatchOption (module_refusal halves.now) (result ≡ Ok (durations_of (memory_of halves.now)))
         (λ refusal. result ≡ Err refusal) }
 {

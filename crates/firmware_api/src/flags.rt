@@ -9,7 +9,7 @@ ghost use Rattle.firmware_api.specs.SimulatedModules.{half_refusal};
 ghost use Rattle.firmware_api.specs.Statuses.{done, status_by};
 ghost use Rattle.paged_memory.specs.declared.family.Family.TheVariants as families;
 
-use crate::half::{Half, image_in};
+use crate::half::{HalfBytes, image_in};
 use crate::read_module::{family_in, family_number, lacks};
 use crate::status::{DONE, Refusal};
 use field_tables::{Field, all_numbers, bit_at, number};
@@ -53,7 +53,7 @@ pub struct ModuleFlags {
 
 /// Puts into `flags` the states and the flags of the module whose memory has these halves.
 #[unsafe(no_mangle)]
-pub extern "C" fn dovecounter_flags(halves: &[Half], flags: &mut ModuleFlags) -> u32
+pub extern "C" fn dovecounter_flags(halves: &[HalfBytes], flags: &mut ModuleFlags) -> u32
     ensures status { result ≡ status_by (refusal_before (half_refusal halves.now) (flags_refusal (memory_of halves.now))) }
     ensures done { result ≡ done → flags.new ≡ flags_in (memory_of halves.now) }
     ensures refused { result ≢ done → flags.new ≡ flags.old }
@@ -67,7 +67,7 @@ pub extern "C" fn dovecounter_flags(halves: &[Half], flags: &mut ModuleFlags) ->
     }
 }
 
-fn read_flags(halves: &[Half]) -> Result<ModuleFlags, Refusal>
+fn read_flags(halves: &[HalfBytes]) -> Result<ModuleFlags, Refusal>
     ensures { MatchOption (refusal_before (half_refusal halves.now) (flags_refusal (memory_of halves.now)))
         (result ≡ Ok (flags_in (memory_of halves.now))) (λ refusal. result ≡ Err refusal) }
 {

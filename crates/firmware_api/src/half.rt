@@ -12,7 +12,7 @@ use paged_memory::{Dev, Image, Key, MAX_PAGES, PAGE_LEN, Page};
 /// 128 bytes of a module's memory, and where they stand.
 #[repr(C)]
 #[derive(Clone, Copy)]
-pub struct Half {
+pub struct HalfBytes {
     /// The device's address on the bus: A0h or A2h.
     pub device: u8,
     /// 0 for the bytes 0 to 127 of the device, 1 for the bytes 128 to 255.
@@ -24,7 +24,7 @@ pub struct Half {
     pub bytes: [u8; PAGE_LEN],
 }
 
-impl Half {
+impl HalfBytes {
     // Whether its numbers say where it stands.
     fn has_place(&self) -> bool
         ensures { result ≡ has_place self.now }
@@ -51,7 +51,7 @@ impl Half {
 }
 
 /// What the module whose memory has these halves advertises.
-pub fn read_advert(halves: &[Half]) -> Result<Advert, Refusal>
+pub fn read_advert(halves: &[HalfBytes]) -> Result<Advert, Refusal>
     ensures { MatchOption (module_refusal halves.now) (result ≡ Ok (advertised_by (memory_of halves.now)))
         (λ refusal. result ≡ Err refusal) }
 {
@@ -67,14 +67,14 @@ pub fn read_advert(halves: &[Half]) -> Result<Advert, Refusal>
     }
 }
 
-pub fn all_have_places(halves: &[Half]) -> bool
+pub fn all_have_places(halves: &[HalfBytes]) -> bool
     ensures { result ≡ list_all has_place halves.now }
 {
     halves.iter().all(|half| half.has_place())
 }
 
 /// The memory that has these halves. Of several halves at one place the first counts, so the last is put first.
-pub fn image_of(halves: &[Half]) -> Image
+pub fn image_of(halves: &[HalfBytes]) -> Image
     requires { length halves.now ≤ most_pages }
     ensures { result ≡ memory_of halves.now }
 {
@@ -87,7 +87,7 @@ pub fn image_of(halves: &[Half]) -> Image
 }
 
 /// The same, or why there is none.
-pub fn image_in(halves: &[Half]) -> Result<Image, Refusal>
+pub fn image_in(halves: &[HalfBytes]) -> Result<Image, Refusal>
     ensures { result ≡ unless_refused (half_refusal halves.now) (memory_of halves.now) }
 {
     if halves.len() > MAX_PAGES {

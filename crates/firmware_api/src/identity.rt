@@ -9,7 +9,7 @@ ghost use Rattle.firmware_api.specs.ShownTexts.{shown_text};
 ghost use Rattle.field_tables.specs.Readings.{text};
 ghost use Rattle.paged_memory.specs.declared.family.Family.TheVariants as families;
 
-use crate::half::{Half, image_in};
+use crate::half::{HalfBytes, image_in};
 use crate::read_module::{family_in, family_number, lacks, number_of};
 use crate::shown_texts::shown_text;
 use crate::status::{DONE, Refusal};
@@ -46,7 +46,7 @@ pub struct ModuleIdentity {
 
 /// Puts into `identity` what the module whose memory has these halves is.
 #[unsafe(no_mangle)]
-pub extern "C" fn dovecounter_identity(halves: &[Half], identity: &mut ModuleIdentity) -> u32
+pub extern "C" fn dovecounter_identity(halves: &[HalfBytes], identity: &mut ModuleIdentity) -> u32
     ensures status { result ≡ status_by (refusal_before (half_refusal halves.now) (identity_refusal (memory_of halves.now))) }
     ensures done { result ≡ done → identity.new ≡ identity_in (memory_of halves.now) }
     ensures refused { result ≢ done → identity.new ≡ identity.old }
@@ -60,7 +60,7 @@ pub extern "C" fn dovecounter_identity(halves: &[Half], identity: &mut ModuleIde
     }
 }
 
-fn read_identity(halves: &[Half]) -> Result<ModuleIdentity, Refusal>
+fn read_identity(halves: &[HalfBytes]) -> Result<ModuleIdentity, Refusal>
     ensures { MatchOption (refusal_before (half_refusal halves.now) (identity_refusal (memory_of halves.now)))
         (result ≡ Ok (identity_in (memory_of halves.now))) (λ refusal. result ≡ Err refusal) }
 {

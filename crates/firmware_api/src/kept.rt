@@ -5,7 +5,7 @@ ghost use Rattle.control_sets.specs.SavedPower.{restored_power};
 ghost use Rattle.firmware_api.specs.KeptProcedures.{Takes, kept_as, next_of};
 
 use bus_model::Reply;
-use control_sets::{Next, PowerChange, Procedure, SavedProcedure};
+use control_sets::{PowerChange, Procedure, ProcedureNext, SavedProcedure};
 
 /// A procedure that C keeps.
 #[derive(Clone, Copy)]
@@ -38,7 +38,7 @@ impl Kept {
     }
 
     /// The operation to be made now, or the end.
-    pub fn next(&self) -> Next
+    pub fn next(&self) -> ProcedureNext
         ensures { result ≡ next_of self.now }
     {
         match self {

@@ -145,12 +145,12 @@ fn limits_in(image: &Image, limited: bool, field: Field, power: Option<Field>) -
     if !limited {
         return no_limits();
     }
-    let levels = limit_amounts(image, field, power);
+    let limits = limit_amounts(image, field, power);
     Limits {
-        high_alarm: levels.high_alarm,
-        low_alarm: levels.low_alarm,
-        high_warning: levels.high_warning,
-        low_warning: levels.low_warning,
+        high_alarm: limits.high_alarm,
+        low_alarm: limits.low_alarm,
+        high_warning: limits.high_warning,
+        low_warning: limits.low_warning,
     }
 }
 

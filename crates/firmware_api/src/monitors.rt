@@ -7,7 +7,7 @@ ghost use Rattle.firmware_api.specs.SimulatedModules.{half_refusal};
 ghost use Rattle.firmware_api.specs.Statuses.{done, status_by};
 ghost use Rattle.paged_memory.specs.declared.family.Family.TheVariants as families;
 
-use crate::half::{Half, image_in};
+use crate::half::{HalfBytes, image_in};
 use crate::measured_values::{
     LaneValues, ModuleValue, lane_values, module_value, no_lane_values, supported_values,
 };
@@ -36,7 +36,7 @@ pub struct ModuleMonitors {
 
 /// Puts into `monitors` what the module whose memory has these halves measures.
 #[unsafe(no_mangle)]
-pub extern "C" fn dovecounter_monitors(halves: &[Half], monitors: &mut ModuleMonitors) -> u32
+pub extern "C" fn dovecounter_monitors(halves: &[HalfBytes], monitors: &mut ModuleMonitors) -> u32
     ensures status { result ≡ status_by (refusal_before (half_refusal halves.now) (monitors_refusal (memory_of halves.now))) }
     ensures done { result ≡ done → monitors.new ≡ monitors_in (memory_of halves.now) }
     ensures refused { result ≢ done → monitors.new ≡ monitors.old }
@@ -50,7 +50,7 @@ pub extern "C" fn dovecounter_monitors(halves: &[Half], monitors: &mut ModuleMon
     }
 }
 
-fn read_monitors(halves: &[Half]) -> Result<ModuleMonitors, Refusal>
+fn read_monitors(halves: &[HalfBytes]) -> Result<ModuleMonitors, Refusal>
     ensures { MatchOption (refusal_before (half_refusal halves.now) (monitors_refusal (memory_of halves.now)))
         (result ≡ Ok (monitors_in (memory_of halves.now))) (λ refusal. result ≡ Err refusal) }
 {

@@ -5,7 +5,7 @@ ghost use Rattle.firmware_api.specs.Halves.{memory_of};
 ghost use Rattle.firmware_api.specs.Plans.{IsPlanned, kept_refusal, paths_of, plan_refusal};
 ghost use Rattle.firmware_api.specs.Statuses.{done, status_by, status_in};
 
-use crate::half::{Half, read_advert};
+use crate::half::{HalfBytes, read_advert};
 use crate::status::{DONE, Refusal};
 use applications::{Advert, Weights};
 use arrayvec::ArrayVec;
@@ -35,7 +35,7 @@ pub struct LanePlan {
 /// memory has these halves. There is a weight for each HostInterfaceID.
 #[unsafe(no_mangle)]
 pub extern "C" fn dovecounter_plan(
-    halves: &[Half],
+    halves: &[HalfBytes],
     weights: &[u32; 256],
     kept: &[Path],
     plan: &mut LanePlan,
@@ -53,7 +53,7 @@ pub extern "C" fn dovecounter_plan(
     }
 }
 
-fn planned(halves: &[Half], weights: &[u32; 256], kept: &[Path]) -> Result<LanePlan, Refusal>
+fn planned(halves: &[HalfBytes], weights: &[u32; 256], kept: &[Path]) -> Result<LanePlan, Refusal>
     ensures status { status_in result ≡ status_by (plan_refusal halves.now kept.now) }
     ensures planned { IfOk result (IsPlanned (advertised_by (memory_of halves.now)) weights.now kept.now) }
 {

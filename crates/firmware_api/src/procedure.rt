@@ -4,8 +4,8 @@ ghost use Rattle.bus_model.specs.declared.operation.Op.{Op};
 ghost use Rattle.bus_model.specs.declared.operation.Reply.{Reply};
 ghost use Rattle.bus_model.specs.SameOperation.{same_device};
 ghost use Rattle.control_sets.specs.declared.fault.ProvisionFault.{ProvisionFault};
-ghost use Rattle.control_sets.specs.declared.procedures.next.Next.{Next};
-ghost use Rattle.control_sets.specs.declared.procedures.next.Next.TheVariants as nexts;
+ghost use Rattle.control_sets.specs.declared.procedures.next.ProcedureNext.{ProcedureNext};
+ghost use Rattle.control_sets.specs.declared.procedures.next.ProcedureNext.TheVariants as nexts;
 ghost use Rattle.control_sets.specs.declared.procedures.task.Task.{Task};
 ghost use Rattle.control_sets.specs.Asking.{step_with};
 ghost use Rattle.control_sets.specs.Pages.{History};
@@ -26,7 +26,7 @@ use crate::operation::{Operation, reply_of};
 use crate::status::{DONE, Refusal};
 use bus_model::{Dev, Op, Reply, Step};
 use control_sets::{
-    Next, Power, PowerChange, Procedure, ProvisionFault, SavedFault, SavedProcedure,
+    Power, PowerChange, Procedure, ProcedureNext, ProvisionFault, SavedFault, SavedProcedure,
 };
 use field_tables::LaneSet;
 
@@ -92,7 +92,7 @@ pub extern "C" fn dovecounter_sleep(procedure: &mut KeptProcedure)
 pub extern "C" fn dovecounter_next(procedure: &KeptProcedure, operation: &mut Operation) -> u32
     ensures told { IsNextTold result operation.new procedure.now.wait (asked procedure.now) }
     ensures refused { result ≢ done → operation.new ≡ operation.old }
-    ensures follows { (tasks : List Task) (history : History) (next : Next) → IsSavedAt tasks history procedure.now →
+    ensures follows { (tasks : List Task) (history : History) (next : ProcedureNext) → IsSavedAt tasks history procedure.now →
         asked procedure.now ≡ Some next → Follows tasks history next }
     ensures waits { result ≡ done → (tasks : List Task) (history : History) (op : Op) → IsSavedAt tasks history procedure.now →
         asked procedure.now ≡ Some (nexts.Do op) → operation.new.wait ≡ wait_for history (nexts.Do op) }
@@ -100,11 +100,11 @@ pub extern "C" fn dovecounter_next(procedure: &KeptProcedure, operation: &mut Op
         asked procedure.now ≡ Some (nexts.Do op) → operation.new.wait ≡ wait_for history (nexts.Do op) }
 {
     match wanted(procedure) {
-        Ok(Next::Do(op)) => {
+        Ok(ProcedureNext::Do(op)) => {
             *operation = Operation::of(&op, procedure.wait);
             DONE
         }
-        Ok(Next::Done(_)) => Refusal::Ended.status(),
+        Ok(ProcedureNext::Done(_)) => Refusal::Ended.status(),
         Err(refusal) => refusal.status(),
     }
 }
@@ -144,11 +144,11 @@ pub extern "C" fn dovecounter_answer(procedure: &KeptProcedure, answer: &mut Ans
         IsPowerChange power (made ≡ room) history ended }
 {
     match wanted(procedure) {
-        Ok(Next::Done(ended)) => {
+        Ok(ProcedureNext::Done(ended)) => {
             *answer = answer_of(ended);
             DONE
         }
-        Ok(Next::Do(_)) => Refusal::NotEnded.status(),
+        Ok(ProcedureNext::Do(_)) => Refusal::NotEnded.status(),
         Err(refusal) => refusal.status(),
     }
 }
@@ -169,7 +169,7 @@ fn answer_of(ended: Result<u16, ProvisionFault>) -> Answer
 }
 
 // What the procedure with these numbers asks for.
-fn wanted(saved: &KeptProcedure) -> Result<Next, Refusal>
+fn wanted(saved: &KeptProcedure) -> Result<ProcedureNext, Refusal>
     ensures { MatchOption (asked saved.now) (result ≡ Err Refusal.NoProcedure) (λ next. result ≡ Ok next) }
 {
     match restore(saved) {
@@ -191,7 +191,7 @@ fn told(saved: &KeptProcedure, reply: u8, bytes: &[u8]) -> Result<KeptProcedure,
     let Some(mut kept) = restore(saved) else {
         return Err(Refusal::NoProcedure);
     };
-    let Next::Do(op) = kept.next() else {
+    let ProcedureNext::Do(op) = kept.next() else {
         return Err(Refusal::Ended);
     };
     match reply_of(reply, bytes) {
@@ -240,12 +240,13 @@ fn kept_after(kept: &Kept, step: &Step) -> KeptProcedure
     numbers_of(kept, waits_after(step, &kept.next()))
 }
 
-fn waits_after(step: &Step, wanted: &Next) -> bool
+fn waits_after(step: &Step, wanted: &ProcedureNext) -> bool
     ensures { result ≡ waits_after step.now wanted.now }
 {
     match wanted {
-        Next::Do(op) => matches!(step.reply, Reply::Refused) || is_same_fetch(&step.op, op),
-        Next::Done(_) => false,
+        ProcedureNext::Do(op) => matches!(step.reply, Reply::Refused)
+            || is_same_fetch(&step.op, op),
+        ProcedureNext::Done(_) => false,
     }
 }
 

@@ -2,9 +2,9 @@ ghost use Rattle.std.specs.Prelude.{◌≡◌, ◌≢◌, ◌≤◌, ◌<◌, �
 ghost use Rattle.bus_model.specs.declared.operation.Op.{Op};
 ghost use Rattle.bus_model.specs.declared.operation.Reply.{Reply};
 ghost use Rattle.control_sets.specs.Asking.{step_with};
-ghost use Rattle.paged_memory.specs.Paging.{History};
+ghost use Rattle.paged_memory.specs.PageAddressing.{History};
 ghost use Rattle.module_reading.specs.declared.pieces.PieceReading.{PieceReading};
-ghost use Rattle.module_reading.specs.declared.reading.Next.TheVariants as nexts;
+ghost use Rattle.module_reading.specs.declared.reading.ReadingNext.TheVariants as nexts;
 ghost use Rattle.module_reading.specs.ImageReading.{IsReplyTo};
 ghost use Rattle.module_reading.specs.JoinedPieces.{HasJoinedOutcome};
 ghost use Rattle.module_reading.specs.PieceReading as pieces;
@@ -15,15 +15,15 @@ ghost use Rattle.firmware_api.specs.Statuses.{done, status_by, status_in};
 
 mod numbers;
 
-use crate::half::Half;
+use crate::half::HalfBytes;
 use crate::operation::{Operation, reply_of};
 use crate::status::{DONE, Refusal};
 use bus_model::{Dev, Reply};
 use control_sets::can_have;
-use module_reading::{Next, PieceReading};
+use module_reading::{PieceReading, ReadingNext};
 pub use numbers::SavedReading;
 use numbers::{of_nothing, restore, with_half, without_half};
-use paged_memory::{Half as HalfOf, Key, PAGE_LEN};
+use paged_memory::{Key, PAGE_LEN};
 
 /// Puts into `reading` one that has read nothing yet, over a bus that fetches at most so many bytes at once. A piece of a half
 /// has a multiple of 8 bytes.
@@ -60,12 +60,12 @@ pub extern "C" fn dovecounter_read_next(reading: &SavedReading, operation: &mut 
         return Refusal::NoProcedure.status();
     };
     match read.next() {
-        Next::Do(op) => {
+        ReadingNext::Do(op) => {
             *operation = Operation::of(&op, reading.wait);
             DONE
         }
-        Next::Complete => Refusal::Ended.status(),
-        Next::GiveUp => Refusal::GaveUp.status(),
+        ReadingNext::Complete => Refusal::Ended.status(),
+        ReadingNext::GiveUp => Refusal::GaveUp.status(),
     }
 }
 
@@ -96,7 +96,7 @@ fn told(saved: &SavedReading, number: u8, bytes: &[u8]) -> Result<SavedReading, 
     let Some(read) = restore(saved) else {
         return Err(Refusal::NoProcedure);
     };
-    let Next::Do(op) = read.next() else {
+    let ReadingNext::Do(op) = read.next() else {
         return Err(Refusal::Ended);
     };
     match reply_of(number, bytes) {
@@ -122,7 +122,7 @@ fn after(saved: &SavedReading, mut read: PieceReading, reply: &Reply) -> SavedRe
 }
 
 // The half that the reply makes whole.
-fn half_by(read: &PieceReading, reply: &Reply) -> Option<Half>
+fn half_by(read: &PieceReading, reply: &Reply) -> Option<HalfBytes>
     requires size { pieces.HasSize read.now }
     requires reply { IsReplyTo (pieces.next read.now) reply.now }
     ensures { HasHalf result read.now.reading (pieces.after read.now reply.now).reading }
@@ -136,7 +136,7 @@ fn half_by(read: &PieceReading, reply: &Reply) -> Option<Half>
 }
 
 // The half with these bytes.
-fn half_at(key: Key, fetched: &[u8]) -> Half
+fn half_at(key: Key, fetched: &[u8]) -> HalfBytes
     requires { length fetched.now ≡ 128 }
     ensures key { key_of result ≡ key }
     ensures bytes { result.bytes ≡ fetched.now }
@@ -149,14 +149,14 @@ fn half_at(key: Key, fetched: &[u8]) -> Half
         Dev::A2 => 0xA2,
     };
     match key.half {
-        HalfOf::Lower => Half {
+        paged_memory::Half::Lower => HalfBytes {
             device,
             upper: 0,
             bank: 0,
             page: 0,
             bytes,
         },
-        HalfOf::Upper => Half {
+        paged_memory::Half::Upper => HalfBytes {
             device,
             upper: 1,
             bank: key.bank,

@@ -9,7 +9,7 @@ ghost use Rattle.firmware_api.specs.Halves.{memory_of};
 ghost use Rattle.firmware_api.specs.SimulatedModules as spec;
 ghost use Rattle.firmware_api.specs.Statuses.{done, status_by, status_in};
 
-use crate::half::{Half, image_in};
+use crate::half::{HalfBytes, image_in};
 use crate::status::{DONE, Refusal};
 use applications::Advert;
 use arrayvec::ArrayVec;
@@ -19,7 +19,7 @@ use sim_module::{Delays, Moving, SavedModule, SimModule};
 /// Puts into `simulated` what changes of the module that has these halves and delays, as it is at the start.
 #[unsafe(no_mangle)]
 pub extern "C" fn dovecounter_module_begin(
-    halves: &[Half],
+    halves: &[HalfBytes],
     delays: &Delays,
     simulated: &mut SavedModule,
 ) -> u32
@@ -39,7 +39,7 @@ pub extern "C" fn dovecounter_module_begin(
 /// Fetches as many bytes as `bytes` has room for.
 #[unsafe(no_mangle)]
 pub extern "C" fn dovecounter_module_fetch(
-    halves: &[Half],
+    halves: &[HalfBytes],
     simulated: &mut SavedModule,
     device: u8,
     offset: u8,
@@ -63,7 +63,7 @@ pub extern "C" fn dovecounter_module_fetch(
 /// Stores bytes.
 #[unsafe(no_mangle)]
 pub extern "C" fn dovecounter_module_store(
-    halves: &[Half],
+    halves: &[HalfBytes],
     simulated: &mut SavedModule,
     device: u8,
     offset: u8,
@@ -134,7 +134,7 @@ pub extern "C" fn dovecounter_module_active(simulated: &SavedModule, active: &mu
     }
 }
 
-fn begun(halves: &[Half], delays: Delays) -> Result<SimModule, Refusal>
+fn begun(halves: &[HalfBytes], delays: Delays) -> Result<SimModule, Refusal>
     ensures { result ≡ spec.begun halves.now delays }
 {
     let image = image_in(halves)?;
@@ -145,7 +145,7 @@ fn begun(halves: &[Half], delays: Delays) -> Result<SimModule, Refusal>
 }
 
 // The module that has these halves and these numbers.
-fn held(halves: &[Half], saved: &SavedModule) -> Result<SimModule, Refusal>
+fn held(halves: &[HalfBytes], saved: &SavedModule) -> Result<SimModule, Refusal>
     ensures { result ≡ spec.held halves.now saved.now }
 {
     let image = image_in(halves)?;
@@ -160,7 +160,7 @@ fn held(halves: &[Half], saved: &SavedModule) -> Result<SimModule, Refusal>
 }
 
 fn fetched(
-    halves: &[Half],
+    halves: &[HalfBytes],
     saved: &SavedModule,
     device: u8,
     offset: u8,
@@ -180,7 +180,7 @@ fn fetched(
 }
 
 fn stored(
-    halves: &[Half],
+    halves: &[HalfBytes],
     saved: &SavedModule,
     device: u8,
     offset: u8,

@@ -12,7 +12,7 @@ use Rattle.plan_certificate.specs.declared.state.State.{State}
 use Rattle.plan_certificate.specs.Paths.{IsLower, media_lanes, path_weight}
 use Rattle.plan_certificate.specs.KeptPaths.{is_among, is_eligible}
 use Rattle.plan_certificate.specs.Moves.{move_of, moves_at, moves_of}
-use Rattle.plan_certificate.specs.States.{path_step, paths_at}
+use Rattle.plan_certificate.specs.States.{path_decision, paths_at}
 use Rattle.plan_certificate.proofs.Heaviest.{listed}
 use Rattle.plan_certificate.proofs.KeptPaths.{among_listed, eligible_allowed, listed_among}
 use Rattle.lane_planner.specs.FirstBest.{IsOfUse}
@@ -28,7 +28,7 @@ pub record Keeps (advert : Advertised) (weights : HostWeights) (kept : List Path
   pub can : is_eligible advert kept path ≡ true
   pub unused : is_disjoint (media_lanes advert path) state.used ≡ true
   pub of_use : IsOfUse advert weights kept path
-  pub leaves : path_weight advert weights path + gain_at table (path_step advert weights state path).end ≡ gain_at table state
+  pub leaves : path_weight advert weights path + gain_at table (path_decision advert weights state path).end ≡ gain_at table state
 
 -- ---- the test of use
 

@@ -9,8 +9,8 @@ use Rattle.plan_certificate.specs.declared.state.State.{State}
 use Rattle.plan_certificate.specs.Paths.{IsLower, path_weight}
 use Rattle.plan_certificate.specs.Plans.{plan_weight}
 use Rattle.plan_certificate.specs.KeptPaths.{may_stay_free}
-use Rattle.plan_certificate.specs.States.{start, free_step, path_step, steps_from}
-use Rattle.plan_certificate.proofs.Heaviest.{ComesOrCame, IsLater, after_path, all_later, allowed, bounded, come_free, come_taken, each_step, kept_come, lanes_later, stay_later}
+use Rattle.plan_certificate.specs.States.{start, free_decision, path_decision, decisions_from}
+use Rattle.plan_certificate.proofs.Heaviest.{ComesOrCame, IsLater, after_path, all_later, allowed, bounded, come_free, come_taken, each_decision, kept_come, lanes_later, stay_later}
 use Rattle.plan_certificate.proofs.KeptPaths.{eligible_allowed}
 use Rattle.plan_certificate.proofs.Lists.{each_contained, each_pair, map_each}
 use Rattle.plan_certificate.proofs.PathTakenOut.{AreApart, IsApart, Picked, from_pairs, pick}
@@ -18,7 +18,7 @@ use Rattle.lane_planner.specs.FirstBest.{ComesBefore, IsOfUse, IsSameOrBefore}
 use Rattle.lane_planner.specs.Gains.{IsGain, IsLimit}
 use Rattle.lane_planner.specs.Tables.{IsPlanOf, gain_at}
 use Rattle.lane_planner.proofs.ChosenPaths.{IsLowest, Keeps}
-use Rattle.lane_planner.proofs.GainLaws.{GainsAfter, NoneKeeps, covers_step, free_keeps, limit_preserved}
+use Rattle.lane_planner.proofs.GainLaws.{GainsAfter, NoneKeeps, covers_decision, free_keeps, limit_preserved}
 
 -- the paths so far are in the other plan; what else it has may still come, and weighs the state's whole gain
 pub record Agrees (advert : Advertised) (weights : HostWeights) (kept : List Path) (gain : State → ℕ) (state : State) (paths others : List Path) : Type 0 where
@@ -48,7 +48,7 @@ agrees_at_start advert weights kept gain others plan = record {
   weighs = plan.weighs;
 }
 
--- ---- what the state's gain is, and those after its steps
+-- ---- what the state's gain is, and those after its decisions
 
 pub record KnowsGains (advert : Advertised) (weights : HostWeights) (kept : List Path) (table : List ℕ) (state : State) : Type 0 where
   pub below : state.boundary < 8
@@ -61,22 +61,22 @@ pub record KnowsGains (advert : Advertised) (weights : HostWeights) (kept : List
 record Met (advert : Advertised) (weights : HostWeights) (kept : List Path) (table : List ℕ) (state : State) (rest : List Path) : Type 1 where
   pub picked : Picked advert (path_weight advert weights) rest (state.boundary + 1)
   pub keeps : Keeps advert weights kept table state picked.path
-  pub later : AllByRecursion (IsLater advert kept (path_step advert weights state picked.path).end) picked.rest
-  pub come : AllByRecursion (ComesOrCame advert (path_step advert weights state picked.path).end picked.rest) kept
+  pub later : AllByRecursion (IsLater advert kept (path_decision advert weights state picked.path).end) picked.rest
+  pub come : AllByRecursion (ComesOrCame advert (path_decision advert weights state picked.path).end picked.rest) kept
 
 met : (advert : Advertised) (weights : HostWeights) (kept : List Path) (table : List ℕ) (state : State) (paths others : List Path) → KnowsGains advert weights kept table state
     → (agrees : Agrees advert weights kept (gain_at table) state paths others) → Picked advert (path_weight advert weights) agrees.rest (state.boundary + 1) → Met advert weights kept table state agrees.rest
 met advert weights kept table state paths others gains agrees picked =
-    let step = path_step advert weights state picked.path in
+    let decision = path_decision advert weights state picked.path in
     let parts = picked.each (IsLater advert kept state) agrees.later in
-    let all = steps_from advert weights kept state in
-    let contains = (each_step advert weights kept (Contains all) state gains.below (each_contained all)).1 picked.path picked.begins parts.0.can parts.0.unused in
-    let after = gains.after step contains in
-    let covers = covers_step advert weights kept state (gain_at table state) (gain_at table step.end) step gains.here after contains in
-    let later = each_pair (IsLater advert kept state) (IsApart advert picked.path) (IsLater advert kept step.end) picked.rest
+    let all = decisions_from advert weights kept state in
+    let contains = (each_decision advert weights kept (Contains all) state gains.below (each_contained all)).1 picked.path picked.begins parts.0.can parts.0.unused in
+    let after = gains.after decision contains in
+    let covers = covers_decision advert weights kept state (gain_at table state) (gain_at table decision.end) decision gains.here after contains in
+    let later = each_pair (IsLater advert kept state) (IsApart advert picked.path) (IsLater advert kept decision.end) picked.rest
     (λ path is_later apart. after_path advert weights kept state picked.path path parts.0 picked.begins is_later apart) parts.1 picked.path_apart in
     let come = come_taken advert weights (path_weight advert weights) kept state agrees.rest picked agrees.come in
-    let most = bounded advert weights kept (IsLimit advert weights kept) (limit_preserved advert weights kept) 8 step.end (gain_at table step.end) (omega arith) after.greatest picked.rest picked.rest_apart later come in
+    let most = bounded advert weights kept (IsLimit advert weights kept) (limit_preserved advert weights kept) 8 decision.end (gain_at table decision.end) (omega arith) after.greatest picked.rest picked.rest_apart later come in
     record {
       picked = picked;
       keeps = record {
@@ -93,7 +93,7 @@ met advert weights kept table state paths others gains agrees picked =
 -- ---- the lane stays free
 
 pub agrees_free : (advert : Advertised) (weights : HostWeights) (kept : List Path) (table : List ℕ) (state : State) (paths others : List Path) → KnowsGains advert weights kept table state → may_stay_free advert kept (state.boundary + 1) ≡ true → NoneKeeps advert weights kept (gain_at table) state
-    → Agrees advert weights kept (gain_at table) state paths others → Agrees advert weights kept (gain_at table) (free_step state).end paths others
+    → Agrees advert weights kept (gain_at table) state paths others → Agrees advert weights kept (gain_at table) (free_decision state).end paths others
 agrees_free advert weights kept table state paths others gains may none agrees =
     elim (pick advert (path_weight advert weights) agrees.rest (state.boundary + 1) agrees.apart) [
       | inl picked ↦
@@ -170,7 +170,7 @@ picked_or_left advert weigh rest host picked other held =
 
 -- the other plan takes the same path
 agrees_on : (advert : Advertised) (weights : HostWeights) (kept : List Path) (table : List ℕ) (state : State) (paths others : List Path) (agrees : Agrees advert weights kept (gain_at table) state paths others) (is : Met advert weights kept table state agrees.rest)
-    → Agrees advert weights kept (gain_at table) (path_step advert weights state is.picked.path).end (paths ++ is.picked.path ∷ []) others
+    → Agrees advert weights kept (gain_at table) (path_decision advert weights state is.picked.path).end (paths ++ is.picked.path ∷ []) others
 agrees_on advert weights kept table state paths others agrees is =
     let path : Path = is.picked.path in
     let inside = is.picked.each (Contains others) agrees.inside in
@@ -196,7 +196,7 @@ agrees_on advert weights kept table state paths others agrees is =
 begins_higher : (advert : Advertised) (weights : HostWeights) (kept : List Path) (table : List ℕ) (state : State) (paths others : List Path) (path : Path) → All (IsBefore state) paths → path.host ≡ state.boundary + 1 → (agrees : Agrees advert weights kept (gain_at table) state paths others) (is : Met advert weights kept table state agrees.rest)
     → IsLower path is.picked.path → ComesBefore (paths ++ path ∷ []) others
 begins_higher advert weights kept table state paths others path before begins agrees is lower =
-    let End : State = (path_step advert weights state is.picked.path).end in
+    let End : State = (path_decision advert weights state is.picked.path).end in
     takes_the_lead advert weights kept (gain_at table) state paths others path before begins agrees (λ other held same_host.
     elim (picked_or_left advert (path_weight advert weights) agrees.rest (state.boundary + 1) is.picked other held) [
       | inl same ↦ subst (IsLower path) (sym same) lower
@@ -207,7 +207,7 @@ begins_higher advert weights kept table state paths others path before begins ag
     ])
 
 pub agrees_path : (advert : Advertised) (weights : HostWeights) (kept : List Path) (table : List ℕ) (state : State) (paths others : List Path) (path : Path) → KnowsGains advert weights kept table state → All (IsBefore state) paths → path.host ≡ state.boundary + 1 → IsLowest advert weights kept table state path
-    → Agrees advert weights kept (gain_at table) state paths others → AgreesOrLater advert weights kept (gain_at table) (path_step advert weights state path).end (paths ++ path ∷ []) others
+    → Agrees advert weights kept (gain_at table) state paths others → AgreesOrLater advert weights kept (gain_at table) (path_decision advert weights state path).end (paths ++ path ∷ []) others
 agrees_path advert weights kept table state paths others path gains before begins lowest agrees =
     elim (pick advert (path_weight advert weights) agrees.rest (state.boundary + 1) agrees.apart) [
       | inr elsewhere ↦
@@ -219,7 +219,7 @@ agrees_path advert weights kept table state paths others path gains before begin
           elim (lowest is.picked.path is.keeps) [
             | inr lower ↦ inr (begins_higher advert weights kept table state paths others path before begins agrees is lower)
             | inl same ↦
-                let Next : Path → Type 0 = λ p. Agrees advert weights kept (gain_at table) (path_step advert weights state p).end (paths ++ p ∷ []) others in
+                let Next : Path → Type 0 = λ p. Agrees advert weights kept (gain_at table) (path_decision advert weights state p).end (paths ++ p ∷ []) others in
                 inl (subst Next (sym same) (agrees_on advert weights kept table state paths others agrees is))
           ]
     ]

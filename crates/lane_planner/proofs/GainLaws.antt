@@ -1,4 +1,4 @@
--- Gains and steps: a gain covers each step; where no path that weighs something or is kept keeps it, the free lane does.
+-- Gains and decisions: a gain covers each decision; where no path that weighs something or is kept keeps it, the free lane does.
 use Rattle.std.proofs.Common.{◌≡◌, ℕ, ◌+◌, ◌-◌, ◌<◌, ◌≤◌, true, List, [], ◌∷◌, subst, ap, inl, inr, arith}
 use Rattle.std.specs.List.{All, Contains}
 use Rattle.std.proofs.lemmas.Bool.{cases_Bool, cases_lt}
@@ -9,58 +9,58 @@ use Rattle.applications.specs.Advertised.{Advertised}
 use Rattle.applications.specs.Weights.{HostWeights}
 use Rattle.plan_certificate.specs.declared.path.Path.{Path}
 use Rattle.plan_certificate.specs.declared.state.State.{State}
-use Rattle.plan_certificate.specs.declared.state.Step.{Step}
+use Rattle.plan_certificate.specs.declared.state.Decision.{Decision}
 use Rattle.plan_certificate.specs.Paths.{media_lanes, path_weight}
 use Rattle.plan_certificate.specs.KeptPaths.{is_among, is_eligible, may_stay_free}
-use Rattle.plan_certificate.specs.States.{free_step, path_step, steps_from}
-use Rattle.plan_certificate.proofs.Heaviest.{IsPreserved, IsLater, LeavesEnough, allowed, each_step, lanes_later}
+use Rattle.plan_certificate.specs.States.{free_decision, path_decision, decisions_from}
+use Rattle.plan_certificate.proofs.Heaviest.{IsPreserved, IsLater, LeavesEnough, allowed, each_decision, lanes_later}
 use Rattle.plan_certificate.proofs.KeptPaths.{eligible_allowed, listed_among}
 use Rattle.plan_certificate.proofs.Lists.{each_contained, map_each}
 use Rattle.lane_planner.specs.FirstBest.{IsOfUse}
-use Rattle.lane_planner.specs.Gains.{Follow, IsGain, IsLimit, CanBeGained, steps_weight}
+use Rattle.lane_planner.specs.Gains.{Follow, IsGain, IsLimit, CanBeGained, decisions_weight}
 use Rattle.lane_planner.proofs.FreeLanes.{after_path_free}
 use Rattle.lane_planner.proofs.KeptLanes.{has_lane, none_has, takes_lane}
-use Rattle.lane_planner.proofs.StepKinds.{OfPath, step_is}
+use Rattle.lane_planner.proofs.DecisionKinds.{OfPath, decision_is}
 
-abbrev weight : Step → ℕ
-weight step = step.weight
+abbrev weight : Decision → ℕ
+weight decision = decision.weight
 
 -- ---- limits
 
 pub limit_preserved : (advert : Advertised) (weights : HostWeights) (kept : List Path) → IsPreserved advert weights kept (IsLimit advert weights kept)
 limit_preserved advert weights kept state potential limit =
-    let steps = steps_from advert weights kept state in
-    map_each (Contains steps) (LeavesEnough (IsLimit advert weights kept) potential) steps
-    (λ step contains.
-    let alone = limit (step ∷ []) (contains, tt) in
-    let fits : step.weight ≤ potential = omega (arith, alone, sum_by-cons weight step []) in
-    let later : IsLimit advert weights kept step.end (potential - step.weight) = λ more follow. omega (arith, fits, limit (step ∷ more) (contains, follow), sum_by-cons weight step more) in
-    (potential - step.weight, later, omega (arith, fits)))
-    (recursion_from_All (Contains steps) steps (All-contains_itself steps))
+    let decisions = decisions_from advert weights kept state in
+    map_each (Contains decisions) (LeavesEnough (IsLimit advert weights kept) potential) decisions
+    (λ decision contains.
+    let alone = limit (decision ∷ []) (contains, tt) in
+    let fits : decision.weight ≤ potential = omega (arith, alone, sum_by-cons weight decision []) in
+    let later : IsLimit advert weights kept decision.end (potential - decision.weight) = λ more follow. omega (arith, fits, limit (decision ∷ more) (contains, follow), sum_by-cons weight decision more) in
+    (potential - decision.weight, later, omega (arith, fits)))
+    (recursion_from_All (Contains decisions) decisions (All-contains_itself decisions))
 
--- a step and what can be gained after it is no more than the gain
-pub covers_step : (advert : Advertised) (weights : HostWeights) (kept : List Path) (state : State) (gain later : ℕ) (step : Step) → IsGain advert weights kept state gain → IsGain advert weights kept step.end later → Contains (steps_from advert weights kept state) step → step.weight + later ≤ gain
-covers_step advert weights kept state gain later step is is_later contains =
+-- a decision and what can be gained after it is no more than the gain
+pub covers_decision : (advert : Advertised) (weights : HostWeights) (kept : List Path) (state : State) (gain later : ℕ) (decision : Decision) → IsGain advert weights kept state gain → IsGain advert weights kept decision.end later → Contains (decisions_from advert weights kept state) decision → decision.weight + later ≤ gain
+covers_decision advert weights kept state gain later decision is is_later contains =
     let run = is_later.gained in
-    omega (arith, run.2, is.greatest (step ∷ run.0) (contains, run.1), sum_by-cons weight step run.0)
+    omega (arith, run.2, is.greatest (decision ∷ run.0) (contains, run.1), sum_by-cons weight decision run.0)
 
 limit_of : (advert : Advertised) (weights : HostWeights) (kept : List Path) (state : State) (gain : ℕ) (after : State → ℕ)
-    → All (λ step. IsGain advert weights kept step.end (after step.end)) (steps_from advert weights kept state)
-    → All (λ step. step.weight + after step.end ≤ gain) (steps_from advert weights kept state) → IsLimit advert weights kept state gain
+    → All (λ decision. IsGain advert weights kept decision.end (after decision.end)) (decisions_from advert weights kept state)
+    → All (λ decision. decision.weight + after decision.end ≤ gain) (decisions_from advert weights kept state) → IsLimit advert weights kept state gain
 limit_of advert weights kept state gain after gains covered [] follow = omega arith
-limit_of advert weights kept state gain after gains covered (step ∷ steps) follow =
-    let all = steps_from advert weights kept state in
-    let covers = All-contains (λ (s : Step). s.weight + after s.end ≤ gain) all step covered follow.0 in
-    let rest = All-contains (λ (s : Step). IsGain advert weights kept s.end (after s.end)) all step gains follow.0 in
-    omega (arith, covers, rest.greatest steps follow.1, sum_by-cons weight step steps)
+limit_of advert weights kept state gain after gains covered (decision ∷ decisions) follow =
+    let all = decisions_from advert weights kept state in
+    let covers = All-contains (λ (s : Decision). s.weight + after s.end ≤ gain) all decision covered follow.0 in
+    let rest = All-contains (λ (s : Decision). IsGain advert weights kept s.end (after s.end)) all decision gains follow.0 in
+    omega (arith, covers, rest.greatest decisions follow.1, sum_by-cons weight decision decisions)
 
--- a sum that some steps reach, and that covers each step and what can be gained after it, is the gain
-pub gain_from_steps : (advert : Advertised) (weights : HostWeights) (kept : List Path) (state : State) (gain : ℕ) (after : State → ℕ) → CanBeGained advert weights kept state gain
-    → All (λ step. IsGain advert weights kept step.end (after step.end)) (steps_from advert weights kept state)
-    → All (λ step. step.weight + after step.end ≤ gain) (steps_from advert weights kept state) → IsGain advert weights kept state gain
-gain_from_steps advert weights kept state gain after gained gains covered = record {
+-- a sum that some decisions reach, and that covers each decision and what can be gained after it, is the gain
+pub gain_from_decisions : (advert : Advertised) (weights : HostWeights) (kept : List Path) (state : State) (gain : ℕ) (after : State → ℕ) → CanBeGained advert weights kept state gain
+    → All (λ decision. IsGain advert weights kept decision.end (after decision.end)) (decisions_from advert weights kept state)
+    → All (λ decision. decision.weight + after decision.end ≤ gain) (decisions_from advert weights kept state) → IsGain advert weights kept state gain
+gain_from_decisions advert weights kept state gain after gained gains covered = record {
   gained = gained;
-  greatest = λ steps. limit_of advert weights kept state gain after gains covered steps;
+  greatest = λ decisions. limit_of advert weights kept state gain after gains covered decisions;
 }
 
 -- ---- the free lane
@@ -69,77 +69,77 @@ gain_from_steps advert weights kept state gain after gained gains covered = reco
 abbrev pub NoneKeeps : Advertised → HostWeights → List Path → (State → ℕ) → State → Type 0
 NoneKeeps advert weights kept after state =
     (path : Path) → path.host ≡ state.boundary + 1 → is_eligible advert kept path ≡ true → is_disjoint (media_lanes advert path) state.used ≡ true → IsOfUse advert weights kept path
-    → path_weight advert weights path + after (path_step advert weights state path).end ≡ after state → ⊥
+    → path_weight advert weights path + after (path_decision advert weights state path).end ≡ after state → ⊥
 
 abbrev pub GainsAfter : Advertised → HostWeights → List Path → (State → ℕ) → State → Type 0
-GainsAfter advert weights kept after state = (step : Step) → Contains (steps_from advert weights kept state) step → IsGain advert weights kept step.end (after step.end)
+GainsAfter advert weights kept after state = (decision : Decision) → Contains (decisions_from advert weights kept state) decision → IsGain advert weights kept decision.end (after decision.end)
 
--- a path of use whose step and what follows reach the gain keeps it
+-- a path of use whose decision and what follows reach the gain keeps it
 reaching_keeps : (advert : Advertised) (weights : HostWeights) (kept : List Path) (after : State → ℕ) (state : State) → IsGain advert weights kept state (after state) → GainsAfter advert weights kept after state → NoneKeeps advert weights kept after state
-    → (step : Step) (steps : List Step) → Follow advert weights kept state (step ∷ steps) → steps_weight (step ∷ steps) ≡ after state → (taken : OfPath advert weights kept state step) → IsOfUse advert weights kept taken.path → ⊥
-reaching_keeps advert weights kept after state gain gains none step steps follow is taken worth =
-    let total = sum_by-cons weight step steps in
-    let rest = gains step follow.0 in
-    let most = rest.greatest steps follow.1 in
-    let covers = covers_step advert weights kept state (after state) (after step.end) step gain rest follow.0 in
-    let same = ap (λ (s : Step). s.end) taken.is in
+    → (decision : Decision) (decisions : List Decision) → Follow advert weights kept state (decision ∷ decisions) → decisions_weight (decision ∷ decisions) ≡ after state → (taken : OfPath advert weights kept state decision) → IsOfUse advert weights kept taken.path → ⊥
+reaching_keeps advert weights kept after state gain gains none decision decisions follow is taken worth =
+    let total = sum_by-cons weight decision decisions in
+    let rest = gains decision follow.0 in
+    let most = rest.greatest decisions follow.1 in
+    let covers = covers_decision advert weights kept state (after state) (after decision.end) decision gain rest follow.0 in
+    let same = ap (λ (s : Decision). s.end) taken.is in
     none taken.path taken.begins taken.can taken.unused worth (omega (arith, is, total, most, covers, ap weight taken.is, ap after same))
 
--- steps that reach the gain show that it can be had after a free lane
+-- decisions that reach the gain show that it can be had after a free lane
 had_after_free : (advert : Advertised) (weights : HostWeights) (kept : List Path) (after : State → ℕ) (state : State) → IsGain advert weights kept state (after state) → GainsAfter advert weights kept after state → NoneKeeps advert weights kept after state
-    → Contains (steps_from advert weights kept state) (free_step state) → (steps : List Step) → Follow advert weights kept state steps → steps_weight steps ≡ after state → after state ≤ after (free_step state).end
+    → Contains (decisions_from advert weights kept state) (free_decision state) → (decisions : List Decision) → Follow advert weights kept state decisions → decisions_weight decisions ≡ after state → after state ≤ after (free_decision state).end
 had_after_free advert weights kept after state gain gains none listed [] follow is = omega (arith, is)
-had_after_free advert weights kept after state gain gains none listed (step ∷ steps) follow is =
-    let total = sum_by-cons weight step steps in
-    let most = (gains step follow.0).greatest steps follow.1 in
-    elim ((step_is advert weights kept state step follow.0).kind) [
-      | inl free ↦ omega (arith, is, total, most, ap weight free.0, ap (λ (s : Step). after s.end) free.0)
+had_after_free advert weights kept after state gain gains none listed (decision ∷ decisions) follow is =
+    let total = sum_by-cons weight decision decisions in
+    let most = (gains decision follow.0).greatest decisions follow.1 in
+    elim ((decision_is advert weights kept state decision follow.0).kind) [
+      | inl free ↦ omega (arith, is, total, most, ap weight free.0, ap (λ (s : Decision). after s.end) free.0)
       | inr taken ↦
           let path : Path = taken.path in
-          let reaching = reaching_keeps advert weights kept after state gain gains none step steps follow is taken in
+          let reaching = reaching_keeps advert weights kept after state gain gains none decision decisions follow is taken in
           elim (cases_lt 0 (path_weight advert weights path)) [
             | inl some ↦ absurd (reaching (inl some))
             | inr nothing ↦ elim (cases_Bool (is_among kept path)) [
               | inl among ↦ absurd (reaching (inr (listed_among kept path among)))
               | inr not_kept ↦
-                  let End : State = (path_step advert weights state path).end in
-                  let next : Follow advert weights kept End steps = subst (λ (s : State). Follow advert weights kept s steps) (ap (λ (s : Step). s.end) taken.is) follow.1 in
-                  let bound = after_path_free advert weights kept state path (after (free_step state).end) taken.can not_kept taken.begins (gains (free_step state) listed) steps next in
+                  let End : State = (path_decision advert weights state path).end in
+                  let next : Follow advert weights kept End decisions = subst (λ (s : State). Follow advert weights kept s decisions) (ap (λ (s : Decision). s.end) taken.is) follow.1 in
+                  let bound = after_path_free advert weights kept state path (after (free_decision state).end) taken.can not_kept taken.begins (gains (free_decision state) listed) decisions next in
                   omega (arith, is, total, ap weight taken.is, nothing, bound)
             ]
           ]
     ]
 
 pub free_keeps : (advert : Advertised) (weights : HostWeights) (kept : List Path) (after : State → ℕ) (state : State) → state.boundary < 8 → may_stay_free advert kept (state.boundary + 1) ≡ true → IsGain advert weights kept state (after state) → GainsAfter advert weights kept after state → NoneKeeps advert weights kept after state
-    → after (free_step state).end ≡ after state
+    → after (free_decision state).end ≡ after state
 free_keeps advert weights kept after state below may gain gains none =
-    let all = steps_from advert weights kept state in
-    let free = (each_step advert weights kept (Contains all) state below (each_contained all)).0 may in
-    let covers = covers_step advert weights kept state (after state) (after (free_step state).end) (free_step state) gain (gains (free_step state) free) free in
+    let all = decisions_from advert weights kept state in
+    let free = (each_decision advert weights kept (Contains all) state below (each_contained all)).0 may in
+    let covers = covers_decision advert weights kept state (after state) (after (free_decision state).end) (free_decision state) gain (gains (free_decision state) free) free in
     let upto = had_after_free advert weights kept after state gain gains none free gain.gained.0 gain.gained.1 gain.gained.2 in
     omega (arith, covers, upto)
 
 -- ---- the first host lane of a kept path
 
--- steps that reach the gain show that a kept path keeps it, where one begins
+-- decisions that reach the gain show that a kept path keeps it, where one begins
 reached_by_kept : (advert : Advertised) (weights : HostWeights) (kept : List Path) (after : State → ℕ) (state : State) (begun : Path) → state.boundary < 8 → IsGain advert weights kept state (after state) → GainsAfter advert weights kept after state → NoneKeeps advert weights kept after state
-    → Contains kept begun → IsLater advert kept state begun → begun.host ≡ state.boundary + 1 → (steps : List Step) → Follow advert weights kept state steps → steps_weight steps ≡ after state → ⊥
+    → Contains kept begun → IsLater advert kept state begun → begun.host ≡ state.boundary + 1 → (decisions : List Decision) → Follow advert weights kept state decisions → decisions_weight decisions ≡ after state → ⊥
 reached_by_kept advert weights kept after state begun below gain gains none held later begins [] follow is =
-    let all = steps_from advert weights kept state in
-    let step = path_step advert weights state begun in
-    let contains = (each_step advert weights kept (Contains all) state below (each_contained all)).1 begun begins later.can later.unused in
-    let covers = covers_step advert weights kept state (after state) (after step.end) step gain (gains step contains) contains in
+    let all = decisions_from advert weights kept state in
+    let decision = path_decision advert weights state begun in
+    let contains = (each_decision advert weights kept (Contains all) state below (each_contained all)).1 begun begins later.can later.unused in
+    let covers = covers_decision advert weights kept state (after state) (after decision.end) decision gain (gains decision contains) contains in
     none begun begins later.can later.unused (inr held) (omega (arith, covers, is))
-reached_by_kept advert weights kept after state begun below gain gains none held later begins (step ∷ steps) follow is =
+reached_by_kept advert weights kept after state begun below gain gains none held later begins (decision ∷ decisions) follow is =
     let lane : ℕ = state.boundary + 1 in
     let lanes = lanes_later advert kept state begun later in
     let has = has_lane advert begun lane (omega (arith, begins)) (omega (arith, begins, lanes.host_some)) in
-    elim ((step_is advert weights kept state step follow.0).kind) [
+    elim ((decision_is advert weights kept state decision follow.0).kind) [
       | inl free ↦ none_has advert kept lane begun free.1 held has
       | inr taken ↦
           let own = allowed advert taken.path (eligible_allowed advert kept taken.path taken.can) in
           let also = has_lane advert taken.path lane (omega (arith, taken.begins)) (omega (arith, taken.begins, own.host_some)) in
-          reaching_keeps advert weights kept after state gain gains none step steps follow is taken (inr (takes_lane advert kept taken.path begun lane taken.can held has also))
+          reaching_keeps advert weights kept after state gain gains none decision decisions follow is taken (inr (takes_lane advert kept taken.path begun lane taken.can held has also))
     ]
 
 pub kept_keeps : (advert : Advertised) (weights : HostWeights) (kept : List Path) (after : State → ℕ) (state : State) (begun : Path) → state.boundary < 8 → IsGain advert weights kept state (after state) → GainsAfter advert weights kept after state → NoneKeeps advert weights kept after state

@@ -11,8 +11,8 @@ use Rattle.plan_certificate.specs.declared.path.Path.{Path}
 use Rattle.plan_certificate.specs.declared.state.State.{State}
 use Rattle.plan_certificate.specs.Paths.{media_lanes, path_weight}
 use Rattle.plan_certificate.specs.KeptPaths.{is_among, is_eligible}
-use Rattle.plan_certificate.specs.States.{path_step, paths_at}
-use Rattle.plan_certificate.specs.Moves.{LeadsOn, move_of, move_step, moves_at, moves_of}
+use Rattle.plan_certificate.specs.States.{path_decision, paths_at}
+use Rattle.plan_certificate.specs.Moves.{LeadsOn, move_of, move_decision, moves_at, moves_of}
 use Rattle.plan_certificate.proofs.Lists.{found}
 use Rattle.lane_planner.specs.Tables.{chosen, gain_at, keeps_gain, move_keeps_gain}
 
@@ -26,7 +26,7 @@ find_of_moves advert weights kept table state (path ∷ paths) =
     let rest = find_of_moves advert weights kept table state paths in
     let unused : Bool = is_disjoint (media_lanes advert path) state.used in
     let some : Bool = nat_lt 0 (path_weight advert weights path) || is_among kept path in
-    let leaves : Bool = path_weight advert weights path + gain_at table (path_step advert weights state path).end == gain_at table state in
+    let leaves : Bool = path_weight advert weights path + gain_at table (path_decision advert weights state path).end == gain_at table state in
     let later : Option Path = find (keeps_gain advert weights kept table state) paths in
     let moves : List Move = map (move_of advert weights) (filter (is_eligible advert kept) paths) in
     let Left : Bool → Option Path = λ b. cond (b && unused && some && leaves) (Some path) later in
@@ -67,7 +67,7 @@ each_of_paths advert weights kept (path ∷ paths) =
 -- the move that is found: its path is the chosen one, and leads where it leads
 pub record IsChosenMove (advert : Advertised) (weights : HostWeights) (kept : List Path) (table : List ℕ) (state : State) (move : Move) : Type 0 where
   pub path : chosen advert weights kept table state ≡ Some move.path
-  pub end : (move_step state move).end ≡ (path_step advert weights state move.path).end
+  pub end : (move_decision state move).end ≡ (path_decision advert weights state move.path).end
 
 pub chosen_move : (advert : Advertised) (weights : HostWeights) (kept : List Path) (table : List ℕ) (state : State) (moves : List Move) (move : Move) → moves ≡ moves_at advert weights kept (state.boundary + 1) → find (move_keeps_gain kept table state) moves ≡ Some move → IsChosenMove advert weights kept table state move
 chosen_move advert weights kept table state moves move same is =
@@ -75,7 +75,7 @@ chosen_move advert weights kept table state moves move same is =
     let of_path = found (IsOfPath advert weights) (move_keeps_gain kept table state) (moves_at advert weights kept (state.boundary + 1)) move there (each_of_paths advert weights kept (paths_at advert (state.boundary + 1))) in
     record {
       path = chosen_of_moves advert weights kept table state ∙ ap (option_map path_of) there;
-      end = ap (λ (m : Move). (move_step state m).end) of_path.0;
+      end = ap (λ (m : Move). (move_decision state m).end) of_path.0;
     }
 
 pub no_chosen_move : (advert : Advertised) (weights : HostWeights) (kept : List Path) (table : List ℕ) (state : State) (moves : List Move) → moves ≡ moves_at advert weights kept (state.boundary + 1) → find (move_keeps_gain kept table state) moves ≡ None → chosen advert weights kept table state ≡ None

@@ -10,7 +10,7 @@ use Rattle.plan_certificate.specs.declared.state.State.{State}
 use Rattle.plan_certificate.specs.Paths.{media_lanes, is_allowed}
 use Rattle.plan_certificate.specs.Plans.{IsAdmissible, Keeps}
 use Rattle.plan_certificate.specs.KeptPaths.{may_stay_free}
-use Rattle.plan_certificate.specs.States.{start, free_step, path_step}
+use Rattle.plan_certificate.specs.States.{start, free_decision, path_decision}
 use Rattle.plan_certificate.proofs.Heaviest.{IsLater, after_path, allowed, lanes_later}
 use Rattle.plan_certificate.proofs.KeptPaths.{plan_eligible}
 use Rattle.plan_certificate.proofs.LaneRuns.{disjoint_none}
@@ -41,16 +41,16 @@ later_at_start advert kept plan =
 
 -- ---- the lane stays free
 
-later_after_free : (advert : Advertised) (kept : List Path) (state : State) (path : Path) → may_stay_free advert kept (state.boundary + 1) ≡ true → Contains kept path → IsLater advert kept state path → IsLater advert kept (free_step state).end path
+later_after_free : (advert : Advertised) (kept : List Path) (state : State) (path : Path) → may_stay_free advert kept (state.boundary + 1) ≡ true → Contains kept path → IsLater advert kept state path → IsLater advert kept (free_decision state).end path
 later_after_free advert kept state path may held later =
     let lane : ℕ = state.boundary + 1 in
     let lanes = lanes_later advert kept state path later in
     let elsewhere : path.host ≡ lane → ⊥ = λ begins. none_has advert kept lane path may held (has_lane advert path lane (omega (arith, begins)) (omega (arith, begins, lanes.host_some))) in
     record { can = later.can; past = omega (arith, later.past, elsewhere); unused = later.unused }
 
-pub taken_after_free : (advert : Advertised) (kept : List Path) (state : State) (paths : List Path) → may_stay_free advert kept (state.boundary + 1) ≡ true → AreTakenOrLater advert kept state paths → AreTakenOrLater advert kept (free_step state).end paths
+pub taken_after_free : (advert : Advertised) (kept : List Path) (state : State) (paths : List Path) → may_stay_free advert kept (state.boundary + 1) ≡ true → AreTakenOrLater advert kept state paths → AreTakenOrLater advert kept (free_decision state).end paths
 taken_after_free advert kept state paths may are =
-    each_pair (Contains kept) (IsTakenOrLater advert kept state paths) (IsTakenOrLater advert kept (free_step state).end paths) kept
+    each_pair (Contains kept) (IsTakenOrLater advert kept state paths) (IsTakenOrLater advert kept (free_decision state).end paths) kept
     (λ path held either. elim (either) [
       | inl taken ↦ inl taken
       | inr later ↦ inr (later_after_free advert kept state path may held later)
@@ -75,9 +75,9 @@ lane_may_stay_free advert weights kept table state paths gains earlier are none 
 -- ---- a path is taken
 
 pub taken_after_path : (advert : Advertised) (weights : HostWeights) (kept : List Path) (state : State) (paths : List Path) (path : Path) → IsAdmissible advert kept → IsLater advert kept state path → path.host ≡ state.boundary + 1 → AreTakenOrLater advert kept state paths
-    → AreTakenOrLater advert kept (path_step advert weights state path).end (paths ++ path ∷ [])
+    → AreTakenOrLater advert kept (path_decision advert weights state path).end (paths ++ path ∷ [])
 taken_after_path advert weights kept state paths path plan is_later begins are =
-    each_pair (Contains kept) (IsTakenOrLater advert kept state paths) (IsTakenOrLater advert kept (path_step advert weights state path).end (paths ++ path ∷ [])) kept
+    each_pair (Contains kept) (IsTakenOrLater advert kept state paths) (IsTakenOrLater advert kept (path_decision advert weights state path).end (paths ++ path ∷ [])) kept
     (λ other held either. elim (either) [
       | inl taken ↦ inl (Contains-append_left paths (path ∷ []) other taken)
       | inr later ↦ elim (same_or_beside advert kept path other plan is_later.can held) [

@@ -8,7 +8,7 @@ use Rattle.plan_certificate.specs.declared.path.Path.{Path}
 use Rattle.plan_certificate.specs.declared.state.State.{State}
 use Rattle.plan_certificate.specs.Paths.{app_of, media_lanes, is_allowed, path_weight}
 use Rattle.plan_certificate.specs.Plans.{are_apart, plan_weight}
-use Rattle.plan_certificate.specs.States.{free_step, path_step}
+use Rattle.plan_certificate.specs.States.{free_decision, path_decision}
 use Rattle.plan_certificate.proofs.Heaviest.{allowed}
 use Rattle.plan_certificate.proofs.LaneRuns.{disjoint_back}
 use Rattle.lane_planner.specs.FirstBest.{IsOfUse}
@@ -28,10 +28,10 @@ pub record AreInOrder (advert : Advertised) (path later : Path) : Type 0 where
   pub apart : are_apart advert path later ≡ true
   pub rises : path.host < later.host
 
-pub earlier_free : (advert : Advertised) (weights : HostWeights) (kept : List Path) (state : State) (path : Path) → IsEarlier advert weights kept state path → IsEarlier advert weights kept (free_step state).end path
+pub earlier_free : (advert : Advertised) (weights : HostWeights) (kept : List Path) (state : State) (path : Path) → IsEarlier advert weights kept state path → IsEarlier advert weights kept (free_decision state).end path
 earlier_free advert weights kept state path is = record { can = is.can; before = omega (arith, is.before); used = is.used; of_use = is.of_use }
 
-pub earlier_path : (advert : Advertised) (weights : HostWeights) (kept : List Path) (state : State) (taken path : Path) → IsEarlier advert weights kept state path → IsEarlier advert weights kept (path_step advert weights state taken).end path
+pub earlier_path : (advert : Advertised) (weights : HostWeights) (kept : List Path) (state : State) (taken path : Path) → IsEarlier advert weights kept state path → IsEarlier advert weights kept (path_decision advert weights state taken).end path
 earlier_path advert weights kept state taken path is = record {
   can = is.can;
   before = omega (arith, is.before);
@@ -39,7 +39,7 @@ earlier_path advert weights kept state taken path is = record {
   of_use = is.of_use;
 }
 
-pub taken_earlier : (advert : Advertised) (weights : HostWeights) (kept : List Path) (state : State) (taken : Path) → taken.host ≡ state.boundary + 1 → is_allowed advert taken ≡ true → IsOfUse advert weights kept taken → IsEarlier advert weights kept (path_step advert weights state taken).end taken
+pub taken_earlier : (advert : Advertised) (weights : HostWeights) (kept : List Path) (state : State) (taken : Path) → taken.host ≡ state.boundary + 1 → is_allowed advert taken ≡ true → IsOfUse advert weights kept taken → IsEarlier advert weights kept (path_decision advert weights state taken).end taken
 taken_earlier advert weights kept state taken begins can worth = record {
   can = can;
   before = omega (arith, begins);

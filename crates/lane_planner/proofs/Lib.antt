@@ -1,11 +1,11 @@
 pub mod DisjointLanes
-pub mod StepKinds
+pub mod DecisionKinds
 pub mod KeptLanes
 mod FreeLanes
 pub mod GainLaws
 mod Places
 mod JoinedNumbers
-pub mod StepEnds
+pub mod DecisionEnds
 pub mod ReachedStates
 mod Marking
 mod MarkingEnds

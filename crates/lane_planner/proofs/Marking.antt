@@ -1,4 +1,4 @@
--- Marking states from the start on: what is marked is what steps from the start reach.
+-- Marking states from the start on: what is marked is what decisions from the start reach.
 use Rattle.std.proofs.Common.{◌≡◌, ℕ, ◌+◌, ◌<◌, ◌≤◌, Bool, true, false, List, [], ◌∷◌, ◌++◌, length, get_or, refl, sym, subst, ap, ◌∙◌, inl, inr, arith}
 use Rattle.std.specs.List.{Contains}
 use Rattle.std.proofs.Common.{get_or-set_same, get_or-set_other}
@@ -9,19 +9,19 @@ use Rattle.plan_certificate.specs.declared.path.Path.{Path}
 use Rattle.applications.specs.Advertised.{Advertised}
 use Rattle.applications.specs.Weights.{HostWeights}
 use Rattle.plan_certificate.specs.declared.state.State.{State}
-use Rattle.plan_certificate.specs.declared.state.Step.{Step}
-use Rattle.plan_certificate.specs.States.{start, state_at, state_place, steps_from}
+use Rattle.plan_certificate.specs.declared.state.Decision.{Decision}
+use Rattle.plan_certificate.specs.States.{start, state_at, state_place, decisions_from}
 use Rattle.plan_certificate.specs.ReachedStates.{IsReached, Leads}
 use Rattle.plan_certificate.proofs.ByteLanes.{IsByte, start_is_byte}
 use Rattle.lane_planner.specs.Marks.{AreMarks, IsMarked, MarksEnds}
-use Rattle.lane_planner.proofs.StepEnds.{at_is_byte, ends_later, place_past}
+use Rattle.lane_planner.proofs.DecisionEnds.{at_is_byte, ends_later, place_past}
 use Rattle.lane_planner.proofs.Places.{place_below, start_place, state_of_place}
 use Rattle.lane_planner.proofs.ReachedStates.{reached_on}
 
--- ---- the ends of one state's steps
+-- ---- the ends of one state's decisions
 
-pub one_marked : (steps : List Step) (step : Step) (place : ℕ) (marks more : List Bool) → MarksEnds steps marks more → place ≡ state_place step.end → place < length more → MarksEnds (steps ++ step ∷ []) marks (set more place true)
-one_marked steps step place marks more are is within =
+pub one_marked : (decisions : List Decision) (decision : Decision) (place : ℕ) (marks more : List Bool) → MarksEnds decisions marks more → place ≡ state_place decision.end → place < length more → MarksEnds (decisions ++ decision ∷ []) marks (set more place true)
+one_marked decisions decision place marks more are is within =
     let here : get_or (set more place true) place false ≡ true = get_or-set_same more place true false within in
     let keeps : (other : ℕ) → IsMarked more other → IsMarked (set more place true) other = (λ other marked.
     elim (cases_eq other place) [
@@ -30,16 +30,16 @@ one_marked steps step place marks more are is within =
     ]) in
     record {
       all = length-set more place true ∙ are.all;
-      ends = λ one contains. elim (Contains-push_cases steps step one contains) [
+      ends = λ one contains. elim (Contains-push_cases decisions decision one contains) [
         | inl before ↦ keeps (state_place one.end) (are.ends one before)
-        | inr same ↦ subst (IsMarked (set more place true)) (is ∙ ap (λ (s : Step). state_place s.end) same) here
+        | inr same ↦ subst (IsMarked (set more place true)) (is ∙ ap (λ (s : Decision). state_place s.end) same) here
       ];
       kept = λ other marked. keeps other (are.kept other marked);
       only = λ other marked. elim (cases_eq other place) [
-        | inl same ↦ inr (step, Contains-push steps step, sym is ∙ sym same)
+        | inl same ↦ inr (decision, Contains-push decisions decision, sym is ∙ sym same)
         | inr differs ↦ elim (are.only other (sym (get_or-set_other more place other true false differs) ∙ marked)) [
           | inl before ↦ inl before
-          | inr ends ↦ inr (ends.0, Contains-append_left steps (step ∷ []) ends.0 ends.1, ends.2)
+          | inr ends ↦ inr (ends.0, Contains-append_left decisions (decision ∷ []) ends.0 ends.1, ends.2)
         ]
       ];
     }
@@ -65,11 +65,11 @@ marks_past advert weights kept place marks are not = record {
       ];
 }
 
--- and where it is, and the ends of its steps have been marked
-pub marks_more : (advert : Advertised) (weights : HostWeights) (kept : List Path) (place : ℕ) (marks more : List Bool) → AreMarks advert weights kept place marks → place < 2304 → IsMarked marks place → MarksEnds (steps_from advert weights kept (state_at place)) marks more → AreMarks advert weights kept (place + 1) more
+-- and where it is, and the ends of its decisions have been marked
+pub marks_more : (advert : Advertised) (weights : HostWeights) (kept : List Path) (place : ℕ) (marks more : List Bool) → AreMarks advert weights kept place marks → place < 2304 → IsMarked marks place → MarksEnds (decisions_from advert weights kept (state_at place)) marks more → AreMarks advert weights kept (place + 1) more
 marks_more advert weights kept place marks more are below marked new =
-    let late : (step : Step) → Contains (steps_from advert weights kept (state_at place)) step → place + 1 ≤ state_place step.end = (λ step contains.
-    place_past place step.end (ends_later advert weights kept (state_at place) step (at_is_byte place) contains).past) in
+    let late : (decision : Decision) → Contains (decisions_from advert weights kept (state_at place)) decision → place + 1 ≤ state_place decision.end = (λ decision contains.
+    place_past place decision.end (ends_later advert weights kept (state_at place) decision (at_is_byte place) contains).past) in
     record {
       all = new.all ∙ are.all;
       begun = new.kept 0 are.begun;
@@ -80,23 +80,23 @@ marks_more advert weights kept place marks more are below marked new =
             let state : state_at other ≡ ends.0.end = ap state_at (sym ends.2) ∙ state_of_place ends.0.end byte in
             subst (IsReached advert weights kept) (sym state) (reached_on advert weights kept (state_at place) ends.0 (are.sound place below marked) ends.1)
       ];
-      closed = λ other low is step contains. elim (new.only other is) [
+      closed = λ other low is decision contains. elim (new.only other is) [
         | inr ends ↦ absurd (omega (arith, late ends.0 ends.1, ends.2, low))
         | inl before ↦ elim (cases_eq other place) [
-          | inl same ↦ new.ends step (subst (λ (n : ℕ). Contains (steps_from advert weights kept (state_at n)) step) same contains)
-          | inr differs ↦ new.kept (state_place step.end) (are.closed other (omega (arith, low, differs)) before step contains)
+          | inl same ↦ new.ends decision (subst (λ (n : ℕ). Contains (decisions_from advert weights kept (state_at n)) decision) same contains)
+          | inr differs ↦ new.kept (state_place decision.end) (are.closed other (omega (arith, low, differs)) before decision contains)
         ]
       ];
     }
 
 -- at the end each reached state is marked
-reached_from : (advert : Advertised) (weights : HostWeights) (kept : List Path) (marks : List Bool) → AreMarks advert weights kept 2304 marks → (steps : List Step) (from state : State) → IsByte from.used → from.boundary ≤ 8 → IsMarked marks (state_place from) → Leads advert weights kept from steps state → IsMarked marks (state_place state)
+reached_from : (advert : Advertised) (weights : HostWeights) (kept : List Path) (marks : List Bool) → AreMarks advert weights kept 2304 marks → (decisions : List Decision) (from state : State) → IsByte from.used → from.boundary ≤ 8 → IsMarked marks (state_place from) → Leads advert weights kept from decisions state → IsMarked marks (state_place state)
 reached_from advert weights kept marks are [] from state is_byte within marked leads = subst (λ (s : State). IsMarked marks (state_place s)) leads marked
-reached_from advert weights kept marks are (step ∷ steps) from state is_byte within marked leads =
-    let ends = ends_later advert weights kept from step is_byte leads.0 in
+reached_from advert weights kept marks are (decision ∷ decisions) from state is_byte within marked leads =
+    let ends = ends_later advert weights kept from decision is_byte leads.0 in
     let at : state_at (state_place from) ≡ from = state_of_place from is_byte in
-    let contains = subst (λ (s : State). Contains (steps_from advert weights kept s) step) (sym at) leads.0 in
-    reached_from advert weights kept marks are steps step.end state ends.is_byte ends.within (are.closed (state_place from) (place_below from within) marked step contains) leads.1
+    let contains = subst (λ (s : State). Contains (decisions_from advert weights kept s) decision) (sym at) leads.0 in
+    reached_from advert weights kept marks are decisions decision.end state ends.is_byte ends.within (are.closed (state_place from) (place_below from within) marked decision contains) leads.1
 
 pub all_marked : (advert : Advertised) (weights : HostWeights) (kept : List Path) (marks : List Bool) (state : State) → AreMarks advert weights kept 2304 marks → IsReached advert weights kept state → IsMarked marks (state_place state)
 all_marked advert weights kept marks state are is =

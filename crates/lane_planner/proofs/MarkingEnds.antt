@@ -10,8 +10,8 @@ use Rattle.plan_certificate.specs.declared.state.State.{State}
 use Rattle.plan_certificate.specs.States.{start, state_at, state_place}
 use Rattle.plan_certificate.specs.ReachedStates.{IsReached}
 use Rattle.plan_certificate.specs.declared.moves.Move.{Move}
-use Rattle.plan_certificate.specs.declared.state.Step.{Step}
-use Rattle.plan_certificate.specs.Moves.{AreHeaviest, steps_by}
+use Rattle.plan_certificate.specs.declared.state.Decision.{Decision}
+use Rattle.plan_certificate.specs.Moves.{AreHeaviest, decisions_by}
 use Rattle.plan_certificate.proofs.HeaviestMoves.{each_among, each_outweighed}
 use Rattle.plan_certificate.proofs.Lists.{each_contained, map_each}
 use Rattle.std.specs.List.{Contains}
@@ -20,7 +20,7 @@ use Rattle.plan_certificate.proofs.ByteLanes.{start_is_byte}
 use Rattle.lane_planner.specs.Marks.{AreMarks, IsMarked, MarksEnds, MarksReached}
 use Rattle.lane_planner.proofs.Marking.{all_marked}
 use Rattle.lane_planner.proofs.Places.{place_of_state_at, start_place, state_of_place}
-use Rattle.lane_planner.proofs.StepKinds.{step_is}
+use Rattle.lane_planner.proofs.DecisionKinds.{decision_is}
 
 start_reached : (advert : Advertised) (weights : HostWeights) (kept : List Path) → IsReached advert weights kept (state_at 0)
 start_reached advert weights kept = ([], sym (ap state_at (sym start_place) ∙ state_of_place start start_is_byte))
@@ -41,9 +41,9 @@ marks_closed advert weights kept marks are = record {
   all = are.all;
   begun = are.begun;
   sound = are.sound;
-  closed = λ place low marked step contains. elim (cases_lt place 2048) [
-    | inl before ↦ are.closed place before marked step contains
-    | inr past ↦ absurd (omega (arith, past, (step_is advert weights kept (state_at place) step contains).below))
+  closed = λ place low marked decision contains. elim (cases_lt place 2048) [
+    | inl before ↦ are.closed place before marked decision contains
+    | inr past ↦ absurd (omega (arith, past, (decision_is advert weights kept (state_at place) decision contains).below))
   ];
 }
 
@@ -65,19 +65,19 @@ marks_ended advert weights kept marks are = record {
   );
 }
 
--- where the steps of the heaviest moves are marked, those of all are
-pub ends_of_heaviest : (free : Bool) (state : State) (all heaviest : List Move) (marks more : List Bool) → AreHeaviest all heaviest → MarksEnds (steps_by free state heaviest) marks more → MarksEnds (steps_by free state all) marks more
+-- where the decisions of the heaviest moves are marked, those of all are
+pub ends_of_heaviest : (free : Bool) (state : State) (all heaviest : List Move) (marks more : List Bool) → AreHeaviest all heaviest → MarksEnds (decisions_by free state heaviest) marks more → MarksEnds (decisions_by free state all) marks more
 ends_of_heaviest free state all heaviest marks more are new =
-    let End : Step → Type 0 = λ step. IsMarked more (state_place step.end) in
-    let of_heaviest = map_each (Contains (steps_by free state heaviest)) End (steps_by free state heaviest) (λ step listed. new.ends step listed) (each_contained (steps_by free state heaviest)) in
-    let of_all = All-from_recursion End (steps_by free state all) (each_outweighed free state End all heaviest (λ step weight light marked. marked) are of_heaviest) in
-    let among = All-from_recursion (Contains (steps_by free state all)) (steps_by free state heaviest) (each_among free state (Contains (steps_by free state all)) all heaviest are (each_contained (steps_by free state all))) in
+    let End : Decision → Type 0 = λ decision. IsMarked more (state_place decision.end) in
+    let of_heaviest = map_each (Contains (decisions_by free state heaviest)) End (decisions_by free state heaviest) (λ decision listed. new.ends decision listed) (each_contained (decisions_by free state heaviest)) in
+    let of_all = All-from_recursion End (decisions_by free state all) (each_outweighed free state End all heaviest (λ decision weight light marked. marked) are of_heaviest) in
+    let among = All-from_recursion (Contains (decisions_by free state all)) (decisions_by free state heaviest) (each_among free state (Contains (decisions_by free state all)) all heaviest are (each_contained (decisions_by free state all))) in
     record {
       all = new.all;
-      ends = λ step listed. All-contains End (steps_by free state all) step of_all listed;
+      ends = λ decision listed. All-contains End (decisions_by free state all) decision of_all listed;
       kept = new.kept;
       only = λ place marked. elim (new.only place marked) [
         | inl before ↦ inl before
-        | inr ends ↦ inr (ends.0, All-contains (Contains (steps_by free state all)) (steps_by free state heaviest) ends.0 among ends.1, ends.2)
+        | inr ends ↦ inr (ends.0, All-contains (Contains (decisions_by free state all)) (decisions_by free state heaviest) ends.0 among ends.1, ends.2)
       ];
     }

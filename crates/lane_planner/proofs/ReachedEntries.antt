@@ -1,4 +1,4 @@
--- The entries of the marked states: each reached state's once, and each covers its steps.
+-- The entries of the marked states: each reached state's once, and each covers its decisions.
 use Rattle.std.proofs.Common.{◌≡◌, ◌↔◌, ℕ, ◌+◌, ◌<◌, ◌≤◌, Bool, List, [], ◌∷◌, ◌++◌, map, get_or, refl, sym, subst, ap, ◌∙◌, inl, inr, arith}
 use Rattle.std.specs.List.{All, Contains}
 use Rattle.std.proofs.lemmas.Bool.{cases_eq}
@@ -10,14 +10,14 @@ use Rattle.applications.specs.Advertised.{Advertised}
 use Rattle.applications.specs.Weights.{HostWeights}
 use Rattle.plan_certificate.specs.declared.certificate.Entry.{Entry}
 use Rattle.plan_certificate.specs.declared.state.State.{State}
-use Rattle.plan_certificate.specs.declared.state.Step.{Step}
-use Rattle.plan_certificate.specs.States.{state_at, state_place, steps_from}
+use Rattle.plan_certificate.specs.declared.state.Decision.{Decision}
+use Rattle.plan_certificate.specs.States.{state_at, state_place, decisions_from}
 use Rattle.plan_certificate.specs.ReachedStates.{IsReached}
 use Rattle.plan_certificate.specs.Certificates.{IsBound, IsCovered, entry_place, state_of}
 use Rattle.lane_planner.specs.Gains.{IsGain}
 use Rattle.lane_planner.specs.Marks.{IsMarked, MarksReached}
 use Rattle.lane_planner.specs.Tables.{AreEntries, HasGains, entry_at, gain_at}
-use Rattle.lane_planner.proofs.GainLaws.{covers_step}
+use Rattle.lane_planner.proofs.GainLaws.{covers_decision}
 use Rattle.lane_planner.proofs.Places.{place_below, state_of_place}
 use Rattle.lane_planner.proofs.ReachedStates.{has_place, reached_on}
 use Rattle.lane_planner.proofs.TableGains.{gain_in}
@@ -92,17 +92,17 @@ module _ (advert : Advertised) (weights : HostWeights) (kept : List Path) (marks
   pub each_gain : All (λ entry. IsGain advert weights kept (state_of entry) entry.potential) entries
   each_gain k d below = entry_gain (get_or entries k d) (Contains-get_or entries k d below)
 
-  pub each_covers : All (λ entry. All (IsCovered entries entry.potential) (steps_from advert weights kept (state_of entry))) entries
+  pub each_covers : All (λ entry. All (IsCovered entries entry.potential) (decisions_from advert weights kept (state_of entry))) entries
   each_covers k d below n e inside =
       let entry : Entry = get_or entries k d in
       let listed = Contains-get_or entries k d below in
       let state : State = state_of entry in
-      let steps = steps_from advert weights kept state in
-      let step : Step = get_or steps n e in
-      let contains = Contains-get_or steps n e inside in
-      let is = reached_on advert weights kept state step (entry_reached entry listed) contains in
-      let later = gain_in advert weights kept 0 table step.end has is (omega arith) in
-      (gain_at table step.end, bound_at step.end is, covers_step advert weights kept state entry.potential (gain_at table step.end) step (entry_gain entry listed) later contains)
+      let decisions = decisions_from advert weights kept state in
+      let decision : Decision = get_or decisions n e in
+      let contains = Contains-get_or decisions n e inside in
+      let is = reached_on advert weights kept state decision (entry_reached entry listed) contains in
+      let later = gain_in advert weights kept 0 table decision.end has is (omega arith) in
+      (gain_at table decision.end, bound_at decision.end is, covers_decision advert weights kept state entry.potential (gain_at table decision.end) decision (entry_gain entry listed) later contains)
 
   pub states_are : (state : State) → IsReached advert weights kept state ↔ Contains (map state_of entries) state
   states_are state = (

@@ -1,22 +1,22 @@
--- The states that steps from the start reach: with one the ends of its steps, and none past the last host lane.
+-- The states that decisions from the start reach: with one the ends of its decisions, and none past the last host lane.
 use Rattle.std.proofs.Common.{◌≤◌, List, [], ◌∷◌, ◌++◌, refl, sym, subst, arith}
 use Rattle.std.specs.List.{Contains}
 use Rattle.plan_certificate.specs.declared.path.Path.{Path}
 use Rattle.applications.specs.Advertised.{Advertised}
 use Rattle.applications.specs.Weights.{HostWeights}
 use Rattle.plan_certificate.specs.declared.state.State.{State}
-use Rattle.plan_certificate.specs.declared.state.Step.{Step}
-use Rattle.plan_certificate.specs.States.{start, steps_from}
+use Rattle.plan_certificate.specs.declared.state.Decision.{Decision}
+use Rattle.plan_certificate.specs.States.{start, decisions_from}
 use Rattle.plan_certificate.specs.ReachedStates.{IsReached, Leads}
 use Rattle.plan_certificate.proofs.ByteLanes.{IsByte, start_is_byte}
-use Rattle.lane_planner.proofs.StepEnds.{ends_later}
+use Rattle.lane_planner.proofs.DecisionEnds.{ends_later}
 
-leads_on : (advert : Advertised) (weights : HostWeights) (kept : List Path) (from : State) (steps : List Step) (state : State) (step : Step) → Leads advert weights kept from steps state → Contains (steps_from advert weights kept state) step → Leads advert weights kept from (steps ++ step ∷ []) step.end
-leads_on advert weights kept from [] state step leads contains = (subst (λ (s : State). Contains (steps_from advert weights kept s) step) (sym leads) contains, refl)
-leads_on advert weights kept from (first ∷ steps) state step leads contains = (leads.0, leads_on advert weights kept first.end steps state step leads.1 contains)
+leads_on : (advert : Advertised) (weights : HostWeights) (kept : List Path) (from : State) (decisions : List Decision) (state : State) (decision : Decision) → Leads advert weights kept from decisions state → Contains (decisions_from advert weights kept state) decision → Leads advert weights kept from (decisions ++ decision ∷ []) decision.end
+leads_on advert weights kept from [] state decision leads contains = (subst (λ (s : State). Contains (decisions_from advert weights kept s) decision) (sym leads) contains, refl)
+leads_on advert weights kept from (first ∷ decisions) state decision leads contains = (leads.0, leads_on advert weights kept first.end decisions state decision leads.1 contains)
 
-pub reached_on : (advert : Advertised) (weights : HostWeights) (kept : List Path) (state : State) (step : Step) → IsReached advert weights kept state → Contains (steps_from advert weights kept state) step → IsReached advert weights kept step.end
-reached_on advert weights kept state step is contains = (is.0 ++ step ∷ [], leads_on advert weights kept start is.0 state step is.1 contains)
+pub reached_on : (advert : Advertised) (weights : HostWeights) (kept : List Path) (state : State) (decision : Decision) → IsReached advert weights kept state → Contains (decisions_from advert weights kept state) decision → IsReached advert weights kept decision.end
+reached_on advert weights kept state decision is contains = (is.0 ++ decision ∷ [], leads_on advert weights kept start is.0 state decision is.1 contains)
 
 pub start_reached : (advert : Advertised) (weights : HostWeights) (kept : List Path) → IsReached advert weights kept start
 start_reached advert weights kept = ([], refl)
@@ -25,11 +25,11 @@ pub record HasPlace (state : State) : Type 0 where
   pub within : state.boundary ≤ 8
   pub is_byte : IsByte state.used
 
-led_has_place : (advert : Advertised) (weights : HostWeights) (kept : List Path) (from : State) (steps : List Step) (state : State) → HasPlace from → Leads advert weights kept from steps state → HasPlace state
+led_has_place : (advert : Advertised) (weights : HostWeights) (kept : List Path) (from : State) (decisions : List Decision) (state : State) → HasPlace from → Leads advert weights kept from decisions state → HasPlace state
 led_has_place advert weights kept from [] state has leads = subst HasPlace leads has
-led_has_place advert weights kept from (step ∷ steps) state has leads =
-    let ends = ends_later advert weights kept from step has.is_byte leads.0 in
-    led_has_place advert weights kept step.end steps state (record { within = ends.within; is_byte = ends.is_byte }) leads.1
+led_has_place advert weights kept from (decision ∷ decisions) state has leads =
+    let ends = ends_later advert weights kept from decision has.is_byte leads.0 in
+    led_has_place advert weights kept decision.end decisions state (record { within = ends.within; is_byte = ends.is_byte }) leads.1
 
 pub has_place : (advert : Advertised) (weights : HostWeights) (kept : List Path) (state : State) → IsReached advert weights kept state → HasPlace state
 has_place advert weights kept state is = led_has_place advert weights kept start is.0 state (record { within = omega arith; is_byte = start_is_byte }) is.1

@@ -10,13 +10,13 @@ use Rattle.plan_certificate.specs.declared.path.Path.{Path}
 use Rattle.plan_certificate.specs.declared.state.State.{State}
 use Rattle.plan_certificate.specs.Plans.{IsAdmissible, plan_weight}
 use Rattle.plan_certificate.specs.ReachedStates.{IsReached}
-use Rattle.plan_certificate.specs.States.{start, free_step, path_step, steps_from}
+use Rattle.plan_certificate.specs.States.{start, free_decision, path_decision, decisions_from}
 use Rattle.plan_certificate.proofs.ByteLanes.{IsByte, start_is_byte}
-use Rattle.plan_certificate.proofs.Heaviest.{allowed, each_step}
+use Rattle.plan_certificate.proofs.Heaviest.{allowed, each_decision}
 use Rattle.lane_planner.specs.Tables.{HasGains, IsPlanOf, IsReadOff, IsTable, chosen, gain_at}
 use Rattle.lane_planner.proofs.ChosenPaths.{IsLowest, chosen_keeps, none_keeps}
 use Rattle.lane_planner.proofs.FirstPlans.{AgreesOrLater, IsBefore, KnowsGains, agrees_at_end, agrees_at_start, agrees_free, agrees_path, still_before}
-use Rattle.lane_planner.proofs.StepEnds.{ends_later}
+use Rattle.lane_planner.proofs.DecisionEnds.{ends_later}
 use Rattle.lane_planner.proofs.GainLaws.{GainsAfter, free_keeps}
 use Rattle.lane_planner.proofs.ReachedStates.{reached_on, start_reached}
 use Rattle.lane_planner.proofs.TableGains.{gain_in, small_in}
@@ -51,11 +51,11 @@ begun advert weights kept table plan = record {
 
 -- ---- the gains from a state
 
-listed_steps : (advert : Advertised) (weights : HostWeights) (kept : List Path) (state : State) → AllByRecursion (Contains (steps_from advert weights kept state)) (steps_from advert weights kept state)
-listed_steps advert weights kept state = let all = steps_from advert weights kept state in recursion_from_All (Contains all) all (All-contains_itself all)
+listed_decisions : (advert : Advertised) (weights : HostWeights) (kept : List Path) (state : State) → AllByRecursion (Contains (decisions_from advert weights kept state)) (decisions_from advert weights kept state)
+listed_decisions advert weights kept state = let all = decisions_from advert weights kept state in recursion_from_All (Contains all) all (All-contains_itself all)
 
 gains_after : (advert : Advertised) (weights : HostWeights) (kept : List Path) (table : List ℕ) (state : State) → HasGains advert weights kept 0 table → IsReached advert weights kept state → GainsAfter advert weights kept (gain_at table) state
-gains_after advert weights kept table state has is step contains = gain_in advert weights kept 0 table step.end has (reached_on advert weights kept state step is contains) (omega arith)
+gains_after advert weights kept table state has is decision contains = gain_in advert weights kept 0 table decision.end has (reached_on advert weights kept state decision is contains) (omega arith)
 
 gains_known : (advert : Advertised) (weights : HostWeights) (kept : List Path) (table : List ℕ) (state : State) → HasGains advert weights kept 0 table → IsReached advert weights kept state → state.boundary < 8 → KnowsGains advert weights kept table state
 gains_known advert weights kept table state has is below = record {
@@ -64,18 +64,18 @@ gains_known advert weights kept table state has is below = record {
   after = gains_after advert weights kept table state has is;
 }
 
--- ---- one step further
+-- ---- one decision further
 
 pub free_more : (advert : Advertised) (weights : HostWeights) (kept : List Path) (table : List ℕ) (state : State) (paths : List Path) → HasGains advert weights kept 0 table → IsSoFar advert weights kept table state paths → state.boundary < 8 → chosen advert weights kept table state ≡ None
-    → IsSoFar advert weights kept table (free_step state).end paths
+    → IsSoFar advert weights kept table (free_decision state).end paths
 free_more advert weights kept table state paths has is below none =
     let gains = gains_known advert weights kept table state has is.reached below in
     let none_does = none_keeps advert weights kept table state none in
     let may = lane_may_stay_free advert weights kept table state paths gains is.earlier is.keeps none_does in
     let same = free_keeps advert weights kept (gain_at table) state below may gains.here gains.after none_does in
-    let step = (each_step advert weights kept (Contains (steps_from advert weights kept state)) state below (listed_steps advert weights kept state)).0 may in
+    let decision = (each_decision advert weights kept (Contains (decisions_from advert weights kept state)) state below (listed_decisions advert weights kept state)).0 may in
     record {
-      reached = reached_on advert weights kept state (free_step state) is.reached step;
+      reached = reached_on advert weights kept state (free_decision state) is.reached decision;
       within = omega (arith, below);
       is_byte = is.is_byte;
       few = omega (arith, is.few);
@@ -93,18 +93,18 @@ is_before : (advert : Advertised) (weights : HostWeights) (kept : List Path) (st
 is_before advert weights kept state path is = let lanes = allowed advert path is.can in omega (arith, is.before, lanes.host_some)
 
 pub path_more : (advert : Advertised) (weights : HostWeights) (kept : List Path) (table : List ℕ) (state : State) (paths : List Path) (path : Path) → IsAdmissible advert kept → HasGains advert weights kept 0 table → IsSoFar advert weights kept table state paths → state.boundary < 8 → chosen advert weights kept table state ≡ Some path → IsLowest advert weights kept table state path
-    → IsSoFar advert weights kept table (path_step advert weights state path).end (paths ++ path ∷ [])
+    → IsSoFar advert weights kept table (path_decision advert weights state path).end (paths ++ path ∷ [])
 path_more advert weights kept table state paths path plan has is below some lowest =
     let gains = gains_known advert weights kept table state has is.reached below in
     let before : All (IsBefore state) paths = λ k d inside. is_before advert weights kept state (get_or paths k d) (is.earlier k d inside) in
-    let End : State = (path_step advert weights state path).end in
+    let End : State = (path_decision advert weights state path).end in
     let keeps = chosen_keeps advert weights kept table state path some in
     let can = eligible_allowed advert kept path keeps.can in
     let lanes = allowed advert path can in
-    let step = (each_step advert weights kept (Contains (steps_from advert weights kept state)) state below (listed_steps advert weights kept state)).1 path keeps.begins keeps.can keeps.unused in
-    let ends = ends_later advert weights kept state (path_step advert weights state path) is.is_byte step in
+    let decision = (each_decision advert weights kept (Contains (decisions_from advert weights kept state)) state below (listed_decisions advert weights kept state)).1 path keeps.begins keeps.can keeps.unused in
+    let ends = ends_later advert weights kept state (path_decision advert weights state path) is.is_byte decision in
     record {
-      reached = reached_on advert weights kept state (path_step advert weights state path) is.reached step;
+      reached = reached_on advert weights kept state (path_decision advert weights state path) is.reached decision;
       within = ends.within;
       is_byte = ends.is_byte;
       few = omega (arith, is.few, lanes.host_some, length-append paths (path ∷ []));

@@ -1,4 +1,4 @@
--- The gains in a table: of where steps lead, and of one state more.
+-- The gains in a table: of where decisions lead, and of one state more.
 use Rattle.std.proofs.Common.{◌≡◌, ℕ, zero, suc, ◌+◌, ◌*◌, ◌/◌, ◌-◌, ◌<◌, ◌≤◌, List, [], ◌∷◌, length, replicate, set, get_or, refl, sym, subst, inl, inr, ◌∙◌, arith}
 use Rattle.std.proofs.Common.{get_or-set_same, get_or-set_other}
 use Rattle.std.specs.List.{Contains}
@@ -8,15 +8,15 @@ use Rattle.plan_certificate.specs.declared.path.Path.{Path}
 use Rattle.applications.specs.Advertised.{Advertised}
 use Rattle.applications.specs.Weights.{HostWeights}
 use Rattle.plan_certificate.specs.declared.state.State.{State}
-use Rattle.plan_certificate.specs.declared.state.Step.{Step}
-use Rattle.plan_certificate.specs.States.{state_at, state_place, steps_from}
+use Rattle.plan_certificate.specs.declared.state.Decision.{Decision}
+use Rattle.plan_certificate.specs.States.{state_at, state_place, decisions_from}
 use Rattle.plan_certificate.specs.ReachedStates.{IsReached}
-use Rattle.lane_planner.specs.Gains.{Follow, IsGain, steps_weight}
+use Rattle.lane_planner.specs.Gains.{Follow, IsGain, decisions_weight}
 use Rattle.lane_planner.specs.Tables.{HasGains, IsTable, gain_at}
 use Rattle.lane_planner.proofs.Places.{boundary_of_place, place_below, state_of_place}
 use Rattle.lane_planner.proofs.ReachedStates.{has_place, reached_on}
-use Rattle.lane_planner.proofs.StepEnds.{at_is_byte, ends_later, place_past}
-use Rattle.lane_planner.proofs.StepKinds.{step_is}
+use Rattle.lane_planner.proofs.DecisionEnds.{at_is_byte, ends_later, place_past}
+use Rattle.lane_planner.proofs.DecisionKinds.{decision_is}
 
 pub gain_in : (advert : Advertised) (weights : HostWeights) (kept : List Path) (from : ℕ) (table : List ℕ) (state : State) → HasGains advert weights kept from table → IsReached advert weights kept state → from ≤ state_place state → IsGain advert weights kept state (gain_at table state)
 gain_in advert weights kept from table state has is after =
@@ -24,11 +24,11 @@ gain_in advert weights kept from table state has is after =
     let same : state_at (state_place state) ≡ state = state_of_place state at.is_byte in
     subst (λ (s : State). IsGain advert weights kept s (gain_at table state)) same (has.gains (state_place state) after (place_below state at.within) (subst (IsReached advert weights kept) (sym same) is))
 
--- what can be gained after a step from the state at a place
-pub gain_after : (advert : Advertised) (weights : HostWeights) (kept : List Path) (table : List ℕ) (place : ℕ) (step : Step) → HasGains advert weights kept (place + 1) table → IsReached advert weights kept (state_at place) → Contains (steps_from advert weights kept (state_at place)) step → IsGain advert weights kept step.end (gain_at table step.end)
-gain_after advert weights kept table place step has is contains =
-    let ends = ends_later advert weights kept (state_at place) step (at_is_byte place) contains in
-    gain_in advert weights kept (place + 1) table step.end has (reached_on advert weights kept (state_at place) step is contains) (place_past place step.end ends.past)
+-- what can be gained after a decision from the state at a place
+pub gain_after : (advert : Advertised) (weights : HostWeights) (kept : List Path) (table : List ℕ) (place : ℕ) (decision : Decision) → HasGains advert weights kept (place + 1) table → IsReached advert weights kept (state_at place) → Contains (decisions_from advert weights kept (state_at place)) decision → IsGain advert weights kept decision.end (gain_at table decision.end)
+gain_after advert weights kept table place decision has is contains =
+    let ends = ends_later advert weights kept (state_at place) decision (at_is_byte place) contains in
+    gain_in advert weights kept (place + 1) table decision.end has (reached_on advert weights kept (state_at place) decision is contains) (place_past place decision.end ends.past)
 
 pub small_in : (table : List ℕ) (state : State) → IsTable table → state.boundary ≤ 8 → gain_at table state ≤ 4294967295 * (8 - state.boundary)
 small_in table state numbers within = omega (arith, numbers.small (state_place state) (place_below state within), boundary_of_place state)
@@ -67,9 +67,9 @@ gains_more advert weights kept place table gain has below is small =
 
 -- ---- at the last boundary
 
-nothing_follows : (advert : Advertised) (weights : HostWeights) (kept : List Path) (state : State) → 8 ≤ state.boundary → (steps : List Step) → Follow advert weights kept state steps → steps_weight steps ≤ 0
+nothing_follows : (advert : Advertised) (weights : HostWeights) (kept : List Path) (state : State) → 8 ≤ state.boundary → (decisions : List Decision) → Follow advert weights kept state decisions → decisions_weight decisions ≤ 0
 nothing_follows advert weights kept state past [] follow = omega arith
-nothing_follows advert weights kept state past (step ∷ steps) follow = absurd (omega (arith, past, (step_is advert weights kept state step follow.0).below))
+nothing_follows advert weights kept state past (decision ∷ decisions) follow = absurd (omega (arith, past, (decision_is advert weights kept state decision follow.0).below))
 
 zero_at : (n place : ℕ) → ◌≡◌ {A = ℕ} (get_or (replicate n 0) place 0) 0
 zero_at zero place = refl
@@ -82,6 +82,6 @@ gains_begun advert weights kept n is = record {
   gains = λ place from below reached.
       subst (IsGain advert weights kept (state_at place)) (sym (zero_at n place)) (record {
         gained = ([], tt, refl);
-        greatest = λ steps follow. nothing_follows advert weights kept (state_at place) (omega (arith, from)) steps follow;
+        greatest = λ decisions follow. nothing_follows advert weights kept (state_at place) (omega (arith, from)) decisions follow;
       });
 }

@@ -1,32 +1,32 @@
--- Marks on states, by their places: those that steps from the start reach. (docs/planning.md, "The planner"; this project's
+-- Marks on states, by their places: those that decisions from the start reach. (docs/planning.md, "The planner"; this project's
 -- own)
 use Rattle.std.specs.Prelude.{◌≡◌, ◌↔◌, ℕ, ◌<◌, ◌⊎◌, Bool, true, false, List, length, Contains, slice_index_or}
 use Rattle.applications.specs.Advertised.{Advertised}
 use Rattle.applications.specs.Weights.{HostWeights}
 use Rattle.plan_certificate.specs.declared.path.Path.{Path}
-use Rattle.plan_certificate.specs.declared.state.Step.{Step}
-use Rattle.plan_certificate.specs.States.{state_at, state_place, steps_from}
+use Rattle.plan_certificate.specs.declared.state.Decision.{Decision}
+use Rattle.plan_certificate.specs.States.{state_at, state_place, decisions_from}
 use Rattle.plan_certificate.specs.ReachedStates.{IsReached}
 use Rattle.plan_certificate.specs.Limits.{most_states}
 
 abbrev pub IsMarked : List Bool → ℕ → Type 0
 IsMarked marks place = slice_index_or marks place false ≡ true
 
--- exactly the states that steps from the start reach are marked
+-- exactly the states that decisions from the start reach are marked
 pub record MarksReached (advert : Advertised) (weights : HostWeights) (kept : List Path) (marks : List Bool) : Type 0 where
   pub all : length marks ≡ most_states
   pub reached : (place : ℕ) → place < most_states → IsMarked marks place ↔ IsReached advert weights kept (state_at place)
 
--- marked are the ends of these steps, and what was marked before
-pub record MarksEnds (steps : List Step) (marks more : List Bool) : Type 0 where
+-- marked are the ends of these decisions, and what was marked before
+pub record MarksEnds (decisions : List Decision) (marks more : List Bool) : Type 0 where
   pub all : length more ≡ length marks
-  pub ends : (step : Step) → Contains steps step → IsMarked more (state_place step.end)
+  pub ends : (decision : Decision) → Contains decisions decision → IsMarked more (state_place decision.end)
   pub kept : (place : ℕ) → IsMarked marks place → IsMarked more place
-  pub only : (place : ℕ) → IsMarked more place → IsMarked marks place ⊎ ((step : Step) × Contains steps step × (state_place step.end ≡ place))
+  pub only : (place : ℕ) → IsMarked more place → IsMarked marks place ⊎ ((decision : Decision) × Contains decisions decision × (state_place decision.end ≡ place))
 
--- the start is marked, and none that isn't reached; and with each one before a place the ends of its steps
+-- the start is marked, and none that isn't reached; and with each one before a place the ends of its decisions
 pub record AreMarks (advert : Advertised) (weights : HostWeights) (kept : List Path) (upto : ℕ) (marks : List Bool) : Type 0 where
   pub all : length marks ≡ most_states
   pub begun : IsMarked marks 0
   pub sound : (place : ℕ) → place < most_states → IsMarked marks place → IsReached advert weights kept (state_at place)
-  pub closed : (place : ℕ) → place < upto → IsMarked marks place → (step : Step) → Contains (steps_from advert weights kept (state_at place)) step → IsMarked marks (state_place step.end)
+  pub closed : (place : ℕ) → place < upto → IsMarked marks place → (decision : Decision) → Contains (decisions_from advert weights kept (state_at place)) decision → IsMarked marks (state_place decision.end)

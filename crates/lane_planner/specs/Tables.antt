@@ -7,14 +7,14 @@ use Rattle.applications.specs.Weights.{HostWeights}
 use Rattle.plan_certificate.specs.declared.path.Path.{Path}
 use Rattle.plan_certificate.specs.declared.moves.Move.{Move}
 use Rattle.plan_certificate.specs.declared.state.State.{State}
-use Rattle.plan_certificate.specs.declared.state.Step.{Step}
+use Rattle.plan_certificate.specs.declared.state.Decision.{Decision}
 use Rattle.plan_certificate.specs.declared.certificate.Entry.{Entry}
 use Rattle.plan_certificate.specs.Paths.{path_weight}
 use Rattle.plan_certificate.specs.Plans.{IsAdmissible, Keeps, plan_weight}
 use Rattle.plan_certificate.specs.KeptPaths.{is_among}
-use Rattle.plan_certificate.specs.States.{start, state_at, state_place, fits, path_step, paths_at}
+use Rattle.plan_certificate.specs.States.{start, state_at, state_place, fits, path_decision, paths_at}
 use Rattle.plan_certificate.specs.ReachedStates.{IsReached}
-use Rattle.plan_certificate.specs.Moves.{is_open, move_step}
+use Rattle.plan_certificate.specs.Moves.{is_open, move_decision}
 use Rattle.plan_certificate.specs.Certificates.{HasStates, entry_place}
 use Rattle.lane_planner.specs.FirstBest.{IsOfUse, IsSameOrBefore}
 use Rattle.lane_planner.specs.Gains.{IsGain}
@@ -49,10 +49,10 @@ pub record HasGains (advert : Advertised) (weights : HostWeights) (kept : List P
 abbrev pub gain_at : List ℕ → State → ℕ
 gain_at table state = slice_index table (state_place state)
 
--- the most that one of the steps weighs together with what the table has where it leads; 0 if there is none
-pub record IsMost (table : List ℕ) (steps : List Step) (most : ℕ) : Type 0 where
-  pub attained : (most ≡ 0) ⊎ ((step : Step) × Contains steps step × (step.weight + gain_at table step.end ≡ most))
-  pub greatest : All (λ step. step.weight + gain_at table step.end ≤ most) steps
+-- the most that one of the decisions weighs together with what the table has where it leads; 0 if there is none
+pub record IsMost (table : List ℕ) (decisions : List Decision) (most : ℕ) : Type 0 where
+  pub attained : (most ≡ 0) ⊎ ((decision : Decision) × Contains decisions decision × (decision.weight + gain_at table decision.end ≡ most))
+  pub greatest : All (λ decision. decision.weight + gain_at table decision.end ≤ most) decisions
 
 abbrev pub entry_at : List ℕ → ℕ → Entry
 entry_at table place = record { boundary = place / 256; used = place % 256; potential = slice_index table place }
@@ -62,14 +62,14 @@ unfoldable pub keeps_gain : Advertised → HostWeights → List Path → List �
 keeps_gain advert weights kept table state path =
     fits advert kept state path
     && (nat_lt 0 (path_weight advert weights path) || is_among kept path)
-    && path_weight advert weights path + gain_at table (path_step advert weights state path).end == gain_at table state
+    && path_weight advert weights path + gain_at table (path_decision advert weights state path).end == gain_at table state
 
 -- the same of a path's move
 abbrev pub move_keeps_gain : List Path → List ℕ → State → Move → Bool
 move_keeps_gain kept table state move =
     is_open state move
     && (nat_lt 0 move.weight || is_among kept move.path)
-    && move.weight + gain_at table (move_step state move).end == gain_at table state
+    && move.weight + gain_at table (move_decision state move).end == gain_at table state
 
 -- the first such path, by rising Application and media lane
 unfoldable pub chosen : Advertised → HostWeights → List Path → List ℕ → State → Option Path

@@ -32,7 +32,7 @@ fn keeps_gain(one: &Move, kept: &[Path], table: &Table, state: &State) -> bool
     if !one.is_open(state) || !is_of_use(one, kept) {
         return false;
     }
-    let rest = table.at(one.step(state).end.place());
+    let rest = table.at(one.decision(state).end.place());
     u64::from(one.weight) + rest == table.at(state.place())
 }
 

@@ -1,7 +1,7 @@
 // What can still be gained from the states that are reached.
 ghost use Rattle.std.specs.Prelude.{◌≡◌, ◌+◌, ◌≤◌, ◌<◌, ◌-◌, ◌*◌, All, replicate};
 ghost use Rattle.plan_certificate.specs.Plans.{AreAllowed};
-ghost use Rattle.plan_certificate.specs.Moves.{LeadsOn, steps_by};
+ghost use Rattle.plan_certificate.specs.Moves.{LeadsOn, decisions_by};
 ghost use Rattle.lane_planner.specs.Marks.{MarksReached};
 ghost use Rattle.lane_planner.specs.Tables.{HasGains, IsMost, IsTable};
 
@@ -37,22 +37,22 @@ pub fn put_gains(
     }
 }
 
-// The most that a step from the state weighs together with what can be gained where it leads; 0 if there is none.
+// The most that a decision from the state weighs together with what can be gained where it leads; 0 if there is none.
 fn most(may_stay_free: bool, moves: &[Move], table: &Table, state: &State) -> u64
     requires table { IsTable table.now }
     requires open { state.now.boundary < 8 }
     requires lead_on { All (LeadsOn state.now.boundary) moves.now }
-    ensures most { IsMost table.now (steps_by may_stay_free state.now moves.now) result }
+    ensures most { IsMost table.now (decisions_by may_stay_free state.now moves.now) result }
     ensures small { result ≤ 4294967295 * (8 - state.now.boundary) }
 {
     let mut most = 0;
     if may_stay_free {
-        let free = state.free_step().end;
+        let free = state.free_decision().end;
         most = table.at(free.place());
     }
     for one in moves {
         if one.is_open(state) {
-            let through = u64::from(one.weight) + table.at(one.step(state).end.place());
+            let through = u64::from(one.weight) + table.at(one.decision(state).end.place());
             if most < through {
                 most = through;
             }

@@ -13,7 +13,7 @@ use crate::table::Table;
 use applications::{Advert, Weights};
 use plan_certificate::{Plan, STATES};
 
-/// A plan, and what can still be gained from each state that steps from the start reach.
+/// A plan, and what can still be gained from each state that decisions from the start reach.
 #[derive(Drop)]
 pub struct Planned {
     pub plan: Plan,

@@ -22,7 +22,7 @@ use plan_certificate::{
     Certificate, Entries, Entry, HOST_LANES, Path, Plan, STATES, State, put_moves,
 };
 
-/// The first plan of those that weigh most, with what can still be gained from each state that steps from the start reach.
+/// The first plan of those that weigh most, with what can still be gained from each state that decisions from the start reach.
 pub fn plan(advert: &Advert, weights: &Weights) -> Certificate<STATES>
     ensures kept { result.kept ≡ [] }
     ensures good { IsGood advert.now weights.now result }
@@ -94,9 +94,9 @@ pub fn read_off(advert: &Advert, weights: &Weights, kept: &[Path], table: &Table
         match chosen(moves.as_slice(), kept, table, &state) {
             Some(one) => {
                 paths.push(one.path);
-                state = one.step(&state).end;
+                state = one.decision(&state).end;
             }
-            None => state = state.free_step().end,
+            None => state = state.free_decision().end,
         }
     }
     Plan { paths }

@@ -1,13 +1,13 @@
-// Which states steps from the start reach.
+// Which states decisions from the start reach.
 ghost use Rattle.std.specs.Prelude.{◌≡◌, ◌≤◌, ◌<◌, ◌+◌, All, false, length, replicate};
 ghost use Rattle.plan_certificate.specs.Plans.{AreAllowed};
-ghost use Rattle.plan_certificate.specs.Moves.{LeadsOn, steps_by};
+ghost use Rattle.plan_certificate.specs.Moves.{LeadsOn, decisions_by};
 ghost use Rattle.lane_planner.specs.Marks.{MarksEnds, MarksReached};
 
 use applications::{Advert, Weights};
 use plan_certificate::{FollowedMoves, HOST_LANES, Move, Path, STATES, State};
 
-/// Marks, by their places, the states that steps from the start reach.
+/// Marks, by their places, the states that decisions from the start reach.
 pub fn reached(advert: &Advert, weights: &Weights, kept: &[Path], marks: &mut [bool; STATES])
     requires kept { AreAllowed advert.now kept.now }
     requires blank { marks.old ≡ replicate STATES false }
@@ -28,21 +28,21 @@ pub fn reached(advert: &Advert, weights: &Weights, kept: &[Path], marks: &mut [b
     }
 }
 
-// Marks where the steps from a state lead.
+// Marks where the decisions from a state lead.
 fn mark_ends(marks: &mut [bool], may_stay_free: bool, moves: &[Move], state: &State)
     requires all { length marks.old ≡ STATES }
     requires open { state.now.boundary < 8 }
     requires lead_on { All (LeadsOn state.now.boundary) moves.now }
-    ensures { MarksEnds (steps_by may_stay_free state.now moves.now) marks.old marks.new }
+    ensures { MarksEnds (decisions_by may_stay_free state.now moves.now) marks.old marks.new }
 {
     if may_stay_free {
-        let free = state.free_step().end;
+        let free = state.free_decision().end;
         let place = free.place();
         marks[place] = true;
     }
     for one in moves {
         if one.is_open(state) {
-            let end = one.step(state).end;
+            let end = one.decision(state).end;
             let place = end.place();
             marks[place] = true;
         }

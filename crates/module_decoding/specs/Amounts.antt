@@ -3,7 +3,7 @@
 use Rattle.std.specs.Prelude.{ℕ, ◌*◌, ◌^◌, ◌==◌, ◌&&◌, Bool, true, nat_le, ℤ, pos, ◌*ℤ◌, Option, Some, None, unwrap_or}
 use Rattle.paged_memory.specs.Images.{Memory}
 use Rattle.field_tables.specs.declared.field.Field.{Field}
-use Rattle.field_tables.specs.declared.readings.Levels.{Levels}
+use Rattle.field_tables.specs.declared.readings.PerLimit.{PerLimit}
 use Rattle.field_tables.specs.declared.units.Unit.{Unit}
 use Rattle.field_tables.specs.declared.units.Unit.TheVariants as units
 use Rattle.field_tables.specs.FieldRows.{row_of}
@@ -29,7 +29,7 @@ unfoldable pub amount_at : Memory → Field → Option Field → ℕ → ℤ
 amount_at memory field power i = millis_of (times memory (reading_at memory field i) power) (unit_of field)
 
 -- the four values of a field of limits
-abbrev pub limit_amounts : Memory → Field → Option Field → Levels ℤ
+abbrev pub limit_amounts : Memory → Field → Option Field → PerLimit ℤ
 limit_amounts memory field power = record {
   high_alarm = amount_at memory field power 1;
   low_alarm = amount_at memory field power 2;

@@ -6,7 +6,7 @@ ghost use Rattle.module_decoding.specs.Amounts.{is_power, power_fits};
 ghost use Rattle.field_tables.specs.FieldRows.{row_of};
 ghost use Rattle.field_tables.specs.Readings.{IsWord, is_of_bytes};
 
-use field_tables::{Field, Levels, Unit, millis, number, reading_at, row};
+use field_tables::{Field, PerLimit, Unit, millis, number, reading_at, row};
 use paged_memory::Image;
 
 /// Value `index` of a field in thousandths of its unit, doubled as often as another field says.
@@ -60,12 +60,12 @@ fn two_to(power: u8) -> i32
 }
 
 /// The four limits that a field has, in thousandths of its unit, doubled as often as another field says.
-pub fn limit_amounts(image: &Image, field: Field, power: Option<Field>) -> Levels<i64>
+pub fn limit_amounts(image: &Image, field: Field, power: Option<Field>) -> PerLimit<i64>
     requires count { 4 ≡ (row_of field).count }
     requires power { IsTrue (power_fits power) }
     ensures { result ≡ spec.limit_amounts image.now field power }
 {
-    Levels {
+    PerLimit {
         high_alarm: amount_at(image, field, power, 1),
         low_alarm: amount_at(image, field, power, 2),
         high_warning: amount_at(image, field, power, 3),

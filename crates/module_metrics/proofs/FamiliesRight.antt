@@ -14,7 +14,7 @@ use Rattle.module_decoding.specs.CmisPages.{is_flat}
 use Rattle.module_decoding.specs.ModuleFamilies.{family_of}
 use Rattle.report_entries.specs.declared.flag.Flag.{Flag}
 use Rattle.report_entries.specs.Entries.{Entry, entry}
-use Rattle.report_entries.specs.FlagNames.{condition_name, flag_name, level_name}
+use Rattle.report_entries.specs.FlagNames.{condition_name, flag_name, limit_name}
 use Rattle.report_entries.specs.FlagRows.{flags_entry, row_flags, rows_flags}
 use Rattle.report_entries.specs.Flags.{raised}
 use Rattle.report_entries.specs.Quantities.{name_of}
@@ -90,16 +90,16 @@ flags_apart told small new =
     apart_by values (map flag_labels told) (subst (λ vs. AreApart vs) (sym (same_values told small)) (tested (map flag_value told) new))
 
 pub cmis_flags_apart : (memory : Memory) (flat : Bool) → AreApart (map flag_labels (rows_flags memory flat cmis_flags.flag_rows))
-unfolding row_flags cmis_flags.flag_rows flag_name level_name condition_name name_of
+unfolding row_flags cmis_flags.flag_rows flag_name limit_name condition_name name_of
 cmis_flags_apart memory true = flags_apart (rows_flags memory true cmis_flags.flag_rows) refl refl
 cmis_flags_apart memory false = flags_apart (rows_flags memory false cmis_flags.flag_rows) refl refl
 
 pub qsfp_flags_apart : (memory : Memory) → AreApart (map flag_labels (sff_flags.qsfp_flags memory))
-unfolding row_flags sff_flags.qsfp_flags sff_flags.qsfp_rows flag_name level_name condition_name name_of
+unfolding row_flags sff_flags.qsfp_flags sff_flags.qsfp_rows flag_name limit_name condition_name name_of
 qsfp_flags_apart memory = flags_apart (sff_flags.qsfp_flags memory) refl refl
 
 pub sfp_flags_apart : (memory : Memory) → AreApart (map flag_labels (sff_flags.sfp_flags memory))
-unfolding row_flags sff_flags.sfp_flags sff_flags.sfp_rows flag_name level_name condition_name name_of
+unfolding row_flags sff_flags.sfp_flags sff_flags.sfp_rows flag_name limit_name condition_name name_of
 sfp_flags_apart memory = flags_apart (sff_flags.sfp_flags memory) refl refl
 
 raised_sub : (told : List (Flag × Bool)) → Sub (map flag_labels (each_raised (raised told))) (map flag_labels told)

@@ -11,7 +11,7 @@ abbrev fault_of : {T : Type 0} → Result T ReportFault → Option ReportFault
 fault_of (Ok x) = None
 fault_of (Err fault) = Some fault
 
--- another fault than want of memory is the report's own
+-- another fault than out of memory is the report's own
 pub refused_is : (refused : Option ReportFault) (entries : List Entry) (fault : ReportFault) → fault ≢ Memory → Says refused entries (Err fault) → refused ≡ Some fault
 refused_is None entries fault other says = absurd (other says)
 refused_is (Some own) entries fault other says = sym (ap fault_of says)

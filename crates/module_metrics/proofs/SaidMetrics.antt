@@ -2,12 +2,12 @@
 use Rattle.std.proofs.Common.{◌≡◌, ℕ, ℤ, ◌+◌, ◌≤◌, Bool, true, false, List, [], ◌∷◌, ◌++◌, length, map, codes, decimal, Option, None, Some, refl, ap, subst, arith}
 use Rattle.std.specs.Prelude.{⊤}
 use Rattle.std.specs.List.{AllByRecursion, enumerate_from, list_all}
-use Rattle.field_tables.specs.declared.readings.Levels.{Levels}
+use Rattle.field_tables.specs.declared.readings.PerLimit.{PerLimit}
 use Rattle.report_entries.specs.declared.entry.LaneState.{LaneState}
 use Rattle.report_entries.specs.declared.flag.Flag.{Flag}
 use Rattle.report_entries.specs.declared.printed_unit.PrintedUnit.{PrintedUnit}
 use Rattle.report_entries.specs.Entries.{Said, word, right, number, code, revision, text, oui, amount, lanes, limits, state, lane_states, flags, apps, lane_set, fact}
-use Rattle.report_entries.specs.FlagNames.{level_name}
+use Rattle.report_entries.specs.FlagNames.{limit_name}
 use Rattle.module_metrics.specs.AddedLabels.{AreAdded}
 use Rattle.module_metrics.specs.Amounts.{lane_sample, lane_samples, lanes_metric, limit_sample, limit_samples, limits_metric, module_metric}
 use Rattle.module_metrics.specs.CommonLabels.{is_taken}
@@ -110,18 +110,18 @@ abbrev first_value : List Label → List ℕ
 first_value [] = []
 first_value (l ∷ ls) = l.value
 
-limits_apart : (unit : PrintedUnit) (levels : Levels ℤ) → AreApart (map labels_of (limit_samples unit levels))
-unfolding limit_sample sample label level_name
+limits_apart : (unit : PrintedUnit) (levels : PerLimit ℤ) → AreApart (map labels_of (limit_samples unit levels))
+unfolding limit_sample sample label limit_name
 limits_apart unit levels =
     apart_by first_value (map labels_of (limit_samples unit levels)) (tested (codes "high-alarm" ∷ codes "low-alarm" ∷ codes "high-warning" ∷ codes "low-warning" ∷ []) refl)
 
-limits_labelled : (common : List Label) → AreAdded common → (unit : PrintedUnit) (levels : Levels ℤ)
+limits_labelled : (common : List Label) → AreAdded common → (unit : PrintedUnit) (levels : PerLimit ℤ)
     → AllByRecursion (λ (labels : List Label). AreLabels (common ++ labels)) (map labels_of (limit_samples unit levels))
 unfolding limit_sample sample label
 limits_labelled common added unit levels =
     (labels_right common _ added limit_own (tt, tt), (labels_right common _ added limit_own (tt, tt), (labels_right common _ added limit_own (tt, tt), (labels_right common _ added limit_own (tt, tt), tt))))
 
-pub limits_right : (common : List Label) → AreAdded common → (name : List ℕ) (unit : PrintedUnit) (levels : Levels ℤ) → IsMetric common (limits_metric name unit levels)
+pub limits_right : (common : List Label) → AreAdded common → (name : List ℕ) (unit : PrintedUnit) (levels : PerLimit ℤ) → IsMetric common (limits_metric name unit levels)
 unfolding limits_metric metric
 limits_right common added name unit levels = record {
   named = amount_named Limit name unit;

@@ -3,11 +3,11 @@
 use Rattle.std.specs.Prelude.{ℕ, ℤ, List, [], ◌∷◌, map, codes}
 use Rattle.std.specs.Fmt.{decimal}
 use Rattle.std.specs.List.{enumerate_from}
-use Rattle.field_tables.specs.declared.readings.Levels.{Levels}
-use Rattle.report_entries.specs.declared.flag.Level.{Level}
-use Rattle.report_entries.specs.declared.flag.Level.TheVariants.{HighAlarm, LowAlarm, HighWarning, LowWarning}
+use Rattle.field_tables.specs.declared.readings.PerLimit.{PerLimit}
+use Rattle.report_entries.specs.declared.flag.LimitKind.{LimitKind}
+use Rattle.report_entries.specs.declared.flag.LimitKind.TheVariants.{HighAlarm, LowAlarm, HighWarning, LowWarning}
 use Rattle.report_entries.specs.declared.printed_unit.PrintedUnit.{PrintedUnit}
-use Rattle.report_entries.specs.FlagNames.{level_name}
+use Rattle.report_entries.specs.FlagNames.{limit_name}
 use Rattle.module_metrics.specs.BaseUnits.{places}
 use Rattle.module_metrics.specs.Exposition.{Metric, Sample, label, metric, sample}
 use Rattle.module_metrics.specs.MetricNames.{amount_help, amount_name}
@@ -35,10 +35,10 @@ lanes_metric name unit values = amount_metric Lane name unit (lane_samples unit 
 
 -- ---- limits
 
-unfoldable pub limit_sample : PrintedUnit → Level → ℤ → Sample
-limit_sample unit level millis = sample (label (codes "limit") (level_name level) ∷ []) millis (places unit)
+unfoldable pub limit_sample : PrintedUnit → LimitKind → ℤ → Sample
+limit_sample unit limit millis = sample (label (codes "limit") (limit_name limit) ∷ []) millis (places unit)
 
-abbrev pub limit_samples : PrintedUnit → Levels ℤ → List Sample
+abbrev pub limit_samples : PrintedUnit → PerLimit ℤ → List Sample
 limit_samples unit levels =
     limit_sample unit HighAlarm levels.high_alarm
     ∷ limit_sample unit LowAlarm levels.low_alarm
@@ -46,5 +46,5 @@ limit_samples unit levels =
     ∷ limit_sample unit LowWarning levels.low_warning
     ∷ []
 
-unfoldable pub limits_metric : List ℕ → PrintedUnit → Levels ℤ → Metric
+unfoldable pub limits_metric : List ℕ → PrintedUnit → PerLimit ℤ → Metric
 limits_metric name unit levels = amount_metric Limit name unit (limit_samples unit levels)

@@ -8,8 +8,8 @@ use crate::metric::{
     Metric, Sample, add_metric, add_sample, no_labels, no_samples, one_label, one_sample,
 };
 use crate::name::{AmountHelp, AmountName, Scope};
-use field_tables::Levels;
-use report_entries::{Level, PrintedUnit};
+use field_tables::PerLimit;
+use report_entries::{LimitKind, PrintedUnit};
 use std::alloc::{AllocError, Global};
 
 /// Adds the metric of an amount of the module.
@@ -93,44 +93,50 @@ pub fn add_limits(
     metrics: &mut Vec<Metric>,
     name: &'static str,
     unit: PrintedUnit,
-    levels: Levels<i64>,
+    limits: PerLimit<i64>,
 ) -> Result<(), AllocError>
     ensures { OnOk result (metrics_in metrics.new
-        ≡ metrics_in metrics.old ++ limits_metric name.now unit levels ∷ []) }
+        ≡ metrics_in metrics.old ++ limits_metric name.now unit limits ∷ []) }
 {
-    let samples = limit_samples(alloc, unit, levels)?;
+    let samples = limit_samples(alloc, unit, limits)?;
     add_amounts(alloc, metrics, Scope::Limit, name, unit, samples)
 }
 
 fn limit_samples(
     alloc: Global,
     unit: PrintedUnit,
-    levels: Levels<i64>,
+    limits: PerLimit<i64>,
 ) -> Result<Vec<Sample>, AllocError>
-    ensures { IfOk result (λ samples. samples_in samples ≡ limit_samples unit levels) }
+    ensures { IfOk result (λ samples. samples_in samples ≡ limit_samples unit limits) }
 {
     let mut samples = no_samples(alloc);
     add_limit(
         alloc,
         &mut samples,
         unit,
-        Level::HighAlarm,
-        levels.high_alarm,
-    )?;
-    add_limit(alloc, &mut samples, unit, Level::LowAlarm, levels.low_alarm)?;
-    add_limit(
-        alloc,
-        &mut samples,
-        unit,
-        Level::HighWarning,
-        levels.high_warning,
+        LimitKind::HighAlarm,
+        limits.high_alarm,
     )?;
     add_limit(
         alloc,
         &mut samples,
         unit,
-        Level::LowWarning,
-        levels.low_warning,
+        LimitKind::LowAlarm,
+        limits.low_alarm,
+    )?;
+    add_limit(
+        alloc,
+        &mut samples,
+        unit,
+        LimitKind::HighWarning,
+        limits.high_warning,
+    )?;
+    add_limit(
+        alloc,
+        &mut samples,
+        unit,
+        LimitKind::LowWarning,
+        limits.low_warning,
     )?;
     Ok(samples)
 }
@@ -140,12 +146,12 @@ fn add_limit(
     alloc: Global,
     samples: &mut Vec<Sample>,
     unit: PrintedUnit,
-    level: Level,
+    limit: LimitKind,
     millis: i64,
 ) -> Result<(), AllocError>
     ensures { OnOk result (samples_in samples.new
-        ≡ samples_in samples.old ++ limit_sample unit level millis ∷ []) }
+        ≡ samples_in samples.old ++ limit_sample unit limit millis ∷ []) }
 {
-    let labels = one_label(alloc, "limit", level.name())?;
+    let labels = one_label(alloc, "limit", limit.name())?;
     add_sample(samples, labels, millis, scale_of(unit))
 }

@@ -23,7 +23,7 @@ use paged_memory::Image;
 use report_entries::{Entry, Flag, TextIn};
 use reports::{ReportFault, flags_entries, flags_told, inventory_entries, monitors_entries};
 use std::alloc::{AllocError, Global};
-use text_lines::{Spelled, Spelling};
+use text_lines::{PrintedWords, ToWords};
 
 /// The metrics of a module, and the first fault of its reports.
 #[derive(Drop)]
@@ -33,7 +33,7 @@ pub struct Answer {
 }
 
 /// What the reports of the module of an image say, as metrics whose samples all have these labels. Of its flags those that are raised
-/// are told, or all. The only refusal is want of memory: a report that has a fault says nothing, and the first fault is a metric.
+/// are told, or all. The only refusal is out of memory: a report that has a fault says nothing, and the first fault is a metric.
 #[tactic(auto, unfolding(crate::specs::Answers::metrics_of, crate::specs::Answers::first_fault, crate::specs::Told::metrics_in, report_entries::specs::Entries::said_in))]
 pub fn metrics(
     alloc: Global,
@@ -203,18 +203,18 @@ fn add_fault(
     let Some(fault) = fault else {
         return Ok(());
     };
-    let spelling = fault.spelling();
+    let printed = fault.to_words();
     let name = "dovecounter_fault";
     let help = "what keeps a report from being made, by its code";
-    let labels = one_label(alloc, "code", TextIn(first_word(&spelling)))?;
+    let labels = one_label(alloc, "code", TextIn(first_word(&printed)))?;
     let samples = one_sample(alloc, labels, 1, Scale::Ones)?;
     add_metric(alloc, metrics, name, help, samples)
 }
 
-fn first_word(spelling: &Spelling) -> &[u8]
-    ensures { result.now ≡ get_or spelling.now 0 [] }
+fn first_word(printed: &PrintedWords) -> &[u8]
+    ensures { result.now ≡ get_or printed.now 0 [] }
 {
-    match spelling.words().first() {
+    match printed.words().first() {
         Some(word) => word.as_slice(),
         None => &[],
     }

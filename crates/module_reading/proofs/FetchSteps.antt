@@ -9,16 +9,16 @@ use Rattle.bus_model.specs.declared.operation.Op.{Op}
 use Rattle.bus_model.specs.declared.operation.Op.TheVariants.{Fetch, Store}
 use Rattle.bus_model.specs.declared.operation.Step.{Step}
 use Rattle.control_sets.specs.OutcomeSteps.{Gives}
-use Rattle.paged_memory.specs.declared.paging.Paging.{Paging}
-use Rattle.paged_memory.specs.declared.paging.Paging.TheVariants.{BankAndPage, PageAlone}
-use Rattle.paged_memory.specs.declared.paging.Selected.{Selected}
+use Rattle.paged_memory.specs.declared.page_addressing.PageAddressing.{PageAddressing}
+use Rattle.paged_memory.specs.declared.page_addressing.PageAddressing.TheVariants.{BankAndPage, PageAlone}
+use Rattle.paged_memory.specs.declared.page_addressing.KnownPage.{KnownPage}
 use Rattle.paged_memory.specs.Images.{Memory}
 use Rattle.paged_memory.specs.KnownPages.{IsApart, Tells}
-use Rattle.paged_memory.specs.Paging.{History, read_selection, selection}
+use Rattle.paged_memory.specs.PageAddressing.{History, read_selection, selection}
 use Rattle.paged_memory.proofs.KnownPageLaws.{one_page}
 use Rattle.module_reading.specs.declared.region.Region.{Region}
 use Rattle.module_reading.specs.declared.region.Region.TheVariants.{Lower, FirstPage, Page}
-use Rattle.module_reading.specs.Regions.{key_of, operation, paging_of}
+use Rattle.module_reading.specs.Regions.{key_of, operation, addressing_of}
 use Rattle.module_reading.specs.ReadImages.{IsFetch, IsLeftOut, IsRead, IsSettled, IsShown, StoresNothing, WasSelected}
 use Rattle.module_reading.proofs.RegionLaws.{contradicts, is_other, not_true}
 
@@ -43,7 +43,7 @@ abbrev stored_page : Op → ℕ
 stored_page (Fetch dev offset count) = 0
 stored_page (Store dev offset bytes) = last_of bytes.items
 
-pub leaves_selection : (paging : Paging) (region : Region) → IsApart paging (operation region)
+pub leaves_selection : (addressing : PageAddressing) (region : Region) → IsApart addressing (operation region)
 leaves_selection BankAndPage (Lower A0) = record { not_selecting = refl; not_reading_back = refl }
 leaves_selection BankAndPage (Lower A2) = record { not_selecting = refl; not_reading_back = refl }
 leaves_selection BankAndPage FirstPage = record { not_selecting = refl; not_reading_back = refl }
@@ -58,32 +58,32 @@ counts_128 (Lower dev) = refl
 counts_128 FirstPage = refl
 counts_128 (Page page) = refl
 
-counts_few : (paging : Paging) → (0 < count_of (read_selection paging)) × (count_of (read_selection paging) < 3)
+counts_few : (addressing : PageAddressing) → (0 < count_of (read_selection addressing)) × (count_of (read_selection addressing) < 3)
 counts_few BankAndPage = (omega arith, omega arith)
 counts_few PageAlone = (omega arith, omega arith)
 
-counts_none : (paging : Paging) (page : ℕ) → count_of (selection paging page) ≡ 0
+counts_none : (addressing : PageAddressing) (page : ℕ) → count_of (selection addressing page) ≡ 0
 counts_none BankAndPage page = refl
 counts_none PageAlone page = refl
 
-pub no_read_back : (paging : Paging) (region : Region) → operation region ≡ read_selection paging → ⊥
-no_read_back paging region e =
-    let few = counts_few paging in
+pub no_read_back : (addressing : PageAddressing) (region : Region) → operation region ≡ read_selection addressing → ⊥
+no_read_back addressing region e =
+    let few = counts_few addressing in
     let same = ap count_of e in
     omega (arith, few.1, same, counts_128 region)
 
-pub no_selection : (paging : Paging) (page : ℕ) (region : Region) → operation region ≡ selection paging page → ⊥
-no_selection paging page region e =
+pub no_selection : (addressing : PageAddressing) (page : ℕ) (region : Region) → operation region ≡ selection addressing page → ⊥
+no_selection addressing page region e =
     let same = ap count_of e in
-    omega (arith, same, counts_128 region, counts_none paging page)
+    omega (arith, same, counts_128 region, counts_none addressing page)
 
-pub read_back_alone : (paging : Paging) (page : ℕ) → read_selection paging ≡ selection paging page → ⊥
-read_back_alone paging page e =
-    let few = counts_few paging in
+pub read_back_alone : (addressing : PageAddressing) (page : ℕ) → read_selection addressing ≡ selection addressing page → ⊥
+read_back_alone addressing page e =
+    let few = counts_few addressing in
     let same = ap count_of e in
-    omega (arith, few.0, same, counts_none paging page)
+    omega (arith, few.0, same, counts_none addressing page)
 
-pub same_page : (paging : Paging) (page other : ℕ) → selection paging page ≡ selection paging other → page ≡ other
+pub same_page : (addressing : PageAddressing) (page other : ℕ) → selection addressing page ≡ selection addressing other → page ≡ other
 same_page BankAndPage page other e = ap stored_page e
 same_page PageAlone page other e = ap stored_page e
 
@@ -92,11 +92,11 @@ reads_fetch (Lower dev) = tt
 reads_fetch FirstPage = tt
 reads_fetch (Page page) = tt
 
-pub read_back_fetches : (paging : Paging) → IsFetch (read_selection paging)
+pub read_back_fetches : (addressing : PageAddressing) → IsFetch (read_selection addressing)
 read_back_fetches BankAndPage = tt
 read_back_fetches PageAlone = tt
 
-pub selection_stores : (paging : Paging) (page : ℕ) → IsFetch (selection paging page) → ⊥
+pub selection_stores : (addressing : PageAddressing) (page : ℕ) → IsFetch (selection addressing page) → ⊥
 selection_stores BankAndPage page fetch = fetch
 selection_stores PageAlone page fetch = fetch
 
@@ -120,123 +120,123 @@ other_reads FirstPage other e = offsets_differ (sym (ap offset_of e))
 other_reads (Page page) other e = offsets_differ (sym (ap offset_of e))
 
 -- no step can read two halves
-pub not_both : (paging : Paging) (selected : Selected) (history : History) (hand region : Region) → Tells paging selected history → is_other hand region ≡ true →
-    operation hand ≡ operation region → IsShown paging hand history → IsShown paging region history → ⊥
-not_both paging selected history (Lower A0) (Lower A0) told other e shown there = cc
-not_both paging selected history (Lower A0) (Lower A2) told other e shown there = devices_differ (ap device_of e)
-not_both paging selected history (Lower A2) (Lower A0) told other e shown there = devices_differ (sym (ap device_of e))
-not_both paging selected history (Lower A2) (Lower A2) told other e shown there = cc
-not_both paging selected history (Lower dev) FirstPage told other e shown there = offsets_differ (ap offset_of e)
-not_both paging selected history (Lower dev) (Page page) told other e shown there = offsets_differ (ap offset_of e)
-not_both paging selected history FirstPage (Lower dev) told other e shown there = offsets_differ (sym (ap offset_of e))
-not_both paging selected history FirstPage FirstPage told other e shown there = cc
-not_both paging selected history FirstPage (Page page) told other e shown there = cc
-not_both paging selected history (Page page) (Lower dev) told other e shown there = offsets_differ (sym (ap offset_of e))
-not_both paging selected history (Page page) FirstPage told other e shown there = cc
-not_both paging selected history (Page page) (Page page') told other e shown there = contradicts shown (one_page paging selected history told page' page other there)
+pub not_both : (addressing : PageAddressing) (selected : KnownPage) (history : History) (hand region : Region) → Tells addressing selected history → is_other hand region ≡ true →
+    operation hand ≡ operation region → IsShown addressing hand history → IsShown addressing region history → ⊥
+not_both addressing selected history (Lower A0) (Lower A0) told other e shown there = cc
+not_both addressing selected history (Lower A0) (Lower A2) told other e shown there = devices_differ (ap device_of e)
+not_both addressing selected history (Lower A2) (Lower A0) told other e shown there = devices_differ (sym (ap device_of e))
+not_both addressing selected history (Lower A2) (Lower A2) told other e shown there = cc
+not_both addressing selected history (Lower dev) FirstPage told other e shown there = offsets_differ (ap offset_of e)
+not_both addressing selected history (Lower dev) (Page page) told other e shown there = offsets_differ (ap offset_of e)
+not_both addressing selected history FirstPage (Lower dev) told other e shown there = offsets_differ (sym (ap offset_of e))
+not_both addressing selected history FirstPage FirstPage told other e shown there = cc
+not_both addressing selected history FirstPage (Page page) told other e shown there = cc
+not_both addressing selected history (Page page) (Lower dev) told other e shown there = offsets_differ (sym (ap offset_of e))
+not_both addressing selected history (Page page) FirstPage told other e shown there = cc
+not_both addressing selected history (Page page) (Page page') told other e shown there = contradicts shown (one_page addressing selected history told page' page other there)
 
 -- ---- what one step more leaves as it was
 
-pub more_left_out : (paging : Paging) (region : Region) (history : History) (step : Step) → IsLeftOut paging region history → IsLeftOut paging region (step ∷ history)
-more_left_out paging (Lower dev) history step out = out
-more_left_out paging FirstPage history step out = out
-more_left_out paging (Page page) history step out = (out.0, inr out.1)
+pub more_left_out : (addressing : PageAddressing) (region : Region) (history : History) (step : Step) → IsLeftOut addressing region history → IsLeftOut addressing region (step ∷ history)
+more_left_out addressing (Lower dev) history step out = out
+more_left_out addressing FirstPage history step out = out
+more_left_out addressing (Page page) history step out = (out.0, inr out.1)
 
-more_settled : (paging : Paging) (region : Region) (history : History) (step : Step) (half : Option (List ℕ)) →
-    MatchOption half (IsLeftOut paging region history) (λ bytes. IsRead paging region bytes history) →
-    MatchOption half (IsLeftOut paging region (step ∷ history)) (λ bytes. IsRead paging region bytes (step ∷ history))
-more_settled paging region history step None settled = more_left_out paging region history step settled
-more_settled paging region history step (Some bytes) settled = inr settled
+more_settled : (addressing : PageAddressing) (region : Region) (history : History) (step : Step) (half : Option (List ℕ)) →
+    MatchOption half (IsLeftOut addressing region history) (λ bytes. IsRead addressing region bytes history) →
+    MatchOption half (IsLeftOut addressing region (step ∷ history)) (λ bytes. IsRead addressing region bytes (step ∷ history))
+more_settled addressing region history step None settled = more_left_out addressing region history step settled
+more_settled addressing region history step (Some bytes) settled = inr settled
 
 -- a half that was settled stays so, where the image has the same of it
-pub stays_settled : (region : Region) (history : History) (step : Step) (image image' : Memory) → map.get image' (key_of region) ≡ map.get image (key_of region) → paging_of image' ≡ paging_of image →
+pub stays_settled : (region : Region) (history : History) (step : Step) (image image' : Memory) → map.get image' (key_of region) ≡ map.get image (key_of region) → addressing_of image' ≡ addressing_of image →
     IsSettled history image region → IsSettled (step ∷ history) image' region
-stays_settled region history step image image' same paging settled =
-    subst (λ (p : Paging). MatchOption (map.get image' (key_of region)) (IsLeftOut p region (step ∷ history)) (λ bytes. IsRead p region bytes (step ∷ history))) (sym paging)
-    (subst (λ (half : Option (List ℕ)). MatchOption half (IsLeftOut (paging_of image) region (step ∷ history)) (λ bytes. IsRead (paging_of image) region bytes (step ∷ history))) (sym same)
-    (more_settled (paging_of image) region history step (map.get image (key_of region)) settled))
+stays_settled region history step image image' same addressing settled =
+    subst (λ (p : PageAddressing). MatchOption (map.get image' (key_of region)) (IsLeftOut p region (step ∷ history)) (λ bytes. IsRead p region bytes (step ∷ history))) (sym addressing)
+    (subst (λ (half : Option (List ℕ)). MatchOption half (IsLeftOut (addressing_of image) region (step ∷ history)) (λ bytes. IsRead (addressing_of image) region bytes (step ∷ history))) (sym same)
+    (more_settled (addressing_of image) region history step (map.get image (key_of region)) settled))
 
 -- nothing was done yet to select a half
-abbrev pub IsUnselected : Paging → Region → History → Type 0
-IsUnselected paging (Lower dev) history = Unit {0}
-IsUnselected paging FirstPage history = StoresNothing history
-IsUnselected paging (Page page) history = WasSelected paging page history → ⊥
+abbrev pub IsUnselected : PageAddressing → Region → History → Type 0
+IsUnselected addressing (Lower dev) history = Unit {0}
+IsUnselected addressing FirstPage history = StoresNothing history
+IsUnselected addressing (Page page) history = WasSelected addressing page history → ⊥
 
 -- nor was it read or left out
-pub record IsUntouched (paging : Paging) (history : History) (region : Region) : Type 0 where
-  pub unread : (bytes : List ℕ) → IsRead paging region bytes history → ⊥
-  pub there : IsLeftOut paging region history → ⊥
-  pub unselected : IsUnselected paging region history
+pub record IsUntouched (addressing : PageAddressing) (history : History) (region : Region) : Type 0 where
+  pub unread : (bytes : List ℕ) → IsRead addressing region bytes history → ⊥
+  pub there : IsLeftOut addressing region history → ⊥
+  pub unselected : IsUnselected addressing region history
 
-abbrev pub SelectsNot : Paging → Region → Op → Type 0
-SelectsNot paging (Lower dev) op = Unit {0}
-SelectsNot paging FirstPage op = IsFetch op
-SelectsNot paging (Page page) op = op ≡ selection paging page → ⊥
+abbrev pub SelectsNot : PageAddressing → Region → Op → Type 0
+SelectsNot addressing (Lower dev) op = Unit {0}
+SelectsNot addressing FirstPage op = IsFetch op
+SelectsNot addressing (Page page) op = op ≡ selection addressing page → ⊥
 
 -- the step after these is for another half
-pub record IsForOther (paging : Paging) (history : History) (step : Step) (region : Region) : Type 0 where
-  pub reads_not : (bytes : List ℕ) → Gives (operation region) bytes step → IsShown paging region history → ⊥
-  pub selects_not : SelectsNot paging region step.op
+pub record IsForOther (addressing : PageAddressing) (history : History) (step : Step) (region : Region) : Type 0 where
+  pub reads_not : (bytes : List ℕ) → Gives (operation region) bytes step → IsShown addressing region history → ⊥
+  pub selects_not : SelectsNot addressing region step.op
 
-not_now : (paging : Paging) (page : ℕ) (history : History) (step : Step) → (WasSelected paging page history → ⊥) → (step.op ≡ selection paging page → ⊥) → WasSelected paging page (step ∷ history) → ⊥
-not_now paging page history step unselected other (inl accepted) = other accepted.0
-not_now paging page history step unselected other (inr earlier) = unselected earlier.1
+not_now : (addressing : PageAddressing) (page : ℕ) (history : History) (step : Step) → (WasSelected addressing page history → ⊥) → (step.op ≡ selection addressing page → ⊥) → WasSelected addressing page (step ∷ history) → ⊥
+not_now addressing page history step unselected other (inl accepted) = other accepted.0
+not_now addressing page history step unselected other (inr earlier) = unselected earlier.1
 
-still_unselected : (paging : Paging) (region : Region) (history : History) (step : Step) → IsUnselected paging region history → SelectsNot paging region step.op → IsUnselected paging region (step ∷ history)
-still_unselected paging (Lower dev) history step unselected other = tt
-still_unselected paging FirstPage history step unselected other = (other, unselected)
-still_unselected paging (Page page) history step unselected other = λ selected. not_now paging page history step unselected other selected
+still_unselected : (addressing : PageAddressing) (region : Region) (history : History) (step : Step) → IsUnselected addressing region history → SelectsNot addressing region step.op → IsUnselected addressing region (step ∷ history)
+still_unselected addressing (Lower dev) history step unselected other = tt
+still_unselected addressing FirstPage history step unselected other = (other, unselected)
+still_unselected addressing (Page page) history step unselected other = λ selected. not_now addressing page history step unselected other selected
 
-still_there : (paging : Paging) (region : Region) (history : History) (step : Step) → (IsLeftOut paging region history → ⊥) → IsUnselected paging region history → IsLeftOut paging region (step ∷ history) → ⊥
-still_there paging (Lower dev) history step there unselected out = out
-still_there paging FirstPage history step there unselected out = out
-still_there paging (Page page) history step there unselected (above, inl now) = unselected now.1
-still_there paging (Page page) history step there unselected (above, inr earlier) = there (above, earlier)
+still_there : (addressing : PageAddressing) (region : Region) (history : History) (step : Step) → (IsLeftOut addressing region history → ⊥) → IsUnselected addressing region history → IsLeftOut addressing region (step ∷ history) → ⊥
+still_there addressing (Lower dev) history step there unselected out = out
+still_there addressing FirstPage history step there unselected out = out
+still_there addressing (Page page) history step there unselected (above, inl now) = unselected now.1
+still_there addressing (Page page) history step there unselected (above, inr earlier) = there (above, earlier)
 
-pub unread_yet : (paging : Paging) (region : Region) (history : History) (step : Step) → ((bytes : List ℕ) → IsRead paging region bytes history → ⊥) →
-    ((bytes : List ℕ) → Gives (operation region) bytes step → IsShown paging region history → ⊥) → (bytes : List ℕ) → IsRead paging region bytes (step ∷ history) → ⊥
-unread_yet paging region history step unread other bytes (inl now) = other bytes now.0 now.1
-unread_yet paging region history step unread other bytes (inr earlier) = unread bytes earlier
+pub unread_yet : (addressing : PageAddressing) (region : Region) (history : History) (step : Step) → ((bytes : List ℕ) → IsRead addressing region bytes history → ⊥) →
+    ((bytes : List ℕ) → Gives (operation region) bytes step → IsShown addressing region history → ⊥) → (bytes : List ℕ) → IsRead addressing region bytes (step ∷ history) → ⊥
+unread_yet addressing region history step unread other bytes (inl now) = other bytes now.0 now.1
+unread_yet addressing region history step unread other bytes (inr earlier) = unread bytes earlier
 
-pub still_untouched : (paging : Paging) (region : Region) (history : History) (step : Step) → IsUntouched paging history region → IsForOther paging history step region → IsUntouched paging (step ∷ history) region
-still_untouched paging region history step untouched other = record {
-  unread = unread_yet paging region history step untouched.unread other.reads_not;
-  there = still_there paging region history step untouched.there untouched.unselected;
-  unselected = still_unselected paging region history step untouched.unselected other.selects_not;
+pub still_untouched : (addressing : PageAddressing) (region : Region) (history : History) (step : Step) → IsUntouched addressing history region → IsForOther addressing history step region → IsUntouched addressing (step ∷ history) region
+still_untouched addressing region history step untouched other = record {
+  unread = unread_yet addressing region history step untouched.unread other.reads_not;
+  there = still_there addressing region history step untouched.there untouched.unselected;
+  unselected = still_unselected addressing region history step untouched.unselected other.selects_not;
 }
 
 -- ---- the three kinds of steps
 
-fetches_other : (paging : Paging) (region : Region) (op : Op) → IsFetch op → ((page : ℕ) → op ≡ selection paging page → ⊥) → SelectsNot paging region op
-fetches_other paging (Lower dev) op fetch none = tt
-fetches_other paging FirstPage op fetch none = fetch
-fetches_other paging (Page page) op fetch none = none page
+fetches_other : (addressing : PageAddressing) (region : Region) (op : Op) → IsFetch op → ((page : ℕ) → op ≡ selection addressing page → ⊥) → SelectsNot addressing region op
+fetches_other addressing (Lower dev) op fetch none = tt
+fetches_other addressing FirstPage op fetch none = fetch
+fetches_other addressing (Page page) op fetch none = none page
 
-pub read_back_is_for_other : (paging : Paging) (history : History) (step : Step) (region : Region) → step.op ≡ read_selection paging → IsForOther paging history step region
-read_back_is_for_other paging history step region e = record {
-  reads_not = λ bytes gives shown. no_read_back paging region (sym gives.0 ∙ e);
-  selects_not = fetches_other paging region step.op (subst IsFetch (sym e) (read_back_fetches paging)) (λ page same. read_back_alone paging page (sym e ∙ same));
+pub read_back_is_for_other : (addressing : PageAddressing) (history : History) (step : Step) (region : Region) → step.op ≡ read_selection addressing → IsForOther addressing history step region
+read_back_is_for_other addressing history step region e = record {
+  reads_not = λ bytes gives shown. no_read_back addressing region (sym gives.0 ∙ e);
+  selects_not = fetches_other addressing region step.op (subst IsFetch (sym e) (read_back_fetches addressing)) (λ page same. read_back_alone addressing page (sym e ∙ same));
 }
 
-selects_other : (paging : Paging) (page : ℕ) (region : Region) (op : Op) → is_other (Page page) region ≡ true → op ≡ selection paging page → SelectsNot paging region op
-selects_other paging page (Lower dev) op other e = tt
-selects_other paging page FirstPage op other e = cc
-selects_other paging page (Page page') op other e = λ same. contradicts (eq-eqb page page' (same_page paging page page' (sym e ∙ same))) (not_true (page == page') other)
+selects_other : (addressing : PageAddressing) (page : ℕ) (region : Region) (op : Op) → is_other (Page page) region ≡ true → op ≡ selection addressing page → SelectsNot addressing region op
+selects_other addressing page (Lower dev) op other e = tt
+selects_other addressing page FirstPage op other e = cc
+selects_other addressing page (Page page') op other e = λ same. contradicts (eq-eqb page page' (same_page addressing page page' (sym e ∙ same))) (not_true (page == page') other)
 
-pub selection_is_for_other : (paging : Paging) (history : History) (step : Step) (page : ℕ) (region : Region) → is_other (Page page) region ≡ true → step.op ≡ selection paging page → IsForOther paging history step region
-selection_is_for_other paging history step page region other e = record {
-  reads_not = λ bytes gives shown. no_selection paging page region (sym gives.0 ∙ e);
-  selects_not = selects_other paging page region step.op other e;
+pub selection_is_for_other : (addressing : PageAddressing) (history : History) (step : Step) (page : ℕ) (region : Region) → is_other (Page page) region ≡ true → step.op ≡ selection addressing page → IsForOther addressing history step region
+selection_is_for_other addressing history step page region other e = record {
+  reads_not = λ bytes gives shown. no_selection addressing page region (sym gives.0 ∙ e);
+  selects_not = selects_other addressing page region step.op other e;
 }
 
-pub fetch_is_for_other : (paging : Paging) (selected : Selected) (history : History) (step : Step) (hand region : Region) → Tells paging selected history → is_other hand region ≡ true →
-    IsShown paging hand history → step.op ≡ operation hand → IsForOther paging history step region
-fetch_is_for_other paging selected history step hand region told other shown e = record {
-  reads_not = λ bytes gives there. not_both paging selected history hand region told other (sym e ∙ gives.0) shown there;
-  selects_not = fetches_other paging region step.op (subst IsFetch (sym e) (reads_fetch hand)) (λ page same. no_selection paging page hand (sym e ∙ same));
+pub fetch_is_for_other : (addressing : PageAddressing) (selected : KnownPage) (history : History) (step : Step) (hand region : Region) → Tells addressing selected history → is_other hand region ≡ true →
+    IsShown addressing hand history → step.op ≡ operation hand → IsForOther addressing history step region
+fetch_is_for_other addressing selected history step hand region told other shown e = record {
+  reads_not = λ bytes gives there. not_both addressing selected history hand region told other (sym e ∙ gives.0) shown there;
+  selects_not = fetches_other addressing region step.op (subst IsFetch (sym e) (reads_fetch hand)) (λ page same. no_selection addressing page hand (sym e ∙ same));
 }
 
 -- a half that each of its steps is not for
-pub each_for_other : (paging : Paging) (history : History) (step : Step) (regions : List Region) → AllByRecursion (IsUntouched paging history) regions → AllByRecursion (IsForOther paging history step) regions → AllByRecursion (IsUntouched paging (step ∷ history)) regions
-each_for_other paging history step [] untouched other = tt
-each_for_other paging history step (region ∷ regions) untouched other = (still_untouched paging region history step untouched.0 other.0, each_for_other paging history step regions untouched.1 other.1)
+pub each_for_other : (addressing : PageAddressing) (history : History) (step : Step) (regions : List Region) → AllByRecursion (IsUntouched addressing history) regions → AllByRecursion (IsForOther addressing history step) regions → AllByRecursion (IsUntouched addressing (step ∷ history)) regions
+each_for_other addressing history step [] untouched other = tt
+each_for_other addressing history step (region ∷ regions) untouched other = (still_untouched addressing region history step untouched.0 other.0, each_for_other addressing history step regions untouched.1 other.1)

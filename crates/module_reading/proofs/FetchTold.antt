@@ -17,21 +17,21 @@ use Rattle.bus_model.specs.declared.operation.Reply.TheVariants.{Bytes, Done, Re
 use Rattle.bus_model.specs.declared.operation.Step.{Step}
 use Rattle.bus_model.specs.Operations.{Answers}
 use Rattle.paged_memory.specs.declared.key.Key.{Key}
-use Rattle.paged_memory.specs.declared.paging.Paging.{Paging}
-use Rattle.paged_memory.specs.declared.paging.Selected.{Selected}
-use Rattle.paged_memory.specs.declared.paging.Selected.TheVariants.{Unknown}
+use Rattle.paged_memory.specs.declared.page_addressing.PageAddressing.{PageAddressing}
+use Rattle.paged_memory.specs.declared.page_addressing.KnownPage.{KnownPage}
+use Rattle.paged_memory.specs.declared.page_addressing.KnownPage.TheVariants.{Unknown}
 use Rattle.paged_memory.specs.Images.{Memory}
 use Rattle.paged_memory.specs.KeyOrder.{key_cmp}
 use Rattle.paged_memory.specs.Keys.{lower_key}
 use Rattle.paged_memory.specs.KnownPages.{Tells, is_awaited, missing_page, selected_after, wanted}
-use Rattle.paged_memory.specs.Paging.{EachStep, History}
+use Rattle.paged_memory.specs.PageAddressing.{EachStep, History}
 use Rattle.paged_memory.proofs.KeyLaws.{keys_total}
 use Rattle.paged_memory.proofs.KnownPageLaws.{after_work, step_of, tells_next, tells_nothing}
-use Rattle.module_reading.specs.declared.reading.Next.TheVariants.{Do, Complete, GiveUp}
+use Rattle.module_reading.specs.declared.reading.ReadingNext.TheVariants.{Do, Complete, GiveUp}
 use Rattle.module_reading.specs.declared.reading.Reading.{Reading}
 use Rattle.module_reading.specs.declared.region.Region.{Region}
 use Rattle.module_reading.specs.declared.region.Region.TheVariants.{Lower, FirstPage, Page}
-use Rattle.module_reading.specs.Regions.{operation, page_of, paging_of, regions_of}
+use Rattle.module_reading.specs.Regions.{operation, page_of, addressing_of, regions_of}
 use Rattle.module_reading.specs.ImageReading as reader
 use Rattle.module_reading.specs.ReadImages.{IsFetch, IsGivenUp, IsImageOf, IsLeftOut, IsRead, IsReading, IsUnfinished, StoresNothing, WasSelected}
 use Rattle.module_reading.proofs.RegionLaws.{all_other, all_others, asked_of_nothing, at_most_five, begins_lower, is_other, keys_are}
@@ -54,50 +54,50 @@ lower_fetches [] refused = tt
 lower_fetches (step ∷ before) refused = (refused.0.0, lower_fetches before refused.1)
 
 -- nothing is known of the selection, however pages are selected
-quiet : (paging : Paging) (history : History) → AllByRecursion IsLowerFetch history → Tells paging Unknown history
-quiet paging [] all = tells_nothing paging
-quiet paging (step ∷ before) all =
+quiet : (addressing : PageAddressing) (history : History) → AllByRecursion IsLowerFetch history → Tells addressing Unknown history
+quiet addressing [] all = tells_nothing addressing
+quiet addressing (step ∷ before) all =
     let op = operation (Lower A0) in
-    let told = tells_next paging Unknown op before (leaves_selection paging (Lower A0)) (quiet paging before all.1) None step all.0 in
-    let same : selected_after paging Unknown step ≡ Unknown =
-    ap (selected_after paging Unknown) (λ i. step_of (all.0 i) step.reply) ∙ after_work paging Unknown op step.reply (leaves_selection paging (Lower A0)) in
-    subst (λ (known : Selected). Tells paging known (step ∷ before)) same told
+    let told = tells_next addressing Unknown op before (leaves_selection addressing (Lower A0)) (quiet addressing before all.1) None step all.0 in
+    let same : selected_after addressing Unknown step ≡ Unknown =
+    ap (selected_after addressing Unknown) (λ i. step_of (all.0 i) step.reply) ∙ after_work addressing Unknown op step.reply (leaves_selection addressing (Lower A0)) in
+    subst (λ (known : KnownPage). Tells addressing known (step ∷ before)) same told
 
-unselected_yet : (paging : Paging) (page : ℕ) (history : History) → AllByRecursion IsLowerFetch history → WasSelected paging page history → ⊥
-unselected_yet paging page [] all selected = selected
-unselected_yet paging page (step ∷ before) all (inl accepted) = no_selection paging page (Lower A0) (sym all.0 ∙ accepted.0)
-unselected_yet paging page (step ∷ before) all (inr earlier) = unselected_yet paging page before all.1 earlier.1
+unselected_yet : (addressing : PageAddressing) (page : ℕ) (history : History) → AllByRecursion IsLowerFetch history → WasSelected addressing page history → ⊥
+unselected_yet addressing page [] all selected = selected
+unselected_yet addressing page (step ∷ before) all (inl accepted) = no_selection addressing page (Lower A0) (sym all.0 ∙ accepted.0)
+unselected_yet addressing page (step ∷ before) all (inr earlier) = unselected_yet addressing page before all.1 earlier.1
 
 stores_nothing : (history : History) → AllByRecursion IsLowerFetch history → StoresNothing history
 stores_nothing [] all = tt
 stores_nothing (step ∷ before) all = (subst IsFetch (sym all.0) tt, stores_nothing before all.1)
 
-unread_yet : (paging : Paging) (region : Region) (history : History) (bytes : List ℕ) → is_other (Lower A0) region ≡ true → AllByRecursion IsLowerFetch history → IsRead paging region bytes history → ⊥
-unread_yet paging region [] bytes other all read = read
-unread_yet paging region (step ∷ before) bytes other all (inl now) = other_reads region other (sym now.0.0 ∙ all.0)
-unread_yet paging region (step ∷ before) bytes other all (inr earlier) = unread_yet paging region before bytes other all.1 earlier
+unread_yet : (addressing : PageAddressing) (region : Region) (history : History) (bytes : List ℕ) → is_other (Lower A0) region ≡ true → AllByRecursion IsLowerFetch history → IsRead addressing region bytes history → ⊥
+unread_yet addressing region [] bytes other all read = read
+unread_yet addressing region (step ∷ before) bytes other all (inl now) = other_reads region other (sym now.0.0 ∙ all.0)
+unread_yet addressing region (step ∷ before) bytes other all (inr earlier) = unread_yet addressing region before bytes other all.1 earlier
 
-there_yet : (paging : Paging) (region : Region) (history : History) → AllByRecursion IsLowerFetch history → IsLeftOut paging region history → ⊥
-there_yet paging (Lower dev) history all out = out
-there_yet paging FirstPage history all out = out
-there_yet paging (Page page) [] all out = out.1
-there_yet paging (Page page) (step ∷ before) all (above, inl now) = unselected_yet paging page before all.1 now.1
-there_yet paging (Page page) (step ∷ before) all (above, inr earlier) = there_yet paging (Page page) before all.1 (above, earlier)
+there_yet : (addressing : PageAddressing) (region : Region) (history : History) → AllByRecursion IsLowerFetch history → IsLeftOut addressing region history → ⊥
+there_yet addressing (Lower dev) history all out = out
+there_yet addressing FirstPage history all out = out
+there_yet addressing (Page page) [] all out = out.1
+there_yet addressing (Page page) (step ∷ before) all (above, inl now) = unselected_yet addressing page before all.1 now.1
+there_yet addressing (Page page) (step ∷ before) all (above, inr earlier) = there_yet addressing (Page page) before all.1 (above, earlier)
 
-untouched_yet : (paging : Paging) (history : History) (region : Region) → AllByRecursion IsLowerFetch history → is_other (Lower A0) region ≡ true → IsUntouched paging history region
-untouched_yet paging history region all other = record {
-  unread = λ bytes read. unread_yet paging region history bytes other all read;
-  there = there_yet paging region history all;
+untouched_yet : (addressing : PageAddressing) (history : History) (region : Region) → AllByRecursion IsLowerFetch history → is_other (Lower A0) region ≡ true → IsUntouched addressing history region
+untouched_yet addressing history region all other = record {
+  unread = λ bytes read. unread_yet addressing region history bytes other all read;
+  there = there_yet addressing region history all;
   unselected = by region;
 } where
-  by : (region : Region) → IsUnselected paging region history
+  by : (region : Region) → IsUnselected addressing region history
   by (Lower dev) = tt
   by FirstPage = stores_nothing history all
-  by (Page page) = unselected_yet paging page history all
+  by (Page page) = unselected_yet addressing page history all
 
-all_untouched : (paging : Paging) (history : History) (regions : List Region) → AllByRecursion IsLowerFetch history → AllByRecursion (λ region. is_other (Lower A0) region ≡ true) regions → AllByRecursion (IsUntouched paging history) regions
-all_untouched paging history [] all others = tt
-all_untouched paging history (region ∷ regions) all others = (untouched_yet paging history region all others.0, all_untouched paging history regions all others.1)
+all_untouched : (addressing : PageAddressing) (history : History) (regions : List Region) → AllByRecursion IsLowerFetch history → AllByRecursion (λ region. is_other (Lower A0) region ≡ true) regions → AllByRecursion (IsUntouched addressing history) regions
+all_untouched addressing history [] all others = tt
+all_untouched addressing history (region ∷ regions) all others = (untouched_yet addressing history region all others.0, all_untouched addressing history regions all others.1)
 
 -- ---- the lower half is read
 
@@ -145,10 +145,10 @@ module _ (reading : Reading) (history : History) (begins : IsBeginning reading h
     fetches : AllByRecursion IsLowerFetch (step ∷ history)
     fetches = (refl, lower_fetches history begins.refused)
 
-    lower_is : (paging : Paging) (history : History) (other : List ℕ) → AllByRecursion IsRefusal history → IsRead paging (Lower A0) other (step ∷ history) → map.get image (lower_key A0) ≡ Some other
-    lower_is paging history other refused (inl now) = held ∙ ap (λ (reply : Reply). Some (given_by reply)) now.0.1
-    lower_is paging history other refused (inr earlier) = absurd (none history refused earlier) where
-      none : (history : History) → AllByRecursion IsRefusal history → IsRead paging (Lower A0) other history → ⊥
+    lower_is : (addressing : PageAddressing) (history : History) (other : List ℕ) → AllByRecursion IsRefusal history → IsRead addressing (Lower A0) other (step ∷ history) → map.get image (lower_key A0) ≡ Some other
+    lower_is addressing history other refused (inl now) = held ∙ ap (λ (reply : Reply). Some (given_by reply)) now.0.1
+    lower_is addressing history other refused (inr earlier) = absurd (none history refused earlier) where
+      none : (history : History) → AllByRecursion IsRefusal history → IsRead addressing (Lower A0) other history → ⊥
       none [] refused read = read
       none (step ∷ before) refused (inl now) = let reply = sym refused.0.1 ∙ now.0.1 in cc
       none (step ∷ before) refused (inr earlier) = none before refused.1 earlier
@@ -161,11 +161,11 @@ module _ (reading : Reading) (history : History) (begins : IsBeginning reading h
       count = omega (arith, begins.count);
       few = omega (arith, more);
       room = subst (λ (n : ℕ). n ≤ 1) (sym (map.len-insert keys_total reading.image (lower_key A0) bytes.items)) (one_at_most (map.contains_key reading.image (lower_key A0)) (map.len reading.image) nothing_held);
-      told = subst (λ (known : Selected). Tells (paging_of image) known (step ∷ history)) (sym begins.selected) (quiet (paging_of image) (step ∷ history) fetches);
+      told = subst (λ (known : KnownPage). Tells (addressing_of image) known (step ∷ history)) (sym begins.selected) (quiet (addressing_of image) (step ∷ history) fetches);
       brief = (beginning_is_unfinished history begins.refused, begins.brief);
-      settled = (subst (λ (half : Option (List ℕ)). MatchOption half (IsLeftOut (paging_of image) (Lower A0) (step ∷ history)) (λ bytes. IsRead (paging_of image) (Lower A0) bytes (step ∷ history))) (sym held) (inl ((refl, refl), tt)), tt);
+      settled = (subst (λ (half : Option (List ℕ)). MatchOption half (IsLeftOut (addressing_of image) (Lower A0) (step ∷ history)) (λ bytes. IsRead (addressing_of image) (Lower A0) bytes (step ∷ history))) (sym held) (inl ((refl, refl), tt)), tt);
       only = λ key there. inl (nothing_else key there);
-      lower = λ other read. lower_is (paging_of image) history other begins.refused read;
+      lower = λ other read. lower_is (addressing_of image) history other begins.refused read;
     }
 
     others : AllByRecursion (λ region. is_other (Lower A0) region ≡ true) (drop 1 (regions_of image))
@@ -173,7 +173,7 @@ module _ (reading : Reading) (history : History) (begins : IsBeginning reading h
 
     read : IsAt (reader.keeping (reader.counted reading) (Lower A0) bytes.items) (step ∷ history)
     read = goes_on (Lower A0 ∷ []) (drop 1 (regions_of image)) (reader.keeping (reader.counted reading) (Lower A0) bytes.items) (step ∷ history) settled
-        (all_untouched (paging_of image) (step ∷ history) (drop 1 (regions_of image)) fetches others) (ap is_awaited begins.selected)
+        (all_untouched (addressing_of image) (step ∷ history) (drop 1 (regions_of image)) fetches others) (ap is_awaited begins.selected)
 
   begin_by : (reply : Reply) → Answers (Fetch A0 0 128) reply → IsAt (reader.after_fetch (reader.counted reading) (Lower A0) reply) (step_of (Fetch A0 0 128) reply ∷ history)
   begin_by (Bytes bytes) answers = read bytes
@@ -181,12 +181,12 @@ module _ (reading : Reading) (history : History) (begins : IsBeginning reading h
   begin_by Refused answers = refused
 
   -- what is asked for and what comes of it, where nothing is known of the selection
-  fetch_by : (selected : Selected) → selected ≡ Unknown → wanted (paging_of reading.image) selected None (Fetch A0 0 128) ≡ Fetch A0 0 128
-  fetch_by selected e = ap (λ (s : Selected). wanted (paging_of reading.image) s None (Fetch A0 0 128)) e
+  fetch_by : (selected : KnownPage) → selected ≡ Unknown → wanted (addressing_of reading.image) selected None (Fetch A0 0 128) ≡ Fetch A0 0 128
+  fetch_by selected e = ap (λ (s : KnownPage). wanted (addressing_of reading.image) s None (Fetch A0 0 128)) e
 
-  after_by : (selected : Selected) (reply : Reply) → selected ≡ Unknown →
+  after_by : (selected : KnownPage) (reply : Reply) → selected ≡ Unknown →
       (if is_awaited selected then reader.after_read_back (reader.counted reading) (Lower A0) reply else reader.after_fetch (reader.counted reading) (Lower A0) reply) ≡ reader.after_fetch (reader.counted reading) (Lower A0) reply
-  after_by selected reply e = ap (λ (s : Selected). if is_awaited s then reader.after_read_back (reader.counted reading) (Lower A0) reply else reader.after_fetch (reader.counted reading) (Lower A0) reply) e
+  after_by selected reply e = ap (λ (s : KnownPage). if is_awaited s then reader.after_read_back (reader.counted reading) (Lower A0) reply else reader.after_fetch (reader.counted reading) (Lower A0) reply) e
 
   begin : (reply : Reply) → Answers (reader.wanted_for reading (Lower A0)) reply → IsAt (reader.after_for (reader.counted reading) (Lower A0) reply) (step_of (reader.wanted_for reading (Lower A0)) reply ∷ history)
   begin reply answers =

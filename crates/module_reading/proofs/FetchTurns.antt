@@ -17,21 +17,21 @@ use Rattle.bus_model.specs.Operations.{Answers}
 use Rattle.bus_model.specs.SameOperation.{same_op}
 use Rattle.control_sets.specs.OutcomeSteps.{Gives}
 use Rattle.paged_memory.specs.declared.key.Key.{Key}
-use Rattle.paged_memory.specs.declared.paging.Paging.{Paging}
-use Rattle.paged_memory.specs.declared.paging.Paging.TheVariants.{BankAndPage, PageAlone}
-use Rattle.paged_memory.specs.declared.paging.Selected.{Selected}
-use Rattle.paged_memory.specs.declared.paging.Selected.TheVariants.{Open}
+use Rattle.paged_memory.specs.declared.page_addressing.PageAddressing.{PageAddressing}
+use Rattle.paged_memory.specs.declared.page_addressing.PageAddressing.TheVariants.{BankAndPage, PageAlone}
+use Rattle.paged_memory.specs.declared.page_addressing.KnownPage.{KnownPage}
+use Rattle.paged_memory.specs.declared.page_addressing.KnownPage.TheVariants.{Open}
 use Rattle.paged_memory.specs.Images.{Memory}
 use Rattle.paged_memory.specs.KeyOrder.{key_cmp}
 use Rattle.paged_memory.specs.Keys.{lower_key}
 use Rattle.paged_memory.specs.KnownPages.{Tells, is_awaited, is_known, missing_page, selected_after, selecting_first, selection_read}
-use Rattle.paged_memory.specs.Paging.{History, is_page, read_selection, reads_back, selection}
+use Rattle.paged_memory.specs.PageAddressing.{History, is_page, read_selection, reads_back, selection}
 use Rattle.paged_memory.proofs.KeyLaws.{keys_total}
 use Rattle.paged_memory.proofs.KnownPageLaws.{after_read, after_selection, after_work, is_confirmed, read_closes, read_tells, reads_itself, selects_alone, step_of, tells_next}
 use Rattle.module_reading.specs.declared.reading.Reading.{Reading}
 use Rattle.module_reading.specs.declared.region.Region.{Region}
 use Rattle.module_reading.specs.declared.region.Region.TheVariants.{Lower, FirstPage, Page}
-use Rattle.module_reading.specs.Regions.{key_of, may_lack, operation, page_of, paging_of}
+use Rattle.module_reading.specs.Regions.{key_of, may_lack, operation, page_of, addressing_of}
 use Rattle.module_reading.specs.ImageReading as reader
 use Rattle.module_reading.specs.ReadImages.{IsFetch, IsKeyAmong, IsLeftOut, IsRead, IsSettled, IsShown, WasSelected}
 use Rattle.module_reading.proofs.RegionLaws.{all_other, all_others, contradicts, is_other, keys_are, other_keys, same_asked, same_keys, same_paging, same_regions}
@@ -90,15 +90,15 @@ at_place (region ∷ earlier) hand later = at_place earlier hand later
 
 -- ---- a half is settled
 
-in_hand_from : (paging : Paging) (selected : Selected) (accepted : Bool) (history : History) (region : Region) → IsUntouched paging history region → is_awaited selected ≡ false → IsInHand paging selected accepted history region
-in_hand_from paging selected accepted history region untouched closed = record { unread = untouched.unread; there = untouched.there; awaits = by region untouched } where
-  by : (region : Region) → IsUntouched paging history region → Awaits paging selected accepted history region
+in_hand_from : (addressing : PageAddressing) (selected : KnownPage) (accepted : Bool) (history : History) (region : Region) → IsUntouched addressing history region → is_awaited selected ≡ false → IsInHand addressing selected accepted history region
+in_hand_from addressing selected accepted history region untouched closed = record { unread = untouched.unread; there = untouched.there; awaits = by region untouched } where
+  by : (region : Region) → IsUntouched addressing history region → Awaits addressing selected accepted history region
   by (Lower dev) untouched = tt
   by FirstPage untouched = untouched.unselected
   by (Page page) untouched = λ e. absurd (contradicts e closed)
 
 -- then the next one is in hand, if there is one
-pub goes_on : (earlier later : List Region) (reading : Reading) (history : History) → HasSettled earlier later reading history → AllByRecursion (IsUntouched (paging_of reading.image) history) later → is_awaited reading.selected ≡ false → IsAt reading history
+pub goes_on : (earlier later : List Region) (reading : Reading) (history : History) → HasSettled earlier later reading history → AllByRecursion (IsUntouched (addressing_of reading.image) history) later → is_awaited reading.selected ≡ false → IsAt reading history
 goes_on earlier [] reading history has untouched closed = inr (inr (earlier, has))
 goes_on earlier (hand ∷ later) reading history has untouched closed = inr (inl (
   earlier,
@@ -106,14 +106,14 @@ goes_on earlier (hand ∷ later) reading history has untouched closed = inr (inl
   later,
   record {
     has = has;
-    in_hand = in_hand_from (paging_of reading.image) reading.selected reading.accepted history hand untouched.0 closed;
+    in_hand = in_hand_from (addressing_of reading.image) reading.selected reading.accepted history hand untouched.0 closed;
     untouched = untouched.1;
   },
 ))
 
 module _ (earlier : List Region) (hand : Region) (later : List Region) (reading : Reading) (history : History) (way : IsUnderWay earlier hand later reading history) (more : reading.steps < 4096) where
-  abbrev paging : Paging
-  paging = paging_of reading.image
+  abbrev addressing : PageAddressing
+  addressing = addressing_of reading.image
 
   others : all_other (earlier ++ hand ∷ later) ≡ true
   others = subst (λ regions. all_other regions ≡ true) way.has.regions (all_others reading.image)
@@ -128,7 +128,7 @@ module _ (earlier : List Region) (hand : Region) (later : List Region) (reading 
   not_lower = (subst (AllByRecursion (λ region. is_other region hand ≡ true)) way.has.lower_first earlier_others).0
 
   -- a step that leaves the image as it was
-  stays : (selected : Selected) (accepted : Bool) (step : Step) → Tells paging selected (step ∷ history) → ((bytes : List ℕ) → Gives (Fetch A0 0 128) bytes step → ⊥) →
+  stays : (selected : KnownPage) (accepted : Bool) (step : Step) → Tells addressing selected (step ∷ history) → ((bytes : List ℕ) → Gives (Fetch A0 0 128) bytes step → ⊥) →
       HasSettled earlier (hand ∷ later) (record { image = reading.image; settled = reading.settled; steps = reading.steps + 1; selected = selected; accepted = accepted }) (step ∷ history)
   stays selected accepted step told reads_not = record {
     regions = way.has.regions;
@@ -143,18 +143,18 @@ module _ (earlier : List Region) (hand : Region) (later : List Region) (reading 
     only = way.has.only;
     lower = λ bytes read. way.has.lower bytes (lower_before bytes read);
   } where
-    lower_before : (bytes : List ℕ) → IsRead paging (Lower A0) bytes (step ∷ history) → IsRead paging (Lower A0) bytes history
+    lower_before : (bytes : List ℕ) → IsRead addressing (Lower A0) bytes (step ∷ history) → IsRead addressing (Lower A0) bytes history
     lower_before bytes (inl now) = absurd (reads_not bytes now.0)
     lower_before bytes (inr earlier) = earlier
 
   -- a step that settles the half in hand
-  moves : (image : Memory) (selected : Selected) (accepted : Bool) (step : Step) →
+  moves : (image : Memory) (selected : KnownPage) (accepted : Bool) (step : Step) →
       map.get image (lower_key A0) ≡ map.get reading.image (lower_key A0) →
       AllByRecursion (λ region. map.get image (key_of region) ≡ map.get reading.image (key_of region)) earlier →
       IsSettled (step ∷ history) image hand →
       ((key : Key) → IsTrue (map.contains_key image key) → IsTrue (map.contains_key reading.image key) ⊎ (key ≡ key_of hand)) →
       map.len image ≤ map.len reading.image + 1 →
-      Tells paging selected (step ∷ history) → ((bytes : List ℕ) → Gives (Fetch A0 0 128) bytes step → ⊥) →
+      Tells addressing selected (step ∷ history) → ((bytes : List ℕ) → Gives (Fetch A0 0 128) bytes step → ⊥) →
       HasSettled (earlier ++ hand ∷ []) later (record { image = image; settled = reading.settled + 1; steps = reading.steps + 1; selected = selected; accepted = accepted }) (step ∷ history)
   moves image selected accepted step same kept this only room told reads_not =
       let asks = same_asked image reading.image same in
@@ -166,13 +166,13 @@ module _ (earlier : List Region) (hand : Region) (later : List Region) (reading 
         count = omega (arith, way.has.count);
         few = omega (arith, more);
         room = omega (arith, way.has.room, room, length-append earlier (hand ∷ []));
-        told = subst (λ (p : Paging). Tells p selected (step ∷ history)) (sym same_way) told;
+        told = subst (λ (p : PageAddressing). Tells p selected (step ∷ history)) (sym same_way) told;
         brief = (working_is_unfinished earlier hand later reading history way, way.has.brief);
         settled = append_all (IsSettled (step ∷ history) image) earlier hand (both_all earlier (λ region kept settled. stays_settled region history step reading.image image kept same_way settled) kept way.has.settled) this;
         only = λ key there. among key (only key there);
         lower = λ bytes read. same ∙ way.has.lower bytes (lower_before bytes read);
       } where
-        lower_before : (bytes : List ℕ) → IsRead (paging_of image) (Lower A0) bytes (step ∷ history) → IsRead paging (Lower A0) bytes history
+        lower_before : (bytes : List ℕ) → IsRead (addressing_of image) (Lower A0) bytes (step ∷ history) → IsRead addressing (Lower A0) bytes history
         lower_before bytes (inl now) = absurd (reads_not bytes now.0)
         lower_before bytes (inr earlier) = earlier
 
@@ -183,35 +183,35 @@ module _ (earlier : List Region) (hand : Region) (later : List Region) (reading 
   -- ---- the selection is read back
 
   abbrev read_op : (reply : Reply) → Step
-  read_op reply = step_of (read_selection paging) reply
+  read_op reply = step_of (read_selection addressing) reply
 
   read_reads_not : (reply : Reply) (bytes : List ℕ) → Gives (Fetch A0 0 128) bytes (read_op reply) → ⊥
-  read_reads_not reply bytes gives = no_read_back paging (Lower A0) (sym gives.0)
+  read_reads_not reply bytes gives = no_read_back addressing (Lower A0) (sym gives.0)
 
-  read_told : (reply : Reply) (selected : Selected) → is_awaited reading.selected ≡ true → selected_after paging reading.selected (read_op reply) ≡ selected → Tells paging selected (read_op reply ∷ history)
+  read_told : (reply : Reply) (selected : KnownPage) → is_awaited reading.selected ≡ true → selected_after addressing reading.selected (read_op reply) ≡ selected → Tells addressing selected (read_op reply ∷ history)
   read_told reply selected e after =
-      subst (λ (known : Selected). Tells paging known (read_op reply ∷ history)) after
-      (tells_next paging reading.selected (operation hand) history (leaves_selection paging hand) way.has.told (page_of hand) (read_op reply)
-      (λ i. if sym e i then read_selection paging else selecting_first paging (operation hand) (missing_page reading.selected (page_of hand))))
+      subst (λ (known : KnownPage). Tells addressing known (read_op reply ∷ history)) after
+      (tells_next addressing reading.selected (operation hand) history (leaves_selection addressing hand) way.has.told (page_of hand) (read_op reply)
+      (λ i. if sym e i then read_selection addressing else selecting_first addressing (operation hand) (missing_page reading.selected (page_of hand))))
 
-  read_untouched : (reply : Reply) → AllByRecursion (IsUntouched paging (read_op reply ∷ history)) later
-  read_untouched reply = each_for_other paging history (read_op reply) later way.untouched (each later) where
-    each : (regions : List Region) → AllByRecursion (IsForOther paging history (read_op reply)) regions
+  read_untouched : (reply : Reply) → AllByRecursion (IsUntouched addressing (read_op reply ∷ history)) later
+  read_untouched reply = each_for_other addressing history (read_op reply) later way.untouched (each later) where
+    each : (regions : List Region) → AllByRecursion (IsForOther addressing history (read_op reply)) regions
     each [] = tt
-    each (region ∷ regions) = (read_back_is_for_other paging history (read_op reply) region refl, each regions)
+    each (region ∷ regions) = (read_back_is_for_other addressing history (read_op reply) region refl, each regions)
 
-  read_unread : (reply : Reply) (bytes : List ℕ) → IsRead paging hand bytes (read_op reply ∷ history) → ⊥
-  read_unread reply = unread_yet paging hand history (read_op reply) way.in_hand.unread (λ bytes gives shown. no_read_back paging hand (sym gives.0))
+  read_unread : (reply : Reply) (bytes : List ℕ) → IsRead addressing hand bytes (read_op reply ∷ history) → ⊥
+  read_unread reply = unread_yet addressing hand history (read_op reply) way.in_hand.unread (λ bytes gives shown. no_read_back addressing hand (sym gives.0))
 
-  read_awaits : (region : Region) (reply : Reply) → Awaits paging reading.selected reading.accepted history region → Awaits paging reading.selected reading.accepted (read_op reply ∷ history) region
+  read_awaits : (region : Region) (reply : Reply) → Awaits addressing reading.selected reading.accepted history region → Awaits addressing reading.selected reading.accepted (read_op reply ∷ history) region
   read_awaits (Lower dev) reply awaits = tt
-  read_awaits FirstPage reply awaits = (read_back_fetches paging, awaits)
-  read_awaits (Page page) reply awaits = λ e. (λ accepted. inr (read_back_fetches paging, (awaits e).0 accepted), was e) where
-    was : is_awaited reading.selected ≡ true → WasSelected paging page (read_op reply ∷ history) → reading.accepted ≡ true
-    was e (inl accepted) = absurd (read_back_alone paging page accepted.0)
+  read_awaits FirstPage reply awaits = (read_back_fetches addressing, awaits)
+  read_awaits (Page page) reply awaits = λ e. (λ accepted. inr (read_back_fetches addressing, (awaits e).0 accepted), was e) where
+    was : is_awaited reading.selected ≡ true → WasSelected addressing page (read_op reply ∷ history) → reading.accepted ≡ true
+    was e (inl accepted) = absurd (read_back_alone addressing page accepted.0)
     was e (inr before) = (awaits e).1 before.1
 
-  still_there : (region : Region) (step : Step) → reads_back paging 0 step ≡ false → (IsLeftOut paging region history → ⊥) → IsLeftOut paging region (step ∷ history) → ⊥
+  still_there : (region : Region) (step : Step) → reads_back addressing 0 step ≡ false → (IsLeftOut addressing region history → ⊥) → IsLeftOut addressing region (step ∷ history) → ⊥
   still_there (Lower dev) step e there out = out
   still_there FirstPage step e there out = out
   still_there (Page page) step e there (above, inl now) = contradicts now.0 e
@@ -227,10 +227,10 @@ module _ (earlier : List Region) (hand : Region) (later : List Region) (reading 
     hand,
     later,
     record {
-      has = stays reading.selected reading.accepted (read_op Refused) (read_told Refused reading.selected e (after_read paging reading.selected Refused)) (read_reads_not Refused);
+      has = stays reading.selected reading.accepted (read_op Refused) (read_told Refused reading.selected e (after_read addressing reading.selected Refused)) (read_reads_not Refused);
       in_hand = record {
         unread = read_unread Refused;
-        there = still_there hand (read_op Refused) (and_false (same_op (read_selection paging) (read_selection paging))) way.in_hand.there;
+        there = still_there hand (read_op Refused) (and_false (same_op (read_selection addressing) (read_selection addressing))) way.in_hand.there;
         awaits = read_awaits hand Refused way.in_hand.awaits;
       };
       untouched = read_untouched Refused;
@@ -239,10 +239,10 @@ module _ (earlier : List Region) (hand : Region) (later : List Region) (reading 
 
   -- page 00h was read back in the place of the page that was selected
   abbrev shows_first : List ℕ → Bool
-  shows_first bytes = reading.accepted && (is_known (selection_read paging bytes) 0 && may_lack hand)
+  shows_first bytes = reading.accepted && (is_known (selection_read addressing bytes) 0 && may_lack hand)
 
   abbrev after_reading : ArrayVec ℕ → ℕ → Reading
-  after_reading bytes settled = record { image = reading.image; settled = settled; steps = reading.steps + 1; selected = selection_read paging bytes.items; accepted = reading.accepted }
+  after_reading bytes settled = record { image = reading.image; settled = settled; steps = reading.steps + 1; selected = selection_read addressing bytes.items; accepted = reading.accepted }
 
   not_held : (half : Option (List ℕ)) → map.get reading.image (key_of hand) ≡ half → half ≡ None
   not_held None e = refl
@@ -256,39 +256,39 @@ module _ (earlier : List Region) (hand : Region) (later : List Region) (reading 
     abbrev answer : Step
     answer = read_op (Bytes bytes)
 
-    answer_told : Tells paging (selection_read paging bytes.items) (answer ∷ history)
-    answer_told = read_told (Bytes bytes) (selection_read paging bytes.items) awaited (after_read paging reading.selected (Bytes bytes))
+    answer_told : Tells addressing (selection_read addressing bytes.items) (answer ∷ history)
+    answer_told = read_told (Bytes bytes) (selection_read addressing bytes.items) awaited (after_read addressing reading.selected (Bytes bytes))
 
-    left_out_by : (region : Region) → reading.accepted ≡ true → is_known (selection_read paging bytes.items) 0 ≡ true → may_lack region ≡ true →
-        Awaits paging reading.selected reading.accepted history region → IsLeftOut paging region (answer ∷ history)
+    left_out_by : (region : Region) → reading.accepted ≡ true → is_known (selection_read addressing bytes.items) 0 ≡ true → may_lack region ≡ true →
+        Awaits addressing reading.selected reading.accepted history region → IsLeftOut addressing region (answer ∷ history)
     left_out_by (Lower dev) accepted zeros lacks awaits = cc
     left_out_by FirstPage accepted zeros lacks awaits = cc
     left_out_by (Page page) accepted zeros lacks awaits =
-        (ltb-true 0 page lacks, inl (and_from _ _ (reads_itself paging) (read_tells paging bytes.items 0 ∙ zeros), (awaits awaited).0 accepted))
+        (ltb-true 0 page lacks, inl (and_from _ _ (reads_itself addressing) (read_tells addressing bytes.items 0 ∙ zeros), (awaits awaited).0 accepted))
 
     left_out : shows_first bytes.items ≡ true → IsAt (after_reading bytes (reading.settled + 1)) (answer ∷ history)
     left_out e =
         let parts = and_parts _ _ e in
         let more_parts = and_parts _ _ parts.1 in
         let out = left_out_by hand parts.0 more_parts.0 more_parts.1 way.in_hand.awaits in
-        let Settled : Option (List ℕ) → Type 0 = λ half. MatchOption half (IsLeftOut paging hand (answer ∷ history)) (λ bytes. IsRead paging hand bytes (answer ∷ history)) in
+        let Settled : Option (List ℕ) → Type 0 = λ half. MatchOption half (IsLeftOut addressing hand (answer ∷ history)) (λ bytes. IsRead addressing hand bytes (answer ∷ history)) in
         let this = subst Settled (sym (not_held (map.get reading.image (key_of hand)) refl)) out in
         goes_on (earlier ++ hand ∷ []) later (after_reading bytes (reading.settled + 1)) (answer ∷ history)
-        (moves reading.image (selection_read paging bytes.items) reading.accepted answer refl (all_same earlier) this (λ key there. inl there) (omega arith) answer_told (read_reads_not (Bytes bytes)))
-        (read_untouched (Bytes bytes)) (read_closes paging bytes.items)
+        (moves reading.image (selection_read addressing bytes.items) reading.accepted answer refl (all_same earlier) this (λ key there. inl there) (omega arith) answer_told (read_reads_not (Bytes bytes)))
+        (read_untouched (Bytes bytes)) (read_closes addressing bytes.items)
 
-    shown_there : (region : Region) → (reading.accepted && (is_known (selection_read paging bytes.items) 0 && may_lack region)) ≡ false → (IsLeftOut paging region history → ⊥) →
-        Awaits paging reading.selected reading.accepted history region → IsLeftOut paging region (answer ∷ history) → ⊥
+    shown_there : (region : Region) → (reading.accepted && (is_known (selection_read addressing bytes.items) 0 && may_lack region)) ≡ false → (IsLeftOut addressing region history → ⊥) →
+        Awaits addressing reading.selected reading.accepted history region → IsLeftOut addressing region (answer ∷ history) → ⊥
     shown_there (Lower dev) e there awaits out = out
     shown_there FirstPage e there awaits out = out
     shown_there (Page page) e there awaits (above, inl now) =
-        contradicts (and_from _ _ ((awaits awaited).1 now.1) (and_from _ _ (sym (read_tells paging bytes.items 0) ∙ (and_parts _ _ now.0).1) (lt-ltb 0 page above))) e
+        contradicts (and_from _ _ ((awaits awaited).1 now.1) (and_from _ _ (sym (read_tells addressing bytes.items 0) ∙ (and_parts _ _ now.0).1) (lt-ltb 0 page above))) e
     shown_there (Page page) e there awaits (above, inr earlier) = there (above, earlier)
 
-    answer_awaits : (region : Region) → Awaits paging reading.selected reading.accepted history region → Awaits paging (selection_read paging bytes.items) reading.accepted (answer ∷ history) region
+    answer_awaits : (region : Region) → Awaits addressing reading.selected reading.accepted history region → Awaits addressing (selection_read addressing bytes.items) reading.accepted (answer ∷ history) region
     answer_awaits (Lower dev) awaits = tt
-    answer_awaits FirstPage awaits = (read_back_fetches paging, awaits)
-    answer_awaits (Page page) awaits = λ e. absurd (contradicts e (read_closes paging bytes.items))
+    answer_awaits FirstPage awaits = (read_back_fetches addressing, awaits)
+    answer_awaits (Page page) awaits = λ e. absurd (contradicts e (read_closes addressing bytes.items))
 
     read_on : shows_first bytes.items ≡ false → IsAt (after_reading bytes reading.settled) (answer ∷ history)
     read_on e = inr (inl (
@@ -296,7 +296,7 @@ module _ (earlier : List Region) (hand : Region) (later : List Region) (reading 
       hand,
       later,
       record {
-        has = stays (selection_read paging bytes.items) reading.accepted answer answer_told (read_reads_not (Bytes bytes));
+        has = stays (selection_read addressing bytes.items) reading.accepted answer answer_told (read_reads_not (Bytes bytes));
         in_hand = record {
           unread = read_unread (Bytes bytes);
           there = shown_there hand e way.in_hand.there way.in_hand.awaits;
@@ -310,56 +310,56 @@ module _ (earlier : List Region) (hand : Region) (later : List Region) (reading 
     read_by true e = left_out e
     read_by false e = read_on e
 
-  not_done : (paging : Paging) → Answers (read_selection paging) Done → ⊥
+  not_done : (addressing : PageAddressing) → Answers (read_selection addressing) Done → ⊥
   not_done BankAndPage none = none
   not_done PageAlone none = none
 
-  reads_selection : is_awaited reading.selected ≡ true → (reply : Reply) → Answers (read_selection paging) reply → IsAt (reader.after_read_back (reader.counted reading) hand reply) (read_op reply ∷ history)
+  reads_selection : is_awaited reading.selected ≡ true → (reply : Reply) → Answers (read_selection addressing) reply → IsAt (reader.after_read_back (reader.counted reading) hand reply) (read_op reply ∷ history)
   reads_selection e (Bytes bytes) answers = read_by bytes e (shows_first bytes.items) refl
-  reads_selection e Done answers = absurd (not_done paging answers)
+  reads_selection e Done answers = absurd (not_done addressing answers)
   reads_selection e Refused answers = read_refused e
 
   -- ---- a page is selected
 
   abbrev selects_op : ℕ → Reply → Step
-  selects_op page reply = step_of (selection paging page) reply
+  selects_op page reply = step_of (selection addressing page) reply
 
-  each_other : (page : ℕ) (reply : Reply) (regions : List Region) → AllByRecursion (λ region. is_other (Page page) region ≡ true) regions → AllByRecursion (IsForOther paging history (selects_op page reply)) regions
+  each_other : (page : ℕ) (reply : Reply) (regions : List Region) → AllByRecursion (λ region. is_other (Page page) region ≡ true) regions → AllByRecursion (IsForOther addressing history (selects_op page reply)) regions
   each_other page reply [] apart = tt
-  each_other page reply (region ∷ regions) apart = (selection_is_for_other paging history (selects_op page reply) page region apart.0 refl, each_other page reply regions apart.1)
+  each_other page reply (region ∷ regions) apart = (selection_is_for_other addressing history (selects_op page reply) page region apart.0 refl, each_other page reply regions apart.1)
 
-  selects_awaits : (page : ℕ) (reply : Reply) → Awaits paging Open (reader.is_done reply) (selects_op page reply ∷ history) (Page page)
+  selects_awaits : (page : ℕ) (reply : Reply) → Awaits addressing Open (reader.is_done reply) (selects_op page reply ∷ history) (Page page)
   selects_awaits page reply = λ e. (λ done. inl (refl, done_is reply done), was) where
     done_is : (reply : Reply) → reader.is_done reply ≡ true → reply ≡ Done
     done_is (Bytes bytes) e = cc
     done_is Done e = refl
     done_is Refused e = cc
 
-    was : WasSelected paging page (selects_op page reply ∷ history) → reader.is_done reply ≡ true
+    was : WasSelected addressing page (selects_op page reply ∷ history) → reader.is_done reply ≡ true
     was (inl accepted) = ap reader.is_done accepted.1
-    was (inr before) = absurd (selection_stores paging page before.0)
+    was (inr before) = absurd (selection_stores addressing page before.0)
 
   selects : (page : ℕ) → hand ≡ Page page → is_awaited reading.selected ≡ false → missing_page reading.selected (page_of hand) ≡ Some page → (reply : Reply) →
       IsAt (reader.after_selection (reader.counted reading) reply) (selects_op page reply ∷ history)
   selects page is closed missing reply =
       let step = selects_op page reply in
-      let told : Tells paging Open (step ∷ history) =
-      subst (λ (known : Selected). Tells paging known (step ∷ history)) (after_selection paging reading.selected page reply)
-      (tells_next paging reading.selected (operation hand) history (leaves_selection paging hand) way.has.told (page_of hand) step
-      (λ i. if sym closed i then read_selection paging else selecting_first paging (operation hand) (sym missing i))) in
-      let no_zeros : reads_back paging 0 step ≡ false = λ i. selects_alone paging page i && is_page paging 0 reply in
+      let told : Tells addressing Open (step ∷ history) =
+      subst (λ (known : KnownPage). Tells addressing known (step ∷ history)) (after_selection addressing reading.selected page reply)
+      (tells_next addressing reading.selected (operation hand) history (leaves_selection addressing hand) way.has.told (page_of hand) step
+      (λ i. if sym closed i then read_selection addressing else selecting_first addressing (operation hand) (sym missing i))) in
+      let no_zeros : reads_back addressing 0 step ≡ false = λ i. selects_alone addressing page i && is_page addressing 0 reply in
       inr (inl (
         earlier,
         hand,
         later,
         record {
-          has = stays Open (reader.is_done reply) step told (λ bytes gives. no_selection paging page (Lower A0) (sym gives.0));
+          has = stays Open (reader.is_done reply) step told (λ bytes gives. no_selection addressing page (Lower A0) (sym gives.0));
           in_hand = record {
-            unread = unread_yet paging hand history step way.in_hand.unread (λ bytes gives shown. no_selection paging page hand (sym gives.0));
+            unread = unread_yet addressing hand history step way.in_hand.unread (λ bytes gives shown. no_selection addressing page hand (sym gives.0));
             there = still_there hand step no_zeros way.in_hand.there;
-            awaits = subst (Awaits paging Open (reader.is_done reply) (step ∷ history)) (sym is) (selects_awaits page reply);
+            awaits = subst (Awaits addressing Open (reader.is_done reply) (step ∷ history)) (sym is) (selects_awaits page reply);
           };
-          untouched = each_for_other paging history step later way.untouched
+          untouched = each_for_other addressing history step later way.untouched
               (each_other page reply later (subst (λ (region : Region). AllByRecursion (λ other. is_other region other ≡ true) later) is later_others));
         },
       ))
@@ -369,27 +369,27 @@ module _ (earlier : List Region) (hand : Region) (later : List Region) (reading 
   abbrev own_op : Reply → Step
   own_op reply = step_of (operation hand) reply
 
-  own_told : (reply : Reply) → is_awaited reading.selected ≡ false → missing_page reading.selected (page_of hand) ≡ None → Tells paging reading.selected (own_op reply ∷ history)
+  own_told : (reply : Reply) → is_awaited reading.selected ≡ false → missing_page reading.selected (page_of hand) ≡ None → Tells addressing reading.selected (own_op reply ∷ history)
   own_told reply closed none =
-      subst (λ (known : Selected). Tells paging known (own_op reply ∷ history)) (after_work paging reading.selected (operation hand) reply (leaves_selection paging hand))
-      (tells_next paging reading.selected (operation hand) history (leaves_selection paging hand) way.has.told (page_of hand) (own_op reply)
-      (λ i. if sym closed i then read_selection paging else selecting_first paging (operation hand) (sym none i)))
+      subst (λ (known : KnownPage). Tells addressing known (own_op reply ∷ history)) (after_work addressing reading.selected (operation hand) reply (leaves_selection addressing hand))
+      (tells_next addressing reading.selected (operation hand) history (leaves_selection addressing hand) way.has.told (page_of hand) (own_op reply)
+      (λ i. if sym closed i then read_selection addressing else selecting_first addressing (operation hand) (sym none i)))
 
-  shown : (region : Region) → missing_page reading.selected (page_of region) ≡ None → Awaits paging reading.selected reading.accepted history region → IsShown paging region history
+  shown : (region : Region) → missing_page reading.selected (page_of region) ≡ None → Awaits addressing reading.selected reading.accepted history region → IsShown addressing region history
   shown (Lower dev) none awaits = tt
   shown FirstPage none awaits = awaits
-  shown (Page page) none awaits = is_confirmed paging reading.selected page history way.has.told none
+  shown (Page page) none awaits = is_confirmed addressing reading.selected page history way.has.told none
 
   own_reads_not : (reply : Reply) (bytes : List ℕ) → Gives (Fetch A0 0 128) bytes (own_op reply) → ⊥
   own_reads_not reply bytes gives = other_reads hand not_lower gives.0
 
-  own_untouched : (reply : Reply) → IsShown paging hand history → AllByRecursion (IsUntouched paging (own_op reply ∷ history)) later
-  own_untouched reply there = each_for_other paging history (own_op reply) later way.untouched (each later later_others) where
-    each : (regions : List Region) → AllByRecursion (λ region. is_other hand region ≡ true) regions → AllByRecursion (IsForOther paging history (own_op reply)) regions
+  own_untouched : (reply : Reply) → IsShown addressing hand history → AllByRecursion (IsUntouched addressing (own_op reply ∷ history)) later
+  own_untouched reply there = each_for_other addressing history (own_op reply) later way.untouched (each later later_others) where
+    each : (regions : List Region) → AllByRecursion (λ region. is_other hand region ≡ true) regions → AllByRecursion (IsForOther addressing history (own_op reply)) regions
     each [] apart = tt
-    each (region ∷ regions) apart = (fetch_is_for_other paging reading.selected history (own_op reply) hand region way.has.told apart.0 there refl, each regions apart.1)
+    each (region ∷ regions) apart = (fetch_is_for_other addressing reading.selected history (own_op reply) hand region way.has.told apart.0 there refl, each regions apart.1)
 
-  own_awaits : (region : Region) (step : Step) → step.op ≡ operation region → is_awaited reading.selected ≡ false → Awaits paging reading.selected reading.accepted history region → Awaits paging reading.selected reading.accepted (step ∷ history) region
+  own_awaits : (region : Region) (step : Step) → step.op ≡ operation region → is_awaited reading.selected ≡ false → Awaits addressing reading.selected reading.accepted history region → Awaits addressing reading.selected reading.accepted (step ∷ history) region
   own_awaits (Lower dev) step e closed awaits = tt
   own_awaits FirstPage step e closed awaits = (subst IsFetch (sym e) tt, awaits)
   own_awaits (Page page) step e closed awaits = λ awaited. absurd (contradicts awaited closed)
@@ -397,7 +397,7 @@ module _ (earlier : List Region) (hand : Region) (later : List Region) (reading 
   fetch_refused : is_awaited reading.selected ≡ false → missing_page reading.selected (page_of hand) ≡ None → IsAt (reader.counted reading) (own_op Refused ∷ history)
   fetch_refused closed none =
       let step = own_op Refused in
-      let no_zeros : reads_back paging 0 step ≡ false = λ i. (leaves_selection paging hand).not_reading_back i && is_page paging 0 Refused in
+      let no_zeros : reads_back addressing 0 step ≡ false = λ i. (leaves_selection addressing hand).not_reading_back i && is_page addressing 0 Refused in
       inr (inl (
         earlier,
         hand,
@@ -405,7 +405,7 @@ module _ (earlier : List Region) (hand : Region) (later : List Region) (reading 
         record {
           has = stays reading.selected reading.accepted step (own_told Refused closed none) (own_reads_not Refused);
           in_hand = record {
-            unread = unread_yet paging hand history step way.in_hand.unread (λ bytes gives there. (let reply = gives.1 in cc));
+            unread = unread_yet addressing hand history step way.in_hand.unread (λ bytes gives there. (let reply = gives.1 in cc));
             there = still_there hand step no_zeros way.in_hand.there;
             awaits = own_awaits hand step refl closed way.in_hand.awaits;
           };
@@ -444,14 +444,14 @@ module _ (earlier : List Region) (hand : Region) (later : List Region) (reading 
       let there = shown hand none way.in_hand.awaits in
       let image = kept_image bytes.items in
       let same = gets_other bytes.items (Lower A0) not_lower in
-      let same_way : paging ≡ paging_of image = sym (same_paging image reading.image (same_asked image reading.image same)) in
-      let read : IsRead paging hand bytes.items (step ∷ history) = inl ((refl, refl), there) in
-      let Settled : Paging → Option (List ℕ) → Type 0 = λ p half. MatchOption half (IsLeftOut p hand (step ∷ history)) (λ bytes. IsRead p hand bytes (step ∷ history)) in
-      let this = subst (λ (half : Option (List ℕ)). Settled (paging_of image) half) (sym (gets_own bytes.items)) (subst (λ (p : Paging). Settled p (Some bytes.items)) same_way read) in
+      let same_way : addressing ≡ addressing_of image = sym (same_paging image reading.image (same_asked image reading.image same)) in
+      let read : IsRead addressing hand bytes.items (step ∷ history) = inl ((refl, refl), there) in
+      let Settled : PageAddressing → Option (List ℕ) → Type 0 = λ p half. MatchOption half (IsLeftOut p hand (step ∷ history)) (λ bytes. IsRead p hand bytes (step ∷ history)) in
+      let this = subst (λ (half : Option (List ℕ)). Settled (addressing_of image) half) (sym (gets_own bytes.items)) (subst (λ (p : PageAddressing). Settled p (Some bytes.items)) same_way read) in
       goes_on (earlier ++ hand ∷ []) later (reader.keeping (reader.counted reading) hand bytes.items) (step ∷ history)
       (moves image reading.selected reading.accepted step same (map_all earlier (gets_other bytes.items) earlier_others) this (holds_only bytes.items) (few_more bytes.items)
       (own_told (Bytes bytes) closed none) (own_reads_not (Bytes bytes)))
-      (subst (λ (p : Paging). AllByRecursion (IsUntouched p (step ∷ history)) later) same_way (own_untouched (Bytes bytes) there)) closed
+      (subst (λ (p : PageAddressing). AllByRecursion (IsUntouched p (step ∷ history)) later) same_way (own_untouched (Bytes bytes) there)) closed
 
   no_done : (region : Region) → Answers (operation region) Done → ⊥
   no_done (Lower dev) none = none
@@ -473,13 +473,13 @@ module _ (earlier : List Region) (hand : Region) (later : List Region) (reading 
     by true e = cc
     by false e = cc
 
-  turn_with : (missing : Option ℕ) → missing_page reading.selected (page_of hand) ≡ missing → is_awaited reading.selected ≡ false → (reply : Reply) → Answers (selecting_first paging (operation hand) missing) reply →
-      IsAt (if is_some missing then reader.after_selection (reader.counted reading) reply else reader.after_fetch (reader.counted reading) hand reply) (step_of (selecting_first paging (operation hand) missing) reply ∷ history)
+  turn_with : (missing : Option ℕ) → missing_page reading.selected (page_of hand) ≡ missing → is_awaited reading.selected ≡ false → (reply : Reply) → Answers (selecting_first addressing (operation hand) missing) reply →
+      IsAt (if is_some missing then reader.after_selection (reader.counted reading) reply else reader.after_fetch (reader.counted reading) hand reply) (step_of (selecting_first addressing (operation hand) missing) reply ∷ history)
   turn_with None e closed reply answers = fetches closed e reply answers
   turn_with (Some page) e closed reply answers = selects page (missing_is hand page e) closed e reply
 
   turn_by : (awaited : Bool) → is_awaited reading.selected ≡ awaited → (reply : Reply) →
-      let op = if awaited then read_selection paging else selecting_first paging (operation hand) (missing_page reading.selected (page_of hand)) in Answers op reply →
+      let op = if awaited then read_selection addressing else selecting_first addressing (operation hand) (missing_page reading.selected (page_of hand)) in Answers op reply →
       IsAt (if awaited then reader.after_read_back (reader.counted reading) hand reply else if is_some (missing_page reading.selected (page_of hand)) then reader.after_selection (reader.counted reading) reply else reader.after_fetch (reader.counted reading) hand reply)
       (step_of op reply ∷ history)
   turn_by true e reply answers = reads_selection e reply answers

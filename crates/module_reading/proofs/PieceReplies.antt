@@ -7,8 +7,8 @@ use Rattle.bus_model.specs.declared.operation.Reply.{Reply}
 use Rattle.bus_model.specs.declared.operation.Reply.TheVariants.{Bytes, Done, Refused}
 use Rattle.bus_model.specs.Operations.{Answers, IsInHalf}
 use Rattle.module_reading.specs.declared.pieces.PieceReading.{PieceReading}
-use Rattle.module_reading.specs.declared.reading.Next.{Next}
-use Rattle.module_reading.specs.declared.reading.Next.TheVariants.{Do, Complete, GiveUp}
+use Rattle.module_reading.specs.declared.reading.ReadingNext.{ReadingNext}
+use Rattle.module_reading.specs.declared.reading.ReadingNext.TheVariants.{Do, Complete, GiveUp}
 use Rattle.module_reading.specs.ImageReading.{IsReplyTo}
 use Rattle.module_reading.specs.ImageReading as whole
 use Rattle.module_reading.specs.PieceReading as piece
@@ -29,7 +29,7 @@ module _ (pieces : PieceReading) where
   abbrev read : ℕ
   read = length pieces.part.items
 
-  room_by : (found : Next) (bytes : List ℕ) → piece.is_half_in found ≡ true → IsReplyTo (piece.next_by pieces found) (Bytes (record { items = bytes })) → read < 128 → read + length bytes ≤ 128
+  room_by : (found : ReadingNext) (bytes : List ℕ) → piece.is_half_in found ≡ true → IsReplyTo (piece.next_by pieces found) (Bytes (record { items = bytes })) → read < 128 → read + length bytes ≤ 128
   room_by (Do (Fetch dev offset count)) bytes half reply few =
       let answers = subst (λ (b : Bool). Answers (if b then Fetch dev (offset + read) (piece.bytes_of_piece pieces.piece read) else Fetch dev offset count) (Bytes (record { items = bytes }))) half reply in
       let most = few_bytes pieces.piece read few in
@@ -42,7 +42,7 @@ module _ (pieces : PieceReading) where
   pub room : (bytes : List ℕ) → piece.is_in_pieces pieces.reading ≡ true → IsReplyTo (piece.next pieces) (Bytes (record { items = bytes })) → read < 128 → read + length bytes ≤ 128
   room bytes half reply few = room_by (whole.next pieces.reading) bytes half reply few
 
-  half_answers : (found : Next) (all : List ℕ) (ends : Bool) → (length all == 128) ≡ ends → piece.is_half_in found ≡ true →
+  half_answers : (found : ReadingNext) (all : List ℕ) (ends : Bool) → (length all == 128) ≡ ends → piece.is_half_in found ≡ true →
       IfSome (if ends then Some (Bytes (record { items = all })) else None) (IsReplyTo found)
   half_answers (Do (Fetch dev offset count)) all true e half = eqb-true _ 128 e ∙ sym (eqb-true count 128 half)
   half_answers (Do (Fetch dev offset count)) all false e half = tt
@@ -50,25 +50,25 @@ module _ (pieces : PieceReading) where
   half_answers Complete all ends e half = absurd (true≢false (sym half))
   half_answers GiveUp all ends e half = absurd (true≢false (sym half))
 
-  other_answers : (found : Next) (reply : Reply) → piece.is_half_in found ≡ false → IsReplyTo (piece.next_by pieces found) reply → IsReplyTo found reply
+  other_answers : (found : ReadingNext) (reply : Reply) → piece.is_half_in found ≡ false → IsReplyTo (piece.next_by pieces found) reply → IsReplyTo found reply
   other_answers (Do (Fetch dev offset count)) reply half answers =
       subst (λ (b : Bool). Answers (if b then Fetch dev (offset + read) (piece.bytes_of_piece pieces.piece read) else Fetch dev offset count) reply) half answers
   other_answers (Do (Store dev offset given)) reply half answers = answers
   other_answers Complete reply half answers = answers
   other_answers GiveUp reply half answers = answers
 
-  bytes_answer : (found : Next) (bytes all : List ℕ) (half : Bool) → piece.is_half_in found ≡ half → IsReplyTo (piece.next_by pieces found) (Bytes (record { items = bytes })) →
+  bytes_answer : (found : ReadingNext) (bytes all : List ℕ) (half : Bool) → piece.is_half_in found ≡ half → IsReplyTo (piece.next_by pieces found) (Bytes (record { items = bytes })) →
       IfSome (if half then piece.half_of all else Some (Bytes (record { items = bytes }))) (IsReplyTo found)
   bytes_answer found bytes all true e answers = half_answers found all (length all == 128) refl e
   bytes_answer found bytes all false e answers = other_answers found (Bytes (record { items = bytes })) e answers
 
-  refused_answers : (found : Next) → IsReplyTo (piece.next_by pieces found) Refused → IsReplyTo found Refused
+  refused_answers : (found : ReadingNext) → IsReplyTo (piece.next_by pieces found) Refused → IsReplyTo found Refused
   refused_answers (Do (Fetch dev offset count)) answers = tt
   refused_answers (Do (Store dev offset given)) answers = tt
   refused_answers Complete answers = answers
   refused_answers GiveUp answers = answers
 
-  done_answers : (found : Next) → IsReplyTo (piece.next_by pieces found) Done → IsReplyTo found Done
+  done_answers : (found : ReadingNext) → IsReplyTo (piece.next_by pieces found) Done → IsReplyTo found Done
   done_answers (Do (Fetch dev offset count)) answers = by (count == 128) answers where
     by : (half : Bool) → Answers (if half then Fetch dev (offset + read) (piece.bytes_of_piece pieces.piece read) else Fetch dev offset count) Done → ⊥
     by true answers = answers
@@ -137,7 +137,7 @@ module _ (pieces : PieceReading) where
   sized Done reply size = record { piece = size.piece; part = size.part }
   sized Refused reply size = record { piece = size.piece; part = size.part }
 
-  place_by : (found : Next) (reply : Reply) → whole.next pieces.reading ≡ found → IsReplyTo (piece.next_by pieces found) reply → pieces.reading.settled < 5
+  place_by : (found : ReadingNext) (reply : Reply) → whole.next pieces.reading ≡ found → IsReplyTo (piece.next_by pieces found) reply → pieces.reading.settled < 5
   place_by (Do op) reply asks answers = place pieces.reading op asks
   place_by Complete reply asks answers = absurd answers
   place_by GiveUp reply asks answers = absurd answers

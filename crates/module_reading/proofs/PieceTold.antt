@@ -11,16 +11,16 @@ use Rattle.bus_model.specs.declared.operation.Reply.{Reply}
 use Rattle.bus_model.specs.declared.operation.Reply.TheVariants.{Bytes, Done, Refused}
 use Rattle.bus_model.specs.declared.operation.Step.{Step}
 use Rattle.bus_model.specs.Operations.{Answers}
-use Rattle.paged_memory.specs.declared.paging.Paging.{Paging}
-use Rattle.paged_memory.specs.declared.paging.Paging.TheVariants.{BankAndPage, PageAlone}
+use Rattle.paged_memory.specs.declared.page_addressing.PageAddressing.{PageAddressing}
+use Rattle.paged_memory.specs.declared.page_addressing.PageAddressing.TheVariants.{BankAndPage, PageAlone}
 use Rattle.paged_memory.specs.KnownPages.{is_awaited, missing_page, selecting_first}
-use Rattle.paged_memory.specs.Paging.{History, read_selection}
+use Rattle.paged_memory.specs.PageAddressing.{History, read_selection}
 use Rattle.module_reading.specs.declared.pieces.PieceReading.{PieceReading}
-use Rattle.module_reading.specs.declared.reading.Next.{Next}
-use Rattle.module_reading.specs.declared.reading.Next.TheVariants.{Do, Complete, GiveUp}
+use Rattle.module_reading.specs.declared.reading.ReadingNext.{ReadingNext}
+use Rattle.module_reading.specs.declared.reading.ReadingNext.TheVariants.{Do, Complete, GiveUp}
 use Rattle.module_reading.specs.declared.reading.Reading.{Reading}
 use Rattle.module_reading.specs.declared.region.Region.{Region}
-use Rattle.module_reading.specs.Regions.{operation, page_of, paging_of}
+use Rattle.module_reading.specs.Regions.{operation, page_of, addressing_of}
 use Rattle.module_reading.specs.ImageReading as whole
 use Rattle.module_reading.specs.PieceReading as piece
 use Rattle.module_reading.specs.JoinedPieces.{HasJoinedOutcome, IsPiece, Joins, WasToldPieces, gives, refused}
@@ -33,16 +33,16 @@ same_do op other e = cc
 
 -- ---- a half that was refused is asked for again
 
-no_selection : (paging : Paging) (op : Op) (page : ℕ) → piece.is_half (selecting_first paging op (Some page)) ≡ true → ⊥
+no_selection : (addressing : PageAddressing) (op : Op) (page : ℕ) → piece.is_half (selecting_first addressing op (Some page)) ≡ true → ⊥
 no_selection BankAndPage op page e = true≢false (sym e)
 no_selection PageAlone op page e = true≢false (sym e)
 
 refused_by : (reading : Reading) (region : Region) (awaited : Bool) (missing : Option ℕ) →
-    piece.is_half (if awaited then read_selection (paging_of reading.image) else selecting_first (paging_of reading.image) (operation region) missing) ≡ true →
+    piece.is_half (if awaited then read_selection (addressing_of reading.image) else selecting_first (addressing_of reading.image) (operation region) missing) ≡ true →
     (if awaited then whole.after_read_back (whole.counted reading) region Refused else if is_some missing then whole.after_selection (whole.counted reading) Refused else whole.after_fetch (whole.counted reading) region Refused) ≡ whole.counted reading
 refused_by reading region true missing e = refl
 refused_by reading region false None e = refl
-refused_by reading region false (Some page) e = absurd (no_selection (paging_of reading.image) (operation region) page e)
+refused_by reading region false (Some page) e = absurd (no_selection (addressing_of reading.image) (operation region) page e)
 
 asked_by : (reading : Reading) (op : Op) (found : Option Region) → whole.in_hand reading ≡ found → whole.next_for reading found ≡ Do op → piece.is_half op ≡ true → whole.after_in found reading Refused ≡ whole.counted reading
 asked_by reading op None hand asks half = absurd (let same = asks in cc)
@@ -255,7 +255,7 @@ module _ (before : History) (pieces : PieceReading) (was : IsJoined before piece
   turn_asked (Store dev offset bytes) made reply asks is answers =
       subst (λ (o : Op). Answers o reply → Turns o reply) (sym is) (turn_itself (Store dev offset bytes) reply asks refl) answers
 
-  turn_found : (found : Next) (made : Op) (reply : Reply) → whole.next pieces.reading ≡ found → piece.next_by pieces found ≡ Do made → Answers made reply → Turns made reply
+  turn_found : (found : ReadingNext) (made : Op) (reply : Reply) → whole.next pieces.reading ≡ found → piece.next_by pieces found ≡ Do made → Answers made reply → Turns made reply
   turn_found (Do asked) made reply asks is answers = turn_asked asked made reply asks (same_do made (piece.piece_of pieces asked) (sym is)) answers
   turn_found Complete made reply asks is answers = absurd (let same = is in cc)
   turn_found GiveUp made reply asks is answers = absurd (let same = is in cc)

@@ -1,6 +1,6 @@
 -- What comes of a reading, by the steps that it was told.
 use Rattle.std.proofs.Common.{[], ◌∷◌, sym, subst}
-use Rattle.paged_memory.specs.Paging.{History}
+use Rattle.paged_memory.specs.PageAddressing.{History}
 use Rattle.module_reading.specs.declared.reading.Reading.{Reading}
 use Rattle.module_reading.specs.ReadingRuns.{HasOutcome, WasTold}
 use Rattle.module_reading.proofs.FetchUnderWay.{IsAt}

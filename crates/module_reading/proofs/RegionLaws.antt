@@ -13,7 +13,7 @@ use Rattle.paged_memory.specs.declared.family.Family.{Family}
 use Rattle.paged_memory.specs.declared.family.Family.TheVariants.{Cmis, Sff8636, Sff8472}
 use Rattle.paged_memory.specs.declared.key.Half.TheVariants as half
 use Rattle.paged_memory.specs.declared.key.Key.{Key}
-use Rattle.paged_memory.specs.declared.paging.Paging.TheVariants.{BankAndPage}
+use Rattle.paged_memory.specs.declared.page_addressing.PageAddressing.TheVariants.{BankAndPage}
 use Rattle.paged_memory.specs.Families.{family_by}
 use Rattle.paged_memory.specs.Images.{Memory}
 use Rattle.paged_memory.specs.KeyOrder.{key_cmp}
@@ -23,7 +23,7 @@ use Rattle.field_tables.specs.declared.field.Field.{Field}
 use Rattle.field_tables.specs.declared.field.Field.TheVariants.{CIdentifier, CFlatMemory, QFlatMemory, SAddressChange, SDiagPresent}
 use Rattle.field_tables.specs.FieldValues.{field_key, value_in}
 use Rattle.field_tables.specs.Readings.{bit, number, reading_at}
-use Rattle.module_reading.specs.Regions.{cmis_regions, flat_regions, has_diagnostics, identifier, is_flat, key_of, paging_in, paging_of, qsfp_regions, regions_in, regions_of, sfp_regions}
+use Rattle.module_reading.specs.Regions.{cmis_regions, flat_regions, has_diagnostics, identifier, is_flat, key_of, addressing_in, addressing_of, qsfp_regions, regions_in, regions_of, sfp_regions}
 use Rattle.module_reading.specs.declared.region.Region.{Region}
 use Rattle.module_reading.specs.declared.region.Region.TheVariants.{Lower, FirstPage, Page}
 
@@ -127,8 +127,8 @@ same_regions memory other asks = ap (λ (id : ℕ). regions_in (family_by id) me
   same_in (Some Sff8472) = λ i. sfp_regions ((asks.present i == 1) && not (asks.changed i == 1))
   same_in None = refl
 
-pub same_paging : (memory other : Memory) → AsksSame memory other → paging_of memory ≡ paging_of other
-same_paging memory other asks = ap (λ (id : ℕ). paging_in (family_by id)) asks.identifier
+pub same_paging : (memory other : Memory) → AsksSame memory other → addressing_of memory ≡ addressing_of other
+same_paging memory other asks = ap (λ (id : ℕ). addressing_in (family_by id)) asks.identifier
 
 same_number : (memory other : Memory) (field : Field) → map.get memory (field_key field) ≡ map.get other (field_key field) → number memory field ≡ number other field
 unfolding reading_at
@@ -159,5 +159,5 @@ family_of_nothing = ap family_by (number_of_nothing CIdentifier) ∙ no_family
 pub asked_of_nothing : regions_of map.empty ≡ Lower A0 ∷ []
 asked_of_nothing = ap (λ (family : Option Family). regions_in family map.empty) family_of_nothing
 
-pub paging_of_nothing : paging_of map.empty ≡ BankAndPage
-paging_of_nothing = ap paging_in family_of_nothing
+pub paging_of_nothing : addressing_of map.empty ≡ BankAndPage
+paging_of_nothing = ap addressing_in family_of_nothing

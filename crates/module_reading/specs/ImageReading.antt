@@ -8,13 +8,13 @@ use Rattle.bus_model.specs.declared.operation.Reply.TheVariants.{Bytes, Done, Re
 use Rattle.bus_model.specs.Operations.{Answers}
 use Rattle.control_sets.specs.OutcomeAnswers.{most_steps}
 use Rattle.paged_memory.specs.declared.key.Key.{Key}
-use Rattle.paged_memory.specs.declared.paging.Selected.TheVariants.{Unknown, Open}
+use Rattle.paged_memory.specs.declared.page_addressing.KnownPage.TheVariants.{Unknown, Open}
 use Rattle.paged_memory.specs.KnownPages.{is_awaited, is_known, missing_page, selection_read, wanted}
-use Rattle.module_reading.specs.declared.reading.Next.{Next}
-use Rattle.module_reading.specs.declared.reading.Next.TheVariants.{Do, Complete, GiveUp}
+use Rattle.module_reading.specs.declared.reading.ReadingNext.{ReadingNext}
+use Rattle.module_reading.specs.declared.reading.ReadingNext.TheVariants.{Do, Complete, GiveUp}
 use Rattle.module_reading.specs.declared.reading.Reading.{Reading}
 use Rattle.module_reading.specs.declared.region.Region.{Region}
-use Rattle.module_reading.specs.Regions.{key_of, may_lack, operation, page_of, paging_of, regions_of}
+use Rattle.module_reading.specs.Regions.{key_of, may_lack, operation, page_of, addressing_of, regions_of}
 
 -- nothing was read, and no step was made
 abbrev pub begun : Reading
@@ -25,22 +25,22 @@ abbrev pub in_hand : Reading → Option Region
 in_hand reading = slice_get (regions_of reading.image) reading.settled
 
 abbrev pub wanted_for : Reading → Region → Op
-wanted_for reading region = wanted (paging_of reading.image) reading.selected (page_of region) (operation region)
+wanted_for reading region = wanted (addressing_of reading.image) reading.selected (page_of region) (operation region)
 
-abbrev pub next_for : Reading → Option Region → Next
+abbrev pub next_for : Reading → Option Region → ReadingNext
 next_for reading None = Complete
 next_for reading (Some region) = if nat_lt reading.steps most_steps then Do (wanted_for reading region) else GiveUp
 
-abbrev pub next : Reading → Next
+abbrev pub next : Reading → ReadingNext
 next reading = next_for reading (in_hand reading)
 
 -- the reply is one that the operation can have
-abbrev pub IsReplyTo : Next → Reply → Type 0
+abbrev pub IsReplyTo : ReadingNext → Reply → Type 0
 IsReplyTo (Do op) reply = Answers op reply
 IsReplyTo Complete reply = ⊥
 IsReplyTo GiveUp reply = ⊥
 
-abbrev pub IfDo : Next → (Op → Type 0) → Type 0
+abbrev pub IfDo : ReadingNext → (Op → Type 0) → Type 0
 IfDo (Do op) P = P op
 IfDo Complete P = Unit {0}
 IfDo GiveUp P = Unit {0}
@@ -58,13 +58,13 @@ keeping reading region bytes =
 -- page 00h was read back in the place of the page that was selected
 abbrev pub settled_by : Reading → Region → List ℕ → ℕ
 settled_by reading region bytes =
-    if reading.accepted && (is_known (selection_read (paging_of reading.image) bytes) 0 && may_lack region)
+    if reading.accepted && (is_known (selection_read (addressing_of reading.image) bytes) 0 && may_lack region)
     then reading.settled + 1
     else reading.settled
 
 abbrev pub after_read_back : Reading → Region → Reply → Reading
 after_read_back reading region (Bytes bytes) =
-    record reading { selected = selection_read (paging_of reading.image) bytes.items; settled = settled_by reading region bytes.items }
+    record reading { selected = selection_read (addressing_of reading.image) bytes.items; settled = settled_by reading region bytes.items }
 after_read_back reading region Done = reading
 after_read_back reading region Refused = reading
 

@@ -7,9 +7,9 @@ use Rattle.bus_model.specs.declared.operation.Op.TheVariants.{Fetch}
 use Rattle.bus_model.specs.declared.operation.Reply.TheVariants.{Bytes, Refused}
 use Rattle.bus_model.specs.declared.operation.Step.{Step}
 use Rattle.bus_model.specs.Operations.{Answers}
-use Rattle.paged_memory.specs.Paging.{History}
+use Rattle.paged_memory.specs.PageAddressing.{History}
 use Rattle.module_reading.specs.declared.pieces.PieceReading.{PieceReading}
-use Rattle.module_reading.specs.declared.reading.Next.TheVariants.{Do}
+use Rattle.module_reading.specs.declared.reading.ReadingNext.TheVariants.{Do}
 use Rattle.module_reading.specs.PieceReading.{after, begun, next}
 use Rattle.module_reading.specs.ReadingRuns.{HasOutcome}
 

@@ -6,8 +6,8 @@ use Rattle.bus_model.specs.declared.operation.Op.TheVariants.{Fetch, Store}
 use Rattle.bus_model.specs.declared.operation.Reply.{Reply}
 use Rattle.bus_model.specs.declared.operation.Reply.TheVariants.{Bytes, Done, Refused}
 use Rattle.module_reading.specs.declared.pieces.PieceReading.{PieceReading}
-use Rattle.module_reading.specs.declared.reading.Next.{Next}
-use Rattle.module_reading.specs.declared.reading.Next.TheVariants.{Do, Complete, GiveUp}
+use Rattle.module_reading.specs.declared.reading.ReadingNext.{ReadingNext}
+use Rattle.module_reading.specs.declared.reading.ReadingNext.TheVariants.{Do, Complete, GiveUp}
 use Rattle.module_reading.specs.declared.reading.Reading.{Reading}
 use Rattle.module_reading.specs.ImageReading as whole
 
@@ -24,7 +24,7 @@ abbrev pub is_half : Op → Bool
 is_half (Fetch dev offset count) = count == 128
 is_half (Store dev offset bytes) = false
 
-abbrev pub is_half_in : Next → Bool
+abbrev pub is_half_in : ReadingNext → Bool
 is_half_in (Do op) = is_half op
 is_half_in Complete = false
 is_half_in GiveUp = false
@@ -43,12 +43,12 @@ piece_of pieces (Fetch dev offset count) =
     else Fetch dev offset count
 piece_of pieces (Store dev offset bytes) = Store dev offset bytes
 
-abbrev pub next_by : PieceReading → Next → Next
+abbrev pub next_by : PieceReading → ReadingNext → ReadingNext
 next_by pieces (Do op) = Do (piece_of pieces op)
 next_by pieces Complete = Complete
 next_by pieces GiveUp = GiveUp
 
-abbrev pub next : PieceReading → Next
+abbrev pub next : PieceReading → ReadingNext
 next pieces = next_by pieces (whole.next pieces.reading)
 
 -- what the bytes of a piece are to the reading: the whole half, or nothing yet

@@ -9,12 +9,12 @@ use Rattle.bus_model.specs.declared.operation.Step.{Step}
 use Rattle.control_sets.specs.OutcomeAnswers.{most_steps}
 use Rattle.control_sets.specs.OutcomeSteps.{Gives, IsAccepted}
 use Rattle.paged_memory.specs.declared.key.Key.{Key}
-use Rattle.paged_memory.specs.declared.paging.Paging.{Paging}
+use Rattle.paged_memory.specs.declared.page_addressing.PageAddressing.{PageAddressing}
 use Rattle.paged_memory.specs.Images.{Memory}
-use Rattle.paged_memory.specs.Paging.{EachStep, History, is_page_confirmed, reads_back, selection}
+use Rattle.paged_memory.specs.PageAddressing.{EachStep, History, is_page_confirmed, reads_back, selection}
 use Rattle.module_reading.specs.declared.region.Region.{Region}
 use Rattle.module_reading.specs.declared.region.Region.TheVariants.{Lower, FirstPage, Page}
-use Rattle.module_reading.specs.Regions.{key_of, operation, paging_of, regions_of}
+use Rattle.module_reading.specs.Regions.{key_of, operation, addressing_of, regions_of}
 
 -- among the steps is one of which, with those before it, P holds
 abbrev pub SomeStep : (Step → History → Type 0) → History → Type 0
@@ -30,31 +30,31 @@ abbrev pub StoresNothing : History → Type 0
 StoresNothing history = AllByRecursion (λ step. IsFetch step.op) history
 
 -- the module shows the half: flat memory as long as nothing is stored, a page while the steps confirm it
-abbrev pub IsShown : Paging → Region → History → Type 0
-IsShown paging (Lower dev) before = Unit {0}
-IsShown paging FirstPage before = StoresNothing before
-IsShown paging (Page page) before = IsTrue (is_page_confirmed paging page before)
+abbrev pub IsShown : PageAddressing → Region → History → Type 0
+IsShown addressing (Lower dev) before = Unit {0}
+IsShown addressing FirstPage before = StoresNothing before
+IsShown addressing (Page page) before = IsTrue (is_page_confirmed addressing page before)
 
 -- a fetch of the half gave these bytes
-abbrev pub IsRead : Paging → Region → List ℕ → History → Type 0
-IsRead paging region bytes history = SomeStep (λ step before. Gives (operation region) bytes step × IsShown paging region before) history
+abbrev pub IsRead : PageAddressing → Region → List ℕ → History → Type 0
+IsRead addressing region bytes history = SomeStep (λ step before. Gives (operation region) bytes step × IsShown addressing region before) history
 
 -- the selection of the page was accepted, and nothing was stored since
-abbrev pub WasSelected : Paging → ℕ → History → Type 0
-WasSelected paging page [] = ⊥
-WasSelected paging page (step ∷ before) = IsAccepted (selection paging page) step ⊎ (IsFetch step.op × WasSelected paging page before)
+abbrev pub WasSelected : PageAddressing → ℕ → History → Type 0
+WasSelected addressing page [] = ⊥
+WasSelected addressing page (step ∷ before) = IsAccepted (selection addressing page) step ⊎ (IsFetch step.op × WasSelected addressing page before)
 
 -- page 00h of bank 0 was read back in place of another page that was selected
-abbrev pub IsLeftOut : Paging → Region → History → Type 0
-IsLeftOut paging (Lower dev) history = ⊥
-IsLeftOut paging FirstPage history = ⊥
-IsLeftOut paging (Page page) history =
-    (0 < page) × SomeStep (λ step before. IsTrue (reads_back paging 0 step) × WasSelected paging page before) history
+abbrev pub IsLeftOut : PageAddressing → Region → History → Type 0
+IsLeftOut addressing (Lower dev) history = ⊥
+IsLeftOut addressing FirstPage history = ⊥
+IsLeftOut addressing (Page page) history =
+    (0 < page) × SomeStep (λ step before. IsTrue (reads_back addressing 0 step) × WasSelected addressing page before) history
 
 -- the image has what was read of the half; or it lacks the half, which was left out
 abbrev pub IsSettled : History → Memory → Region → Type 0
 IsSettled history image region =
-    MatchOption (map.get image (key_of region)) (IsLeftOut (paging_of image) region history) (λ bytes. IsRead (paging_of image) region bytes history)
+    MatchOption (map.get image (key_of region)) (IsLeftOut (addressing_of image) region history) (λ bytes. IsRead (addressing_of image) region bytes history)
 
 abbrev pub IsKeyAmong : List Region → Key → Type 0
 IsKeyAmong [] key = ⊥

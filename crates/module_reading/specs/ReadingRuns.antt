@@ -2,8 +2,8 @@
 -- "Reading an image"; this project's own)
 use Rattle.std.specs.Prelude.{◌≡◌, [], ◌∷◌}
 use Rattle.bus_model.specs.Operations.{Answers}
-use Rattle.paged_memory.specs.Paging.{History}
-use Rattle.module_reading.specs.declared.reading.Next.TheVariants.{Do, Complete, GiveUp}
+use Rattle.paged_memory.specs.PageAddressing.{History}
+use Rattle.module_reading.specs.declared.reading.ReadingNext.TheVariants.{Do, Complete, GiveUp}
 use Rattle.module_reading.specs.declared.reading.Reading.{Reading}
 use Rattle.module_reading.specs.ImageReading.{after, begun, next}
 use Rattle.module_reading.specs.ReadImages.{IsGivenUp, IsImageOf, IsReading}

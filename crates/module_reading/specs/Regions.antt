@@ -8,8 +8,8 @@ use Rattle.bus_model.specs.declared.operation.Op.TheVariants.{Fetch}
 use Rattle.paged_memory.specs.declared.family.Family.{Family}
 use Rattle.paged_memory.specs.declared.family.Family.TheVariants.{Cmis, Sff8636, Sff8472}
 use Rattle.paged_memory.specs.declared.key.Key.{Key}
-use Rattle.paged_memory.specs.declared.paging.Paging.{Paging}
-use Rattle.paged_memory.specs.declared.paging.Paging.TheVariants.{BankAndPage, PageAlone}
+use Rattle.paged_memory.specs.declared.page_addressing.PageAddressing.{PageAddressing}
+use Rattle.paged_memory.specs.declared.page_addressing.PageAddressing.TheVariants.{BankAndPage, PageAlone}
 use Rattle.paged_memory.specs.Families.{family_by}
 use Rattle.paged_memory.specs.Images.{Memory}
 use Rattle.paged_memory.specs.Keys.{lower_key, upper_key}
@@ -76,11 +76,11 @@ abbrev pub regions_of : Memory → List Region
 regions_of memory = regions_in (family_by (identifier memory)) memory
 
 -- how the pages of a module of this family are selected
-abbrev pub paging_in : Option Family → Paging
-paging_in (Some Cmis) = BankAndPage
-paging_in (Some Sff8636) = PageAlone
-paging_in (Some Sff8472) = BankAndPage
-paging_in None = BankAndPage
+abbrev pub addressing_in : Option Family → PageAddressing
+addressing_in (Some Cmis) = BankAndPage
+addressing_in (Some Sff8636) = PageAlone
+addressing_in (Some Sff8472) = BankAndPage
+addressing_in None = BankAndPage
 
-abbrev pub paging_of : Memory → Paging
-paging_of memory = paging_in (family_by (identifier memory))
+abbrev pub addressing_of : Memory → PageAddressing
+addressing_of memory = addressing_in (family_by (identifier memory))

@@ -4,7 +4,7 @@ ghost use Rattle.module_reading.specs.Regions as spec;
 
 use crate::region::Region;
 use field_tables::{Field, bit, number};
-use paged_memory::{Dev, Family, Image, Paging};
+use paged_memory::{Dev, Family, Image, PageAddressing};
 
 const LOWER: Region = Region::Lower(Dev::A0);
 
@@ -72,11 +72,11 @@ fn has_diagnostics(image: &Image) -> bool
 }
 
 /// How pages are selected.
-pub fn paging(image: &Image) -> Paging
-    ensures { result ≡ spec.paging_of image.now }
+pub fn addressing(image: &Image) -> PageAddressing
+    ensures { result ≡ spec.addressing_of image.now }
 {
     match Family::of(number(image, Field::CIdentifier)) {
-        Some(Family::Sff8636) => Paging::PageAlone,
-        Some(Family::Cmis | Family::Sff8472) | None => Paging::BankAndPage,
+        Some(Family::Sff8636) => PageAddressing::PageAlone,
+        Some(Family::Cmis | Family::Sff8472) | None => PageAddressing::BankAndPage,
     }
 }

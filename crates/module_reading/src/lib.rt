@@ -8,4 +8,4 @@ mod reading;
 mod region;
 
 pub use pieces::PieceReading;
-pub use reading::{Next, Reading};
+pub use reading::{Reading, ReadingNext};

@@ -8,7 +8,7 @@ ghost use Rattle.module_reading.specs.ImageReading as reader;
 ghost use Rattle.module_reading.specs.PieceReading as spec;
 ghost use Rattle.module_reading.specs.PieceReading.{HasSize};
 
-use crate::reading::{Next, Reading};
+use crate::reading::{Reading, ReadingNext};
 use arrayvec::ArrayVec;
 use bus_model::{Op, Reply};
 use paged_memory::PAGE_LEN;
@@ -37,13 +37,13 @@ impl PieceReading {
     }
 
     /// The operation to be made now, or the end.
-    pub fn next(&self) -> Next
+    pub fn next(&self) -> ReadingNext
         requires { HasSize self.now }
         ensures value { result ≡ spec.next self.now }
         ensures shape { IfDo result IsWellShaped }
     {
         match self.reading.next() {
-            Next::Do(op) => Next::Do(self.piece_of(op)),
+            ReadingNext::Do(op) => ReadingNext::Do(self.piece_of(op)),
             end => end,
         }
     }
@@ -101,7 +101,10 @@ impl PieceReading {
     fn is_in_pieces(&self) -> bool
         ensures { result ≡ spec.is_in_pieces self.now.reading }
     {
-        matches!(self.reading.next(), Next::Do(Op::Fetch { count: 128, .. }))
+        matches!(
+            self.reading.next(),
+            ReadingNext::Do(Op::Fetch { count: 128, .. })
+        )
     }
 
     /// Takes the reply to the operation that was to be made.

@@ -5,15 +5,15 @@ ghost use Rattle.bus_model.specs.Operations.{Answers, IsWellShaped};
 ghost use Rattle.paged_memory.specs.declared.image.TheConstants.{MAX_PAGES};
 ghost use Rattle.module_reading.specs.ImageReading as spec;
 
-use crate::asked::{paging, region};
+use crate::asked::{addressing, region};
 use crate::region::Region;
 use bus_model::{Op, Reply};
 use control_sets::MAX_STEPS;
-use paged_memory::{Image, Key, PAGE_LEN, Page, Paging, Selected};
+use paged_memory::{Image, Key, KnownPage, PAGE_LEN, Page, PageAddressing};
 
 /// What is wanted.
 #[derive(Drop)]
-pub enum Next {
+pub enum ReadingNext {
     /// This operation is to be made, and its reply to be told.
     Do(Op),
     /// Nothing more: each half was read, or left out.
@@ -32,7 +32,7 @@ pub struct Reading {
     /// How many steps were made.
     pub steps: u16,
     /// What they say of the page selection.
-    pub selected: Selected,
+    pub selected: KnownPage,
     /// Whether the last store on the selection was taken.
     pub accepted: bool,
 }
@@ -46,20 +46,20 @@ impl Reading {
             image: Image::new(),
             settled: 0,
             steps: 0,
-            selected: Selected::Unknown,
+            selected: KnownPage::Unknown,
             accepted: false,
         }
     }
 
     /// The operation to be made now, or the end.
-    pub fn next(&self) -> Next
+    pub fn next(&self) -> ReadingNext
         ensures value { result ≡ spec.next self.now }
         ensures shape { spec.IfDo result IsWellShaped }
     {
         match region(&self.image, self.settled) {
-            None => Next::Complete,
-            Some(_) if self.steps >= MAX_STEPS => Next::GiveUp,
-            Some(region) => Next::Do(self.wanted(region)),
+            None => ReadingNext::Complete,
+            Some(_) if self.steps >= MAX_STEPS => ReadingNext::GiveUp,
+            Some(region) => ReadingNext::Do(self.wanted(region)),
         }
     }
 
@@ -68,7 +68,7 @@ impl Reading {
         ensures shape { IsWellShaped result }
     {
         self.selected
-            .wanted(paging(&self.image), region.page(), region.op())
+            .wanted(addressing(&self.image), region.page(), region.op())
     }
 
     /// Takes the reply to the operation that was to be made.
@@ -83,7 +83,7 @@ impl Reading {
             if self.selected.is_open() {
                 self.take_read_back(region, reply);
             } else if self.selected.missing(region.page()).is_some() {
-                self.selected = Selected::Open;
+                self.selected = KnownPage::Open;
                 self.accepted = matches!(reply, Reply::Done);
             } else if let Reply::Bytes(bytes) = reply {
                 self.keep(region, bytes);
@@ -110,8 +110,8 @@ impl Reading {
         ensures { self.new ≡ spec.after_read_back self.old region reply.now }
     {
         if let Reply::Bytes(bytes) = reply {
-            self.selected = Selected::of(paging(&self.image), bytes);
-            if self.accepted && self.selected == Selected::Page(0) && region.may_lack() {
+            self.selected = KnownPage::of(addressing(&self.image), bytes);
+            if self.accepted && self.selected == KnownPage::Page(0) && region.may_lack() {
                 self.settled += 1;
             }
         }

@@ -3,7 +3,7 @@
 
 ghost use Rattle.std.specs.Prelude.{◌≡◌, ◌≢◌, ℕ, ◌≤◌, ◌↔◌, Some, not, IsTrue, count_by};
 ghost use Rattle.std.specs.Bool.{IsFalse};
-ghost use Rattle.module_states.specs.declared.machine.Inputs.{Inputs};
+ghost use Rattle.module_states.specs.declared.machine.ModuleInputs.{ModuleInputs};
 ghost use Rattle.module_states.specs.declared.state.ModuleState.{ModuleState};
 ghost use Rattle.module_states.specs.Codes.{code_of, state_at};
 ghost use Rattle.module_states.specs.Machines.{ArrivesIn};
@@ -20,21 +20,21 @@ pub fn codes_name_states()
 
 /// No two rows of the table fit at once, so their order says nothing.
 pub fn rows_exclude_each_other()
-    ensures { (state : ModuleState) (inputs : Inputs) →
+    ensures { (state : ModuleState) (inputs : ModuleInputs) →
         count_by (fits state inputs) transitions ≤ 1 }
 {}
 
 /// A transient state is left if and only if its step is done. No other state looks at that.
 pub fn transient_states_wait()
-    ensures transient { (state : ModuleState) (inputs : Inputs) → IsTrue (is_transient state) →
+    ensures transient { (state : ModuleState) (inputs : ModuleInputs) → IsTrue (is_transient state) →
         (next_of state inputs ≡ state) ↔ IsFalse inputs.done }
-    ensures steady { (state : ModuleState) (inputs : Inputs) → IsFalse (is_transient state) →
+    ensures steady { (state : ModuleState) (inputs : ModuleInputs) → IsFalse (is_transient state) →
         next_of state (record inputs { done = not inputs.done }) ≡ next_of state inputs }
 {}
 
 /// No transition leads to ModuleFault or away from it.
 pub fn faults_stay_apart()
-    ensures { (state : ModuleState) (inputs : Inputs) →
+    ensures { (state : ModuleState) (inputs : ModuleInputs) →
         (next_of state inputs ≡ ModuleState.Fault) ↔ (state ≡ ModuleState.Fault) }
 {}
 

@@ -6,5 +6,5 @@ pub mod laws;
 mod machine;
 mod state;
 
-pub use machine::{Inputs, low_power, next};
-pub use state::{CodeFault, ModuleState, state_of};
+pub use machine::{ModuleInputs, low_power, next};
+pub use state::{ModuleCodeFault, ModuleState, state_of};

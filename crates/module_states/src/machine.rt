@@ -6,7 +6,7 @@ use crate::ModuleState;
 
 /// What the machine looks at in a turn.
 #[derive(Clone, Copy, Debug, PartialEq, Eq)]
-pub struct Inputs {
+pub struct ModuleInputs {
     /// Low power is asked for.
     pub low_power: bool,
     /// Every data path is deactivated.
@@ -24,7 +24,7 @@ pub fn low_power(allow_hw: bool, request_hw: bool, request_sw: bool) -> bool
 
 /// The state after a turn.
 #[tactic(auto, unfolding(crate::specs::Transitions::next_of))]
-pub fn next(state: ModuleState, inputs: Inputs) -> ModuleState
+pub fn next(state: ModuleState, inputs: ModuleInputs) -> ModuleState
     ensures { result ≡ next_of state inputs }
 {
     match state {

@@ -18,7 +18,7 @@ pub enum ModuleState {
 
 /// Why a code is refused.
 #[derive(Clone, Copy, Debug, PartialEq, Eq, Error)]
-pub enum CodeFault {
+pub enum ModuleCodeFault {
     /// No state has this code.
     #[error("module state code {0} is reserved")]
     Reserved(u8),
@@ -49,8 +49,8 @@ impl fmt::Display for ModuleState {
 }
 
 /// The state that a code stands for.
-pub fn state_of(code: u8) -> Result<ModuleState, CodeFault>
-    ensures { result ≡ ok_or (state_at code) (CodeFault.Reserved code) }
+pub fn state_of(code: u8) -> Result<ModuleState, ModuleCodeFault>
+    ensures { result ≡ ok_or (state_at code) (ModuleCodeFault.Reserved code) }
 {
     match code {
         1 => Ok(ModuleState::LowPwr),
@@ -58,6 +58,6 @@ pub fn state_of(code: u8) -> Result<ModuleState, CodeFault>
         3 => Ok(ModuleState::Ready),
         4 => Ok(ModuleState::PwrDn),
         5 => Ok(ModuleState::Fault),
-        _ => Err(CodeFault::Reserved(code)),
+        _ => Err(ModuleCodeFault::Reserved(code)),
     }
 }

@@ -11,14 +11,14 @@ use Rattle.std.specs.Ordering.{eq_by_cmp}
 use Rattle.bus_model.specs.declared.device.Dev.{Dev}
 use Rattle.bus_model.specs.declared.device.Dev.TheVariants.{A0, A2}
 use Rattle.paged_memory.specs.declared.key.Key.{Key}
-use Rattle.paged_memory.specs.declared.selection.Selection.{Selection}
-use Rattle.paged_memory.specs.declared.selection.Selecting.{Selecting}
-use Rattle.paged_memory.specs.declared.selection.Selecting.TheVariants as selecting
+use Rattle.paged_memory.specs.declared.mapped_page.MappedPage.{MappedPage}
+use Rattle.paged_memory.specs.declared.page_addressing.PageAddressing.{PageAddressing}
+use Rattle.paged_memory.specs.declared.page_addressing.PageAddressing.TheVariants.{BankAndPage, PageAlone}
 use Rattle.paged_memory.specs.Images.{Memory, place_in_half}
 use Rattle.paged_memory.specs.ImageText.{IsEntry, IsImage, IsPage}
 use Rattle.paged_memory.specs.Keys.{lower_key, upper_key}
 use Rattle.paged_memory.specs.KeyOrder.{key_cmp}
-use Rattle.paged_memory.specs.Selections.{selecting_on, shown_at}
+use Rattle.paged_memory.specs.MappedPages.{selecting_on, shown_at}
 use Rattle.paged_memory.specs.Windows.{Windowed, bytes_from, window_fetched, half_at, read_at}
 use Rattle.paged_memory.proofs.WindowHistories.{IsOf, Shows, below_next, not_126, not_127}
 
@@ -43,7 +43,7 @@ half_page memory key half image e = entry_page (finmap.entries memory) key half 
 -- ---- what a fetch of a half reads
 
 -- the bytes that a fetch gives are those of the half, as far as the selection isn't shown
-read_first : (how : Selecting) (shown : Selection) (half : List ℕ) (address count : ℕ) → count ≤ length half → ((place : ℕ) → place < count → read_at how shown half (address + place) ≡ slice_index half place) →
+read_first : (how : Option PageAddressing) (shown : MappedPage) (half : List ℕ) (address count : ℕ) → count ≤ length half → ((place : ℕ) → place < count → read_at how shown half (address + place) ≡ slice_index half place) →
     map (read_at how shown half) (range_with_len address count) ≡ take count half
 read_first how shown half address count fits same =
     let len = length-map-range_with_len (read_at how shown half) address count in
@@ -52,13 +52,13 @@ read_first how shown half address count fits same =
     let within : place < count = omega (arith, below, len) in
     get_or-map-range_with_len (read_at how shown half) address count place (address + place) 0 within refl ∙ same place within ∙ sym (get_or-take count half place 0 within))
 
-none_shown : (how : Selecting) (shown : Selection) (address : ℕ) → (address < 126) ⊎ (128 ≤ address) → shown_at how shown address ≡ None
-none_shown selecting.BankAndPage shown address apart = λ i.
+none_shown : (how : Option PageAddressing) (shown : MappedPage) (address : ℕ) → (address < 126) ⊎ (128 ≤ address) → shown_at how shown address ≡ None
+none_shown (Some BankAndPage) shown address apart = λ i.
     if not_126 address apart i then Some shown.bank else if not_127 address (below_next address apart) i then Some shown.page else None
-none_shown selecting.PageAlone shown address apart = λ i. if not_127 address (below_next address apart) i then Some shown.page else None
-none_shown selecting.Nothing shown address apart = refl
+none_shown (Some PageAlone) shown address apart = λ i. if not_127 address (below_next address apart) i then Some shown.page else None
+none_shown None shown address apart = refl
 
-read_plain : (how : Selecting) (shown : Selection) (half : List ℕ) (address place : ℕ) → (address < 126) ⊎ (128 ≤ address) → place_in_half address ≡ place → read_at how shown half address ≡ slice_index half place
+read_plain : (how : Option PageAddressing) (shown : MappedPage) (half : List ℕ) (address place : ℕ) → (address < 126) ⊎ (128 ≤ address) → place_in_half address ≡ place → read_at how shown half address ≡ slice_index half place
 read_plain how shown half address place apart same = λ i. unwrap_or (none_shown how shown address apart i) (slice_index half (same i))
 
 -- an answer comes from a half
@@ -109,10 +109,10 @@ reads_lower memory A0 window bytes image of answer =
     read_plain how window.selection half (0 + place) place (inl (omega (arith, below))) (low_place place (omega (arith, below)))) in
     record { half = half; has = has; same = ap (λ (xs : List ℕ). take 126 xs) (sym from.2) ∙ take-map-range_with_len (read half) 0 128 126 (omega arith) ∙ same }
 reads_lower memory A2 window bytes image of answer =
-    let read = read_at selecting.Nothing window.selection in
-    let from = given_by (bytes_from selecting.Nothing window.selection 0 128) (half_at window A2 0) bytes answer in
+    let read = read_at None window.selection in
+    let from = given_by (bytes_from None window.selection 0 128) (half_at window A2 0) bytes answer in
     let half = from.0 in
     let has : finmap.get memory (lower_key A2) ≡ Some half = ap (λ (m : Memory). finmap.get m (lower_key A2)) (sym of) ∙ from.1 in
     let len = (half_page memory (lower_key A2) half image has).len in
-    let same = read_first selecting.Nothing window.selection half 0 128 (omega (arith, len)) (λ place below. ap (λ (k : ℕ). slice_index half k) (low_place place below)) in
+    let same = read_first None window.selection half 0 128 (omega (arith, len)) (λ place below. ap (λ (k : ℕ). slice_index half k) (low_place place below)) in
     record { half = half; has = has; same = ap (λ (xs : List ℕ). take 128 xs) (sym from.2) ∙ take-map-range_with_len (read half) 0 128 128 (omega arith) ∙ same }

@@ -12,10 +12,10 @@ use Rattle.bus_model.specs.Runs.{Seen, Ran, MayInTurn}
 use Rattle.bus_model.specs.ScriptedBus.{settled, script_rules}
 use Rattle.bus_model.proofs.Histories.{AnyPin}
 use Rattle.bus_model.proofs.ScriptRuns.{all_allow, settled_keeps, step_keeps, fetched_at}
-use Rattle.paged_memory.specs.declared.selection.Selection.{Selection}
-use Rattle.paged_memory.specs.declared.selection.Selecting.{Selecting}
-use Rattle.paged_memory.specs.declared.selection.Selecting.TheVariants.{BankAndPage, PageAlone, Nothing}
-use Rattle.paged_memory.specs.Selections.{selecting_on, selected_in_turn}
+use Rattle.paged_memory.specs.declared.mapped_page.MappedPage.{MappedPage}
+use Rattle.paged_memory.specs.declared.page_addressing.PageAddressing.{PageAddressing}
+use Rattle.paged_memory.specs.declared.page_addressing.PageAddressing.TheVariants.{BankAndPage, PageAlone}
+use Rattle.paged_memory.specs.MappedPages.{selecting_on, selected_in_turn}
 use Rattle.paged_memory.specs.Windows.{Windowed, bytes_from, half_at, window_stored, window_conduct}
 
 pub same_memory : (window : Windowed) (dev : Dev) (address : ℕ) (bytes : List ℕ) → (window_stored window dev address bytes).1.memory ≡ window.memory
@@ -25,7 +25,7 @@ same_memory window dev address bytes =
 
 -- the module's pages are selected by bank and page
 abbrev pub IsByBank : Windowed → Type 0
-IsByBank window = selecting_on window.memory A0 ≡ BankAndPage
+IsByBank window = selecting_on window.memory A0 ≡ (Some BankAndPage)
 
 -- time and the pin leave a window as it is
 pub always : (P : Windowed → Type 0) → IsKeptInTime window_conduct AnyPin P
@@ -34,12 +34,12 @@ always P = record { tick = λ window holds. holds; low_power_pin = λ window on 
 by_store : (bytes : List ℕ) (window : Windowed) → IsByBank window → IsByBank (window_stored window A0 126 bytes).1
 by_store bytes window holds = rw (same_memory window A0 126 bytes) holds
 
-pub shown_two : (selecting : Selecting) (selection : Selection) (half : Option (List ℕ)) (bytes : List ℕ) → selecting ≡ BankAndPage
+pub shown_two : (selecting : Option PageAddressing) (selection : MappedPage) (half : Option (List ℕ)) (bytes : List ℕ) → selecting ≡ (Some BankAndPage)
     → option_map (bytes_from selecting selection 126 2) half ≡ Some bytes → bytes ≡ selection.bank ∷ selection.page ∷ []
-shown_two BankAndPage selection None bytes is same = absurd cc
-shown_two BankAndPage selection (Some half) bytes is same = cc
-shown_two PageAlone selection half bytes is same = absurd cc
-shown_two Nothing selection half bytes is same = absurd cc
+shown_two (Some BankAndPage) selection None bytes is same = absurd cc
+shown_two (Some BankAndPage) selection (Some half) bytes is same = cc
+shown_two (Some PageAlone) selection half bytes is same = absurd cc
+shown_two None selection half bytes is same = absurd cc
 
 -- what a bank and a page are read back as after a store of both is what the window then has selected
 pub read_back : (old new : Seen (List Directive × Windowed)) (made : List Step) (page : ℕ) (taken : Bool) (bytes : ArrayVec ℕ)

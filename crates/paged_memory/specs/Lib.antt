@@ -5,8 +5,8 @@ pub mod Images
 pub mod ImageText
 pub mod ImageFaults
 pub mod Families
-pub mod Selections
-pub mod Paging
+pub mod MappedPages
+pub mod PageAddressing
 pub mod KnownPages
 pub mod Windows
 pub mod WindowCode

@@ -1,4 +1,4 @@
-use text_lines::{Spelled, Spelling};
+use text_lines::{PrintedWords, ToWords};
 use thiserror::Error;
 
 /// Why a text is no image, or a page finds no room. Lines count from 1.
@@ -19,21 +19,21 @@ pub enum ImageFault {
     AfterEnd,
 }
 
-impl Spelled for ImageFault {
+impl ToWords for ImageFault {
     ghost use Rattle.paged_memory.specs.FaultWords.{image_fault_words};
 
     ghost words = { image_fault_words };
 
     ghost most = { 2 };
 
-    fn spelling(&self) -> Spelling {
+    fn to_words(&self) -> PrintedWords {
         match self {
-            ImageFault::BadHeader => Spelling::of("IM1"),
-            ImageFault::BadLine(line) => Spelling::of("IM2").and(line),
-            ImageFault::OutOfOrder(line) => Spelling::of("IM3").and(line),
-            ImageFault::TooManyPages => Spelling::of("IM4"),
-            ImageFault::NoEnd => Spelling::of("IM5"),
-            ImageFault::AfterEnd => Spelling::of("IM6"),
+            ImageFault::BadHeader => PrintedWords::of("IM1"),
+            ImageFault::BadLine(line) => PrintedWords::of("IM2").and(line),
+            ImageFault::OutOfOrder(line) => PrintedWords::of("IM3").and(line),
+            ImageFault::TooManyPages => PrintedWords::of("IM4"),
+            ImageFault::NoEnd => PrintedWords::of("IM5"),
+            ImageFault::AfterEnd => PrintedWords::of("IM6"),
         }
     }
 }

@@ -3,7 +3,7 @@ ghost use Rattle.paged_memory.specs.declared.key.Half.TheVariants.{Lower};
 
 use bus_model::Dev;
 use std::fmt;
-use text_lines::{HexByte, Spelled, Spelling};
+use text_lines::{HexByte, PrintedWords, ToWords};
 
 /// The two halves of a device's 256 addresses: bytes 0 to 127 stand alone, 128 to 255 show one page of a bank.
 #[derive(Clone, Copy, Debug, PartialEq, Eq, PartialOrd, Ord, Hash)]
@@ -84,17 +84,17 @@ impl fmt::Display for Key {
 }
 
 /// The words that it prints.
-impl Spelled for Key {
+impl ToWords for Key {
     ghost use Rattle.paged_memory.specs.ImageText.{key_words};
 
     ghost words = { key_words };
 
     ghost most = { 4 };
 
-    fn spelling(&self) -> Spelling {
+    fn to_words(&self) -> PrintedWords {
         match self.half {
-            Half::Lower => Spelling::of("lower").and(&self.dev),
-            Half::Upper => Spelling::of("upper")
+            Half::Lower => PrintedWords::of("lower").and(&self.dev),
+            Half::Upper => PrintedWords::of("upper")
                 .and(&self.dev)
                 .and(&HexByte(self.bank))
                 .and(&HexByte(self.page)),

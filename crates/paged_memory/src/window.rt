@@ -2,14 +2,15 @@
 ghost use Rattle.std.specs.Prelude.{◌≡◌, ◌+◌, ◌≤◌, length, IsTrue};
 ghost use Rattle.std.specs.FinMap as map;
 ghost use Rattle.paged_memory.specs.KeyOrder.{key_cmp};
-ghost use Rattle.paged_memory.specs.Selections.{selected_in_turn};
+ghost use Rattle.paged_memory.specs.MappedPages.{selected_in_turn};
 ghost use Rattle.paged_memory.specs.Windows.{read_at, bytes_from};
 
 use crate::entries::page_at;
 use crate::image::Image;
 use crate::key::Key;
+use crate::mapped_page::MappedPage;
 use crate::page::{PAGE_LEN, Page};
-use crate::selection::{Selecting, Selection};
+use crate::page_addressing::PageAddressing;
 use arrayvec::ArrayVec;
 use bus_model::{Dev, Device, MAX_FETCH};
 use std::marker::Model;
@@ -27,14 +28,14 @@ pub enum WindowFault {
 #[derive(Debug, Drop)]
 pub struct Window<const PAGES: usize> {
     entries: ArrayVec<(Key, Page), PAGES>,
-    selecting: Selecting,
-    selection: Selection,
+    selecting: Option<PageAddressing>,
+    selection: MappedPage,
 }
 
 impl<const PAGES: usize> Model for Window<PAGES> {
     ghost use Rattle.std.specs.FinMap as map;
     ghost use Rattle.bus_model.specs.declared.device.Dev.TheVariants.{A0};
-    ghost use Rattle.paged_memory.specs.Selections.{selecting_on};
+    ghost use Rattle.paged_memory.specs.MappedPages.{selecting_on};
     ghost use Rattle.paged_memory.specs.Windows.{Windowed, AreShown};
     ghost use Rattle.paged_memory.specs.WindowCode.{coded_window};
 
@@ -51,7 +52,7 @@ impl<const PAGES: usize> Window<PAGES> {
     ghost use Rattle.std.specs.Prelude.{◌≡◌, ◌↔◌, ◌<◌, IfOk, IfErr, IsErr};
     ghost use Rattle.std.specs.FinMap as map;
     ghost use Rattle.bus_model.specs.declared.device.Dev.{Dev};
-    ghost use Rattle.paged_memory.specs.Selections.{selecting_on};
+    ghost use Rattle.paged_memory.specs.MappedPages.{selecting_on};
     ghost use Rattle.paged_memory.specs.Windows.{started};
 
     /// The window of an image, with page 00h of bank 0 selected.
@@ -63,20 +64,20 @@ impl<const PAGES: usize> Window<PAGES> {
         match ArrayVec::try_from(image.entries()) {
             Ok(entries) => Ok(Window {
                 entries,
-                selecting: Selecting::on(image, Dev::A0),
-                selection: Selection::first_page(),
+                selecting: PageAddressing::on(image, Dev::A0),
+                selection: MappedPage::first_page(),
             }),
             Err(_) => Err(WindowFault::MorePages),
         }
     }
 
     // How pages are selected on a device.
-    fn selecting_on(&self, dev: Dev) -> Selecting
+    fn selecting_on(&self, dev: Dev) -> Option<PageAddressing>
         ensures { result ≡ selecting_on self.now.memory dev }
     {
         match dev {
             Dev::A0 => self.selecting,
-            Dev::A2 => Selecting::Nothing,
+            Dev::A2 => None,
         }
     }
 }
@@ -113,8 +114,8 @@ impl<const PAGES: usize> Device for Window<PAGES> {
 
 // So many of a half's bytes from an address upwards.
 fn bytes_from(
-    selecting: Selecting,
-    selection: Selection,
+    selecting: Option<PageAddressing>,
+    selection: MappedPage,
     address: u8,
     count: u8,
     half: &[u8; PAGE_LEN],
@@ -131,7 +132,12 @@ fn bytes_from(
     bytes
 }
 
-fn read_at(selecting: Selecting, selection: Selection, half: &[u8; PAGE_LEN], address: u8) -> u8
+fn read_at(
+    selecting: Option<PageAddressing>,
+    selection: MappedPage,
+    half: &[u8; PAGE_LEN],
+    address: u8,
+) -> u8
     ensures { result ≡ read_at selecting selection half.now address }
 {
     selection
@@ -141,12 +147,12 @@ fn read_at(selecting: Selecting, selection: Selection, half: &[u8; PAGE_LEN], ad
 
 // The selection after bytes were stored one by one, from an address upwards.
 fn select(
-    selecting: Selecting,
-    selection: Selection,
+    selecting: Option<PageAddressing>,
+    selection: MappedPage,
     entries: &[(Key, Page)],
     address: u8,
     bytes: &[u8],
-) -> Selection
+) -> MappedPage
     requires sorted { IsTrue (map.is_sorted key_cmp entries.now) }
     requires half { address + length bytes.now ≤ 256 }
     ensures { result ≡ selected_in_turn selecting (map.from_sorted entries.now) selection address bytes.now }

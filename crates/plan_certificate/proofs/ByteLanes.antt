@@ -1,4 +1,4 @@
--- Sets of used media lanes that a byte can say: those of entries, and of where their steps lead.
+-- Sets of used media lanes that a byte can say: those of entries, and of where their decisions lead.
 use Rattle.std.proofs.Common.{◌≡◌, ℕ, ◌+◌, ◌-◌, ◌^◌, ◌<◌, ◌≤◌, Bool, true, false, List, [], ◌∷◌, ◌++◌, map, filter, cond, nat_lt, sym, subst, ap, ◌∙◌, inl, inr, arith, bit_or}
 use Rattle.std.specs.List.{AllByRecursion}
 use Rattle.std.specs.FinSet as set
@@ -13,10 +13,10 @@ use Rattle.applications.specs.Advertised.{Advertised}
 use Rattle.applications.specs.Weights.{HostWeights}
 use Rattle.plan_certificate.specs.declared.path.Path.{Path}
 use Rattle.plan_certificate.specs.declared.state.State.{State}
-use Rattle.plan_certificate.specs.declared.state.Step.{Step}
+use Rattle.plan_certificate.specs.declared.state.Decision.{Decision}
 use Rattle.plan_certificate.specs.Paths.{app_of}
 use Rattle.plan_certificate.specs.KeptPaths.{may_stay_free}
-use Rattle.plan_certificate.specs.States.{fits, free_steps, path_step, path_steps, paths_at, steps_from}
+use Rattle.plan_certificate.specs.States.{fits, free_decisions, path_decision, path_decisions, paths_at, decisions_from}
 use Rattle.plan_certificate.proofs.Heaviest.{allowed}
 use Rattle.plan_certificate.proofs.KeptPaths.{eligible_allowed}
 use Rattle.plan_certificate.proofs.Lists.{all_of_append}
@@ -43,15 +43,15 @@ union_is_byte lanes first count h from to =
 pub start_is_byte : IsByte set.empty
 start_is_byte = record { byte = 0; below = omega arith; is = sym lanes_in-zero }
 
-abbrev EndsAtByte : Step → Type 0
-EndsAtByte step = IsByte step.end.used
+abbrev EndsAtByte : Decision → Type 0
+EndsAtByte decision = IsByte decision.end.used
 
-steps_end_at_bytes : (advert : Advertised) (weights : HostWeights) (kept : List Path) (state : State) (paths : List Path) → IsByte state.used → AllByRecursion EndsAtByte (path_steps advert weights kept state paths)
-unfolding path_steps
-steps_end_at_bytes advert weights kept state [] is_byte = tt
-steps_end_at_bytes advert weights kept state (path ∷ paths) is_byte =
-    let rest = steps_end_at_bytes advert weights kept state paths is_byte in
-    let Made : Bool → Type 0 = λ b. AllByRecursion EndsAtByte (map (path_step advert weights state) (cond b (path ∷ filter (fits advert kept state) paths) (filter (fits advert kept state) paths))) in
+decisions_end_at_bytes : (advert : Advertised) (weights : HostWeights) (kept : List Path) (state : State) (paths : List Path) → IsByte state.used → AllByRecursion EndsAtByte (path_decisions advert weights kept state paths)
+unfolding path_decisions
+decisions_end_at_bytes advert weights kept state [] is_byte = tt
+decisions_end_at_bytes advert weights kept state (path ∷ paths) is_byte =
+    let rest = decisions_end_at_bytes advert weights kept state paths is_byte in
+    let Made : Bool → Type 0 = λ b. AllByRecursion EndsAtByte (map (path_decision advert weights state) (cond b (path ∷ filter (fits advert kept state) paths) (filter (fits advert kept state) paths))) in
     elim (cases_Bool (fits advert kept state path)) [
       | inl does ↦
           let lanes = allowed advert path (eligible_allowed advert kept path (and_parts _ _ does).0) in
@@ -59,16 +59,16 @@ steps_end_at_bytes advert weights kept state (path ∷ paths) is_byte =
       | inr fails ↦ subst Made (sym fails) rest
     ]
 
-free_ends_at_byte : (may : Bool) (state : State) → IsByte state.used → AllByRecursion EndsAtByte (free_steps may state)
+free_ends_at_byte : (may : Bool) (state : State) → IsByte state.used → AllByRecursion EndsAtByte (free_decisions may state)
 free_ends_at_byte true state is_byte = (is_byte, tt)
 free_ends_at_byte false state is_byte = tt
 
-pub each_end_is_byte : (advert : Advertised) (weights : HostWeights) (kept : List Path) (state : State) → IsByte state.used → AllByRecursion EndsAtByte (steps_from advert weights kept state)
-unfolding steps_from
+pub each_end_is_byte : (advert : Advertised) (weights : HostWeights) (kept : List Path) (state : State) → IsByte state.used → AllByRecursion EndsAtByte (decisions_from advert weights kept state)
+unfolding decisions_from
 each_end_is_byte advert weights kept state is_byte =
     let may : Bool = may_stay_free advert kept (state.boundary + 1) in
-    let of_paths = path_steps advert weights kept state (paths_at advert (state.boundary + 1)) in
-    elim (nat_lt state.boundary 8) as (λ (b : Bool). AllByRecursion EndsAtByte (cond b (free_steps may state ++ of_paths) [])) [
-      | true ↦ all_of_append EndsAtByte (free_steps may state) of_paths (free_ends_at_byte may state is_byte) (steps_end_at_bytes advert weights kept state (paths_at advert (state.boundary + 1)) is_byte)
+    let of_paths = path_decisions advert weights kept state (paths_at advert (state.boundary + 1)) in
+    elim (nat_lt state.boundary 8) as (λ (b : Bool). AllByRecursion EndsAtByte (cond b (free_decisions may state ++ of_paths) [])) [
+      | true ↦ all_of_append EndsAtByte (free_decisions may state) of_paths (free_ends_at_byte may state is_byte) (decisions_end_at_bytes advert weights kept state (paths_at advert (state.boundary + 1)) is_byte)
       | false ↦ tt
     ]

@@ -13,14 +13,14 @@ use Rattle.applications.specs.Weights.{HostWeights}
 use Rattle.plan_certificate.specs.declared.certificate.Entry.{Entry}
 use Rattle.plan_certificate.specs.declared.path.Path.{Path}
 use Rattle.plan_certificate.specs.declared.state.State.{State}
-use Rattle.plan_certificate.specs.declared.state.Step.{Step}
+use Rattle.plan_certificate.specs.declared.state.Decision.{Decision}
 use Rattle.plan_certificate.specs.declared.verdict.Verdict.TheVariants.{Good}
 use Rattle.plan_certificate.specs.declared.verdict.Flaw.{Flaw}
 use Rattle.plan_certificate.specs.declared.verdict.Reason.TheVariants.{WeightWrong, NoStart, NotClosed, TooLow, StartNotWeight}
 use Rattle.plan_certificate.specs.Plans.{plan_weight}
-use Rattle.plan_certificate.specs.States.{start, state_place, steps_from}
+use Rattle.plan_certificate.specs.States.{start, state_place, decisions_from}
 use Rattle.plan_certificate.specs.Certificates.{Claim, HasStates, IsBound, IsCovered, IsGood, state_of, entry_place}
-use Rattle.plan_certificate.specs.Verdicts.{Flaws, PossibleFlaw, all_flaws, bound_flaws, entries_flaws, entry_flaws, flaw, judged, kept_flaws, missing_flaws, paths_flaws, plan_flaws, potential_of, step_flaws, verdict}
+use Rattle.plan_certificate.specs.Verdicts.{Flaws, PossibleFlaw, all_flaws, bound_flaws, entries_flaws, entry_flaws, flaw, judged, kept_flaws, missing_flaws, paths_flaws, plan_flaws, potential_of, decision_flaws, verdict}
 use Rattle.plan_certificate.proofs.ByteLanes.{IsByte, lanes_of_byte, start_is_byte, each_end_is_byte}
 use Rattle.plan_certificate.proofs.Lists.{each_pair, found, map_each}
 use Rattle.plan_certificate.proofs.Lookups.{is_there, found_there}
@@ -60,36 +60,36 @@ bound_to entries state potential states (entry, contains, same, is) =
     let at = found_there entries (state_place state) contains.0 entry states.rising contains.1 (ap entry_place contains.2 ∙ place) in
     ap (option_map (λ (e : Entry). e.potential)) at ∙ ap (λ (e : Entry). Some e.potential) contains.2 ∙ ap (λ (p : ℕ). Some p) is
 
--- ---- the steps of an entry
+-- ---- the decisions of an entry
 
 not_none : (o : Option ℕ) → is_none o ≡ false → (potential : ℕ) × (o ≡ Some potential)
 not_none None is = absurd cc
 not_none (Some potential) is = (potential, refl)
 
-abbrev open_flaw : List Entry → ℕ → Step → PossibleFlaw
-open_flaw entries number step = (is_none (potential_of entries step.end), flaw NotClosed number)
+abbrev open_flaw : List Entry → ℕ → Decision → PossibleFlaw
+open_flaw entries number decision = (is_none (potential_of entries decision.end), flaw NotClosed number)
 
-abbrev low_flaw : List Entry → ℕ → Entry → Step → PossibleFlaw
-low_flaw entries number entry step = (nat_lt entry.potential (step.weight + unwrap_or (potential_of entries step.end) 0), flaw TooLow number)
+abbrev low_flaw : List Entry → ℕ → Entry → Decision → PossibleFlaw
+low_flaw entries number entry decision = (nat_lt entry.potential (decision.weight + unwrap_or (potential_of entries decision.end) 0), flaw TooLow number)
 
-abbrev is_low : Entry → Step → Option ℕ → Bool
-is_low entry step later = nat_lt entry.potential (step.weight + unwrap_or later 0)
+abbrev is_low : Entry → Decision → Option ℕ → Bool
+is_low entry decision later = nat_lt entry.potential (decision.weight + unwrap_or later 0)
 
-step_covered : (entries : List Entry) (entry : ℕ × Entry) (step : Step) → HasStates entries → IsByte step.end.used → NoFlaw (step_flaws entries entry step) → IsCovered entries entry.1.potential step
-step_covered entries (number, entry) step states is_byte none =
-    let low = low_flaw entries number entry step in
-    let first = (flaw_first (open_flaw entries number step) (low ∷ [])).0 none in
+decision_covered : (entries : List Entry) (entry : ℕ × Entry) (decision : Decision) → HasStates entries → IsByte decision.end.used → NoFlaw (decision_flaws entries entry decision) → IsCovered entries entry.1.potential decision
+decision_covered entries (number, entry) decision states is_byte none =
+    let low = low_flaw entries number entry decision in
+    let first = (flaw_first (open_flaw entries number decision) (low ∷ [])).0 none in
     let second = (flaw_first low []).0 first.1 in
-    let later = not_none (potential_of entries step.end) first.0 in
-    let test : is_low entry step (Some later.0) ≡ false = ap (is_low entry step) (sym later.1) ∙ second.0 in
-    (later.0, bound_from entries step.end later.0 states is_byte later.1, grind (arith, nat_tests))
+    let later = not_none (potential_of entries decision.end) first.0 in
+    let test : is_low entry decision (Some later.0) ≡ false = ap (is_low entry decision) (sym later.1) ∙ second.0 in
+    (later.0, bound_from entries decision.end later.0 states is_byte later.1, grind (arith, nat_tests))
 
-covered_step : (entries : List Entry) (entry : ℕ × Entry) (step : Step) → HasStates entries → IsCovered entries entry.1.potential step → NoFlaw (step_flaws entries entry step)
-covered_step entries (number, entry) step states (later, bound, covers) =
-    let low = low_flaw entries number entry step in
-    let is = bound_to entries step.end later states bound in
-    let test : is_low entry step (Some later) ≡ false = grind (arith, nat_tests) in
-    (flaw_first (open_flaw entries number step) (low ∷ [])).1 (ap is_none is, (flaw_first low []).1 (ap (is_low entry step) is ∙ test, refl))
+covered_decision : (entries : List Entry) (entry : ℕ × Entry) (decision : Decision) → HasStates entries → IsCovered entries entry.1.potential decision → NoFlaw (decision_flaws entries entry decision)
+covered_decision entries (number, entry) decision states (later, bound, covers) =
+    let low = low_flaw entries number entry decision in
+    let is = bound_to entries decision.end later states bound in
+    let test : is_low entry decision (Some later) ≡ false = grind (arith, nat_tests) in
+    (flaw_first (open_flaw entries number decision) (low ∷ [])).1 (ap is_none is, (flaw_first low []).1 (ap (is_low entry decision) is ∙ test, refl))
 
 -- ---- all entries
 
@@ -103,24 +103,24 @@ numbered P n [] h = tt
 numbered P n (x ∷ xs) h = (h.0, numbered P (n + 1) xs h.1)
 
 abbrev CoveredAt : Advertised → HostWeights → List Path → List Entry → Entry → Type 0
-CoveredAt advert weights kept entries entry = All (IsCovered entries entry.potential) (steps_from advert weights kept (state_of entry))
+CoveredAt advert weights kept entries entry = All (IsCovered entries entry.potential) (decisions_from advert weights kept (state_of entry))
 
 abbrev Below : Entry → Type 0
 Below entry = entry.used < 256
 
 entry_is_covered : (advert : Advertised) (weights : HostWeights) (kept : List Path) (entries : List Entry) (entry : ℕ × Entry) → HasStates entries → entry.1.used < 256 → NoFlaw (entry_flaws advert weights kept entries entry) → CoveredAt advert weights kept entries entry.1
 entry_is_covered advert weights kept entries entry states fits none =
-    let steps = steps_from advert weights kept (state_of entry.1) in
+    let decisions = decisions_from advert weights kept (state_of entry.1) in
     let ends = each_end_is_byte advert weights kept (state_of entry.1) (record { byte = entry.1.used; below = fits; is = refl }) in
-    let each = (none_of_each (step_flaws entries entry) steps).0 none in
-    All-from_recursion (IsCovered entries entry.1.potential) steps
-    (each_pair (λ (step : Step). IsByte step.end.used) (λ (step : Step). NoFlaw (step_flaws entries entry step)) (IsCovered entries entry.1.potential) steps (λ step is_byte no. step_covered entries entry step states is_byte no) ends each)
+    let each = (none_of_each (decision_flaws entries entry) decisions).0 none in
+    All-from_recursion (IsCovered entries entry.1.potential) decisions
+    (each_pair (λ (decision : Decision). IsByte decision.end.used) (λ (decision : Decision). NoFlaw (decision_flaws entries entry decision)) (IsCovered entries entry.1.potential) decisions (λ decision is_byte no. decision_covered entries entry decision states is_byte no) ends each)
 
 covered_entry : (advert : Advertised) (weights : HostWeights) (kept : List Path) (entries : List Entry) (entry : ℕ × Entry) → HasStates entries → CoveredAt advert weights kept entries entry.1 → NoFlaw (entry_flaws advert weights kept entries entry)
 covered_entry advert weights kept entries entry states covered =
-    let steps = steps_from advert weights kept (state_of entry.1) in
-    (none_of_each (step_flaws entries entry) steps).1
-    (map_each (IsCovered entries entry.1.potential) (λ (step : Step). NoFlaw (step_flaws entries entry step)) steps (λ step covers. covered_step entries entry step states covers) (recursion_from_All (IsCovered entries entry.1.potential) steps covered))
+    let decisions = decisions_from advert weights kept (state_of entry.1) in
+    (none_of_each (decision_flaws entries entry) decisions).1
+    (map_each (IsCovered entries entry.1.potential) (λ (decision : Decision). NoFlaw (decision_flaws entries entry decision)) decisions (λ decision covers. covered_decision entries entry decision states covers) (recursion_from_All (IsCovered entries entry.1.potential) decisions covered))
 
 entries_covered : (advert : Advertised) (weights : HostWeights) (kept : List Path) (entries : List Entry) → HasStates entries → NoFlaw (entries_flaws advert weights kept entries) ↔ All (CoveredAt advert weights kept entries) entries
 unfolding entries_flaws

@@ -11,12 +11,12 @@ use Rattle.applications.specs.Advertised.{Advertised}
 use Rattle.applications.specs.Weights.{HostWeights}
 use Rattle.plan_certificate.specs.declared.path.Path.{Path}
 use Rattle.plan_certificate.specs.declared.state.State.{State}
-use Rattle.plan_certificate.specs.declared.state.Step.{Step}
+use Rattle.plan_certificate.specs.declared.state.Decision.{Decision}
 use Rattle.plan_certificate.specs.declared.certificate.Entry.{Entry}
 use Rattle.plan_certificate.specs.Paths.{app_of, has_number, no_app, media_lanes, is_allowed, path_weight}
 use Rattle.plan_certificate.specs.Plans.{are_apart, IsAdmissible, IsBest, Keeps, plan_weight}
 use Rattle.plan_certificate.specs.KeptPaths.{is_eligible, may_stay_free}
-use Rattle.plan_certificate.specs.States.{start, free_step, free_steps, path_step, paths_at, paths_of_app, fits, path_steps, steps_from}
+use Rattle.plan_certificate.specs.States.{start, free_decision, free_decisions, path_decision, paths_at, paths_of_app, fits, path_decisions, decisions_from}
 use Rattle.plan_certificate.specs.Certificates.{Claim, IsBound, IsCovered, IsGood, state_of}
 use Rattle.plan_certificate.proofs.LaneRuns.{disjoint_back, disjoint_none, disjoint_union, runs_apart}
 use Rattle.plan_certificate.proofs.Lists.{each_contained, each_of_append, each_of_map, each_pair, map_each, each_of_filter, each_of_flat_map, each_in_range, found}
@@ -63,23 +63,23 @@ listed advert P path host begins can each =
     each_in_range (λ (media : ℕ). P (record { app = app.0.number; host = host; media = media })) 1 8 path.media by_media lanes.media_from (omega (arith, lanes.media_to, lanes.media_some)) in
     subst P (λ i. record { app = number i; host = sym begins i; media = path.media }) one
 
--- what holds of each step from a state holds of the free lane's step and of each path's that fits
-pub each_step : (advert : Advertised) (weights : HostWeights) (kept : List Path) (P : Step → Type 0) (state : State) → state.boundary < 8 → AllByRecursion P (steps_from advert weights kept state)
-    → (may_stay_free advert kept (state.boundary + 1) ≡ true → P (free_step state))
-    × ((path : Path) → path.host ≡ state.boundary + 1 → is_eligible advert kept path ≡ true → is_disjoint (media_lanes advert path) state.used ≡ true → P (path_step advert weights state path))
-unfolding steps_from path_steps
-each_step advert weights kept P state below each =
+-- what holds of each decision from a state holds of the free lane's decision and of each path's that fits
+pub each_decision : (advert : Advertised) (weights : HostWeights) (kept : List Path) (P : Decision → Type 0) (state : State) → state.boundary < 8 → AllByRecursion P (decisions_from advert weights kept state)
+    → (may_stay_free advert kept (state.boundary + 1) ≡ true → P (free_decision state))
+    × ((path : Path) → path.host ≡ state.boundary + 1 → is_eligible advert kept path ≡ true → is_disjoint (media_lanes advert path) state.used ≡ true → P (path_decision advert weights state path))
+unfolding decisions_from path_decisions
+each_decision advert weights kept P state below each =
     let host : ℕ = state.boundary + 1 in
-    let free = free_steps (may_stay_free advert kept host) state in
-    let by_paths = path_steps advert weights kept state (paths_at advert host) in
-    let steps = free ++ by_paths in
+    let free = free_decisions (may_stay_free advert kept host) state in
+    let by_paths = path_decisions advert weights kept state (paths_at advert host) in
+    let decisions = free ++ by_paths in
     let is_below : nat_lt state.boundary 8 ≡ true = grind (arith, nat_tests) in
-    let all : AllByRecursion P steps = subst (λ (b : Bool). AllByRecursion P (cond b steps [])) is_below each in
+    let all : AllByRecursion P decisions = subst (λ (b : Bool). AllByRecursion P (cond b decisions [])) is_below each in
     let parts = each_of_append P free by_paths all in
-    let of_paths = each_of_filter (λ (path : Path). P (path_step advert weights state path)) (fits advert kept state) (paths_at advert host) (each_of_map P (path_step advert weights state) (filter (fits advert kept state) (paths_at advert host)) parts.1) in (
-      λ may. (subst (λ (b : Bool). AllByRecursion P (free_steps b state)) may parts.0).0,
+    let of_paths = each_of_filter (λ (path : Path). P (path_decision advert weights state path)) (fits advert kept state) (paths_at advert host) (each_of_map P (path_decision advert weights state) (filter (fits advert kept state) (paths_at advert host)) parts.1) in (
+      λ may. (subst (λ (b : Bool). AllByRecursion P (free_decisions b state)) may parts.0).0,
       λ path begins can unused.
-          listed advert (λ (p : Path). fits advert kept state p ≡ true → P (path_step advert weights state p)) path host begins (eligible_allowed advert kept path can) of_paths (λ i. can i && unused i),
+          listed advert (λ (p : Path). fits advert kept state p ≡ true → P (path_decision advert weights state p)) path host begins (eligible_allowed advert kept path can) of_paths (λ i. can i && unused i),
     )
 
 -- a path that may still come: it begins past the boundary, at lanes that aren't used
@@ -99,12 +99,12 @@ none_later advert kept weigh state (path ∷ paths) ended each =
     absurd (omega (arith, ended, each.0.past, lanes.host_to, lanes.host_some))
 
 -- the lane after the boundary stays free
-pub stay_later : (advert : Advertised) (kept : List Path) (state : State) (paths : List Path) → AllByRecursion (IsLater advert kept state) paths → AllByRecursion (λ path. path.host ≢ state.boundary + 1) paths → AllByRecursion (IsLater advert kept (free_step state).end) paths
+pub stay_later : (advert : Advertised) (kept : List Path) (state : State) (paths : List Path) → AllByRecursion (IsLater advert kept state) paths → AllByRecursion (λ path. path.host ≢ state.boundary + 1) paths → AllByRecursion (IsLater advert kept (free_decision state).end) paths
 stay_later advert kept state paths each elsewhere =
-    each_pair (IsLater advert kept state) (λ path. path.host ≢ state.boundary + 1) (IsLater advert kept (free_step state).end) paths
+    each_pair (IsLater advert kept state) (λ path. path.host ≢ state.boundary + 1) (IsLater advert kept (free_decision state).end) paths
     (λ path later other. record { can = later.can; past = omega (arith, later.past, other); unused = later.unused }) each elsewhere
 
-pub after_path : (advert : Advertised) (weights : HostWeights) (kept : List Path) (state : State) (taken path : Path) → IsLater advert kept state taken → taken.host ≡ state.boundary + 1 → IsLater advert kept state path → IsApart advert taken path → IsLater advert kept (path_step advert weights state taken).end path
+pub after_path : (advert : Advertised) (weights : HostWeights) (kept : List Path) (state : State) (taken path : Path) → IsLater advert kept state taken → taken.host ≡ state.boundary + 1 → IsLater advert kept state path → IsApart advert taken path → IsLater advert kept (path_decision advert weights state taken).end path
 unfolding are_apart
 after_path advert weights kept state taken path is_taken begins later apart =
     let lanes = lanes_later advert kept state path later in
@@ -116,13 +116,13 @@ after_path advert weights kept state taken path is_taken begins later apart =
       unused = disjoint_union (media_lanes advert path) state.used (media_lanes advert taken) later.unused (disjoint_back (media_lanes advert taken) (media_lanes advert path) parts.1);
     }
 
--- a step leads to where this bounds what can be gained by what is left of the potential
-abbrev pub LeavesEnough : (State → ℕ → Type 0) → ℕ → Step → Type 0
-LeavesEnough Bounds potential step = (later : ℕ) × Bounds step.end later × (step.weight + later ≤ potential)
+-- a decision leads to where this bounds what can be gained by what is left of the potential
+abbrev pub LeavesEnough : (State → ℕ → Type 0) → ℕ → Decision → Type 0
+LeavesEnough Bounds potential decision = (later : ℕ) × Bounds decision.end later × (decision.weight + later ≤ potential)
 
--- what bounds the gain at a state does so after each step
+-- what bounds the gain at a state does so after each decision
 abbrev pub IsPreserved : Advertised → HostWeights → List Path → (State → ℕ → Type 0) → Type 0
-IsPreserved advert weights kept Bounds = (state : State) (potential : ℕ) → Bounds state potential → AllByRecursion (LeavesEnough Bounds potential) (steps_from advert weights kept state)
+IsPreserved advert weights kept Bounds = (state : State) (potential : ℕ) → Bounds state potential → AllByRecursion (LeavesEnough Bounds potential) (decisions_from advert weights kept state)
 
 -- a kept path is one of those that may still come, or its host lanes are decided
 abbrev pub ComesOrCame : Advertised → State → List Path → Path → Type 0
@@ -140,17 +140,17 @@ lane_free advert keeping kept state paths each elsewhere come =
       | inr came ↦ inr came
     ]) come)
 
-pub come_free : (advert : Advertised) (kept : List Path) (state : State) (paths : List Path) → AllByRecursion (ComesOrCame advert state paths) kept → AllByRecursion (ComesOrCame advert (free_step state).end paths) kept
+pub come_free : (advert : Advertised) (kept : List Path) (state : State) (paths : List Path) → AllByRecursion (ComesOrCame advert state paths) kept → AllByRecursion (ComesOrCame advert (free_decision state).end paths) kept
 come_free advert kept state paths come =
-    map_each (ComesOrCame advert state paths) (ComesOrCame advert (free_step state).end paths) kept (λ path either. elim (either) [
+    map_each (ComesOrCame advert state paths) (ComesOrCame advert (free_decision state).end paths) kept (λ path either. elim (either) [
       | inl comes ↦ inl comes
       | inr came ↦ inr (omega (arith, came))
     ]) come
 
 pub come_taken : (advert : Advertised) (weights : HostWeights) (weigh : Path → ℕ) (kept : List Path) (state : State) (paths : List Path) → (picked : Picked advert weigh paths (state.boundary + 1)) → AllByRecursion (ComesOrCame advert state paths) kept
-    → AllByRecursion (ComesOrCame advert (path_step advert weights state picked.path).end picked.rest) kept
+    → AllByRecursion (ComesOrCame advert (path_decision advert weights state picked.path).end picked.rest) kept
 come_taken advert weights weigh kept state paths picked come =
-    let End : State = (path_step advert weights state picked.path).end in
+    let End : State = (path_decision advert weights state picked.path).end in
     let Left : Path → Type 0 = λ path. Contains picked.rest path ⊎ (path ≡ picked.path) in
     let left = All-from_recursion Left paths (picked.back Left (inr refl, map_each (Contains picked.rest) Left picked.rest (λ path comes. inl comes) (each_contained picked.rest))) in
     map_each (ComesOrCame advert state paths) (ComesOrCame advert End picked.rest) kept (λ path either. elim (either) [
@@ -170,32 +170,32 @@ bounded advert weights kept Bounds is_preserved (suc left) state potential ends 
     elim (cases_lt state.boundary 8) [
       | inr ended ↦ omega (arith, none_later advert kept weigh state paths (omega (arith, ended)) each)
       | inl below ↦
-          let steps = each_step advert weights kept (LeavesEnough Bounds potential) state below (is_preserved state potential bound) in
+          let decisions = each_decision advert weights kept (LeavesEnough Bounds potential) state below (is_preserved state potential bound) in
           elim (pick advert weigh paths (state.boundary + 1) apart) [
             | inr elsewhere ↦
-                let step = steps.0 (lane_free advert kept kept state paths each elsewhere come) in
-                let rest = bounded advert weights kept Bounds is_preserved left (free_step state).end step.0 (omega (arith, ends)) step.1 paths apart (stay_later advert kept state paths each elsewhere) (come_free advert kept state paths come) in
-                omega (arith, rest, step.2)
+                let decision = decisions.0 (lane_free advert kept kept state paths each elsewhere come) in
+                let rest = bounded advert weights kept Bounds is_preserved left (free_decision state).end decision.0 (omega (arith, ends)) decision.1 paths apart (stay_later advert kept state paths each elsewhere) (come_free advert kept state paths come) in
+                omega (arith, rest, decision.2)
             | inl picked ↦
                 let parts = picked.each (IsLater advert kept state) each in
-                let step = steps.1 picked.path picked.begins parts.0.can parts.0.unused in
+                let decision = decisions.1 picked.path picked.begins parts.0.can parts.0.unused in
                 let lanes = lanes_later advert kept state picked.path parts.0 in
-                let End : State = (path_step advert weights state picked.path).end in
+                let End : State = (path_decision advert weights state picked.path).end in
                 let later = each_pair (IsLater advert kept state) (IsApart advert picked.path) (IsLater advert kept End) picked.rest
                 (λ path is_later apart. after_path advert weights kept state picked.path path parts.0 picked.begins is_later apart) parts.1 picked.path_apart in
-                let rest = bounded advert weights kept Bounds is_preserved left End step.0 (omega (arith, ends, lanes.host_some)) step.1 picked.rest picked.rest_apart later (come_taken advert weights weigh kept state paths picked come) in
-                omega (arith, rest, step.2, picked.weighs)
+                let rest = bounded advert weights kept Bounds is_preserved left End decision.0 (omega (arith, ends, lanes.host_some)) decision.1 picked.rest picked.rest_apart later (come_taken advert weights weigh kept state paths picked come) in
+                omega (arith, rest, decision.2, picked.weighs)
           ]
     ]
 
 -- the potentials of a good certificate's entries do
 entries_preserved : (advert : Advertised) (weights : HostWeights) (c : Claim) → IsGood advert weights c → IsPreserved advert weights c.kept (IsBound c.entries)
 entries_preserved advert weights c good state potential bound =
-    let Covered : Step → Type 0 = IsCovered c.entries potential in
-    let at_entry = All-contains (λ (entry : Entry). All (IsCovered c.entries entry.potential) (steps_from advert weights c.kept (state_of entry))) c.entries bound.0 good.closed bound.1 in
-    let at_state : All Covered (steps_from advert weights c.kept state) =
-    subst (λ (s : State). All Covered (steps_from advert weights c.kept s)) bound.2 (subst (λ (p : ℕ). All (IsCovered c.entries p) (steps_from advert weights c.kept (state_of bound.0))) bound.3 at_entry) in
-    recursion_from_All Covered (steps_from advert weights c.kept state) at_state
+    let Covered : Decision → Type 0 = IsCovered c.entries potential in
+    let at_entry = All-contains (λ (entry : Entry). All (IsCovered c.entries entry.potential) (decisions_from advert weights c.kept (state_of entry))) c.entries bound.0 good.closed bound.1 in
+    let at_state : All Covered (decisions_from advert weights c.kept state) =
+    subst (λ (s : State). All Covered (decisions_from advert weights c.kept s)) bound.2 (subst (λ (p : ℕ). All (IsCovered c.entries p) (decisions_from advert weights c.kept (state_of bound.0))) bound.3 at_entry) in
+    recursion_from_All Covered (decisions_from advert weights c.kept state) at_state
 
 -- the paths of a plan that holds the kept ones may all still come at the start
 pub all_later : (advert : Advertised) (kept others : List Path) → IsAdmissible advert others → Keeps kept others → AllByRecursion (IsLater advert kept start) others

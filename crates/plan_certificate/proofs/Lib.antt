@@ -23,7 +23,7 @@ pub mod WrittenCertificates
 mod Numbered
 pub mod MoveLists
 mod MoveOrder
-pub mod MoveSteps
+pub mod MoveDecisions
 pub mod EachMove
 pub mod HeaviestMoves
 mod MoveFlaws

@@ -7,9 +7,9 @@ use Rattle.applications.specs.Weights.{HostWeights}
 use Rattle.plan_certificate.specs.declared.path.Path.{Path}
 use Rattle.plan_certificate.specs.declared.certificate.Entry.{Entry}
 use Rattle.plan_certificate.specs.declared.state.State.{State}
-use Rattle.plan_certificate.specs.declared.state.Step.{Step}
+use Rattle.plan_certificate.specs.declared.state.Decision.{Decision}
 use Rattle.plan_certificate.specs.Plans.{IsAdmissible, Keeps, plan_weight}
-use Rattle.plan_certificate.specs.States.{start, steps_from}
+use Rattle.plan_certificate.specs.States.{start, decisions_from}
 
 -- what a certificate says, be it right or not
 pub record Claim : Type 0 where
@@ -35,9 +35,9 @@ pub record HasStates (entries : List Entry) : Type 0 where
 abbrev pub IsBound : List Entry → State → ℕ → Type 0
 IsBound entries state potential = (entry : Entry) × Contains entries entry × (state_of entry ≡ state) × (entry.potential ≡ potential)
 
--- a step leads to the state of an entry, and what can be gained from there is no more than what is left of the potential
-abbrev pub IsCovered : List Entry → ℕ → Step → Type 0
-IsCovered entries potential step = (later : ℕ) × IsBound entries step.end later × (step.weight + later ≤ potential)
+-- a decision leads to the state of an entry, and what can be gained from there is no more than what is left of the potential
+abbrev pub IsCovered : List Entry → ℕ → Decision → Type 0
+IsCovered entries potential decision = (later : ℕ) × IsBound entries decision.end later × (decision.weight + later ≤ potential)
 
 -- the certificate is right for these Applications and weights
 pub record IsGood (advert : Advertised) (weights : HostWeights) (certificate : Claim) : Type 0 where
@@ -45,6 +45,6 @@ pub record IsGood (advert : Advertised) (weights : HostWeights) (certificate : C
   pub admissible : IsAdmissible advert certificate.paths
   pub keeps : Keeps certificate.kept certificate.paths
   pub weighs : certificate.weight ≡ plan_weight advert weights certificate.paths
-  pub closed : All (λ entry. All (IsCovered certificate.entries entry.potential) (steps_from advert weights certificate.kept (state_of entry)))
+  pub closed : All (λ entry. All (IsCovered certificate.entries entry.potential) (decisions_from advert weights certificate.kept (state_of entry)))
       certificate.entries
   pub begun : IsBound certificate.entries start certificate.weight

@@ -1,5 +1,5 @@
--- The paths that may begin at a host lane, listed once for all states, and the steps that they give from a state.
--- (docs/planning.md, "States and steps"; this project's own)
+-- The paths that may begin at a host lane, listed once for all states, and the decisions that they give from a state.
+-- (docs/planning.md, "States and decisions"; this project's own)
 use Rattle.std.specs.Prelude.{◌≡◌, ℕ, ◌+◌, ◌≤◌, Bool, List, ◌++◌, All, Contains, length, map, filter}
 use Rattle.std.specs.FinSet as set
 use Rattle.field_tables.specs.LaneSets.{is_disjoint}
@@ -8,10 +8,10 @@ use Rattle.applications.specs.Weights.{HostWeights}
 use Rattle.plan_certificate.specs.declared.path.Path.{Path}
 use Rattle.plan_certificate.specs.declared.moves.Move.{Move}
 use Rattle.plan_certificate.specs.declared.state.State.{State}
-use Rattle.plan_certificate.specs.declared.state.Step.{Step}
+use Rattle.plan_certificate.specs.declared.state.Decision.{Decision}
 use Rattle.plan_certificate.specs.Paths.{app_of, media_lanes, path_weight}
 use Rattle.plan_certificate.specs.KeptPaths.{is_eligible, may_stay_free}
-use Rattle.plan_certificate.specs.States.{free_steps, paths_at}
+use Rattle.plan_certificate.specs.States.{free_decisions, paths_at}
 
 abbrev pub move_of : Advertised → HostWeights → Path → Move
 move_of advert weights path = record {
@@ -33,18 +33,18 @@ moves_at advert weights kept host = moves_of advert weights kept (paths_at adver
 abbrev pub is_open : State → Move → Bool
 is_open state move = is_disjoint move.media_lanes state.used
 
-abbrev pub move_step : State → Move → Step
-move_step state move = record {
+abbrev pub move_decision : State → Move → Decision
+move_decision state move = record {
   weight = move.weight;
   end = record { boundary = state.boundary + move.host_lanes; used = set.union state.used move.media_lanes };
 }
 
-abbrev pub move_steps : State → List Move → List Step
-move_steps state moves = map (move_step state) (filter (is_open state) moves)
+abbrev pub move_decisions : State → List Move → List Decision
+move_decisions state moves = map (move_decision state) (filter (is_open state) moves)
 
--- the free lane's step, if it may stay free, and those of the moves that are open
-abbrev pub steps_by : Bool → State → List Move → List Step
-steps_by free state moves = free_steps free state ++ move_steps state moves
+-- the free lane's decision, if it may stay free, and those of the moves that are open
+abbrev pub decisions_by : Bool → State → List Move → List Decision
+decisions_by free state moves = free_decisions free state ++ move_decisions state moves
 
 -- from a state with this boundary a move leads further, and not past the last host lane
 pub record LeadsOn (boundary : ℕ) (move : Move) : Type 0 where

@@ -1,4 +1,4 @@
--- How a plan grows, one host lane after another: states, and the steps from a state. (docs/planning.md, "States and steps";
+-- How a plan grows, one host lane after another: states, and the decisions from a state. (docs/planning.md, "States and decisions";
 -- this project's own)
 use Rattle.std.specs.Prelude.{ℕ, ◌+◌, ◌*◌, ◌/◌, ◌%◌, ◌&&◌, Bool, nat_lt, if◌then◌else◌, List, [], ◌∷◌, ◌++◌, map, filter, flat_map}
 use Rattle.std.specs.List.{range_with_len}
@@ -8,7 +8,7 @@ use Rattle.applications.specs.Advertised.{Advertised}
 use Rattle.applications.specs.Weights.{HostWeights}
 use Rattle.plan_certificate.specs.declared.path.Path.{Path}
 use Rattle.plan_certificate.specs.declared.state.State.{State}
-use Rattle.plan_certificate.specs.declared.state.Step.{Step}
+use Rattle.plan_certificate.specs.declared.state.Decision.{Decision}
 use Rattle.plan_certificate.specs.Paths.{app_of, media_lanes, path_weight}
 use Rattle.plan_certificate.specs.KeptPaths.{is_eligible, may_stay_free}
 
@@ -24,16 +24,16 @@ abbrev pub start : State
 start = record { boundary = 0; used = set.empty }
 
 -- the next host lane stays free
-abbrev pub free_step : State → Step
-free_step state = record { weight = 0; end = record { boundary = state.boundary + 1; used = state.used } }
+abbrev pub free_decision : State → Decision
+free_decision state = record { weight = 0; end = record { boundary = state.boundary + 1; used = state.used } }
 
--- its step, if it may
-abbrev pub free_steps : Bool → State → List Step
-free_steps may state = if may then free_step state ∷ [] else []
+-- its decision, if it may
+abbrev pub free_decisions : Bool → State → List Decision
+free_decisions may state = if may then free_decision state ∷ [] else []
 
 -- a path begins at the next host lane
-abbrev pub path_step : Advertised → HostWeights → State → Path → Step
-path_step advert weights state path = record {
+abbrev pub path_decision : Advertised → HostWeights → State → Path → Decision
+path_decision advert weights state path = record {
   weight = path_weight advert weights path;
   end = record {
     boundary = state.boundary + (app_of advert path).host_lanes;
@@ -52,14 +52,14 @@ paths_at advert host = flat_map (λ app. paths_of_app host app.number) advert.ap
 abbrev pub fits : Advertised → List Path → State → Path → Bool
 fits advert kept state path = is_eligible advert kept path && is_disjoint (media_lanes advert path) state.used
 
--- the steps of those of these paths that fit
-unfoldable pub path_steps : Advertised → HostWeights → List Path → State → List Path → List Step
-path_steps advert weights kept state paths = map (path_step advert weights state) (filter (fits advert kept state) paths)
+-- the decisions of those of these paths that fit
+unfoldable pub path_decisions : Advertised → HostWeights → List Path → State → List Path → List Decision
+path_decisions advert weights kept state paths = map (path_decision advert weights state) (filter (fits advert kept state) paths)
 
--- the free lane's step, unless the lane is a kept path's, and then those of the paths that fit
-unfoldable pub steps_from : Advertised → HostWeights → List Path → State → List Step
-steps_from advert weights kept state =
+-- the free lane's decision, unless the lane is a kept path's, and then those of the paths that fit
+unfoldable pub decisions_from : Advertised → HostWeights → List Path → State → List Decision
+decisions_from advert weights kept state =
     if nat_lt state.boundary 8
-    then free_steps (may_stay_free advert kept (state.boundary + 1)) state
-    ++ path_steps advert weights kept state (paths_at advert (state.boundary + 1))
+    then free_decisions (may_stay_free advert kept (state.boundary + 1)) state
+    ++ path_decisions advert weights kept state (paths_at advert (state.boundary + 1))
     else []

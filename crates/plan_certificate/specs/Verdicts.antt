@@ -8,7 +8,7 @@ use Rattle.applications.specs.Advertised.{Advertised}
 use Rattle.applications.specs.Weights.{HostWeights}
 use Rattle.plan_certificate.specs.declared.path.Path.{Path}
 use Rattle.plan_certificate.specs.declared.state.State.{State}
-use Rattle.plan_certificate.specs.declared.state.Step.{Step}
+use Rattle.plan_certificate.specs.declared.state.Decision.{Decision}
 use Rattle.plan_certificate.specs.declared.certificate.Entry.{Entry}
 use Rattle.plan_certificate.specs.declared.verdict.Verdict.{Verdict}
 use Rattle.plan_certificate.specs.declared.verdict.Verdict.TheVariants.{Good, Bad}
@@ -18,7 +18,7 @@ use Rattle.plan_certificate.specs.declared.verdict.Reason.TheVariants.{KeptNotAd
 use Rattle.plan_certificate.specs.Paths.{is_allowed}
 use Rattle.plan_certificate.specs.Plans.{plan_weight}
 use Rattle.plan_certificate.specs.KeptPaths.{is_among, is_apart_from, may_join}
-use Rattle.plan_certificate.specs.States.{start, state_place, steps_from}
+use Rattle.plan_certificate.specs.States.{start, state_place, decisions_from}
 use Rattle.plan_certificate.specs.Certificates.{Claim, state_of, entry_place}
 
 -- what may be wrong, and whether it is
@@ -74,19 +74,19 @@ paths_flaws advert kept paths = kept_flaws advert kept ++ (plan_flaws advert pat
 unfoldable pub potential_of : List Entry → State → Option ℕ
 potential_of entries state = option_map (λ entry. entry.potential) (find (λ entry. entry_place entry == state_place state) entries)
 
--- a step to a state without an entry, or to one from which too much can still be gained; entries count from 1
-abbrev pub step_flaws : List Entry → ℕ × Entry → Step → Flaws
-step_flaws entries (number, entry) step =
-    (is_none (potential_of entries step.end), flaw NotClosed number)
-    ∷ (nat_lt entry.potential (step.weight + unwrap_or (potential_of entries step.end) 0), flaw TooLow number)
+-- a decision to a state without an entry, or to one from which too much can still be gained; entries count from 1
+abbrev pub decision_flaws : List Entry → ℕ × Entry → Decision → Flaws
+decision_flaws entries (number, entry) decision =
+    (is_none (potential_of entries decision.end), flaw NotClosed number)
+    ∷ (nat_lt entry.potential (decision.weight + unwrap_or (potential_of entries decision.end) 0), flaw TooLow number)
     ∷ []
 
--- the flaws of steps from an entry's state
-abbrev pub steps_flaws : List Entry → ℕ × Entry → List Step → Flaws
-steps_flaws entries entry steps = flat_map (step_flaws entries entry) steps
+-- the flaws of decisions from an entry's state
+abbrev pub decisions_flaws : List Entry → ℕ × Entry → List Decision → Flaws
+decisions_flaws entries entry decisions = flat_map (decision_flaws entries entry) decisions
 
 abbrev pub entry_flaws : Advertised → HostWeights → List Path → List Entry → ℕ × Entry → Flaws
-entry_flaws advert weights kept entries entry = steps_flaws entries entry (steps_from advert weights kept (state_of entry.1))
+entry_flaws advert weights kept entries entry = decisions_flaws entries entry (decisions_from advert weights kept (state_of entry.1))
 
 unfoldable pub entries_flaws : Advertised → HostWeights → List Path → List Entry → Flaws
 entries_flaws advert weights kept entries = flat_map (entry_flaws advert weights kept entries) (enumerate_from 1 entries)

@@ -16,7 +16,7 @@ pub struct Entry {
     pub boundary: u8,
     /// The used media lanes: bit i-1 is 1 if lane i is used.
     pub used: u8,
-    /// In a good certificate, no steps that follow one another from the state weigh more.
+    /// In a good certificate, no decisions that follow one another from the state weigh more.
     pub potential: u64,
 }
 

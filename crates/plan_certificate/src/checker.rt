@@ -1,7 +1,7 @@
 ghost use Rattle.std.specs.Prelude.{◌≡◌, ◌↔◌, ◌<◌, ◌≤◌, ◌+◌, All};
 ghost use Rattle.field_tables.specs.FirstFault.{first_fault};
 ghost use Rattle.plan_certificate.specs.Plans.{AreAllowed, IsBest};
-ghost use Rattle.plan_certificate.specs.Moves.{AreMoves, LeadsOn, steps_by};
+ghost use Rattle.plan_certificate.specs.Moves.{AreMoves, LeadsOn, decisions_by};
 ghost use Rattle.plan_certificate.specs.Certificates.{IsGood, state_of};
 ghost use Rattle.plan_certificate.specs.Verdicts as spec;
 
@@ -10,7 +10,7 @@ use crate::flaws::paths_flaw;
 use crate::moves::{Move, Moves};
 use crate::path::Path;
 use crate::plan::{Plan, weight_of};
-use crate::state::{HOST_LANES, State, Step};
+use crate::state::{Decision, HOST_LANES, State};
 use crate::verdict::{Flaw, Reason, Verdict};
 use applications::{Advert, Weights};
 
@@ -116,7 +116,7 @@ fn entries_flaw<const ROOM: usize>(
     None
 }
 
-// Where the steps of the heaviest moves have no flaw, none has.
+// Where the decisions of the heaviest moves have no flaw, none has.
 fn entry_flaw<const ROOM: usize>(
     advert: &Advert,
     weights: &Weights,
@@ -138,14 +138,14 @@ fn entry_flaw<const ROOM: usize>(
     }
     moves.turn_to(advert, weights, kept, entry.boundary);
     let free = moves.may_stay_free;
-    if steps_flaw(free, moves.heaviest.as_slice(), entries, number, entry).is_none() {
+    if decisions_flaw(free, moves.heaviest.as_slice(), entries, number, entry).is_none() {
         return None;
     }
-    steps_flaw(free, moves.all.as_slice(), entries, number, entry)
+    decisions_flaw(free, moves.all.as_slice(), entries, number, entry)
 }
 
-// The first flaw of the free lane's step, if it may stay free, and those of moves.
-fn steps_flaw<const ROOM: usize>(
+// The first flaw of the free lane's decision, if it may stay free, and those of moves.
+fn decisions_flaw<const ROOM: usize>(
     may_stay_free: bool,
     moves: &[Move],
     entries: &Entries<ROOM>,
@@ -154,19 +154,19 @@ fn steps_flaw<const ROOM: usize>(
 ) -> Option<Flaw>
     requires open { entry.now.boundary < 8 }
     requires lead_on { All (LeadsOn entry.now.boundary) moves.now }
-    ensures { result ≡ first_fault (spec.steps_flaws entries.now (number, entry.now) (steps_by may_stay_free (state_of entry.now) moves.now)) }
+    ensures { result ≡ first_fault (spec.decisions_flaws entries.now (number, entry.now) (decisions_by may_stay_free (state_of entry.now) moves.now)) }
 {
     let state = entry.state();
     if may_stay_free {
-        let free = state.free_step();
-        if let Some(flaw) = step_flaw(entries, number, entry, &free) {
+        let free = state.free_decision();
+        if let Some(flaw) = decision_flaw(entries, number, entry, &free) {
             return Some(flaw);
         }
     }
     for one in moves {
         if one.is_open(&state) {
-            let step = one.step(&state);
-            if let Some(flaw) = step_flaw(entries, number, entry, &step) {
+            let decision = one.decision(&state);
+            if let Some(flaw) = decision_flaw(entries, number, entry, &decision) {
                 return Some(flaw);
             }
         }
@@ -174,21 +174,21 @@ fn steps_flaw<const ROOM: usize>(
     None
 }
 
-fn step_flaw<const ROOM: usize>(
+fn decision_flaw<const ROOM: usize>(
     entries: &Entries<ROOM>,
     number: usize,
     entry: &Entry,
-    step: &Step,
+    decision: &Decision,
 ) -> Option<Flaw>
-    ensures { result ≡ first_fault (spec.step_flaws entries.now (number, entry.now) step.now) }
+    ensures { result ≡ first_fault (spec.decision_flaws entries.now (number, entry.now) decision.now) }
 {
-    let Some(later) = entries.potential_of(step.end) else {
+    let Some(later) = entries.potential_of(decision.end) else {
         return Some(Flaw {
             reason: Reason::NotClosed,
             number,
         });
     };
-    if u128::from(entry.potential) < u128::from(step.weight) + u128::from(later) {
+    if u128::from(entry.potential) < u128::from(decision.weight) + u128::from(later) {
         return Some(Flaw {
             reason: Reason::TooLow,
             number,

@@ -1,4 +1,4 @@
-use text_lines::{Spelled, Spelling};
+use text_lines::{PrintedWords, ToWords};
 use thiserror::Error;
 
 /// Why a text is no certificate, or one with more states than there is room for. Lines count from 1.
@@ -15,19 +15,19 @@ pub enum CertificateFault {
     NoEnd,
 }
 
-impl Spelled for CertificateFault {
+impl ToWords for CertificateFault {
     ghost use Rattle.plan_certificate.specs.FaultWords.{certificate_fault_words};
 
     ghost words = { certificate_fault_words };
 
     ghost most = { 2 };
 
-    fn spelling(&self) -> Spelling {
+    fn to_words(&self) -> PrintedWords {
         match self {
-            CertificateFault::BadLine(line) => Spelling::of("CT1").and(line),
-            CertificateFault::OutOfOrder(line) => Spelling::of("CT2").and(line),
-            CertificateFault::TooMany => Spelling::of("CT3"),
-            CertificateFault::NoEnd => Spelling::of("CT4"),
+            CertificateFault::BadLine(line) => PrintedWords::of("CT1").and(line),
+            CertificateFault::OutOfOrder(line) => PrintedWords::of("CT2").and(line),
+            CertificateFault::TooMany => PrintedWords::of("CT3"),
+            CertificateFault::NoEnd => PrintedWords::of("CT4"),
         }
     }
 }
@@ -44,18 +44,18 @@ pub enum KeptFault {
     NotAdmissible(u8),
 }
 
-impl Spelled for KeptFault {
+impl ToWords for KeptFault {
     ghost use Rattle.plan_certificate.specs.FaultWords.{kept_fault_words};
 
     ghost words = { kept_fault_words };
 
     ghost most = { 2 };
 
-    fn spelling(&self) -> Spelling {
+    fn to_words(&self) -> PrintedWords {
         match self {
-            KeptFault::BadLine(line) => Spelling::of("KP1").and(line),
-            KeptFault::TooMany => Spelling::of("KP2"),
-            KeptFault::NotAdmissible(number) => Spelling::of("KP3").and(number),
+            KeptFault::BadLine(line) => PrintedWords::of("KP1").and(line),
+            KeptFault::TooMany => PrintedWords::of("KP2"),
+            KeptFault::NotAdmissible(number) => PrintedWords::of("KP3").and(number),
         }
     }
 }

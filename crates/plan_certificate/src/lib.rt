@@ -28,5 +28,5 @@ pub use moves::{MAX_MOVES, Move, put_moves};
 pub use path::Path;
 pub use plan::{MAX_PATHS, Plan, admissible, kept_fault, weight_of};
 pub use retained::FollowedMoves;
-pub use state::{HOST_LANES, STATES, State, Step};
+pub use state::{Decision, HOST_LANES, STATES, State};
 pub use verdict::{Reason, Verdict};

@@ -8,7 +8,7 @@ ghost use Rattle.plan_certificate.specs.Moves as spec;
 use crate::kept::{is_eligible_as, may_stay_free};
 use crate::path::Path;
 use crate::retained::put_heaviest;
-use crate::state::{State, Step};
+use crate::state::{Decision, State};
 use applications::{Advert, Weights};
 use arrayvec::ArrayVec;
 use field_tables::LaneSet;
@@ -16,7 +16,7 @@ use field_tables::LaneSet;
 /// How many paths that are allowed begin at a host lane at most: one for each Application and media lane.
 pub const MAX_MOVES: usize = 120;
 
-/// A path that a plan may hold, and what its step needs: how far it leads, its media lanes, what it weighs.
+/// A path that a plan may hold, and what its decision needs: how far it leads, its media lanes, what it weighs.
 #[derive(Clone, Copy, Debug, PartialEq, Eq, Default)]
 pub struct Move {
     pub path: Path,
@@ -35,12 +35,12 @@ impl Move {
         self.media_lanes.is_disjoint(state.used)
     }
 
-    /// The step of its path.
-    pub fn step(self, state: &State) -> Step
+    /// The decision of its path.
+    pub fn decision(self, state: &State) -> Decision
         requires { state.now.boundary + self.host_lanes ≤ 8 }
-        ensures { result ≡ spec.move_step state.now self }
+        ensures { result ≡ spec.move_decision state.now self }
     {
-        Step {
+        Decision {
             weight: self.weight,
             end: State {
                 boundary: state.boundary + self.host_lanes,

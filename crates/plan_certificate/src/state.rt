@@ -20,7 +20,7 @@ pub struct State {
 
 /// One decision on the next host lane: it stays free, or a data path begins there.
 #[derive(Clone, Copy, Debug, PartialEq, Eq, Default)]
-pub struct Step {
+pub struct Decision {
     /// What the decision weighs.
     pub weight: u32,
     /// The state that it leads to.
@@ -56,12 +56,12 @@ impl State {
         256 * usize::from(self.boundary) + usize::from(self.used.byte())
     }
 
-    /// The step that leaves the next host lane free.
-    pub fn free_step(self) -> Step
+    /// The decision that leaves the next host lane free.
+    pub fn free_decision(self) -> Decision
         requires { self.boundary < 8 }
-        ensures { result ≡ spec.free_step self }
+        ensures { result ≡ spec.free_decision self }
     {
-        Step {
+        Decision {
             weight: 0,
             end: State {
                 boundary: self.boundary + 1,

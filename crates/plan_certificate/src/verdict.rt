@@ -1,4 +1,4 @@
-use text_lines::{Spelled, Spelling};
+use text_lines::{PrintedWords, ToWords};
 
 /// Why a certificate is bad.
 #[derive(Clone, Copy, Debug, PartialEq, Eq)]
@@ -11,9 +11,9 @@ pub enum Reason {
     WeightWrong,
     /// No entry for the state without decided lanes.
     NoStart,
-    /// A step from an entry's state leads to a state without an entry.
+    /// A decision from an entry's state leads to a state without an entry.
     NotClosed,
-    /// An entry's potential is below what a step weighs and the potential of where it leads.
+    /// An entry's potential is below what a decision weighs and the potential of where it leads.
     TooLow,
     /// The potential of the state without decided lanes isn't the weight.
     StartNotWeight,
@@ -23,15 +23,15 @@ pub enum Reason {
     KeptMissing,
 }
 
-impl Spelled for Reason {
+impl ToWords for Reason {
     ghost use Rattle.plan_certificate.specs.FaultWords.{reason_words};
 
     ghost words = { reason_words };
 
     ghost most = { 1 };
 
-    fn spelling(&self) -> Spelling {
-        Spelling::of(match self {
+    fn to_words(&self) -> PrintedWords {
+        PrintedWords::of(match self {
             Reason::PathNotAllowed => "VR1",
             Reason::LaneTwice => "VR2",
             Reason::WeightWrong => "VR3",

@@ -8,7 +8,7 @@ use Rattle.plan_certificate.specs.declared.path.Path.{Path}
 use Rattle.plan_certificate.specs.declared.state.State.{State}
 use Rattle.plan_certificate.specs.Paths.{is_allowed, path_weight}
 use Rattle.plan_certificate.specs.Plans.{IsAdmissible, Keeps, plan_weight}
-use Rattle.plan_certificate.specs.States.{start, free_step, path_step}
+use Rattle.plan_certificate.specs.States.{start, free_decision, path_decision}
 use Rattle.plan_certificate.proofs.Heaviest.{ComesOrCame, IsLater, after_path, all_later, allowed, bounded, come_free, come_taken, kept_come, stay_later}
 use Rattle.plan_certificate.proofs.KeptPaths.{same_or_apart}
 use Rattle.plan_certificate.proofs.Lists.{each_contained, each_pair, map_each}
@@ -48,7 +48,7 @@ ahead_bounded advert weights kept state taken others gain limit is =
 
 -- ---- none of its paths begins at the next host lane
 
-pub ahead_free : (advert : Advertised) (weights : HostWeights) (kept : List Path) (state : State) (taken others : List Path) → Ahead advert weights kept state taken others → ((path : Path) → Contains others path → path.host ≢ state.boundary + 1) → Ahead advert weights kept (free_step state).end taken others
+pub ahead_free : (advert : Advertised) (weights : HostWeights) (kept : List Path) (state : State) (taken others : List Path) → Ahead advert weights kept state taken others → ((path : Path) → Contains others path → path.host ≢ state.boundary + 1) → Ahead advert weights kept (free_decision state).end taken others
 ahead_free advert weights kept state taken others is elsewhere =
     let Elsewhere : Path → Type 0 = λ path. path.host ≢ state.boundary + 1 in
     let away = map_each (Contains others) Elsewhere is.rest elsewhere is.inside in
@@ -89,10 +89,10 @@ picked_or_left advert weigh rest host picked other held =
     All-contains Left rest other (All-from_recursion Left rest each) held
 
 took : (advert : Advertised) (weights : HostWeights) (kept : List Path) (state : State) (taken others : List Path) (is : Ahead advert weights kept state taken others) (picked : Picked advert (path_weight advert weights) is.rest (state.boundary + 1))
-    → Ahead advert weights kept (path_step advert weights state picked.path).end (taken ++ picked.path ∷ []) others
+    → Ahead advert weights kept (path_decision advert weights state picked.path).end (taken ++ picked.path ∷ []) others
 took advert weights kept state taken others is picked =
     let path : Path = picked.path in
-    let End : State = (path_step advert weights state path).end in
+    let End : State = (path_decision advert weights state path).end in
     let inside = picked.each (Contains others) is.inside in
     let parts = picked.each (IsLater advert kept state) is.later in
     record {
@@ -113,13 +113,13 @@ took advert weights kept state taken others is picked =
     }
 
 pub ahead_path : (advert : Advertised) (weights : HostWeights) (kept : List Path) (state : State) (taken others : List Path) (path : Path) → IsAdmissible advert others → All (Stands advert state) taken → Ahead advert weights kept state taken others → Contains others path → path.host ≡ state.boundary + 1
-    → Ahead advert weights kept (path_step advert weights state path).end (taken ++ path ∷ []) others
+    → Ahead advert weights kept (path_decision advert weights state path).end (taken ++ path ∷ []) others
 ahead_path advert weights kept state taken others path plan stand is held begins =
     elim (pick advert (path_weight advert weights) is.rest (state.boundary + 1) is.apart) [
       | inl picked ↦
           let inside = (picked.each (Contains others) is.inside).0 in
           let same = same_at_host advert others path picked.path plan held inside (picked.begins ∙ sym begins) in
-          let Next : Path → Type 0 = λ p. Ahead advert weights kept (path_step advert weights state p).end (taken ++ p ∷ []) others in
+          let Next : Path → Type 0 = λ p. Ahead advert weights kept (path_decision advert weights state p).end (taken ++ p ∷ []) others in
           subst Next same (took advert weights kept state taken others is picked)
       | inr elsewhere ↦
           elim (is.split path held) [

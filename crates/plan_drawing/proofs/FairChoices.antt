@@ -1,4 +1,4 @@
--- Each choice in a state is the state's step of its path, or of the free lane.
+-- Each choice in a state is the state's decision of its path, or of the free lane.
 use Rattle.std.proofs.Common.{◌≡◌, ℕ, zero, suc, ◌+◌, Bool, true, false, List, [], ◌∷◌, Option, Some, None, cond, filter, map, refl, sym, subst, inl, inr}
 use Rattle.std.specs.List.{AllByRecursion, flat_map, insert}
 use Rattle.std.proofs.lemmas.Bool.{and_parts, cases_Bool}
@@ -10,7 +10,7 @@ use Rattle.plan_certificate.specs.declared.path.Path.{Path}
 use Rattle.plan_certificate.specs.declared.state.State.{State}
 use Rattle.plan_certificate.specs.Paths.{media_lanes, path_weight}
 use Rattle.plan_certificate.specs.KeptPaths.{is_eligible, may_stay_free}
-use Rattle.plan_certificate.specs.States.{free_step, path_step, paths_of_app}
+use Rattle.plan_certificate.specs.States.{free_decision, path_decision, paths_of_app}
 use Rattle.plan_certificate.proofs.Lists.{all_of_append, all_of_flat_map, found}
 use Rattle.lane_planner.specs.Tables.{gain_at}
 use Rattle.plan_drawing.specs.declared.choice.Choice.{Choice}
@@ -21,12 +21,12 @@ pub record OfPath (advert : Advertised) (weights : HostWeights) (kept : List Pat
   pub begins : path.host ≡ state.boundary + 1
   pub can : is_eligible advert kept path ≡ true
   pub unused : is_disjoint (media_lanes advert path) state.used ≡ true
-  pub summed : sum ≡ path_weight advert weights path + gain_at table (path_step advert weights state path).end
+  pub summed : sum ≡ path_weight advert weights path + gain_at table (path_decision advert weights state path).end
 
 abbrev pub FairBy : Advertised → HostWeights → List Path → List ℕ → State → Option Path → ℕ → Type 0
 FairBy advert weights kept table state (Some path) sum = OfPath advert weights kept table state path sum
 FairBy advert weights kept table state None sum =
-    (may_stay_free advert kept (state.boundary + 1) ≡ true) × (sum ≡ gain_at table (free_step state).end)
+    (may_stay_free advert kept (state.boundary + 1) ≡ true) × (sum ≡ gain_at table (free_decision state).end)
 
 abbrev pub IsFair : Advertised → HostWeights → List Path → List ℕ → State → Choice → Type 0
 IsFair advert weights kept table state choice = FairBy advert weights kept table state choice.path choice.sum

@@ -1,4 +1,4 @@
--- A plan that grows from a state by steps that follow one another.
+-- A plan that grows from a state by decisions that follow one another.
 use Rattle.std.proofs.Common.{◌≡◌, ℕ, zero, suc, ◌+◌, ◌<◌, ◌≤◌, ◌⊎◌, ◌&&◌, true, List, [], ◌∷◌, ◌++◌, get_or, subst, ap, inl, inr, arith}
 use Rattle.std.specs.List.{All, AllPairs, Contains}
 use Rattle.std.proofs.lemmas.Bool.{cases_Bool, cases_lt}
@@ -10,20 +10,20 @@ use Rattle.applications.specs.Advertised.{Advertised}
 use Rattle.applications.specs.Weights.{HostWeights}
 use Rattle.plan_certificate.specs.declared.path.Path.{Path}
 use Rattle.plan_certificate.specs.declared.state.State.{State}
-use Rattle.plan_certificate.specs.declared.state.Step.{Step}
+use Rattle.plan_certificate.specs.declared.state.Decision.{Decision}
 use Rattle.plan_certificate.specs.Paths.{app_of, is_allowed, media_lanes, path_weight}
 use Rattle.plan_certificate.specs.Plans.{are_apart, IsAdmissible, Keeps, plan_weight}
 use Rattle.plan_certificate.specs.KeptPaths.{is_eligible, may_stay_free}
-use Rattle.plan_certificate.specs.States.{free_step, path_step}
+use Rattle.plan_certificate.specs.States.{free_decision, path_decision}
 use Rattle.plan_certificate.proofs.Heaviest.{allowed}
 use Rattle.plan_certificate.proofs.KeptPaths.{eligible_allowed}
 use Rattle.plan_certificate.proofs.LaneRuns.{disjoint_back}
-use Rattle.lane_planner.specs.Gains.{Follow, steps_weight}
+use Rattle.lane_planner.specs.Gains.{Follow, decisions_weight}
 use Rattle.lane_planner.proofs.DisjointLanes.{disjoint_first, disjoint_second, runs_disjoint}
 use Rattle.lane_planner.proofs.KeptLanes.{lane_within, one_has}
 use Rattle.lane_planner.proofs.KeptTaken.{AreTakenOrLater, IsTakenOrLater, all_taken, taken_after_free, taken_after_path}
 use Rattle.lane_planner.proofs.LaterPaths.{AreInOrder, weight_more}
-use Rattle.lane_planner.proofs.StepKinds.{step_is}
+use Rattle.lane_planner.proofs.DecisionKinds.{decision_is}
 
 -- a path that ends at or below the boundary, at used media lanes
 pub record Stands (advert : Advertised) (state : State) (path : Path) : Type 0 where
@@ -38,16 +38,16 @@ pub record Grown (advert : Advertised) (kept : List Path) (state : State) (paths
   pub ordered : AllPairs (AreInOrder advert) paths
   pub keeps : AreTakenOrLater advert kept state paths
 
--- ---- one step more
+-- ---- one decision more
 
-stands_past : (advert : Advertised) (weights : HostWeights) (state : State) (taken path : Path) → Stands advert state path → Stands advert (path_step advert weights state taken).end path
+stands_past : (advert : Advertised) (weights : HostWeights) (state : State) (taken path : Path) → Stands advert state path → Stands advert (path_decision advert weights state taken).end path
 stands_past advert weights state taken path is = record {
   can = is.can;
   before = omega (arith, is.before);
   used = λ others none. is.used others (disjoint_first others state.used (media_lanes advert taken) none);
 }
 
-stands_itself : (advert : Advertised) (weights : HostWeights) (state : State) (path : Path) → path.host ≡ state.boundary + 1 → is_allowed advert path ≡ true → Stands advert (path_step advert weights state path).end path
+stands_itself : (advert : Advertised) (weights : HostWeights) (state : State) (path : Path) → path.host ≡ state.boundary + 1 → is_allowed advert path ≡ true → Stands advert (path_decision advert weights state path).end path
 stands_itself advert weights state path begins can = record {
   can = can;
   before = omega (arith, begins);
@@ -62,7 +62,7 @@ in_order advert state path taken is begins unused =
     let media = disjoint_back (media_lanes advert taken) (media_lanes advert path) (is.used (media_lanes advert taken) unused) in
     record { apart = (λ i. hosts i && media i); rises = omega (arith, is.before, begins, lanes.host_some) }
 
-pub grown_free : (advert : Advertised) (kept : List Path) (state : State) (paths : List Path) → Grown advert kept state paths → state.boundary < 8 → may_stay_free advert kept (state.boundary + 1) ≡ true → Grown advert kept (free_step state).end paths
+pub grown_free : (advert : Advertised) (kept : List Path) (state : State) (paths : List Path) → Grown advert kept state paths → state.boundary < 8 → may_stay_free advert kept (state.boundary + 1) ≡ true → Grown advert kept (free_decision state).end paths
 grown_free advert kept state paths is below may = record {
   within = omega (arith, below);
   stand = λ k d inside.
@@ -73,9 +73,9 @@ grown_free advert kept state paths is below may = record {
 }
 
 pub grown_path : (advert : Advertised) (weights : HostWeights) (kept : List Path) (state : State) (paths : List Path) (path : Path) → IsAdmissible advert kept → Grown advert kept state paths → path.host ≡ state.boundary + 1 → is_eligible advert kept path ≡ true → is_disjoint (media_lanes advert path) state.used ≡ true
-    → Grown advert kept (path_step advert weights state path).end (paths ++ path ∷ [])
+    → Grown advert kept (path_decision advert weights state path).end (paths ++ path ∷ [])
 grown_path advert weights kept state paths path plan is begins can unused =
-    let End : State = (path_step advert weights state path).end in
+    let End : State = (path_decision advert weights state path).end in
     let may = eligible_allowed advert kept path can in
     let lanes = allowed advert path may in
     record {
@@ -106,7 +106,7 @@ ended advert weights kept state paths is past = record {
   weighs = omega arith;
 }
 
-after_free : (advert : Advertised) (weights : HostWeights) (kept : List Path) (state : State) (paths : List Path) (gain : ℕ) → Fulfils advert weights kept (free_step state).end paths gain → Fulfils advert weights kept state paths gain
+after_free : (advert : Advertised) (weights : HostWeights) (kept : List Path) (state : State) (paths : List Path) (gain : ℕ) → Fulfils advert weights kept (free_decision state).end paths gain → Fulfils advert weights kept state paths gain
 after_free advert weights kept state paths gain is = record {
   others = is.others;
   admissible = is.admissible;
@@ -119,7 +119,7 @@ after_free advert weights kept state paths gain is = record {
   weighs = is.weighs;
 }
 
-after_path : (advert : Advertised) (weights : HostWeights) (kept : List Path) (state : State) (paths : List Path) (path : Path) (gain : ℕ) → path.host ≡ state.boundary + 1 → Fulfils advert weights kept (path_step advert weights state path).end (paths ++ path ∷ []) gain
+after_path : (advert : Advertised) (weights : HostWeights) (kept : List Path) (state : State) (paths : List Path) (path : Path) (gain : ℕ) → path.host ≡ state.boundary + 1 → Fulfils advert weights kept (path_decision advert weights state path).end (paths ++ path ∷ []) gain
     → Fulfils advert weights kept state paths (path_weight advert weights path + gain)
 after_path advert weights kept state paths path gain begins is = record {
   others = is.others;
@@ -154,7 +154,7 @@ finished advert weights kept (suc left) state paths plan upto is =
     elim (cases_lt state.boundary 8) [
       | inr past ↦ ended advert weights kept state paths is (omega (arith, past))
       | inl below ↦ elim (cases_Bool (may_stay_free advert kept lane)) [
-        | inl may ↦ after_free advert weights kept state paths 0 (finished advert weights kept left (free_step state).end paths plan (omega (arith, upto)) (grown_free advert kept state paths is below may))
+        | inl may ↦ after_free advert weights kept state paths 0 (finished advert weights kept left (free_decision state).end paths plan (omega (arith, upto)) (grown_free advert kept state paths is below may))
         | inr not_free ↦
             let one = one_has advert kept lane not_free in
             let within = lane_within advert one.path lane one.has in
@@ -163,28 +163,28 @@ finished advert weights kept (suc left) state paths plan upto is =
               | inr later ↦
                   let begins : one.path.host ≡ lane = omega (arith, later.past, within.from) in
                   let lanes = allowed advert one.path (eligible_allowed advert kept one.path later.can) in
-                  let End : State = (path_step advert weights state one.path).end in
+                  let End : State = (path_decision advert weights state one.path).end in
                   let rest = finished advert weights kept left End (paths ++ one.path ∷ []) plan (omega (arith, upto, lanes.host_some)) (grown_path advert weights kept state paths one.path plan is begins later.can later.unused) in
                   at_least advert weights kept state paths (path_weight advert weights one.path + 0) 0 (omega arith) (after_path advert weights kept state paths one.path 0 begins rest)
             ]
       ]
     ]
 
--- by steps that follow one another, and then so
-pub followed : (advert : Advertised) (weights : HostWeights) (kept : List Path) (steps : List Step) (state : State) (paths : List Path) → IsAdmissible advert kept → Grown advert kept state paths → Follow advert weights kept state steps → Fulfils advert weights kept state paths (steps_weight steps)
+-- by decisions that follow one another, and then so
+pub followed : (advert : Advertised) (weights : HostWeights) (kept : List Path) (decisions : List Decision) (state : State) (paths : List Path) → IsAdmissible advert kept → Grown advert kept state paths → Follow advert weights kept state decisions → Fulfils advert weights kept state paths (decisions_weight decisions)
 followed advert weights kept [] state paths plan is follow = finished advert weights kept 8 state paths plan (omega arith) is
-followed advert weights kept (step ∷ steps) state paths plan is follow =
-    let kind = step_is advert weights kept state step follow.0 in
-    let total = sum_by-cons (λ (s : Step). s.weight) step steps in
+followed advert weights kept (decision ∷ decisions) state paths plan is follow =
+    let kind = decision_is advert weights kept state decision follow.0 in
+    let total = sum_by-cons (λ (s : Decision). s.weight) decision decisions in
     elim (kind.kind) [
       | inl free ↦
-          let next : Follow advert weights kept (free_step state).end steps = subst (λ (s : State). Follow advert weights kept s steps) (ap (λ (s : Step). s.end) free.0) follow.1 in
-          let rest = followed advert weights kept steps (free_step state).end paths plan (grown_free advert kept state paths is kind.below free.1) next in
-          at_least advert weights kept state paths (steps_weight steps) (steps_weight (step ∷ steps)) (omega (arith, total, ap (λ (s : Step). s.weight) free.0)) (after_free advert weights kept state paths (steps_weight steps) rest)
+          let next : Follow advert weights kept (free_decision state).end decisions = subst (λ (s : State). Follow advert weights kept s decisions) (ap (λ (s : Decision). s.end) free.0) follow.1 in
+          let rest = followed advert weights kept decisions (free_decision state).end paths plan (grown_free advert kept state paths is kind.below free.1) next in
+          at_least advert weights kept state paths (decisions_weight decisions) (decisions_weight (decision ∷ decisions)) (omega (arith, total, ap (λ (s : Decision). s.weight) free.0)) (after_free advert weights kept state paths (decisions_weight decisions) rest)
       | inr taken ↦
           let path : Path = taken.path in
-          let End : State = (path_step advert weights state path).end in
-          let next : Follow advert weights kept End steps = subst (λ (s : State). Follow advert weights kept s steps) (ap (λ (s : Step). s.end) taken.is) follow.1 in
-          let rest = followed advert weights kept steps End (paths ++ path ∷ []) plan (grown_path advert weights kept state paths path plan is taken.begins taken.can taken.unused) next in
-          at_least advert weights kept state paths (path_weight advert weights path + steps_weight steps) (steps_weight (step ∷ steps)) (omega (arith, total, ap (λ (s : Step). s.weight) taken.is)) (after_path advert weights kept state paths path (steps_weight steps) taken.begins rest)
+          let End : State = (path_decision advert weights state path).end in
+          let next : Follow advert weights kept End decisions = subst (λ (s : State). Follow advert weights kept s decisions) (ap (λ (s : Decision). s.end) taken.is) follow.1 in
+          let rest = followed advert weights kept decisions End (paths ++ path ∷ []) plan (grown_path advert weights kept state paths path plan is taken.begins taken.can taken.unused) next in
+          at_least advert weights kept state paths (path_weight advert weights path + decisions_weight decisions) (decisions_weight (decision ∷ decisions)) (omega (arith, total, ap (λ (s : Decision). s.weight) taken.is)) (after_path advert weights kept state paths path (decisions_weight decisions) taken.begins rest)
     ]

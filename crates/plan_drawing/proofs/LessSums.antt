@@ -7,17 +7,17 @@ use Rattle.applications.specs.Advertised.{Advertised}
 use Rattle.applications.specs.Weights.{HostWeights}
 use Rattle.plan_certificate.specs.declared.path.Path.{Path}
 use Rattle.plan_certificate.specs.declared.state.State.{State}
-use Rattle.plan_certificate.specs.declared.state.Step.{Step}
+use Rattle.plan_certificate.specs.declared.state.Decision.{Decision}
 use Rattle.plan_certificate.specs.Paths.{is_allowed, media_lanes, path_weight}
 use Rattle.plan_certificate.specs.Plans.{IsAdmissible, IsBest, plan_weight}
 use Rattle.plan_certificate.specs.KeptPaths.{is_eligible, may_stay_free}
-use Rattle.plan_certificate.specs.States.{free_step, path_step, steps_from}
-use Rattle.plan_certificate.proofs.Heaviest.{IsLater, allowed, each_step}
+use Rattle.plan_certificate.specs.States.{free_decision, path_decision, decisions_from}
+use Rattle.plan_certificate.proofs.Heaviest.{IsLater, allowed, each_decision}
 use Rattle.plan_certificate.proofs.KeptPaths.{IsBeside, all_beside}
 use Rattle.plan_certificate.proofs.Lists.{each_contained, map_each}
 use Rattle.lane_planner.specs.Gains.{IsGain}
 use Rattle.lane_planner.specs.Tables.{HasGains, gain_at}
-use Rattle.lane_planner.proofs.GainLaws.{covers_step}
+use Rattle.lane_planner.proofs.GainLaws.{covers_decision}
 use Rattle.lane_planner.proofs.KeptLanes.{none_has, has_lane}
 use Rattle.lane_planner.proofs.LaterPaths.{weight_more}
 use Rattle.lane_planner.proofs.ReachedStates.{reached_on}
@@ -38,9 +38,9 @@ pub record Here (advert : Advertised) (weights : HostWeights) (kept paths : List
 gain_here : (advert : Advertised) (weights : HostWeights) (kept paths : List Path) (table : List ℕ) (state : State) (taken : List Path) → Here advert weights kept paths table state taken → IsGain advert weights kept state (gain_at table state)
 gain_here advert weights kept paths table state taken is = gain_in advert weights kept 0 table state is.gains is.walked.reached (omega arith)
 
-gain_next : (advert : Advertised) (weights : HostWeights) (kept paths : List Path) (table : List ℕ) (state : State) (taken : List Path) (step : Step) → Here advert weights kept paths table state taken → Contains (steps_from advert weights kept state) step → IsGain advert weights kept step.end (gain_at table step.end)
-gain_next advert weights kept paths table state taken step is contains =
-    gain_in advert weights kept 0 table step.end is.gains (reached_on advert weights kept state step is.walked.reached contains) (omega arith)
+gain_next : (advert : Advertised) (weights : HostWeights) (kept paths : List Path) (table : List ℕ) (state : State) (taken : List Path) (decision : Decision) → Here advert weights kept paths table state taken → Contains (decisions_from advert weights kept state) decision → IsGain advert weights kept decision.end (gain_at table decision.end)
+gain_next advert weights kept paths table state taken decision is contains =
+    gain_in advert weights kept 0 table decision.end is.gains (reached_on advert weights kept state decision is.walked.reached contains) (omega arith)
 
 -- the plan weighs what it has taken, and all that can be gained
 whole : (advert : Advertised) (weights : HostWeights) (kept paths : List Path) (table : List ℕ) (state : State) (taken : List Path) → Here advert weights kept paths table state taken → plan_weight advert weights paths ≡ plan_weight advert weights taken + gain_at table state
@@ -71,7 +71,7 @@ grown_same advert weights kept paths table state taken others is holds either pa
 
 -- ---- a path begins at the next host lane
 
-past_path : (advert : Advertised) (weights : HostWeights) (kept : List Path) (state : State) (taken : List Path) (path : Path) (gain : ℕ) → path.host ≡ state.boundary + 1 → (grown : Fulfils advert weights kept (path_step advert weights state path).end (taken ++ path ∷ []) gain)
+past_path : (advert : Advertised) (weights : HostWeights) (kept : List Path) (state : State) (taken : List Path) (path : Path) (gain : ℕ) → path.host ≡ state.boundary + 1 → (grown : Fulfils advert weights kept (path_decision advert weights state path).end (taken ++ path ∷ []) gain)
     → (other : Path) → Contains grown.others other → Contains taken other ⊎ (state.boundary < other.host)
 past_path advert weights kept state taken path gain begins grown other held =
     elim (grown.either other held) [
@@ -83,25 +83,25 @@ past_path advert weights kept state taken path gain begins grown other held =
     ]
 
 pub less_by_path : (advert : Advertised) (weights : HostWeights) (kept paths : List Path) (table : List ℕ) (state : State) (taken : List Path) (path : Path) (sum : ℕ) → Here advert weights kept paths table state taken
-    → path.host ≡ state.boundary + 1 → is_eligible advert kept path ≡ true → is_disjoint (media_lanes advert path) state.used ≡ true → sum ≡ path_weight advert weights path + gain_at table (path_step advert weights state path).end
+    → path.host ≡ state.boundary + 1 → is_eligible advert kept path ≡ true → is_disjoint (media_lanes advert path) state.used ≡ true → sum ≡ path_weight advert weights path + gain_at table (path_decision advert weights state path).end
     → IsLess advert weights kept paths (state.boundary + 1) (Some path) (gain_at table state - sum)
 less_by_path advert weights kept paths table state taken path sum is begins can unused summed =
-    let steps = steps_from advert weights kept state in
-    let step : Step = path_step advert weights state path in
-    let contains = (each_step advert weights kept (Contains steps) state is.below (each_contained steps)).1 path begins can unused in
+    let decisions = decisions_from advert weights kept state in
+    let decision : Decision = path_decision advert weights state path in
+    let contains = (each_decision advert weights kept (Contains decisions) state is.below (each_contained decisions)).1 path begins can unused in
     let gain = gain_here advert weights kept paths table state taken is in
-    let next = gain_next advert weights kept paths table state taken step is contains in
-    let covers = covers_step advert weights kept state (gain_at table state) (gain_at table step.end) step gain next contains in
+    let next = gain_next advert weights kept paths table state taken decision is contains in
+    let covers = covers_decision advert weights kept state (gain_at table state) (gain_at table decision.end) decision gain next contains in
     let all = whole advert weights kept paths table state taken is in
     let more = weight_more advert weights taken path in
     let greatest : (others : List Path) → IsAlternative advert kept paths (state.boundary + 1) (Some path) others → plan_weight advert weights others + (gain_at table state - sum) ≤ plan_weight advert weights paths =
     λ others other.
     let before = is.walked.ahead others other.admissible other.keeps other.same_below in
     let after = ahead_path advert weights kept state taken others path other.admissible is.walked.grown.stand before other.makes begins in
-    let most = ahead_bounded advert weights kept step.end (taken ++ path ∷ []) others (gain_at table step.end) next.greatest after in
+    let most = ahead_bounded advert weights kept decision.end (taken ++ path ∷ []) others (gain_at table decision.end) next.greatest after in
     omega (arith, most, more, covers, all, summed) in
     let run = next.gained in
-    let grown = followed advert weights kept run.0 step.end (taken ++ path ∷ []) is.kept_plan (grown_path advert weights kept state taken path is.kept_plan is.walked.grown begins can unused) run.1 in
+    let grown = followed advert weights kept run.0 decision.end (taken ++ path ∷ []) is.kept_plan (grown_path advert weights kept state taken path is.kept_plan is.walked.grown begins can unused) run.1 in
     let other : IsAlternative advert kept paths (state.boundary + 1) (Some path) grown.others = record {
       admissible = grown.admissible;
       keeps = grown.keeps;
@@ -122,25 +122,25 @@ elsewhere advert others lane path plan free held begins =
     none_has advert others lane path free held (has_lane advert path lane (omega (arith, begins)) (omega (arith, begins, lanes.host_some)))
 
 pub less_by_free : (advert : Advertised) (weights : HostWeights) (kept paths : List Path) (table : List ℕ) (state : State) (taken : List Path) (sum : ℕ) → Here advert weights kept paths table state taken
-    → may_stay_free advert kept (state.boundary + 1) ≡ true → sum ≡ gain_at table (free_step state).end
+    → may_stay_free advert kept (state.boundary + 1) ≡ true → sum ≡ gain_at table (free_decision state).end
     → IsLess advert weights kept paths (state.boundary + 1) None (gain_at table state - sum)
 less_by_free advert weights kept paths table state taken sum is may summed =
     let lane : ℕ = state.boundary + 1 in
-    let steps = steps_from advert weights kept state in
-    let step : Step = free_step state in
-    let contains = (each_step advert weights kept (Contains steps) state is.below (each_contained steps)).0 may in
+    let decisions = decisions_from advert weights kept state in
+    let decision : Decision = free_decision state in
+    let contains = (each_decision advert weights kept (Contains decisions) state is.below (each_contained decisions)).0 may in
     let gain = gain_here advert weights kept paths table state taken is in
-    let next = gain_next advert weights kept paths table state taken step is contains in
-    let covers = covers_step advert weights kept state (gain_at table state) (gain_at table step.end) step gain next contains in
+    let next = gain_next advert weights kept paths table state taken decision is contains in
+    let covers = covers_decision advert weights kept state (gain_at table state) (gain_at table decision.end) decision gain next contains in
     let all = whole advert weights kept paths table state taken is in
     let greatest : (others : List Path) → IsAlternative advert kept paths lane None others → plan_weight advert weights others + (gain_at table state - sum) ≤ plan_weight advert weights paths =
     λ others other.
     let before = is.walked.ahead others other.admissible other.keeps other.same_below in
     let after = ahead_free advert weights kept state taken others before (λ path held begins. elsewhere advert others lane path other.admissible other.makes held begins) in
-    let most = ahead_bounded advert weights kept step.end taken others (gain_at table step.end) next.greatest after in
+    let most = ahead_bounded advert weights kept decision.end taken others (gain_at table decision.end) next.greatest after in
     omega (arith, most, covers, all, summed) in
     let run = next.gained in
-    let grown = followed advert weights kept run.0 step.end taken is.kept_plan (grown_free advert kept state taken is.walked.grown is.below may) run.1 in
+    let grown = followed advert weights kept run.0 decision.end taken is.kept_plan (grown_free advert kept state taken is.walked.grown is.below may) run.1 in
     let beside = map_each (Contains grown.others) (IsBeside advert lane) grown.others (λ path held. elim (grown.either path held) [
       | inl so_far ↦ inr (All-contains (Stands advert state) taken path is.walked.grown.stand so_far).before
       | inr past ↦ inl past

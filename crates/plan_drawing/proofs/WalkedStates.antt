@@ -10,14 +10,14 @@ use Rattle.plan_certificate.specs.declared.state.State.{State}
 use Rattle.plan_certificate.specs.Paths.{is_allowed}
 use Rattle.plan_certificate.specs.Plans.{IsAdmissible, Keeps}
 use Rattle.plan_certificate.specs.ReachedStates.{IsReached}
-use Rattle.plan_certificate.specs.States.{start, free_step, path_step, steps_from}
-use Rattle.plan_certificate.proofs.Heaviest.{IsLater, allowed, each_step}
+use Rattle.plan_certificate.specs.States.{start, free_decision, path_decision, decisions_from}
+use Rattle.plan_certificate.proofs.Heaviest.{IsLater, allowed, each_decision}
 use Rattle.plan_certificate.proofs.KeptPaths.{IsBeside, all_beside}
 use Rattle.plan_certificate.proofs.Lists.{each_contained, found, map_each}
 use Rattle.lane_planner.specs.FirstBest.{AgreeOn}
 use Rattle.lane_planner.proofs.KeptTaken.{later_at_start}
 use Rattle.lane_planner.proofs.ReachedStates.{reached_on, start_reached}
-use Rattle.plan_drawing.specs.Walks.{begins_at, next_state, path_at, states_on, step_of}
+use Rattle.plan_drawing.specs.Walks.{begins_at, next_state, path_at, states_on, decision_of}
 use Rattle.plan_drawing.proofs.AheadPlans.{Ahead, ahead_at_start, ahead_free, ahead_path}
 use Rattle.plan_drawing.proofs.GrownPlans.{Grown, Stands, grown_free, grown_path}
 
@@ -77,21 +77,21 @@ none_begins paths lane is path held begins =
     let does = eq-eqb path.host lane begins in
     cc
 
--- ---- one step of the plan
+-- ---- one decision of the plan
 
 abbrev WalkedTo : Advertised → HostWeights → List Path → List Path → State → Type 0
 WalkedTo advert weights kept paths state = (taken : List Path) × Walked advert weights kept paths state taken
 
 walked_path : (advert : Advertised) (weights : HostWeights) (kept paths : List Path) (state : State) (taken : List Path) (path : Path) → IsAdmissible advert kept → IsAdmissible advert paths → Keeps kept paths → Walked advert weights kept paths state taken → state.boundary < 8 → Contains paths path → path.host ≡ state.boundary + 1
-    → Walked advert weights kept paths (path_step advert weights state path).end (taken ++ path ∷ [])
+    → Walked advert weights kept paths (path_decision advert weights state path).end (taken ++ path ∷ [])
 walked_path advert weights kept paths state taken path kept_plan plan keeps is below held begins =
-    let steps = steps_from advert weights kept state in
+    let decisions = decisions_from advert weights kept state in
     let later = comes advert weights kept paths state taken path plan keeps is held (omega (arith, begins)) in
     let can = All-contains (λ (p : Path). is_allowed advert p ≡ true) paths path plan.allowed held in
     let lanes = allowed advert path can in
-    let contains = (each_step advert weights kept (Contains steps) state below (each_contained steps)).1 path begins later.can later.unused in
+    let contains = (each_decision advert weights kept (Contains decisions) state below (each_contained decisions)).1 path begins later.can later.unused in
     record {
-      reached = reached_on advert weights kept state (path_step advert weights state path) is.reached contains;
+      reached = reached_on advert weights kept state (path_decision advert weights state path) is.reached contains;
       grown = grown_path advert weights kept state taken path kept_plan is.grown begins later.can later.unused;
       inside = All-push (Contains paths) taken path is.inside held;
       ahead = λ others other_plan other_keeps same.
@@ -101,19 +101,19 @@ walked_path advert weights kept paths state taken path kept_plan plan keeps is b
     }
 
 walked_free : (advert : Advertised) (weights : HostWeights) (kept paths : List Path) (state : State) (taken : List Path) → IsAdmissible advert paths → Keeps kept paths → Walked advert weights kept paths state taken → state.boundary < 8 → ((path : Path) → Contains paths path → path.host ≢ state.boundary + 1)
-    → Walked advert weights kept paths (free_step state).end taken
+    → Walked advert weights kept paths (free_decision state).end taken
 walked_free advert weights kept paths state taken plan keeps is below none =
     let lane : ℕ = state.boundary + 1 in
-    let steps = steps_from advert weights kept state in
+    let decisions = decisions_from advert weights kept state in
     let own = ahead_itself advert weights kept paths state taken plan keeps is in
     let beside = map_each (Contains paths) (IsBeside advert lane) kept (λ path held. elim (own.split path held) [
       | inl so_far ↦ inr (All-contains (Stands advert state) taken path is.grown.stand so_far).before
       | inr left ↦ inl (omega (arith, (All-contains (IsLater advert kept state) own.rest path (All-from_recursion (IsLater advert kept state) own.rest own.later) left).past, none path held))
     ]) keeps in
     let may = all_beside advert kept lane beside in
-    let contains = (each_step advert weights kept (Contains steps) state below (each_contained steps)).0 may in
+    let contains = (each_decision advert weights kept (Contains decisions) state below (each_contained decisions)).0 may in
     record {
-      reached = reached_on advert weights kept state (free_step state) is.reached contains;
+      reached = reached_on advert weights kept state (free_decision state) is.reached contains;
       grown = grown_free advert kept state taken is.grown below may;
       inside = is.inside;
       ahead = λ others other_plan other_keeps same.
@@ -122,7 +122,7 @@ walked_free advert weights kept paths state taken plan keeps is below none =
     }
 
 walked_on : (advert : Advertised) (weights : HostWeights) (kept paths : List Path) (state : State) (taken : List Path) → IsAdmissible advert kept → IsAdmissible advert paths → Keeps kept paths → Walked advert weights kept paths state taken → state.boundary < 8
-    → (o : Option Path) → path_at paths (state.boundary + 1) ≡ o → WalkedTo advert weights kept paths (step_of advert weights state o).end
+    → (o : Option Path) → path_at paths (state.boundary + 1) ≡ o → WalkedTo advert weights kept paths (decision_of advert weights state o).end
 walked_on advert weights kept paths state taken kept_plan plan keeps is below (Some path) there =
     let one = found (Contains paths) (begins_at (state.boundary + 1)) paths path there (each_contained paths) in
     (taken ++ path ∷ [], walked_path advert weights kept paths state taken path kept_plan plan keeps is below one.0 (eqb-true path.host (state.boundary + 1) one.1))

@@ -1,5 +1,5 @@
 -- What can be done in a state at the next host lane, and what that makes: a data path begins there, or the lane stays free.
--- (docs/planning.md, "States and steps"; docs/formats.md, "draw"; this project's own)
+-- (docs/planning.md, "States and decisions"; docs/formats.md, "draw"; this project's own)
 use Rattle.std.specs.Prelude.{ℕ, ◌+◌, ◌&&◌, ◌||◌, Bool, nat_lt, nat_le, if◌then◌else◌, List, [], ◌∷◌, ◌++◌, Option, Some, None, filter, find, flat_map, map}
 use Rattle.std.specs.List.{insert, list_all, position_or_len}
 use Rattle.applications.specs.declared.app.App.{App}
@@ -9,7 +9,7 @@ use Rattle.plan_certificate.specs.declared.path.Path.{Path}
 use Rattle.plan_certificate.specs.declared.state.State.{State}
 use Rattle.plan_certificate.specs.Paths.{path_weight}
 use Rattle.plan_certificate.specs.KeptPaths.{is_among, may_stay_free}
-use Rattle.plan_certificate.specs.States.{fits, free_step, path_step, paths_of_app}
+use Rattle.plan_certificate.specs.States.{fits, free_decision, path_decision, paths_of_app}
 use Rattle.lane_planner.specs.Tables.{gain_at}
 use Rattle.plan_drawing.specs.declared.choice.Choice.{Choice}
 
@@ -23,16 +23,16 @@ abbrev pub path_choice : Advertised → HostWeights → List ℕ → State → P
 path_choice advert weights table state path = record {
   path = Some path;
   weight = path_weight advert weights path;
-  rest = gain_at table (path_step advert weights state path).end;
-  sum = path_weight advert weights path + gain_at table (path_step advert weights state path).end;
+  rest = gain_at table (path_decision advert weights state path).end;
+  sum = path_weight advert weights path + gain_at table (path_decision advert weights state path).end;
 }
 
 abbrev pub free_choice : List ℕ → State → Choice
 free_choice table state = record {
   path = None;
   weight = 0;
-  rest = gain_at table (free_step state).end;
-  sum = gain_at table (free_step state).end;
+  rest = gain_at table (free_decision state).end;
+  sum = gain_at table (free_decision state).end;
 }
 
 -- none of the choices has a greater sum

@@ -32,7 +32,7 @@ abbrev pub lines_as : Bool → ℕ → Advertised → HostWeights → List Path 
 lines_as false = drawing_lines
 lines_as true = drawing_svg
 
--- the drawing of the first of the best plans with the kept paths, by what can be gained from each state that steps from the start
+-- the drawing of the first of the best plans with the kept paths, by what can be gained from each state that decisions from the start
 -- reach, and whether the plan has a path
 pub record IsDrawing (as_svg : Bool) (media_type : ℕ) (advert : Advertised) (weights : HostWeights) (kept : List Path) (text : List ℕ)
     (has_paths : Bool) : Type 0 where

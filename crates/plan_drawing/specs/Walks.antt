@@ -1,12 +1,12 @@
--- How a plan comes from the start over all host lanes. (docs/planning.md, "States and steps"; this project's own)
+-- How a plan comes from the start over all host lanes. (docs/planning.md, "States and decisions"; this project's own)
 use Rattle.std.specs.Prelude.{ℕ, ◌+◌, ◌==◌, Bool, if◌then◌else◌, List, [], ◌∷◌, Option, Some, None, find}
 use Rattle.std.specs.List.{range_with_len}
 use Rattle.applications.specs.Advertised.{Advertised}
 use Rattle.applications.specs.Weights.{HostWeights}
 use Rattle.plan_certificate.specs.declared.path.Path.{Path}
 use Rattle.plan_certificate.specs.declared.state.State.{State}
-use Rattle.plan_certificate.specs.declared.state.Step.{Step}
-use Rattle.plan_certificate.specs.States.{start, free_step, path_step}
+use Rattle.plan_certificate.specs.declared.state.Decision.{Decision}
+use Rattle.plan_certificate.specs.States.{start, free_decision, path_decision}
 
 abbrev pub begins_at : ℕ → Path → Bool
 begins_at lane path = path.host == lane
@@ -15,13 +15,13 @@ begins_at lane path = path.host == lane
 abbrev pub path_at : List Path → ℕ → Option Path
 path_at paths lane = find (begins_at lane) paths
 
-abbrev pub step_of : Advertised → HostWeights → State → Option Path → Step
-step_of advert weights state (Some path) = path_step advert weights state path
-step_of advert weights state None = free_step state
+abbrev pub decision_of : Advertised → HostWeights → State → Option Path → Decision
+decision_of advert weights state (Some path) = path_decision advert weights state path
+decision_of advert weights state None = free_decision state
 
 -- where the plan comes to from a state
 abbrev pub next_state : Advertised → HostWeights → List Path → State → State
-next_state advert weights paths state = (step_of advert weights state (path_at paths (state.boundary + 1))).end
+next_state advert weights paths state = (decision_of advert weights state (path_at paths (state.boundary + 1))).end
 
 -- the states in which it decides on these host lanes; those that a path takes after its first are decided with that
 unfoldable pub states_on : Advertised → HostWeights → List Path → State → List ℕ → List State

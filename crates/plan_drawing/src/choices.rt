@@ -218,7 +218,7 @@ fn free_choice(gains: &Table, state: &State) -> Choice
     requires open { state.now.boundary < 8 }
     ensures { result ≡ spec.free_choice gains.now state.now }
 {
-    let rest = gains.of(&state.free_step().end);
+    let rest = gains.of(&state.free_decision().end);
     Choice {
         path: None,
         weight: 0,

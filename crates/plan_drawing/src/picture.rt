@@ -5,7 +5,7 @@ ghost use Rattle.plan_certificate.specs.Plans.{IsAdmissible};
 ghost use Rattle.plan_drawing.specs.Picture.{host_numbers, host_rows, label_of, labels_of, media_numbers, media_rows, picture_lines};
 
 use crate::owners::owners;
-use crate::row::{Row, Told, push_row};
+use crate::row::{Row, RowContents, push_row};
 use crate::side::Side;
 use applications::Advert;
 use arrayvec::ArrayVec;
@@ -25,43 +25,43 @@ pub fn push_picture(
     ensures { OnOk result (out.new.items ≡ out.old.items ++ text_of (picture_lines advert.now kept.now plan.now)) }
 {
     let paths = plan.paths.as_slice();
-    let told = Told {
+    let contents = RowContents {
         labels: labels_of(kept, paths),
         control: bytes_of(advert, plan),
     };
-    push_host_rows(alloc, out, &told, &owners(advert, Side::Host, paths))?;
-    push_media_rows(alloc, out, &told, &owners(advert, Side::Media, paths))
+    push_host_rows(alloc, out, &contents, &owners(advert, Side::Host, paths))?;
+    push_media_rows(alloc, out, &contents, &owners(advert, Side::Media, paths))
 }
 
 #[tactic(auto, unfolding(crate::specs::Picture::host_rows))]
 fn push_host_rows(
     alloc: Global,
     out: &mut Vec<u8>,
-    told: &Told,
+    contents: &RowContents,
     lanes: &[u8],
 ) -> Result<(), AllocError>
-    ensures { OnOk result (out.new.items ≡ out.old.items ++ text_of (host_rows told.now.labels.items told.now.control lanes.now)) }
+    ensures { OnOk result (out.new.items ≡ out.old.items ++ text_of (host_rows contents.now.labels.items contents.now.control lanes.now)) }
 {
     push_host_numbers(out)?;
-    push_row(alloc, out, Row::Frame, told, lanes)?;
-    push_row(alloc, out, Row::Names, told, lanes)?;
-    push_row(alloc, out, Row::Control, told, lanes)?;
-    push_row(alloc, out, Row::Frame, told, lanes)
+    push_row(alloc, out, Row::Frame, contents, lanes)?;
+    push_row(alloc, out, Row::Names, contents, lanes)?;
+    push_row(alloc, out, Row::Control, contents, lanes)?;
+    push_row(alloc, out, Row::Frame, contents, lanes)
 }
 
 #[tactic(auto, unfolding(crate::specs::Picture::media_rows))]
 fn push_media_rows(
     alloc: Global,
     out: &mut Vec<u8>,
-    told: &Told,
+    contents: &RowContents,
     lanes: &[u8],
 ) -> Result<(), AllocError>
-    ensures { OnOk result (out.new.items ≡ out.old.items ++ text_of (media_rows told.now.labels.items told.now.control lanes.now)) }
+    ensures { OnOk result (out.new.items ≡ out.old.items ++ text_of (media_rows contents.now.labels.items contents.now.control lanes.now)) }
 {
     push_media_numbers(out)?;
-    push_row(alloc, out, Row::Frame, told, lanes)?;
-    push_row(alloc, out, Row::Names, told, lanes)?;
-    push_row(alloc, out, Row::Frame, told, lanes)
+    push_row(alloc, out, Row::Frame, contents, lanes)?;
+    push_row(alloc, out, Row::Names, contents, lanes)?;
+    push_row(alloc, out, Row::Frame, contents, lanes)
 }
 
 #[tactic(auto, unfolding(crate::specs::Picture::host_numbers))]

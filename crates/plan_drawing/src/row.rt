@@ -20,7 +20,7 @@ pub enum Row {
 
 /// What the rows tell: a label for each path, and the control byte of each host lane.
 #[derive(Drop)]
-pub struct Told {
+pub struct RowContents {
     pub labels: ArrayVec<[u8; 7], 8>,
     pub control: [u8; 8],
 }
@@ -31,13 +31,13 @@ pub fn push_row(
     alloc: Global,
     out: &mut Vec<u8>,
     row: Row,
-    told: &Told,
+    contents: &RowContents,
     owners: &[u8],
 ) -> Result<(), AllocError>
-    ensures { OnOk result (out.new.items ≡ out.old.items ++ (row_line row told.now.labels.items told.now.control owners.now ++ 10 ∷ [])) }
+    ensures { OnOk result (out.new.items ≡ out.old.items ++ (row_line row contents.now.labels.items contents.now.control owners.now ++ 10 ∷ [])) }
 {
     let mut line = b"             ".to_vec(alloc)?;
-    push_cells(&mut line, row, told, owners)?;
+    push_cells(&mut line, row, contents, owners)?;
     push_trimmed(out, &line)
 }
 
@@ -49,12 +49,17 @@ fn push_trimmed(out: &mut Vec<u8>, line: &[u8]) -> Result<(), AllocError>
     Ok(())
 }
 
-fn push_cells(out: &mut Vec<u8>, row: Row, told: &Told, owners: &[u8]) -> Result<(), AllocError>
-    ensures { OnOk result (out.new.items ≡ out.old.items ++ cells row told.now.labels.items told.now.control 0 0 owners.now) }
+fn push_cells(
+    out: &mut Vec<u8>,
+    row: Row,
+    contents: &RowContents,
+    owners: &[u8],
+) -> Result<(), AllocError>
+    ensures { OnOk result (out.new.items ≡ out.old.items ++ cells row contents.now.labels.items contents.now.control 0 0 owners.now) }
 {
     let mut before = 0;
     for (index, owner) in owners.iter().enumerate() {
-        push_cell(out, row, told, index, before, *owner)?;
+        push_cell(out, row, contents, index, before, *owner)?;
         before = *owner;
     }
     out.push(edge(row, before, 0))?;
@@ -65,15 +70,15 @@ fn push_cells(out: &mut Vec<u8>, row: Row, told: &Told, owners: &[u8]) -> Result
 fn push_cell(
     out: &mut Vec<u8>,
     row: Row,
-    told: &Told,
+    contents: &RowContents,
     index: usize,
     before: u8,
     owner: u8,
 ) -> Result<(), AllocError>
-    ensures { OnOk result (out.new.items ≡ out.old.items ++ cell row told.now.labels.items told.now.control index before owner) }
+    ensures { OnOk result (out.new.items ≡ out.old.items ++ cell row contents.now.labels.items contents.now.control index before owner) }
 {
     out.push(edge(row, before, owner))?;
-    out.extend_from_slice(&inside(row, told, index, before, owner))?;
+    out.extend_from_slice(&inside(row, contents, index, before, owner))?;
     Ok(())
 }
 
@@ -88,8 +93,8 @@ fn edge(row: Row, before: u8, owner: u8) -> u8
     }
 }
 
-fn inside(row: Row, told: &Told, index: usize, before: u8, owner: u8) -> [u8; 7]
-    ensures { result ≡ inside row told.now.labels.items told.now.control index before owner }
+fn inside(row: Row, contents: &RowContents, index: usize, before: u8, owner: u8) -> [u8; 7]
+    ensures { result ≡ inside row contents.now.labels.items contents.now.control index before owner }
 {
     match row {
         Row::Frame => if owner == 0 { [b' '; 7] } else { [b'-'; 7] },
@@ -98,12 +103,12 @@ fn inside(row: Row, told: &Told, index: usize, before: u8, owner: u8) -> [u8; 7]
         } else if before == owner {
             [b' '; 7]
         } else {
-            label(told.labels.as_slice(), owner)
+            label(contents.labels.as_slice(), owner)
         },
         Row::Control => if owner == 0 {
             [b' '; 7]
         } else {
-            byte(told.control.get(index).copied().unwrap_or(0))
+            byte(contents.control.get(index).copied().unwrap_or(0))
         },
     }
 }

@@ -5,7 +5,7 @@ ghost use Rattle.text_lines.specs.Lines.{text_of};
 ghost use Rattle.applications.specs.Weights.{HostWeights};
 ghost use Rattle.plan_certificate.specs.Paths.{is_allowed};
 ghost use Rattle.plan_certificate.specs.Plans.{AreAllowed};
-ghost use Rattle.plan_certificate.specs.States.{path_step};
+ghost use Rattle.plan_certificate.specs.States.{path_decision};
 ghost use Rattle.lane_planner.specs.Tables.{IsTable, gain_at};
 ghost use Rattle.plan_drawing.specs.Choices.{choices_in, ranked};
 ghost use Rattle.plan_drawing.specs.Walks.{begins_at, next_state};
@@ -85,14 +85,14 @@ fn next_state(advert: &Advert, paths: &[Path], state: &State) -> State
             return after_path(advert, state, *path);
         }
     }
-    state.free_step().end
+    state.free_decision().end
 }
 
 #[tactic(auto, unfolding(plan_certificate::specs::Paths::is_allowed))]
 fn after_path(advert: &Advert, state: &State, path: Path) -> State
     requires begins { path.host ≡ state.now.boundary + 1 }
     requires allowed { is_allowed advert.now path ≡ true }
-    ensures next { (weights : HostWeights) → result ≡ (path_step advert.now weights state.now path).end }
+    ensures next { (weights : HostWeights) → result ≡ (path_decision advert.now weights state.now path).end }
     ensures within { result.boundary ≤ 8 }
 {
     State {

@@ -1,6 +1,6 @@
 -- The tokens of lists of values and members are those of their trees, and the text of a report's tree reads back as it.
 use Rattle.std.proofs.Common.{◌≡◌, ℕ, ℤ, Bool, true, false, if◌then◌else◌, List, [], ◌∷◌, ◌++◌, ◌≤◌, Option, None, Some, map, codes, option_and_then, refl, sym, ap, ◌∙◌, append_assoc, append-nil, arith}
-use Rattle.field_tables.specs.declared.readings.Levels.{Levels}
+use Rattle.field_tables.specs.declared.readings.PerLimit.{PerLimit}
 use Rattle.applications.specs.declared.app.App.{App}
 use Rattle.json.specs.Token.{key, end_array, end_object}
 use Rattle.json.specs.Json.{Json, document, if_last, max_depth, value, number as number_of}
@@ -84,7 +84,7 @@ all_deep f d one (x ∷ xs) = omega (arith, one x, all_deep f d one xs)
 amount_depth : (z : ℤ) → depth (amount_json z) ≤ 1
 amount_depth z = omega arith
 
-limits_depth : (levels : Levels ℤ) → depth (limits_json levels) ≤ 1
+limits_depth : (levels : PerLimit ℤ) → depth (limits_json levels) ≤ 1
 unfolding limits_json alarm_members warning_members amount_members
 limits_depth levels = omega arith
 

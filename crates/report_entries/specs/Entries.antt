@@ -2,7 +2,7 @@
 -- this project's own)
 use Rattle.std.specs.Prelude.{ℕ, Bool, ℤ, List, map, Vec}
 use Rattle.std.specs.declared.alloc.Global.{Global}
-use Rattle.field_tables.specs.declared.readings.Levels.{Levels}
+use Rattle.field_tables.specs.declared.readings.PerLimit.{PerLimit}
 use Rattle.field_tables.specs.LaneSets.{Lanes}
 use Rattle.applications.specs.declared.app.App.{App}
 use Rattle.report_entries.specs.declared.entry.Entry as rust
@@ -30,8 +30,8 @@ pub data Said : Type 0 where
   amount : ℤ → PrintedUnit → Said
   -- the same of each lane, lane 1 first
   lanes : List ℤ → PrintedUnit → Said
-  -- and of each level
-  limits : Levels ℤ → PrintedUnit → Said
+  -- and of each limit
+  limits : PerLimit ℤ → PrintedUnit → Said
   -- the state of the module, by its code
   state : ℕ → Said
   -- of each lane, lane 1 first

@@ -4,7 +4,7 @@ use Rattle.std.specs.Prelude.{◌≡◌, ℕ, ◌==◌, if◌then◌else◌, ℤ
 use Rattle.std.specs.Fmt.{decimal}
 use Rattle.std.specs.List.{flat_map}
 use Rattle.hex.specs.Hex.{encode_lower}
-use Rattle.field_tables.specs.declared.readings.Levels.{Levels}
+use Rattle.field_tables.specs.declared.readings.PerLimit.{PerLimit}
 use Rattle.field_tables.specs.LaneSets.{byte_of}
 use Rattle.applications.specs.Usable.{is_usable}
 use Rattle.applications.specs.declared.app.App.{App}
@@ -73,15 +73,15 @@ name_members key (Some name) = string_members key name
 
 -- ---- the limits of a monitor
 
-unfoldable pub alarm_members : Levels ℤ → List Member
+unfoldable pub alarm_members : PerLimit ℤ → List Member
 alarm_members levels =
     amount_members (codes "high_alarm") levels.high_alarm ++ amount_members (codes "low_alarm") levels.low_alarm
 
-unfoldable pub warning_members : Levels ℤ → List Member
+unfoldable pub warning_members : PerLimit ℤ → List Member
 warning_members levels =
     amount_members (codes "high_warning") levels.high_warning ++ amount_members (codes "low_warning") levels.low_warning
 
-unfoldable pub limits_json : Levels ℤ → Json
+unfoldable pub limits_json : PerLimit ℤ → Json
 limits_json levels = object_of (alarm_members levels ++ warning_members levels)
 
 -- ---- states by their codes

@@ -3,7 +3,7 @@ use Rattle.std.specs.Prelude.{ℕ, ℤ, List, [], ◌∷◌, map}
 use Rattle.std.specs.Fmt.{decimal}
 use Rattle.std.specs.List.{enumerate_from, flat_map}
 use Rattle.hex.specs.Hex.{encode_lower}
-use Rattle.field_tables.specs.declared.readings.Levels.{Levels}
+use Rattle.field_tables.specs.declared.readings.PerLimit.{PerLimit}
 use Rattle.field_tables.specs.LaneSets.{byte_of}
 use Rattle.text_lines.specs.Lines.{text_of}
 use Rattle.report_entries.specs.AppText.{app_line}
@@ -11,7 +11,7 @@ use Rattle.report_entries.specs.Entries.{Entry, Said, word, right, number, code,
 use Rattle.report_entries.specs.FactText.{fact_line}
 use Rattle.report_entries.specs.Flags.{flag_lines}
 use Rattle.report_entries.specs.Lines.{line}
-use Rattle.report_entries.specs.Monitors.{each_level, lane_measure, levels_text}
+use Rattle.report_entries.specs.Monitors.{each_limit, lane_measure, limits_text}
 use Rattle.report_entries.specs.PrintedUnits.{unit_name}
 use Rattle.report_entries.specs.States.{lane_codes_text, module_state_text}
 use Rattle.report_entries.specs.declared.entry.LaneState.{LaneState}
@@ -35,8 +35,8 @@ lane_state_line name lane s = line name (lane_codes_text lane s.path s.status)
 abbrev pub lane_state_lines : List ℕ → List LaneState → List (List ℕ)
 lane_state_lines name states = map (λ (l : ℕ × LaneState). lane_state_line name l.0 l.1) (enumerate_from 1 states)
 
-abbrev pub in_thousandths : Levels ℤ → Levels Thousandths
-in_thousandths levels = each_level (λ (millis : ℤ). record { 0 = millis }) levels
+abbrev pub in_thousandths : PerLimit ℤ → PerLimit Thousandths
+in_thousandths levels = each_limit (λ (millis : ℤ). record { 0 = millis }) levels
 
 unfoldable pub said_lines : List ℕ → Said → List (List ℕ)
 said_lines name (word w) = line name w ∷ []
@@ -48,7 +48,7 @@ said_lines name (text bytes) = line name (printable bytes) ∷ []
 said_lines name (oui bytes) = line name (encode_lower bytes) ∷ []
 said_lines name (amount millis unit) = line name (measure millis (unit_name unit)) ∷ []
 said_lines name (lanes values unit) = lane_lines name unit values
-said_lines name (limits levels unit) = line name (levels_text (in_thousandths levels)) ∷ []
+said_lines name (limits levels unit) = line name (limits_text (in_thousandths levels)) ∷ []
 said_lines name (state n) = line name (module_state_text n) ∷ []
 said_lines name (lane_states states) = lane_state_lines name states
 said_lines name (flags raised) = flag_lines name raised

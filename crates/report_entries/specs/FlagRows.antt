@@ -11,7 +11,7 @@ use Rattle.report_entries.specs.Entries.{Entry, entry, flags}
 use Rattle.report_entries.specs.declared.flag.Flag.{Flag}
 use Rattle.report_entries.specs.declared.flag.FlagName.{FlagName}
 use Rattle.report_entries.specs.declared.flag.FlagName.TheVariants.{Passed}
-use Rattle.report_entries.specs.declared.flag.Level.TheVariants.{HighAlarm, LowAlarm, HighWarning, LowWarning}
+use Rattle.report_entries.specs.declared.flag.LimitKind.TheVariants.{HighAlarm, LowAlarm, HighWarning, LowWarning}
 use Rattle.report_entries.specs.declared.quantity.Quantity.{Quantity}
 use Rattle.report_entries.specs.declared.flag_rows.FlagPlace.{FlagPlace}
 use Rattle.report_entries.specs.declared.flag_rows.FlagPlace.TheVariants.{Value, Lanes}

@@ -37,7 +37,7 @@ pub data Source : Type 0 where
   Length : Field → Field → Source
   -- of each lane, times two to the power of the second field if there is one
   Lanes : Field → Option Field → Source
-  -- of each level
+  -- of each limit
   Limits : Field → Option Field → Source
   -- the state of the module
   State : Field → Source

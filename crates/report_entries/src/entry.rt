@@ -7,7 +7,7 @@ use crate::flag::Flag;
 use crate::printed_unit::PrintedUnit;
 use applications::{App, MAX_APPS};
 use arrayvec::ArrayVec;
-use field_tables::{LaneSet, Levels};
+use field_tables::{LaneSet, PerLimit};
 use std::alloc::AllocError;
 
 /// What is said under a name.
@@ -28,8 +28,8 @@ pub enum Said {
     Amount(i64, PrintedUnit),
     /// The same of each lane, lane 1 first.
     Lanes(ArrayVec<i64, 8>, PrintedUnit),
-    /// And of each level.
-    Limits(Levels<i64>, PrintedUnit),
+    /// And of each limit.
+    Limits(PerLimit<i64>, PrintedUnit),
     /// The state of the module, by its code.
     State(u8),
     /// Of each lane, lane 1 first.

@@ -13,7 +13,7 @@ use crate::flag::Flag;
 use crate::json_writer::JsonWriter;
 use crate::shown::{Revision, TextIn};
 use applications::App;
-use field_tables::Levels;
+use field_tables::PerLimit;
 use std::alloc::{AllocError, Global};
 use std::fmt::Display;
 use text_lines::Hexadecimal;
@@ -73,9 +73,9 @@ fn put_said(out: &mut JsonWriter, name: &'static str, said: &Said) -> Result<(),
             out.key_in(name, unit.key())?;
             put_amounts(out, millis.as_slice())
         }
-        Said::Limits(levels, unit) => {
+        Said::Limits(limits, unit) => {
             out.key_in(name, unit.key())?;
-            put_limits(out, *levels)
+            put_limits(out, *limits)
         }
         Said::State(code) => put_state(out, name, *code),
         Said::Right(right) => {
@@ -157,29 +157,29 @@ pub fn put_shown<V: Display + Drop>(
     out.shown(value)
 }
 
-fn put_limits(out: &mut JsonWriter, levels: Levels<i64>) -> Result<(), AllocError>
-    ensures { OnOk result (out.new ≡ out.old ++ json_tokens (limits_json levels)) }
+fn put_limits(out: &mut JsonWriter, limits: PerLimit<i64>) -> Result<(), AllocError>
+    ensures { OnOk result (out.new ≡ out.old ++ json_tokens (limits_json limits)) }
 {
     out.begin_object()?;
-    put_alarms(out, levels)?;
-    put_warnings(out, levels)?;
+    put_alarms(out, limits)?;
+    put_warnings(out, limits)?;
     out.end_object()
 }
 
 #[tactic(auto, unfolding(crate::specs::EntryJson::alarm_members))]
-fn put_alarms(out: &mut JsonWriter, levels: Levels<i64>) -> Result<(), AllocError>
-    ensures { OnOk result (out.new ≡ out.old ++ all_member_tokens (alarm_members levels)) }
+fn put_alarms(out: &mut JsonWriter, limits: PerLimit<i64>) -> Result<(), AllocError>
+    ensures { OnOk result (out.new ≡ out.old ++ all_member_tokens (alarm_members limits)) }
 {
-    put_amount(out, "high_alarm", levels.high_alarm)?;
-    put_amount(out, "low_alarm", levels.low_alarm)
+    put_amount(out, "high_alarm", limits.high_alarm)?;
+    put_amount(out, "low_alarm", limits.low_alarm)
 }
 
 #[tactic(auto, unfolding(crate::specs::EntryJson::warning_members))]
-fn put_warnings(out: &mut JsonWriter, levels: Levels<i64>) -> Result<(), AllocError>
-    ensures { OnOk result (out.new ≡ out.old ++ all_member_tokens (warning_members levels)) }
+fn put_warnings(out: &mut JsonWriter, limits: PerLimit<i64>) -> Result<(), AllocError>
+    ensures { OnOk result (out.new ≡ out.old ++ all_member_tokens (warning_members limits)) }
 {
-    put_amount(out, "high_warning", levels.high_warning)?;
-    put_amount(out, "low_warning", levels.low_warning)
+    put_amount(out, "high_warning", limits.high_warning)?;
+    put_amount(out, "low_warning", limits.low_warning)
 }
 
 #[tactic(auto, unfolding(crate::specs::EntryJson::state_members, crate::specs::EntryJson::count_members, crate::specs::EntryJson::string_members))]

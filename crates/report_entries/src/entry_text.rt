@@ -10,14 +10,14 @@ ghost use Rattle.report_entries.specs.PrintedUnits.{unit_name};
 use crate::entry::{Entry, LaneState, Said};
 use crate::fact_text::push_fact;
 use crate::flag::Flag;
-use crate::monitor::{LaneMeasure, LevelsText};
+use crate::monitor::{LaneMeasure, LimitsText};
 use crate::printed_unit::PrintedUnit;
 use crate::report_text::ReportText;
 use crate::shown::{Code, LanesCode, Measure, Revision, TextIn, Thousandths, sum_word};
 use crate::shown_app::ShownApp;
 use crate::shown_state::{LaneCodes, ModuleStateCode};
 use applications::App;
-use field_tables::Levels;
+use field_tables::PerLimit;
 use std::alloc::{AllocError, Global};
 use text_lines::Hexadecimal;
 
@@ -53,7 +53,7 @@ fn push_said(report: &mut ReportText, name: &'static str, said: &Said) -> Result
         Said::Oui(bytes) => report.line(name, Hexadecimal(bytes)),
         Said::Amount(millis, unit) => report.line(name, Measure(*millis, unit.name())),
         Said::Lanes(millis, unit) => push_lanes(report, name, millis.as_slice(), *unit),
-        Said::Limits(levels, _) => report.line(name, LevelsText(in_thousandths(*levels))),
+        Said::Limits(limits, _) => report.line(name, LimitsText(in_thousandths(*limits))),
         Said::State(code) => report.line(name, ModuleStateCode(*code)),
         Said::LaneStates(states) => push_lane_states(report, name, states.as_slice()),
         Said::Flags(flags) => push_flags(report, name, flags),
@@ -152,13 +152,13 @@ fn push_app(report: &mut ReportText, name: &'static str, app: App) -> Result<(),
     report.line(name, ShownApp(app))
 }
 
-fn in_thousandths(levels: Levels<i64>) -> Levels<Thousandths>
-    ensures { result ≡ in_thousandths levels }
+fn in_thousandths(limits: PerLimit<i64>) -> PerLimit<Thousandths>
+    ensures { result ≡ in_thousandths limits }
 {
-    Levels {
-        high_alarm: Thousandths(levels.high_alarm),
-        low_alarm: Thousandths(levels.low_alarm),
-        high_warning: Thousandths(levels.high_warning),
-        low_warning: Thousandths(levels.low_warning),
+    PerLimit {
+        high_alarm: Thousandths(limits.high_alarm),
+        low_alarm: Thousandths(limits.low_alarm),
+        high_warning: Thousandths(limits.high_warning),
+        low_warning: Thousandths(limits.low_warning),
     }
 }

@@ -1,6 +1,6 @@
 // Flags that modules of any family raise.
 ghost use Rattle.std.specs.Prelude.{◌≡◌, Some};
-ghost use Rattle.report_entries.specs.FlagNames.{condition_name, flag_name, level_name};
+ghost use Rattle.report_entries.specs.FlagNames.{condition_name, flag_name, limit_name};
 ghost use Rattle.report_entries.specs.Flags.{flag_text};
 
 use crate::quantity::Quantity;
@@ -8,7 +8,7 @@ use std::fmt;
 
 /// A limit of what is measured.
 #[derive(Clone, Copy)]
-pub enum Level {
+pub enum LimitKind {
     HighAlarm,
     LowAlarm,
     HighWarning,
@@ -35,7 +35,7 @@ pub enum Condition {
 #[derive(Clone, Copy)]
 pub enum FlagName {
     /// What is measured has passed a limit.
-    Passed(Quantity, Level),
+    Passed(Quantity, LimitKind),
     Holds(Condition),
 }
 
@@ -46,16 +46,16 @@ pub struct Flag {
     pub lane: Option<u8>,
 }
 
-impl Level {
-    #[tactic(auto, unfolding(crate::specs::FlagNames::level_name))]
+impl LimitKind {
+    #[tactic(auto, unfolding(crate::specs::FlagNames::limit_name))]
     pub fn name(self) -> &'static str
-        ensures { result.now ≡ level_name self }
+        ensures { result.now ≡ limit_name self }
     {
         match self {
-            Level::HighAlarm => "high-alarm",
-            Level::LowAlarm => "low-alarm",
-            Level::HighWarning => "high-warning",
-            Level::LowWarning => "low-warning",
+            LimitKind::HighAlarm => "high-alarm",
+            LimitKind::LowAlarm => "low-alarm",
+            LimitKind::HighWarning => "high-warning",
+            LimitKind::LowWarning => "low-warning",
         }
     }
 }
@@ -84,9 +84,9 @@ impl fmt::Display for FlagName {
     #[tactic(auto, unfolding(crate::specs::FlagNames::flag_name))]
     fn fmt<W: fmt::Write>(&self, f: &mut fmt::Formatter<W>) -> fmt::Result {
         match self {
-            FlagName::Passed(quantity, level) => {
-                let (quantity, level) = (quantity.name(), level.name());
-                write!(f, "{quantity}-{level}")
+            FlagName::Passed(quantity, limit) => {
+                let (quantity, limit) = (quantity.name(), limit.name());
+                write!(f, "{quantity}-{limit}")
             }
             FlagName::Holds(condition) => {
                 let condition = condition.name();

@@ -26,7 +26,7 @@ pub use entry::{Entry, LaneState, Said, say};
 pub use entry_json::{json, put_count, put_shown};
 pub use entry_text::text;
 pub use fact::{Fact, Place};
-pub use flag::{Condition, Flag, FlagName, Level};
+pub use flag::{Condition, Flag, FlagName, LimitKind};
 pub use flag_rows::{FlagPlace, FlagRow, raised_flags, told_flags};
 pub use json_writer::JsonWriter;
 pub use printed_unit::PrintedUnit;

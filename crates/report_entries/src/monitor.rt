@@ -1,10 +1,10 @@
-// What is measured in a lane, and at each level.
+// What is measured in a lane, and at each limit.
 ghost use Rattle.std.specs.Prelude.{Some};
-ghost use Rattle.report_entries.specs.Monitors.{lane_measure, levels_text};
+ghost use Rattle.report_entries.specs.Monitors.{lane_measure, limits_text};
 ghost use Rattle.report_entries.specs.Shown.{measure};
 
 use crate::shown::{Measure, Thousandths};
-use field_tables::Levels;
+use field_tables::PerLimit;
 use std::fmt;
 
 /// A lane and what is measured there.
@@ -21,14 +21,14 @@ impl fmt::Display for LaneMeasure {
     }
 }
 
-/// Thousandths at each level: alarms before warnings, and of both high before low.
+/// Thousandths at each limit: alarms before warnings, and of both high before low.
 #[derive(Clone, Copy)]
-pub struct LevelsText(pub Levels<Thousandths>);
+pub struct LimitsText(pub PerLimit<Thousandths>);
 
-impl fmt::Display for LevelsText {
-    ghost output = { λ shown. Some (levels_text shown.0) };
+impl fmt::Display for LimitsText {
+    ghost output = { λ shown. Some (limits_text shown.0) };
 
-    #[tactic(auto, unfolding(crate::specs::Monitors::levels_text))]
+    #[tactic(auto, unfolding(crate::specs::Monitors::limits_text))]
     fn fmt<W: fmt::Write>(&self, f: &mut fmt::Formatter<W>) -> fmt::Result {
         let (high_alarm, low_alarm) = (self.0.high_alarm, self.0.low_alarm);
         let (high_warning, low_warning) = (self.0.high_warning, self.0.low_warning);

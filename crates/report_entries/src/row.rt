@@ -22,7 +22,7 @@ pub enum Source<T> {
     Length(Field, Field),
     /// Of each lane, times two to the power of the second field if there is one.
     Lanes(Field, Option<Field>),
-    /// Of each level, counted as those of lanes are.
+    /// Of each limit, counted as those of lanes are.
     Limits(Field, Option<Field>),
     /// The state of the module.
     State(Field),

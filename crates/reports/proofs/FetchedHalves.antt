@@ -18,15 +18,14 @@ use Rattle.bus_model.proofs.Histories.{AnyPin, found_keeps, may_each}
 use Rattle.bus_model.proofs.ScriptRuns.{all_allow, fetched_at, step_keeps}
 use Rattle.paged_memory.specs.declared.family.Family.{Family}
 use Rattle.paged_memory.specs.declared.family.Family.TheVariants.{Cmis, Sff8636, Sff8472}
-use Rattle.paged_memory.specs.declared.paging.Paging.{Paging}
-use Rattle.paged_memory.specs.declared.paging.Paging.TheVariants.{BankAndPage, PageAlone}
-use Rattle.paged_memory.specs.declared.selection.Selecting.TheVariants as selecting
+use Rattle.paged_memory.specs.declared.page_addressing.PageAddressing.{PageAddressing}
+use Rattle.paged_memory.specs.declared.page_addressing.PageAddressing.TheVariants.{BankAndPage, PageAlone}
 use Rattle.paged_memory.specs.Families.{family_by, is_family}
 use Rattle.paged_memory.specs.Images.{Memory}
 use Rattle.paged_memory.specs.ImageText.{IsImage}
 use Rattle.paged_memory.specs.Keys.{lower_key, upper_key}
-use Rattle.paged_memory.specs.Paging.{History, reads_back, selection}
-use Rattle.paged_memory.specs.Selections.{selecting_by, selecting_in, selecting_on}
+use Rattle.paged_memory.specs.PageAddressing.{History, reads_back, selection}
+use Rattle.paged_memory.specs.MappedPages.{selecting_by, selecting_in, selecting_on}
 use Rattle.paged_memory.specs.Windows.{Windowed, window_fetched, started, window_conduct}
 use Rattle.paged_memory.proofs.WindowHistories.{IsOf, IsOfBank, IsSound, May, Shows, State, found, left, of_after, selecting_of, shows_confirmed, shows_fetch, shows_read_back, shows_selected, sound_after}
 use Rattle.paged_memory.proofs.WindowReads.{before_selection, half_page, reads_lower, reads_page}
@@ -40,7 +39,7 @@ use Rattle.field_tables.proofs.SameValues.{Agree, same_absent, same_number}
 use Rattle.module_decoding.specs.ModuleFamilies.{identifier}
 use Rattle.reports.specs.FetchedImages.{IsFetching}
 use Rattle.module_reading.specs.ReadImages.{IsFetch, IsImageOf, IsLeftOut, IsRead, IsSettled, IsShown, SomeStep, StoresNothing, WasSelected}
-use Rattle.module_reading.specs.Regions.{has_diagnostics, key_of, operation, paging_in, paging_of, regions_in, regions_of, sfp_regions}
+use Rattle.module_reading.specs.Regions.{has_diagnostics, key_of, operation, addressing_in, addressing_of, regions_in, regions_of, sfp_regions}
 use Rattle.module_reading.specs.declared.region.Region.{Region}
 use Rattle.module_reading.specs.declared.region.Region.TheVariants.{Lower, FirstPage, Page}
 use Rattle.module_reading.proofs.RegionLaws.{begins_lower}
@@ -63,21 +62,21 @@ is_fetch FirstPage = refl
 is_fetch (Page page) = refl
 
 -- before the steps the half was shown, and it was answered with these bytes
-record WasRead (paging : Paging) (region : Region) (bytes : List ℕ) (state : State) : Type 0 where
+record WasRead (addressing : PageAddressing) (region : Region) (bytes : List ℕ) (state : State) : Type 0 where
   before : History
   may : May state before
-  shown : IsShown paging region before
+  shown : IsShown addressing region before
   answer : (window_fetched (found (left state before)) (device_of region) (offset_of region) 128).0 ≡ Some bytes
 
-was_read : (paging : Paging) (region : Region) (bytes : List ℕ) (state : State) (history : History) → May state history → IsRead paging region bytes history → WasRead paging region bytes state
-was_read paging region bytes state [] may read = absurd read
-was_read paging region bytes state (step ∷ before) may (inl now) =
+was_read : (addressing : PageAddressing) (region : Region) (bytes : List ℕ) (state : State) (history : History) → May state history → IsRead addressing region bytes history → WasRead addressing region bytes state
+was_read addressing region bytes state [] may read = absurd read
+was_read addressing region bytes state (step ∷ before) may (inl now) =
     let there = left state before in
     let gives = now.0 in
     let reply : Bytes (record { items = bytes }) ≡ (transacted window_conduct (Fetch (device_of region) (offset_of region) 128) there).0 =
     sym gives.1 ∙ may.0 ∙ ap (λ (op : Op). (transacted window_conduct op there).0) (gives.0 ∙ is_fetch region) in
     record { before = before; may = may.1; shown = now.1; answer = (fetched_at window_conduct (device_of region) (offset_of region) 128 (record { items = bytes }) there reply).answer }
-was_read paging region bytes state (step ∷ before) may (inr earlier) = was_read paging region bytes state before may.1 earlier
+was_read addressing region bytes state (step ∷ before) may (inr earlier) = was_read addressing region bytes state before may.1 earlier
 
 -- ---- which page is shown
 
@@ -94,39 +93,39 @@ shows_first : (memory : Memory) (state : State) (history : History) → StoresNo
 shows_first memory state [] nothing shows = shows
 shows_first memory state (step ∷ before) nothing shows = shows_next memory 0 (left state before) step nothing.0 (shows_first memory state before nothing.1 shows)
 
-shows_chosen : (memory : Memory) (paging : Paging) → selecting_on memory A0 ≡ selecting_of paging → (page : ℕ) (state : State) (history : History) → map.contains_key memory (upper_key A0 0 page) ≡ true → IsOf memory state.1 →
-    May state history → WasSelected paging page history → Shows memory page (left state history).1
-shows_chosen memory paging by page state [] has of may selected = absurd selected
-shows_chosen memory paging by page state (step ∷ before) has of may (inl accepted) =
+shows_chosen : (memory : Memory) (addressing : PageAddressing) → selecting_on memory A0 ≡ selecting_of addressing → (page : ℕ) (state : State) (history : History) → map.contains_key memory (upper_key A0 0 page) ≡ true → IsOf memory state.1 →
+    May state history → WasSelected addressing page history → Shows memory page (left state history).1
+shows_chosen memory addressing by page state [] has of may selected = absurd selected
+shows_chosen memory addressing by page state (step ∷ before) has of may (inl accepted) =
     let there = left state before in
-    let done : Done ≡ (transacted window_conduct (selection paging page) there).0 = sym accepted.1 ∙ may.0 ∙ ap (λ (op : Op). (transacted window_conduct op there).0) accepted.0 in
-    subst (λ (op : Op). Shows memory page (transacted window_conduct op there).1.1) (sym accepted.0) (shows_selected memory paging by page there has done (of_after memory state before of))
-shows_chosen memory paging by page state (step ∷ before) has of may (inr (fetch, earlier)) =
-    shows_next memory page (left state before) step fetch (shows_chosen memory paging by page state before has of may.1 earlier)
+    let done : Done ≡ (transacted window_conduct (selection addressing page) there).0 = sym accepted.1 ∙ may.0 ∙ ap (λ (op : Op). (transacted window_conduct op there).0) accepted.0 in
+    subst (λ (op : Op). Shows memory page (transacted window_conduct op there).1.1) (sym accepted.0) (shows_selected memory addressing by page there has done (of_after memory state before of))
+shows_chosen memory addressing by page state (step ∷ before) has of may (inr (fetch, earlier)) =
+    shows_next memory page (left state before) step fetch (shows_chosen memory addressing by page state before has of may.1 earlier)
 
 -- ---- the halves agree
 
 -- pages are selected as the memory has it
-abbrev SelectsBy : Memory → Paging → Region → Type 0
-SelectsBy memory paging (Lower dev) = Unit {0}
-SelectsBy memory paging FirstPage = Unit {0}
-SelectsBy memory paging (Page page) = selecting_on memory A0 ≡ selecting_of paging
+abbrev SelectsBy : Memory → PageAddressing → Region → Type 0
+SelectsBy memory addressing (Lower dev) = Unit {0}
+SelectsBy memory addressing FirstPage = Unit {0}
+SelectsBy memory addressing (Page page) = selecting_on memory A0 ≡ selecting_of addressing
 
 no_half : (b : Bool) (half : Option (List ℕ)) → is_some half ≡ b → (b ≡ true → ⊥) → half ≡ None
 no_half b None e none = refl
 no_half b (Some bytes) e none = absurd (none (sym e))
 
 -- the memory of the window behind the bus, and what is kept of its halves
-module _ (memory copy : Memory) (paging : Paging) (state : State) (image : IsImage memory) (start : state.1 ≡ started memory) where
+module _ (memory copy : Memory) (addressing : PageAddressing) (state : State) (image : IsImage memory) (start : state.1 ≡ started memory) where
   of_start : IsOf memory state.1
   of_start = ap (λ (window : Windowed). window.memory) start
 
   shows_start : Shows memory 0 state.1
   shows_start = record { memory_is = of_start; bank = ap (λ (window : Windowed). window.selection.bank) start; number = ap (λ (window : Windowed). window.selection.page) start }
 
-  sound_start : IsSound memory paging state.1
-  sound_start = record { memory_is = of_start; bank = bank_of paging } where
-    bank_of : (p : Paging) → IsOfBank p state.1.selection
+  sound_start : IsSound memory addressing state.1
+  sound_start = record { memory_is = of_start; bank = bank_of addressing } where
+    bank_of : (p : PageAddressing) → IsOfBank p state.1.selection
     bank_of BankAndPage = tt
     bank_of PageAlone = ap (λ (window : Windowed). window.selection.bank) start
 
@@ -143,26 +142,26 @@ module _ (memory copy : Memory) (paging : Paging) (state : State) (image : IsIma
       let n = before_selection dev in
       ap (option_map (take n)) held ∙ ap (λ (xs : List ℕ). Some xs) read.same ∙ sym (ap (option_map (take n)) read.has)
 
-  agrees_read : (region : Region) (bytes : List ℕ) → SelectsBy memory paging region → WasRead paging region bytes state → map.get copy (key_of region) ≡ Some bytes → Agree copy memory (key_of region)
+  agrees_read : (region : Region) (bytes : List ℕ) → SelectsBy memory addressing region → WasRead addressing region bytes state → map.get copy (key_of region) ≡ Some bytes → Agree copy memory (key_of region)
   agrees_read (Lower dev) bytes by read held = same_lower dev (left state read.before) bytes (of_after memory state read.before of_start) read.answer held
   agrees_read FirstPage bytes by read held = same_page 0 (left state read.before) bytes (shows_first memory state read.before read.shown shows_start) read.answer held
-  agrees_read (Page page) bytes by read held = same_page page (left state read.before) bytes (shows_confirmed memory paging by page state read.before sound_start read.may read.shown) read.answer held
+  agrees_read (Page page) bytes by read held = same_page page (left state read.before) bytes (shows_confirmed memory addressing by page state read.before sound_start read.may read.shown) read.answer held
 
-  lacks_step : (page : ℕ) → selecting_on memory A0 ≡ selecting_of paging → 0 < page → (step : Step) (before : History) → May state (step ∷ before) → IsTrue (reads_back paging 0 step) → WasSelected paging page before →
+  lacks_step : (page : ℕ) → selecting_on memory A0 ≡ selecting_of addressing → 0 < page → (step : Step) (before : History) → May state (step ∷ before) → IsTrue (reads_back addressing 0 step) → WasSelected addressing page before →
       map.contains_key memory (upper_key A0 0 page) ≡ true → ⊥
   lacks_step page by above step before may reads selected has =
       let there = left state before in
-      let zeroth = (shows_read_back memory paging by 0 there step reads may.0 (sound_after memory paging by state before sound_start)).0 in
-      let chosen = found_keeps window_conduct (Shows memory page) (always (Shows memory page)) there (shows_chosen memory paging by page state before has of_start may.1 selected) in
+      let zeroth = (shows_read_back memory addressing by 0 there step reads may.0 (sound_after memory addressing by state before sound_start)).0 in
+      let chosen = found_keeps window_conduct (Shows memory page) (always (Shows memory page)) there (shows_chosen memory addressing by page state before has of_start may.1 selected) in
       omega (arith, above, zeroth.number, chosen.number)
 
-  lacks : (page : ℕ) → selecting_on memory A0 ≡ selecting_of paging → 0 < page → (history : History) → May state history →
-      SomeStep (λ step before. IsTrue (reads_back paging 0 step) × WasSelected paging page before) history → map.contains_key memory (upper_key A0 0 page) ≡ true → ⊥
+  lacks : (page : ℕ) → selecting_on memory A0 ≡ selecting_of addressing → 0 < page → (history : History) → May state history →
+      SomeStep (λ step before. IsTrue (reads_back addressing 0 step) × WasSelected addressing page before) history → map.contains_key memory (upper_key A0 0 page) ≡ true → ⊥
   lacks page by above [] may out = absurd out
   lacks page by above (step ∷ before) may (inl now) = lacks_step page by above step before may now.0 now.1
   lacks page by above (step ∷ before) may (inr earlier) = lacks page by above before may.1 earlier
 
-  agrees_out : (region : Region) (history : History) → SelectsBy memory paging region → May state history → IsLeftOut paging region history → map.get copy (key_of region) ≡ None → Agree copy memory (key_of region)
+  agrees_out : (region : Region) (history : History) → SelectsBy memory addressing region → May state history → IsLeftOut addressing region history → map.get copy (key_of region) ≡ None → Agree copy memory (key_of region)
   agrees_out (Lower dev) history by may out held = absurd out
   agrees_out FirstPage history by may out held = absurd out
   agrees_out (Page page) history by may out held =
@@ -170,10 +169,10 @@ module _ (memory copy : Memory) (paging : Paging) (state : State) (image : IsIma
       let none : map.get memory key ≡ None = no_half (map.contains_key memory key) (map.get memory key) refl (lacks page by out.0 history may out.1) in
       ap (option_map (take 128)) (held ∙ sym none)
 
-  agrees_by : (region : Region) (history : History) (half : Option (List ℕ)) → SelectsBy memory paging region → May state history → map.get copy (key_of region) ≡ half →
-      MatchOption half (IsLeftOut paging region history) (λ bytes. IsRead paging region bytes history) → Agree copy memory (key_of region)
+  agrees_by : (region : Region) (history : History) (half : Option (List ℕ)) → SelectsBy memory addressing region → May state history → map.get copy (key_of region) ≡ half →
+      MatchOption half (IsLeftOut addressing region history) (λ bytes. IsRead addressing region bytes history) → Agree copy memory (key_of region)
   agrees_by region history None by may held out = agrees_out region history by may out held
-  agrees_by region history (Some bytes) by may held read = agrees_read region bytes by (was_read paging region bytes state history may read) held
+  agrees_by region history (Some bytes) by may held read = agrees_read region bytes by (was_read addressing region bytes state history may read) held
 
 -- ---- how its pages are selected
 
@@ -195,14 +194,14 @@ asks_pages (Some Sff8472) = false
 asks_pages None = false
 
 -- and it selects pages as it is asked to
-selecting_right : (family : Option Family) → asks_pages family ≡ true → selecting_in family ≡ selecting_of (paging_in family)
+selecting_right : (family : Option Family) → asks_pages family ≡ true → selecting_in family ≡ selecting_of (addressing_in family)
 selecting_right (Some Cmis) asks = refl
 selecting_right (Some Sff8636) asks = refl
 selecting_right (Some Sff8472) asks = absurd cc
 selecting_right None asks = refl
 
 selecting_is : (memory : Memory) (half : List ℕ) → map.get memory (lower_key A0) ≡ Some half → selecting_on memory A0 ≡ selecting_by (slice_index half 0)
-selecting_is memory half has = ap (λ (bytes : Option (List ℕ)). unwrap_or (option_map selecting_by (option_map (λ bytes. slice_index bytes 0) bytes)) selecting.BankAndPage) has
+selecting_is memory half has = ap (λ (bytes : Option (List ℕ)). unwrap_or (option_map selecting_by (option_map (λ bytes. slice_index bytes 0) bytes)) (Some BankAndPage)) has
 
 -- ---- all of them
 
@@ -226,11 +225,11 @@ lowers_alone (Some Sff8472) copy none = refl
 lowers_alone None copy none = refl
 
 module _ (memory copy : Memory) (state : State) (history : History) (image : IsImage memory) (start : state.1 ≡ started memory) (may : May state history) where
-  agrees_settled : (region : Region) → SelectsBy memory (paging_of copy) region → IsSettled history copy region → Agree copy memory (key_of region)
+  agrees_settled : (region : Region) → SelectsBy memory (addressing_of copy) region → IsSettled history copy region → Agree copy memory (key_of region)
   agrees_settled region by settled =
-      agrees_by memory copy (paging_of copy) state image start region history (map.get copy (key_of region)) by may refl settled
+      agrees_by memory copy (addressing_of copy) state image start region history (map.get copy (key_of region)) by may refl settled
 
-  agree_all : (regions : List Region) → ((region : Region) → SelectsBy memory (paging_of copy) region) → AllByRecursion (IsSettled history copy) regions → AllByRecursion (λ region. Agree copy memory (key_of region)) regions
+  agree_all : (regions : List Region) → ((region : Region) → SelectsBy memory (addressing_of copy) region) → AllByRecursion (IsSettled history copy) regions → AllByRecursion (λ region. Agree copy memory (key_of region)) regions
   agree_all [] by settled = tt
   agree_all (region ∷ regions) by settled = (agrees_settled region (by region) settled.0, agree_all regions by settled.1)
 
@@ -238,12 +237,12 @@ module _ (memory copy : Memory) (state : State) (history : History) (image : IsI
   agree_lowers true settled = (agrees_settled (Lower A0) tt settled.0, (agrees_settled (Lower A2) tt settled.1.0, tt))
   agree_lowers false settled = (agrees_settled (Lower A0) tt settled.0, tt)
 
-  selects_all : selecting_on memory A0 ≡ selecting_of (paging_of copy) → (region : Region) → SelectsBy memory (paging_of copy) region
+  selects_all : selecting_on memory A0 ≡ selecting_of (addressing_of copy) → (region : Region) → SelectsBy memory (addressing_of copy) region
   selects_all by (Lower dev) = tt
   selects_all by FirstPage = tt
   selects_all by (Page page) = by
 
-  same_selecting : Agree copy memory (lower_key A0) → is_absent memory (lower_key A0) ≡ false → asks_pages (family_by (identifier copy)) ≡ true → selecting_on memory A0 ≡ selecting_of (paging_of copy)
+  same_selecting : Agree copy memory (lower_key A0) → is_absent memory (lower_key A0) ≡ false → asks_pages (family_by (identifier copy)) ≡ true → selecting_on memory A0 ≡ selecting_of (addressing_of copy)
   same_selecting low there paged =
       let (half, has) = half_of (map.get memory (lower_key A0)) there in
       let id : identifier copy ≡ slice_index half 0 = same_number copy memory CIdentifier low refl refl ∙ identifier_is memory half image has in
@@ -254,7 +253,7 @@ module _ (memory copy : Memory) (state : State) (history : History) (image : IsI
       let each = is.each in
       let first : IsSettled history copy (Lower A0) = (subst (AllByRecursion (IsSettled history copy)) (begins_lower copy) each).0 in
       let low : Agree copy memory (lower_key A0) = agrees_settled (Lower A0) tt first in
-      let present : is_absent copy (lower_key A0) ≡ false = ap not (present_by (map.get copy (lower_key A0)) ⊥ (λ bytes. IsRead (paging_of copy) (Lower A0) bytes history) first (λ none. none)) in
+      let present : is_absent copy (lower_key A0) ≡ false = ap not (present_by (map.get copy (lower_key A0)) ⊥ (λ bytes. IsRead (addressing_of copy) (Lower A0) bytes history) first (λ none. none)) in
       let there : is_absent memory (lower_key A0) ≡ false = sym (same_absent copy memory (lower_key A0) low) ∙ present in
       let all : AllByRecursion (λ region. Agree copy memory (key_of region)) (regions_of copy) =
       elim (cases_Bool (asks_pages (family_by (identifier copy)))) [

@@ -9,7 +9,7 @@ use Rattle.paged_memory.specs.declared.key.Key.{Key}
 use Rattle.paged_memory.specs.Images.{Memory}
 use Rattle.paged_memory.specs.KeyOrder.{key_cmp}
 use Rattle.field_tables.specs.declared.field.Field.{Field}
-use Rattle.field_tables.specs.declared.readings.Levels.{Levels}
+use Rattle.field_tables.specs.declared.readings.PerLimit.{PerLimit}
 use Rattle.field_tables.specs.FieldRows.{row_of}
 use Rattle.field_tables.specs.FieldValues.{field_key}
 use Rattle.field_tables.specs.Readings as readings
@@ -156,7 +156,7 @@ module _ (a b : Memory) (keys : List Key) (all : AllByRecursion (λ key. Agree a
       ap (λ (values : List ℤ). lanes values (printed_unit field)) (amounts_same field power parts.0 parts.1 1 (row_of field).count (omega arith) (omega arith))
   source_same (Limits field power) e =
       let parts = and_parts (field_in keys 4 field) (power_in keys power) e in
-      ap (λ (levels : Levels ℤ). limits levels (printed_unit field)) (limits_same field power parts.0 parts.1)
+      ap (λ (levels : PerLimit ℤ). limits levels (printed_unit field)) (limits_same field power parts.0 parts.1)
   source_same (State field) e = ap (λ (n : ℕ). state n) (number_same field e)
   source_same (LaneStates paths statuses) e =
       let parts = and_parts (field_in keys 8 paths) (field_in keys 8 statuses) e in

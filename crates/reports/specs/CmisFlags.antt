@@ -8,7 +8,7 @@ use Rattle.module_decoding.specs.CmisPages.{is_flat}
 use Rattle.report_entries.specs.declared.flag.Flag.{Flag}
 use Rattle.report_entries.specs.declared.flag.Condition.TheVariants as conditions
 use Rattle.report_entries.specs.declared.flag.FlagName.TheVariants.{Holds, Passed}
-use Rattle.report_entries.specs.declared.flag.Level.TheVariants.{HighAlarm, LowAlarm, HighWarning, LowWarning}
+use Rattle.report_entries.specs.declared.flag.LimitKind.TheVariants.{HighAlarm, LowAlarm, HighWarning, LowWarning}
 use Rattle.report_entries.specs.declared.flag_rows.FlagRow.{FlagRow}
 use Rattle.report_entries.specs.declared.quantity.Quantity.TheVariants.{Temperature, Vcc, TxPower, TxBias, RxPower}
 use Rattle.report_entries.specs.Entries.{Entry}

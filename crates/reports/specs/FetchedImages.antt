@@ -4,7 +4,7 @@ use Rattle.std.specs.Prelude.{◌≡◌, ◌<◌, length, Result, Ok, Err}
 use Rattle.bus_model.specs.declared.bus.BusFault.TheVariants.{TraceFull}
 use Rattle.control_sets.specs.OutcomeAnswers.{most_steps}
 use Rattle.paged_memory.specs.Images.{Memory}
-use Rattle.paged_memory.specs.Paging.{History}
+use Rattle.paged_memory.specs.PageAddressing.{History}
 use Rattle.module_reading.specs.ReadImages.{IsGivenUp, IsImageOf, IsReading, IsUnfinished}
 use Rattle.reports.specs.declared.fault.ReportFault.{ReportFault}
 use Rattle.reports.specs.declared.fault.ReportFault.TheVariants.{Bus, GaveUp}

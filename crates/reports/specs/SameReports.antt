@@ -6,7 +6,7 @@ use Rattle.bus_model.specs.Runs.{IsFull, Ran, Seen}
 use Rattle.bus_model.specs.ScriptedBus.{script_rules}
 use Rattle.paged_memory.specs.Images.{Memory}
 use Rattle.paged_memory.specs.ImageText.{IsImage}
-use Rattle.paged_memory.specs.Paging.{History}
+use Rattle.paged_memory.specs.PageAddressing.{History}
 use Rattle.paged_memory.specs.Windows.{Windowed, started, window_conduct}
 use Rattle.applications.specs.Advertised.{advertised_by}
 use Rattle.reports.specs.declared.fault.ReportFault.{ReportFault}

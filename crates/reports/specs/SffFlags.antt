@@ -6,7 +6,7 @@ use Rattle.report_entries.specs.declared.flag.Flag.{Flag}
 use Rattle.report_entries.specs.declared.flag.Condition.TheVariants as conditions
 use Rattle.report_entries.specs.declared.flag.FlagName.{FlagName}
 use Rattle.report_entries.specs.declared.flag.FlagName.TheVariants.{Holds, Passed}
-use Rattle.report_entries.specs.declared.flag.Level.TheVariants.{HighAlarm, LowAlarm, HighWarning, LowWarning}
+use Rattle.report_entries.specs.declared.flag.LimitKind.TheVariants.{HighAlarm, LowAlarm, HighWarning, LowWarning}
 use Rattle.report_entries.specs.declared.flag_rows.FlagRow.{FlagRow}
 use Rattle.report_entries.specs.declared.quantity.Quantity.{Quantity}
 use Rattle.report_entries.specs.declared.quantity.Quantity.TheVariants.{Temperature, Vcc, TxPower, TxBias, RxPower}

@@ -6,7 +6,7 @@ use bus_model::BusFault;
 use field_tables::SffFault;
 use paged_memory::Key;
 use std::alloc::AllocError;
-use text_lines::{Spelled, Spelling};
+use text_lines::{PrintedWords, ToWords};
 use thiserror::Error;
 
 /// Why there is no report.
@@ -47,23 +47,23 @@ impl From<SffFault> for ReportFault {
     }
 }
 
-impl Spelled for ReportFault {
+impl ToWords for ReportFault {
     ghost use Rattle.reports.specs.FaultWords.{report_fault_words};
 
     ghost words = { report_fault_words };
 
     ghost most = { 5 };
 
-    fn spelling(&self) -> Spelling {
+    fn to_words(&self) -> PrintedWords {
         match self {
-            ReportFault::Memory => Spelling::of("memory"),
-            ReportFault::Unknown(identifier) => Spelling::of("RP1").and(identifier),
-            ReportFault::Bus(fault) => Spelling::of("RP2").and(fault),
-            ReportFault::GaveUp => Spelling::of("RP3"),
-            ReportFault::Revision(revision) => Spelling::of("RP4").and(revision),
-            ReportFault::Absent(key) => Spelling::of("RP6").and(key),
-            ReportFault::Sff(fault) => fault.spelling(),
-            ReportFault::Advert(fault) => fault.spelling(),
+            ReportFault::Memory => PrintedWords::of("memory"),
+            ReportFault::Unknown(identifier) => PrintedWords::of("RP1").and(identifier),
+            ReportFault::Bus(fault) => PrintedWords::of("RP2").and(fault),
+            ReportFault::GaveUp => PrintedWords::of("RP3"),
+            ReportFault::Revision(revision) => PrintedWords::of("RP4").and(revision),
+            ReportFault::Absent(key) => PrintedWords::of("RP6").and(key),
+            ReportFault::Sff(fault) => fault.to_words(),
+            ReportFault::Advert(fault) => fault.to_words(),
         }
     }
 }

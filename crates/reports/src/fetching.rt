@@ -5,7 +5,7 @@ ghost use Rattle.reports.specs.FetchedImages.{IsFetching};
 
 use crate::fault::ReportFault;
 use bus_model::Bus;
-use module_reading::{Next, Reading};
+use module_reading::{Reading, ReadingNext};
 use paged_memory::Image;
 
 /// Reads over a bus the halves of a module that its reports speak of, whatever the bus refuses on the way.
@@ -16,12 +16,12 @@ pub fn fetch_image<B: Bus>(bus: &mut B) -> Result<Image, ReportFault>
     let mut reading = Reading::new();
     'told: loop {
         match reading.next() {
-            Next::Do(op) => match bus.transact(op) {
+            ReadingNext::Do(op) => match bus.transact(op) {
                 Ok(reply) => reading.take(&reply),
                 Err(fault) => return Err(ReportFault::Bus(fault)),
             },
-            Next::Complete => return Ok(reading.image),
-            Next::GiveUp => return Err(ReportFault::GaveUp),
+            ReadingNext::Complete => return Ok(reading.image),
+            ReadingNext::GiveUp => return Err(ReportFault::GaveUp),
         }
     }
 }

@@ -14,7 +14,7 @@ ghost use Rattle.reports.specs.SffMonitors as spec_sff_monitors;
 
 use field_tables::{Field, Sum, TextField};
 use report_entries::{
-    Condition, FlagName, FlagPlace, FlagRow, Instead, Level, Line, Quantity, Row, Source,
+    Condition, FlagName, FlagPlace, FlagRow, Instead, LimitKind, Line, Quantity, Row, Source,
 };
 
 macro_rules! source {
@@ -211,7 +211,7 @@ pub fn cmis_states() -> &'static [Line]
 
 macro_rules! flag_name {
     ($condition:ident) => { FlagName::Holds(Condition::$condition) };
-    ($quantity:ident $level:ident) => { FlagName::Passed(Quantity::$quantity, Level::$level) };
+    ($quantity:ident $limit:ident) => { FlagName::Passed(Quantity::$quantity, LimitKind::$limit) };
 }
 
 macro_rules! flag_place {
@@ -221,9 +221,9 @@ macro_rules! flag_place {
 }
 
 macro_rules! flag_table {
-    ($($first:ident $($level:ident)?: [$field:ident $($place:tt)*] $($paged:ident)?;)*) => {
+    ($($first:ident $($limit:ident)?: [$field:ident $($place:tt)*] $($paged:ident)?;)*) => {
         &[$(FlagRow {
-            name: flag_name!($first $($level)?),
+            name: flag_name!($first $($limit)?),
             field: Field::$field,
             place: flag_place!($($place)*),
             paged: is_paged!($($paged)?),

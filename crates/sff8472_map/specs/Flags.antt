@@ -4,13 +4,13 @@ use Rattle.std.specs.Prelude.{ℕ, ◌+◌, Bool}
 use Rattle.paged_memory.specs.Images.{Memory}
 use Rattle.field_tables.specs.declared.field.Field.{Field}
 use Rattle.field_tables.specs.declared.field.Field.TheVariants.{SAlarms, SRxAlarms, SWarnings, SRxWarnings, STxFault, SRxLos}
-use Rattle.field_tables.specs.declared.readings.Levels.{Levels}
+use Rattle.field_tables.specs.declared.readings.PerLimit.{PerLimit}
 use Rattle.field_tables.specs.Readings.{bit, bit_at}
 use Rattle.sff8472_map.specs.declared.flags.Flags.{Flags}
 
 -- of a monitored value: its high alarm and its high warning have this number in their fields, its low ones the next
-abbrev pub level_flags : Memory → Field → Field → ℕ → Levels Bool
-level_flags memory alarms warnings high = record {
+abbrev pub limit_flags : Memory → Field → Field → ℕ → PerLimit Bool
+limit_flags memory alarms warnings high = record {
   high_alarm = bit_at memory alarms high;
   low_alarm = bit_at memory alarms (high + 1);
   high_warning = bit_at memory warnings high;
@@ -19,11 +19,11 @@ level_flags memory alarms warnings high = record {
 
 abbrev pub flags_of : Memory → Flags
 flags_of memory = record {
-  temperature = level_flags memory SAlarms SWarnings 1;
-  vcc = level_flags memory SAlarms SWarnings 3;
-  tx_bias = level_flags memory SAlarms SWarnings 5;
-  tx_power = level_flags memory SAlarms SWarnings 7;
-  rx_power = level_flags memory SRxAlarms SRxWarnings 1;
+  temperature = limit_flags memory SAlarms SWarnings 1;
+  vcc = limit_flags memory SAlarms SWarnings 3;
+  tx_bias = limit_flags memory SAlarms SWarnings 5;
+  tx_power = limit_flags memory SAlarms SWarnings 7;
+  rx_power = limit_flags memory SRxAlarms SRxWarnings 1;
   tx_fault = bit memory STxFault;
   rx_los = bit memory SRxLos;
 }

@@ -2,7 +2,7 @@
 -- Thresholds")
 use Rattle.paged_memory.specs.Images.{Memory}
 use Rattle.field_tables.specs.declared.field.Field.TheVariants.{STempLimits, SVccLimits, STxBiasLimits, STxPowerLimits, SRxPowerLimits}
-use Rattle.field_tables.specs.Readings.{LevelsAreWords, limits_of}
+use Rattle.field_tables.specs.Readings.{LimitsAreWords, limits_of}
 use Rattle.sff8472_map.specs.declared.thresholds.Thresholds.{Thresholds}
 
 abbrev pub thresholds_of : Memory → Thresholds
@@ -17,8 +17,8 @@ thresholds_of memory = record {
 -- limits of 16 bits
 abbrev pub ThresholdsAreWords : Thresholds → Type 0
 ThresholdsAreWords thresholds =
-    LevelsAreWords thresholds.temperature
-    × LevelsAreWords thresholds.vcc
-    × LevelsAreWords thresholds.tx_bias
-    × LevelsAreWords thresholds.tx_power
-    × LevelsAreWords thresholds.rx_power
+    LimitsAreWords thresholds.temperature
+    × LimitsAreWords thresholds.vcc
+    × LimitsAreWords thresholds.tx_bias
+    × LimitsAreWords thresholds.tx_power
+    × LimitsAreWords thresholds.rx_power

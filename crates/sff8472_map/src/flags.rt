@@ -1,20 +1,20 @@
 ghost use Rattle.std.specs.Prelude.{◌≡◌, ◌+◌, ◌≤◌, IsTrue};
 ghost use Rattle.field_tables.specs.FieldRows.{row_of};
 ghost use Rattle.field_tables.specs.Readings.{is_of_bytes};
-ghost use Rattle.sff8472_map.specs.Flags.{flags_of, level_flags};
+ghost use Rattle.sff8472_map.specs.Flags.{flags_of, limit_flags};
 
 use crate::refusal::flags_refusal;
-use field_tables::{Field, Levels, SffFault, bit, bit_at};
+use field_tables::{Field, PerLimit, SffFault, bit, bit_at};
 use paged_memory::Image;
 
 /// What a module warns of (SFF-8472, "Alarm and Warning Flag Bits" and "Real Time Diagnostic and Control Registers").
 #[derive(Debug, Drop)]
 pub struct Flags {
-    pub temperature: Levels<bool>,
-    pub vcc: Levels<bool>,
-    pub tx_bias: Levels<bool>,
-    pub tx_power: Levels<bool>,
-    pub rx_power: Levels<bool>,
+    pub temperature: PerLimit<bool>,
+    pub vcc: PerLimit<bool>,
+    pub tx_bias: PerLimit<bool>,
+    pub tx_power: PerLimit<bool>,
+    pub rx_power: PerLimit<bool>,
     pub tx_fault: bool,
     /// Whether the signal from the line is lost.
     pub rx_los: bool,
@@ -32,11 +32,11 @@ impl Flags {
             return Err(fault);
         }
         Ok(Flags {
-            temperature: level_flags(image, Field::SAlarms, Field::SWarnings, 1),
-            vcc: level_flags(image, Field::SAlarms, Field::SWarnings, 3),
-            tx_bias: level_flags(image, Field::SAlarms, Field::SWarnings, 5),
-            tx_power: level_flags(image, Field::SAlarms, Field::SWarnings, 7),
-            rx_power: level_flags(image, Field::SRxAlarms, Field::SRxWarnings, 1),
+            temperature: limit_flags(image, Field::SAlarms, Field::SWarnings, 1),
+            vcc: limit_flags(image, Field::SAlarms, Field::SWarnings, 3),
+            tx_bias: limit_flags(image, Field::SAlarms, Field::SWarnings, 5),
+            tx_power: limit_flags(image, Field::SAlarms, Field::SWarnings, 7),
+            rx_power: limit_flags(image, Field::SRxAlarms, Field::SRxWarnings, 1),
             tx_fault: bit(image, Field::STxFault),
             rx_los: bit(image, Field::SRxLos),
         })
@@ -44,15 +44,15 @@ impl Flags {
 }
 
 // The alarms and the warnings of a monitored value, from the number of its high ones in their fields on.
-fn level_flags(image: &Image, alarms: Field, warnings: Field, high: u8) -> Levels<bool>
+fn limit_flags(image: &Image, alarms: Field, warnings: Field, high: u8) -> PerLimit<bool>
     requires alarms { IsTrue (is_of_bytes (row_of alarms)) }
     requires warnings { IsTrue (is_of_bytes (row_of warnings)) }
     requires first { 1 ≤ high }
     requires last_alarm { high + 1 ≤ (row_of alarms).count }
     requires last_warning { high + 1 ≤ (row_of warnings).count }
-    ensures { result ≡ level_flags image.now alarms warnings high }
+    ensures { result ≡ limit_flags image.now alarms warnings high }
 {
-    Levels {
+    PerLimit {
         high_alarm: bit_at(image, alarms, high),
         low_alarm: bit_at(image, alarms, high + 1),
         high_warning: bit_at(image, warnings, high),

@@ -1,15 +1,15 @@
 use crate::refusal::measured_refusal;
-use field_tables::{Field, Levels, SffFault, limits_of};
+use field_tables::{Field, PerLimit, SffFault, limits_of};
 use paged_memory::Image;
 
 /// The limits of what a module measures, in steps of each field's unit (SFF-8472, "Alarm and Warning Thresholds").
 #[derive(Debug, Drop)]
 pub struct Thresholds {
-    pub temperature: Levels<i32>,
-    pub vcc: Levels<i32>,
-    pub tx_bias: Levels<i32>,
-    pub tx_power: Levels<i32>,
-    pub rx_power: Levels<i32>,
+    pub temperature: PerLimit<i32>,
+    pub vcc: PerLimit<i32>,
+    pub tx_bias: PerLimit<i32>,
+    pub tx_power: PerLimit<i32>,
+    pub rx_power: PerLimit<i32>,
 }
 
 impl Thresholds {

@@ -2,11 +2,11 @@
 use Rattle.std.specs.Prelude.{Bool, List}
 use Rattle.paged_memory.specs.Images.{Memory}
 use Rattle.field_tables.specs.declared.field.Field.TheVariants as fields
-use Rattle.field_tables.specs.declared.readings.Levels.{Levels}
-use Rattle.field_tables.specs.Readings.{all_bits, level_bits}
+use Rattle.field_tables.specs.declared.readings.PerLimit.{PerLimit}
+use Rattle.field_tables.specs.Readings.{all_bits, limit_bits}
 use Rattle.sff8636_map.specs.declared.flags.Flags.{Flags}
 
-abbrev pub rx_power_flags : Memory → Levels (List Bool)
+abbrev pub rx_power_flags : Memory → PerLimit (List Bool)
 rx_power_flags memory = record {
   high_alarm = all_bits memory fields.QRxPowerHighAlarm;
   low_alarm = all_bits memory fields.QRxPowerLowAlarm;
@@ -14,7 +14,7 @@ rx_power_flags memory = record {
   low_warning = all_bits memory fields.QRxPowerLowWarning;
 }
 
-abbrev pub tx_bias_flags : Memory → Levels (List Bool)
+abbrev pub tx_bias_flags : Memory → PerLimit (List Bool)
 tx_bias_flags memory = record {
   high_alarm = all_bits memory fields.QTxBiasHighAlarm;
   low_alarm = all_bits memory fields.QTxBiasLowAlarm;
@@ -22,7 +22,7 @@ tx_bias_flags memory = record {
   low_warning = all_bits memory fields.QTxBiasLowWarning;
 }
 
-abbrev pub tx_power_flags : Memory → Levels (List Bool)
+abbrev pub tx_power_flags : Memory → PerLimit (List Bool)
 tx_power_flags memory = record {
   high_alarm = all_bits memory fields.QTxPowerHighAlarm;
   low_alarm = all_bits memory fields.QTxPowerLowAlarm;
@@ -32,8 +32,8 @@ tx_power_flags memory = record {
 
 abbrev pub flags_of : Memory → Flags
 flags_of memory = record {
-  temperature = level_bits memory fields.QTempFlag;
-  vcc = level_bits memory fields.QVccFlag;
+  temperature = limit_bits memory fields.QTempFlag;
+  vcc = limit_bits memory fields.QVccFlag;
   tx_los = all_bits memory fields.QTxLos;
   rx_los = all_bits memory fields.QRxLos;
   tx_fault = all_bits memory fields.QTxFault;

@@ -2,14 +2,14 @@ ghost use Rattle.std.specs.Prelude.{◌≡◌};
 ghost use Rattle.sff8636_map.specs.Flags.{flags_of, rx_power_flags, tx_bias_flags, tx_power_flags};
 
 use crate::refusal::module_refusal;
-use field_tables::{Field, Levels, SffFault, all_bits, level_bits};
+use field_tables::{Field, PerLimit, SffFault, all_bits, limit_bits};
 use paged_memory::Image;
 
 /// What a module warns of (SFF-8636, "Interrupt Flags"), of its four lanes each, the first first.
 #[derive(Debug, Drop)]
 pub struct Flags {
-    pub temperature: Levels<bool>,
-    pub vcc: Levels<bool>,
+    pub temperature: PerLimit<bool>,
+    pub vcc: PerLimit<bool>,
     /// Whether the signal from the host is lost.
     pub tx_los: [bool; 4],
     /// Whether the signal from the line is lost.
@@ -19,9 +19,9 @@ pub struct Flags {
     pub tx_lol: [bool; 4],
     /// Whether the clock of the line's signal is not recovered.
     pub rx_lol: [bool; 4],
-    pub rx_power: Levels<[bool; 4]>,
-    pub tx_bias: Levels<[bool; 4]>,
-    pub tx_power: Levels<[bool; 4]>,
+    pub rx_power: PerLimit<[bool; 4]>,
+    pub tx_bias: PerLimit<[bool; 4]>,
+    pub tx_power: PerLimit<[bool; 4]>,
 }
 
 impl Flags {
@@ -36,8 +36,8 @@ impl Flags {
             return Err(fault);
         }
         Ok(Flags {
-            temperature: level_bits(image, Field::QTempFlag),
-            vcc: level_bits(image, Field::QVccFlag),
+            temperature: limit_bits(image, Field::QTempFlag),
+            vcc: limit_bits(image, Field::QVccFlag),
             tx_los: all_bits(image, Field::QTxLos),
             rx_los: all_bits(image, Field::QRxLos),
             tx_fault: all_bits(image, Field::QTxFault),
@@ -50,10 +50,10 @@ impl Flags {
     }
 }
 
-fn rx_power_flags(image: &Image) -> Levels<[bool; 4]>
+fn rx_power_flags(image: &Image) -> PerLimit<[bool; 4]>
     ensures { result ≡ rx_power_flags image.now }
 {
-    Levels {
+    PerLimit {
         high_alarm: all_bits(image, Field::QRxPowerHighAlarm),
         low_alarm: all_bits(image, Field::QRxPowerLowAlarm),
         high_warning: all_bits(image, Field::QRxPowerHighWarning),
@@ -61,10 +61,10 @@ fn rx_power_flags(image: &Image) -> Levels<[bool; 4]>
     }
 }
 
-fn tx_bias_flags(image: &Image) -> Levels<[bool; 4]>
+fn tx_bias_flags(image: &Image) -> PerLimit<[bool; 4]>
     ensures { result ≡ tx_bias_flags image.now }
 {
-    Levels {
+    PerLimit {
         high_alarm: all_bits(image, Field::QTxBiasHighAlarm),
         low_alarm: all_bits(image, Field::QTxBiasLowAlarm),
         high_warning: all_bits(image, Field::QTxBiasHighWarning),
@@ -72,10 +72,10 @@ fn tx_bias_flags(image: &Image) -> Levels<[bool; 4]>
     }
 }
 
-fn tx_power_flags(image: &Image) -> Levels<[bool; 4]>
+fn tx_power_flags(image: &Image) -> PerLimit<[bool; 4]>
     ensures { result ≡ tx_power_flags image.now }
 {
-    Levels {
+    PerLimit {
         high_alarm: all_bits(image, Field::QTxPowerHighAlarm),
         low_alarm: all_bits(image, Field::QTxPowerLowAlarm),
         high_warning: all_bits(image, Field::QTxPowerHighWarning),

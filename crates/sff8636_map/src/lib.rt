@@ -7,7 +7,7 @@ mod monitors;
 mod refusal;
 mod thresholds;
 
-pub use field_tables::{Levels, SffFault};
+pub use field_tables::{PerLimit, SffFault};
 pub use flags::Flags;
 pub use identity::Identity;
 pub use monitors::Monitors;

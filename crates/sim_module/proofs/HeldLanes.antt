@@ -11,7 +11,7 @@ use Rattle.bus_model.specs.declared.script.Directive.{Directive}
 use Rattle.bus_model.specs.Keeping.{IsKeptInTime}
 use Rattle.bus_model.specs.ScriptedBus.{script_rules}
 use Rattle.field_tables.specs.LaneSets.{IsLane, Lanes, byte_of, is_empty, lanes_in}
-use Rattle.paged_memory.specs.Selections.{shown_key}
+use Rattle.paged_memory.specs.MappedPages.{shown_key}
 use Rattle.control_sets.specs.OutcomeCodes.{IsOf}
 use Rattle.control_sets.specs.OutcomeOfProvisioning.{IsProvisioningStep}
 use Rattle.control_sets.specs.Pages.{EachStep, History}
@@ -36,7 +36,7 @@ use Rattle.sim_module.proofs.SoundModule.{either}
 
 -- an apply in progress holds lanes of these alone
 abbrev pub HoldsOnly : Lanes → SimModule → Type 0
-HoldsOnly lanes sim = (lane : ℕ) → IsLane lane → set.contains lanes lane ≡ false → (lane_at sim lane).kept ≡ None
+HoldsOnly lanes sim = (lane : ℕ) → IsLane lane → set.contains lanes lane ≡ false → (lane_at sim lane).applying ≡ None
 
 -- a mask with a lane isn't empty
 not_empty : (mask : Lanes) (lane : ℕ) → set.contains mask lane ≡ true → is_empty mask ≡ false
@@ -81,7 +81,7 @@ module _ (lanes : Lanes) where
       subst (HoldsOnly lanes) (sym is) (held_applied sim)
 
   held_tick : (sim : SimModule) → HoldsOnly lanes sim → HoldsOnly lanes (ticked sim)
-  held_tick sim held lane within outside = ap (λ (l : Lane). l.kept) (ticked_at sim lane within ∙ settled_lane sim lane (held lane within outside)) ∙ held lane within outside
+  held_tick sim held lane within outside = ap (λ (l : Lane). l.applying) (ticked_at sim lane within ∙ settled_lane sim lane (held lane within outside)) ∙ held lane within outside
 
   pub held_kept : IsKeptInTime conduct AnyPin (HoldsOnly lanes)
   held_kept = record { tick = held_tick; low_power_pin = λ sim on allowed held lane within outside. held lane within outside }
@@ -93,7 +93,7 @@ module _ (lanes : Lanes) where
     selection = λ sim selection held lane within outside. held lane within outside;
     deinit = λ sim held lane within outside. held lane within outside;
     apply = λ sim held. either (HoldsOnly lanes) (is_empty mask) sim (applied_all sim mask) held (held_applied sim);
-    staged = λ sim number byte held lane within outside. restaged (λ (l : Lane). l.kept) sim.lanes (number - 1) (lane - 1) byte refl ∙ held lane within outside;
+    staged = λ sim number byte held lane within outside. restaged (λ (l : Lane). l.applying) sim.lanes (number - 1) (lane - 1) byte refl ∙ held lane within outside;
   }
 
   -- where none was in progress

@@ -7,8 +7,8 @@ use Rattle.bus_model.specs.declared.device.Dev.TheVariants.{A0, A2}
 use Rattle.field_tables.specs.LaneSets.{lanes_in}
 use Rattle.paged_memory.specs.Keys.{upper_key}
 use Rattle.sim_module.specs.declared.module.SimModule.{SimModule}
-use Rattle.paged_memory.specs.declared.selection.Selection.{Selection}
-use Rattle.paged_memory.specs.Selections.{first_page, mapped}
+use Rattle.paged_memory.specs.declared.mapped_page.MappedPage.{MappedPage}
+use Rattle.paged_memory.specs.MappedPages.{first_page, mapped}
 use Rattle.sim_module.specs.Ticks.{pinned, ticked}
 use Rattle.sim_module.specs.Applies.{applied, applied_all}
 use Rattle.sim_module.specs.ShownBytes.{cleared, fetched, is_mapped}
@@ -61,8 +61,8 @@ same_selection sim address byte below =
 
 shows_low : (page : ℕ) (sim : SimModule) (address byte : ℕ) → address < 126 → Shows page sim → Shows page (stored_low sim address byte)
 shows_low page sim address byte below shows = record {
-  bank = ap (λ (s : Selection). s.bank) (same_selection sim address byte below) ∙ shows.bank;
-  number = ap (λ (s : Selection). s.page) (same_selection sim address byte below) ∙ shows.number;
+  bank = ap (λ (s : MappedPage). s.bank) (same_selection sim address byte below) ∙ shows.bank;
+  number = ap (λ (s : MappedPage). s.page) (same_selection sim address byte below) ∙ shows.number;
 }
 
 -- outside of BankSelect and PageSelect
@@ -170,9 +170,9 @@ idle_bank control sim idle = idle_lanes control sim (stored_byte sim 126 0) idle
 idle_page : (control : List ℕ) (sim : SimModule) → sim.selection.waiting ≡ 0 → IsIdle control sim → IsIdle control (stored_byte sim 127 0x11)
 unfolding stored_byte
 idle_page control sim zeroth idle =
-    let there : Selection = record { bank = sim.selection.waiting; page = 0x11; waiting = sim.selection.waiting } in
+    let there : MappedPage = record { bank = sim.selection.waiting; page = 0x11; waiting = sim.selection.waiting } in
     let off : is_mapped (stored_low sim 127 0x11) 0x10 ≡ false =
-    either (λ (selection : Selection). (selection.bank == 0 && selection.page == 0x10) ≡ false) (finmap.contains_key sim.image (upper_key A0 sim.selection.waiting 0x11)) there first_page (ap (λ (n : ℕ). n == 0 && false) zeroth) refl in
+    either (λ (selection : MappedPage). (selection.bank == 0 && selection.page == 0x10) ≡ false) (finmap.contains_key sim.image (upper_key A0 sim.selection.waiting 0x11)) there first_page (ap (λ (n : ℕ). n == 0 && false) zeroth) refl in
     idle_lanes control sim (stored_byte sim 127 0x11) off refl idle
 
 waits : (sim : SimModule) → (stored_byte sim 126 0).selection.waiting ≡ 0

@@ -128,16 +128,16 @@ abbrev after_apply : Bool → Bool → Lane → ConfigStatus → Lane
 after_apply inside applicable lane status = if not inside then dropped_lane lane else if applicable then begun_lane lane else refused_lane lane status
 
 active_if : (inside applicable : Bool) (lane : Lane) (status : ConfigStatus) → (after_apply inside applicable lane status).active ≡ lane.active
-active_if false applicable lane status = either (λ (l : Lane). l.active ≡ lane.active) (is_some lane.kept) (record lane { status = Rejected; kept = None }) lane refl refl
+active_if false applicable lane status = either (λ (l : Lane). l.active ≡ lane.active) (is_some lane.applying) (record lane { status = Rejected; applying = None }) lane refl refl
 active_if true true lane status = refl
 active_if true false lane status = refl
 
-dropped_kept : (lane : Lane) (kept : Option ℕ) → lane.kept ≡ kept → (dropped_lane lane).kept ≡ None
-dropped_kept lane (Some k) is = ap (λ (o : Option ℕ). (if is_some o then record lane { status = Rejected; kept = None } else lane).kept) is
-dropped_kept lane None is = ap (λ (o : Option ℕ). (if is_some o then record lane { status = Rejected; kept = None } else lane).kept) is ∙ is
+dropped_kept : (lane : Lane) (kept : Option ℕ) → lane.applying ≡ kept → (dropped_lane lane).applying ≡ None
+dropped_kept lane (Some k) is = ap (λ (o : Option ℕ). (if is_some o then record lane { status = Rejected; applying = None } else lane).applying) is
+dropped_kept lane None is = ap (λ (o : Option ℕ). (if is_some o then record lane { status = Rejected; applying = None } else lane).applying) is ∙ is
 
-not_dropped : (lane : Lane) → lane.kept ≡ None → dropped_lane lane ≡ lane
-not_dropped lane none = ap (λ (o : Option ℕ). if is_some o then record lane { status = Rejected; kept = None } else lane) none
+not_dropped : (lane : Lane) → lane.applying ≡ None → dropped_lane lane ≡ lane
+not_dropped lane none = ap (λ (o : Option ℕ). if is_some o then record lane { status = Rejected; applying = None } else lane) none
 
 record Begins (inside applicable : Bool) (staged kept : ℕ) : Type 0 where
   asked : inside ≡ true
@@ -145,8 +145,8 @@ record Begins (inside applicable : Bool) (staged kept : ℕ) : Type 0 where
   is : staged ≡ kept
 
 -- what an apply keeps was staged, of a lane of its mask
-begun_if : (inside applicable : Bool) (lane : Lane) (status : ConfigStatus) (k : ℕ) → (after_apply inside applicable lane status).kept ≡ Some k → Begins inside applicable lane.staged k
-begun_if false applicable lane status k some = let none : (dropped_lane lane).kept ≡ None = dropped_kept lane lane.kept refl in cc
+begun_if : (inside applicable : Bool) (lane : Lane) (status : ConfigStatus) (k : ℕ) → (after_apply inside applicable lane status).applying ≡ Some k → Begins inside applicable lane.staged k
+begun_if false applicable lane status k some = let none : (dropped_lane lane).applying ≡ None = dropped_kept lane lane.applying refl in cc
 begun_if true true lane status k some = let same : lane.staged ≡ k = cc in record { asked = refl; whole = refl; is = same }
 begun_if true false lane status k some = cc
 
@@ -162,8 +162,8 @@ left_after : (sim : SimModule) (mask : Lanes) (lane : ℕ) → IsLane lane → s
 left_after sim mask lane within outside =
     lane_after sim mask lane within ∙ ap (λ (inside : Bool). after_apply inside (is_applicable sim mask) (lane_at sim lane) (status_of sim mask lane)) outside
 
-pub none_after : (sim : SimModule) (mask : Lanes) (lane : ℕ) → IsLane lane → set.contains mask lane ≡ false → (lane_at (applied_all sim mask) lane).kept ≡ None
-none_after sim mask lane within outside = ap (λ (l : Lane). l.kept) (left_after sim mask lane within outside) ∙ dropped_kept (lane_at sim lane) (lane_at sim lane).kept refl
+pub none_after : (sim : SimModule) (mask : Lanes) (lane : ℕ) → IsLane lane → set.contains mask lane ≡ false → (lane_at (applied_all sim mask) lane).applying ≡ None
+none_after sim mask lane within outside = ap (λ (l : Lane). l.applying) (left_after sim mask lane within outside) ∙ dropped_kept (lane_at sim lane) (lane_at sim lane).applying refl
 
 module _ (is_kept : ℕ → Bool) (lane byte : ℕ) (one : IsKeptLane is_kept lane byte) (sim : SimModule) (mask : Lanes) (alone : StaysApart is_kept lane byte sim)
     (outside : (other : ℕ) → IsLane other → is_kept other ≡ true → set.contains mask other ≡ false) where
@@ -173,9 +173,9 @@ module _ (is_kept : ℕ → Bool) (lane byte : ℕ) (one : IsKeptLane is_kept la
   active_after : (other : ℕ) → IsLane other → (lane_at (applied_all sim mask) other).active ≡ (lane_at sim other).active
   active_after other there = ap (λ (l : Lane). l.active) (lane_after sim mask other there) ∙ active_if (set.contains mask other) (is_applicable sim mask) (lane_at sim other) (status_of sim mask other)
 
-  apart_after : (other k : ℕ) → IsLane other → (lane_at (applied_all sim mask) other).kept ≡ Some k → are_same (control_of byte) (control_of k) ≡ false
+  apart_after : (other k : ℕ) → IsLane other → (lane_at (applied_all sim mask) other).applying ≡ Some k → are_same (control_of byte) (control_of k) ≡ false
   apart_after other k there some =
-      let begun = begun_if (set.contains mask other) (is_applicable sim mask) (lane_at sim other) (status_of sim mask other) k (sym (ap (λ (l : Lane). l.kept) (lane_after sim mask other there)) ∙ some) in
+      let begun = begun_if (set.contains mask other) (is_applicable sim mask) (lane_at sim other) (status_of sim mask other) k (sym (ap (λ (l : Lane). l.applying) (lane_after sim mask other there)) ∙ some) in
       ap (λ (b : ℕ). are_same (control_of byte) (control_of b)) (sym begun.is)
       ∙ apart_if sim mask other (control_of byte) alone.eight begun.whole there begun.asked one.used one.first (outside (first_lane (control_of byte)) one.first one.first_kept) _ refl
 
@@ -185,7 +185,7 @@ module _ (is_kept : ℕ → Bool) (lane byte : ℕ) (one : IsKeptLane is_kept la
     active = ap (λ (l : Lane). l.active) (same_after lane one.within one.kept) ∙ alone.active;
     same = λ other there same. alone.same other there (ap (λ (b : ℕ). are_same (control_of byte) (control_of b)) (sym (active_after other there)) ∙ same);
     quiet = λ other there kept. ap is_in_progress (same_after other there kept) ∙ alone.quiet other there kept;
-    none = λ other there kept. ap (λ (l : Lane). l.kept) (same_after other there kept) ∙ alone.none other there kept;
+    none = λ other there kept. ap (λ (l : Lane). l.applying) (same_after other there kept) ∙ alone.none other there kept;
     apart = apart_after;
   }
 

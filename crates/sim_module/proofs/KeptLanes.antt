@@ -34,8 +34,8 @@ pub record StaysApart (is_kept : ℕ → Bool) (lane byte : ℕ) (sim : SimModul
   pub active : (lane_at sim lane).active ≡ byte
   pub same : (other : ℕ) → IsLane other → are_same (control_of byte) (control_of (lane_at sim other).active) ≡ true → is_kept other ≡ true
   pub quiet : (other : ℕ) → IsLane other → is_kept other ≡ true → is_in_progress (lane_at sim other) ≡ false
-  pub none : (other : ℕ) → IsLane other → is_kept other ≡ true → (lane_at sim other).kept ≡ None
-  pub apart : (other kept : ℕ) → IsLane other → (lane_at sim other).kept ≡ Some kept → are_same (control_of byte) (control_of kept) ≡ false
+  pub none : (other : ℕ) → IsLane other → is_kept other ≡ true → (lane_at sim other).applying ≡ None
+  pub apart : (other kept : ℕ) → IsLane other → (lane_at sim other).applying ≡ Some kept → are_same (control_of byte) (control_of kept) ≡ false
 
 -- no kept lane has its DPDeinit bit set
 abbrev pub IsClear : (ℕ → Bool) → SimModule → Type 0
@@ -83,21 +83,21 @@ module _ (is_kept : ℕ → Bool) (lane byte : ℕ) (one : IsKeptLane is_kept la
 
   next_ready : (sim : SimModule) → StaysKept is_kept lane byte sim → next_module_state sim ≡ Ready
   next_ready sim keeps =
-      (λ i. module_table.next_of (keeps.ready i) (record { low_power = keeps.power i; deactivated = all_deactivated sim; done = is_last sim.left }))
-      ∙ still_ready (all_deactivated sim) (is_last sim.left)
+      (λ i. module_table.next_of (keeps.ready i) (record { low_power = keeps.power i; deactivated = all_deactivated sim; done = is_last sim.ticks_left }))
+      ∙ still_ready (all_deactivated sim) (is_last sim.ticks_left)
 
   -- a lane's active byte after a tick is the one before, or what an apply kept
-  became : (done : Bool) (moved : Lane) (kept : Option ℕ) → moved.kept ≡ kept →
-      ((if done then applied_lane moved else moved).active ≡ moved.active) ⊎ ((k : ℕ) × (moved.kept ≡ Some k) × ((if done then applied_lane moved else moved).active ≡ k))
+  became : (done : Bool) (moved : Lane) (kept : Option ℕ) → moved.applying ≡ kept →
+      ((if done then applied_lane moved else moved).active ≡ moved.active) ⊎ ((k : ℕ) × (moved.applying ≡ Some k) × ((if done then applied_lane moved else moved).active ≡ k))
   became false moved kept is = inl refl
   became true moved None is = inl (ap (λ (o : Option ℕ). (applied_by o moved).active) is)
   became true moved (Some k) is = inr (k, is, ap (λ (o : Option ℕ). (applied_by o moved).active) is)
 
   -- what is kept after a tick was kept before
-  was_kept : (done : Bool) (moved : Lane) (kept : Option ℕ) (k : ℕ) → moved.kept ≡ kept → (if done then applied_lane moved else moved).kept ≡ Some k → moved.kept ≡ Some k
+  was_kept : (done : Bool) (moved : Lane) (kept : Option ℕ) (k : ℕ) → moved.applying ≡ kept → (if done then applied_lane moved else moved).applying ≡ Some k → moved.applying ≡ Some k
   was_kept false moved kept k is here = here
-  was_kept true moved None k is here = sym (ap (λ (o : Option ℕ). (applied_by o moved).kept) is) ∙ here
-  was_kept true moved (Some l) k is here = let none : None ≡ Some k = sym (ap (λ (o : Option ℕ). (applied_by o moved).kept) is) ∙ here in cc
+  was_kept true moved None k is here = sym (ap (λ (o : Option ℕ). (applied_by o moved).applying) is) ∙ here
+  was_kept true moved (Some l) k is here = let none : None ≡ Some k = sym (ap (λ (o : Option ℕ). (applied_by o moved).applying) is) ∙ here in cc
 
   abbrev moved_at : SimModule → ℕ → Lane
   moved_at sim other = moved_lane sim.delays (lane_at sim other) (next_path_state sim other)
@@ -109,14 +109,14 @@ module _ (is_kept : ℕ → Bool) (lane byte : ℕ) (one : IsKeptLane is_kept la
   unfolding ticked_lane
   ticked_as sim other = refl
 
-  settled_after : (sim : SimModule) (other : ℕ) → IsLane other → (lane_at sim other).kept ≡ None → lane_at (ticked sim) other ≡ moved_at sim other
+  settled_after : (sim : SimModule) (other : ℕ) → IsLane other → (lane_at sim other).applying ≡ None → lane_at (ticked sim) other ≡ moved_at sim other
   settled_after sim other there none = ticked_at sim other there ∙ settled_lane sim other none
 
   same_after_tick : (sim : SimModule) (other : ℕ) → StaysApart is_kept lane byte sim → IsLane other → are_same (control_of byte) (control_of (lane_at (ticked sim) other).active) ≡ true → is_kept other ≡ true
   same_after_tick sim other alone there same =
       let after = ticked_at sim other there ∙ ticked_as sim other in
       let tells : ℕ → Bool = λ b. are_same (control_of byte) (control_of b) in
-      elim (became (is_last sim.apply_left) (moved_at sim other) (lane_at sim other).kept refl) [
+      elim (became (is_last sim.apply_left) (moved_at sim other) (lane_at sim other).applying refl) [
         | inl stays ↦ alone.same other there (sym (ap tells (ap (λ (l : Lane). l.active) after ∙ stays)) ∙ same)
         | inr done ↦
             let told : tells done.0 ≡ true = sym (ap tells (ap (λ (l : Lane). l.active) after ∙ done.2)) ∙ same in
@@ -133,8 +133,8 @@ module _ (is_kept : ℕ → Bool) (lane byte : ℕ) (one : IsKeptLane is_kept la
         active = ap (λ (l : Lane). l.active) (after lane one.within one.kept) ∙ alone.active;
         same = λ other there told. same_after_tick sim other alone there told;
         quiet = λ other there kept. ap is_in_progress (after other there kept) ∙ alone.quiet other there kept;
-        none = λ other there kept. ap (λ (l : Lane). l.kept) (after other there kept) ∙ alone.none other there kept;
-        apart = λ other k there some. alone.apart other k there (was_kept (is_last sim.apply_left) (moved_at sim other) (lane_at sim other).kept k refl (sym (ap (λ (l : Lane). l.kept) (ticked_at sim other there ∙ ticked_as sim other)) ∙ some));
+        none = λ other there kept. ap (λ (l : Lane). l.applying) (after other there kept) ∙ alone.none other there kept;
+        apart = λ other k there some. alone.apart other k there (was_kept (is_last sim.apply_left) (moved_at sim other) (lane_at sim other).applying k refl (sym (ap (λ (l : Lane). l.applying) (ticked_at sim other there ∙ ticked_as sim other)) ∙ some));
       }
 
   pub keeps_tick : (sim : SimModule) → StaysKept is_kept lane byte sim → StaysKept is_kept lane byte (ticked sim)

@@ -3,7 +3,7 @@ use Rattle.std.proofs.Common.{◌≡◌, ℕ, ◌-◌, Bool, true, false, List, 
 use Rattle.std.specs.FinSet as set
 use Rattle.std.proofs.Math.ListN.{length-set}
 use Rattle.field_tables.specs.LaneSets.{IsLane, Lanes, lanes_in}
-use Rattle.paged_memory.specs.declared.selection.Selection.{Selection}
+use Rattle.paged_memory.specs.declared.mapped_page.MappedPage.{MappedPage}
 use Rattle.control_sets.specs.ControlBytes.{control_of}
 use Rattle.control_sets.specs.HostPaths.{are_same}
 use Rattle.sim_module.specs.declared.lane.Lane.{Lane}
@@ -42,8 +42,8 @@ module _ (is_kept : ℕ → Bool) (lane byte : ℕ) (one : IsKeptLane is_kept la
         active = restaged (λ (l : Lane). l.active) sim.lanes i (lane - 1) new refl ∙ alone.active;
         same = λ n there same. alone.same n there (sym (restaged (λ (l : Lane). are_same (control_of byte) (control_of l.active)) sim.lanes i (n - 1) new refl) ∙ same);
         quiet = λ n there kept. restaged is_in_progress sim.lanes i (n - 1) new refl ∙ alone.quiet n there kept;
-        none = λ n there kept. restaged (λ (l : Lane). l.kept) sim.lanes i (n - 1) new refl ∙ alone.none n there kept;
-        apart = λ n k there some. alone.apart n k there (sym (restaged (λ (l : Lane). l.kept) sim.lanes i (n - 1) new refl) ∙ some);
+        none = λ n there kept. restaged (λ (l : Lane). l.applying) sim.lanes i (n - 1) new refl ∙ alone.none n there kept;
+        apart = λ n k there some. alone.apart n k there (sym (restaged (λ (l : Lane). l.applying) sim.lanes i (n - 1) new refl) ∙ some);
       }
 
   apart_flags : (sim : SimModule) (module_flags : ℕ) (lane_flags : List ℕ) → Alone sim → Alone (record sim { module_flags = module_flags; lane_flags = lane_flags })
@@ -56,7 +56,7 @@ module _ (is_kept : ℕ → Bool) (lane byte : ℕ) (one : IsKeptLane is_kept la
     apart = alone.apart;
   }
 
-  apart_selection : (sim : SimModule) (selection : Selection) → Alone sim → Alone (record sim { selection = selection })
+  apart_selection : (sim : SimModule) (selection : MappedPage) → Alone sim → Alone (record sim { selection = selection })
   apart_selection sim selection alone = record {
     eight = alone.eight;
     active = alone.active;

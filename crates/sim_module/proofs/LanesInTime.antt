@@ -24,12 +24,12 @@ pub ticked_at : (sim : SimModule) (lane : ℕ) → IsLane lane → lane_at (tick
 unfolding ticked
 ticked_at sim lane within = made_lane (ticked_lane sim) lane within
 
-settled : (done : Bool) (moved : Lane) → moved.kept ≡ None → (if done then applied_lane moved else moved) ≡ moved
+settled : (done : Bool) (moved : Lane) → moved.applying ≡ None → (if done then applied_lane moved else moved) ≡ moved
 settled true moved none = ap (λ (kept : Option ℕ). applied_by kept moved) none
 settled false moved none = refl
 
 -- a lane that no apply holds
-pub settled_lane : (sim : SimModule) (lane : ℕ) → (lane_at sim lane).kept ≡ None → ticked_lane sim lane ≡ moved_lane sim.delays (lane_at sim lane) (next_path_state sim lane)
+pub settled_lane : (sim : SimModule) (lane : ℕ) → (lane_at sim lane).applying ≡ None → ticked_lane sim lane ≡ moved_lane sim.delays (lane_at sim lane) (next_path_state sim lane)
 unfolding ticked_lane
 settled_lane sim lane none = settled (is_last sim.apply_left) (moved_lane sim.delays (lane_at sim lane) (next_path_state sim lane)) none
 
@@ -61,13 +61,13 @@ next_activated false false up = refl
 pub stays_up : LanesStayUp
 stays_up sim lane within activated up none =
     let path : next_path_state sim lane ≡ (lane_at sim lane).path =
-    ap (λ (state : PathState). next_of state (record { down = is_down sim lane; done = is_last (lane_at sim lane).left })) activated
-    ∙ next_activated (is_down sim lane) (is_last (lane_at sim lane).left) up ∙ sym activated in
+    ap (λ (state : PathState). next_of state (record { down = is_down sim lane; done = is_last (lane_at sim lane).ticks_left })) activated
+    ∙ next_activated (is_down sim lane) (is_last (lane_at sim lane).ticks_left) up ∙ sym activated in
     let is : lane_at (ticked sim) lane ≡ moved_lane sim.delays (lane_at sim lane) (next_path_state sim lane) = ticked_at sim lane within ∙ settled_lane sim lane none in
     record {
       path = ap (λ (l : Lane). l.path) is ∙ path;
       active = ap (λ (l : Lane). l.active) is;
-      kept = ap (λ (l : Lane). l.kept) is ∙ none;
+      applying = ap (λ (l : Lane). l.applying) is ∙ none;
     }
 
 next_deactivated : (down done : Bool) → down ≡ false → next_of Deactivated (record { down = down; done = done }) ≡ Init
@@ -78,14 +78,14 @@ next_deactivated false false up = refl
 
 -- of a lane after an apply that is done, what an apply changes not
 but_for_apply : {X : Type 0} (f : Lane → X) → ((lane : Lane) (kept : Option ℕ) → f (applied_by kept lane) ≡ f lane) → (done : Bool) (moved : Lane) → f (if done then applied_lane moved else moved) ≡ f moved
-but_for_apply f same true moved = same moved moved.kept
+but_for_apply f same true moved = same moved moved.applying
 but_for_apply f same false moved = refl
 
 same_path : (lane : Lane) (kept : Option ℕ) → (applied_by kept lane).path ≡ lane.path
 same_path lane (Some byte) = refl
 same_path lane None = refl
 
-same_left : (lane : Lane) (kept : Option ℕ) → (applied_by kept lane).left ≡ lane.left
+same_left : (lane : Lane) (kept : Option ℕ) → (applied_by kept lane).ticks_left ≡ lane.ticks_left
 same_left lane (Some byte) = refl
 same_left lane None = refl
 
@@ -93,9 +93,9 @@ moved_path : (sim : SimModule) (lane : ℕ) → (ticked_lane sim lane).path ≡ 
 unfolding ticked_lane
 moved_path sim lane = but_for_apply (λ (l : Lane). l.path) same_path (is_last sim.apply_left) (moved_lane sim.delays (lane_at sim lane) (next_path_state sim lane))
 
-moved_left : (sim : SimModule) (lane : ℕ) → (ticked_lane sim lane).left ≡ (moved_lane sim.delays (lane_at sim lane) (next_path_state sim lane)).left
+moved_left : (sim : SimModule) (lane : ℕ) → (ticked_lane sim lane).ticks_left ≡ (moved_lane sim.delays (lane_at sim lane) (next_path_state sim lane)).ticks_left
 unfolding ticked_lane
-moved_left sim lane = but_for_apply (λ (l : Lane). l.left) same_left (is_last sim.apply_left) (moved_lane sim.delays (lane_at sim lane) (next_path_state sim lane))
+moved_left sim lane = but_for_apply (λ (l : Lane). l.ticks_left) same_left (is_last sim.apply_left) (moved_lane sim.delays (lane_at sim lane) (next_path_state sim lane))
 
 -- among all lanes after a tick
 pub path_after : (sim : SimModule) (lane : ℕ) → IsLane lane → (get_or (map (ticked_lane sim) all_lanes) (lane - 1) no_lane).path ≡ next_path_state sim lane
@@ -104,11 +104,11 @@ path_after sim lane within = ap (λ (l : Lane). l.path) (made_lane (ticked_lane 
 pub comes_up : LanesComeUp
 comes_up sim lane within deactivated up =
     let path : next_path_state sim lane ≡ Init =
-    ap (λ (state : PathState). next_of state (record { down = is_down sim lane; done = is_last (lane_at sim lane).left })) deactivated
-    ∙ next_deactivated (is_down sim lane) (is_last (lane_at sim lane).left) up in
+    ap (λ (state : PathState). next_of state (record { down = is_down sim lane; done = is_last (lane_at sim lane).ticks_left })) deactivated
+    ∙ next_deactivated (is_down sim lane) (is_last (lane_at sim lane).ticks_left) up in
     let is = ticked_at sim lane within in
     record {
       path = ap (λ (l : Lane). l.path) is ∙ moved_path sim lane ∙ path;
-      left = ap (λ (l : Lane). l.left) is ∙ moved_left sim lane
-          ∙ (λ i. next_left (is_path_state (path i) (deactivated i)) (lane_at sim lane).left (path_delay sim.delays (path i)));
+      ticks_left = ap (λ (l : Lane). l.ticks_left) is ∙ moved_left sim lane
+          ∙ (λ i. next_left (is_path_state (path i) (deactivated i)) (lane_at sim lane).ticks_left (path_delay sim.delays (path i)));
     }

@@ -12,7 +12,7 @@ use Rattle.bus_model.specs.Keeping.{IsKeptBy}
 use Rattle.field_tables.specs.LaneSets.{Lanes, byte_of, lanes_in}
 use Rattle.field_tables.specs.declared.field.Register.TheVariants.{CActiveControl, CApplyDPInit, CConfigStatus, CStagedControl}
 use Rattle.field_tables.specs.Registers.{byte_count, first_byte}
-use Rattle.paged_memory.specs.declared.selection.Selection.{Selection}
+use Rattle.paged_memory.specs.declared.mapped_page.MappedPage.{MappedPage}
 use Rattle.plan_certificate.proofs.Lists.{all_of_append}
 use Rattle.control_sets.specs.OutcomeOfProvisioning.{IsProvisioningStep}
 use Rattle.control_sets.specs.OutcomeOperations.{control_page, status_page}
@@ -31,7 +31,7 @@ use Rattle.sim_module.proofs.SoundModule.{either, fetched_keeps, stored_keeps}
 -- P holds after each of these changes where it held before; the bits are those of DPDeinit and ApplyDPInit
 pub record SurvivesChanges (P : SimModule → Type 0) (bits : ℕ) : Type 0 where
   pub flags : (sim : SimModule) (module_flags : ℕ) (lane_flags : List ℕ) → P sim → P (record sim { module_flags = module_flags; lane_flags = lane_flags })
-  pub selection : (sim : SimModule) (selection : Selection) → P sim → P (record sim { selection = selection })
+  pub selection : (sim : SimModule) (selection : MappedPage) → P sim → P (record sim { selection = selection })
   pub deinit : (sim : SimModule) → P sim → P (record sim { deinit = lanes_in bits })
   pub apply : (sim : SimModule) → P sim → P (applied sim (lanes_in bits))
   pub staged : (sim : SimModule) (lane byte : ℕ) → P sim → P (staged_at sim lane byte)

@@ -15,7 +15,7 @@ use Rattle.field_tables.specs.Registers.{byte_count, first_byte}
 use Rattle.sim_module.specs.declared.lane.Lane.{Lane}
 use Rattle.sim_module.specs.declared.module.SimModule.{SimModule}
 use Rattle.sim_module.specs.Lanes.{active_bytes, is_in_progress, lane_at, no_lane}
-use Rattle.paged_memory.specs.Selections.{shown_key}
+use Rattle.paged_memory.specs.MappedPages.{shown_key}
 use Rattle.sim_module.specs.ShownBytes.{configuration_bytes, fetched, fetched_from, first_shown, is_mapped, lower_bytes, shown_byte, status_bytes, status_code}
 use Rattle.sim_module.specs.Soundness.{IsSound}
 use Rattle.control_sets.proofs.EightLanes.{each_of_eight}
@@ -132,9 +132,9 @@ none_kept None progress off tells = refl
 none_kept (Some byte) progress off tells = let on : progress ≡ true = tells refl in cc
 
 none_held : (sim : SimModule) (lanes : Lanes) (bytes : List ℕ) → IsSound sim → Shows 0x11 sim → HoldsOnly lanes sim → (fetched sim A0 (first_byte CConfigStatus) (byte_count CConfigStatus)).0 ≡ Some bytes → SaySuccess lanes bytes →
-    (lane : ℕ) → IsLane lane → (inside : Bool) → set.contains lanes lane ≡ inside → (lane_at sim lane).kept ≡ None
+    (lane : ℕ) → IsLane lane → (inside : Bool) → set.contains lanes lane ≡ inside → (lane_at sim lane).applying ≡ None
 none_held sim lanes bytes sound shows held answered success lane within true is =
-    none_kept (lane_at sim lane).kept (is_in_progress (lane_at sim lane)) (read_status sim bytes shows answered lane within (success lane (within, is))) (sound.progress lane)
+    none_kept (lane_at sim lane).applying (is_in_progress (lane_at sim lane)) (read_status sim bytes shows answered lane within (success lane (within, is))) (sound.progress lane)
 none_held sim lanes bytes sound shows held answered success lane within false is = held lane within is
 
 -- so the module is idle, with what is active

@@ -34,7 +34,7 @@ pub rest_start : (memory : Memory) (delays : Delays) → IsAtRest (active_at_sta
 unfolding start
 rest_start memory delays = record {
   eight = length-map-range_with_len (start_lane memory) 1 8;
-  none = λ lane within. made_keeps (λ (l : Lane). l.kept ≡ None) (start_lane memory) no_lane (λ n. refl) refl all_lanes (lane - 1);
+  none = λ lane within. made_keeps (λ (l : Lane). l.applying ≡ None) (start_lane memory) no_lane (λ n. refl) refl all_lanes (lane - 1);
   active = refl;
 }
 
@@ -42,7 +42,7 @@ rest_start memory delays = record {
 pub rest_lanes : (control : List ℕ) (sim other : SimModule) → other.lanes ≡ sim.lanes → IsAtRest control sim → IsAtRest control other
 rest_lanes control sim other same rest = record {
   eight = ap (λ (lanes : List Lane). length lanes) same ∙ rest.eight;
-  none = λ lane within. ap (λ (lanes : List Lane). (get_or lanes (lane - 1) no_lane).kept) same ∙ rest.none lane within;
+  none = λ lane within. ap (λ (lanes : List Lane). (get_or lanes (lane - 1) no_lane).applying) same ∙ rest.none lane within;
   active = ap (λ (lanes : List Lane). map (λ (lane : Lane). lane.active) lanes) same ∙ rest.active;
 }
 
@@ -67,7 +67,7 @@ pub rest_tick : (control : List ℕ) (sim : SimModule) → IsAtRest control sim 
 unfolding ticked
 rest_tick control sim rest = record {
   eight = length-map-range_with_len (ticked_lane sim) 1 8;
-  none = λ lane within. ap (λ (l : Lane). l.kept) (made_lane (ticked_lane sim) lane within ∙ settled_lane sim lane (rest.none lane within)) ∙ rest.none lane within;
+  none = λ lane within. ap (λ (l : Lane). l.applying) (made_lane (ticked_lane sim) lane within ∙ settled_lane sim lane (rest.none lane within)) ∙ rest.none lane within;
   active = same_active sim (ticked_lane sim) rest.eight (λ lane within. ap (λ (l : Lane). l.active) (settled_lane sim lane (rest.none lane within))) ∙ rest.active;
 }
 

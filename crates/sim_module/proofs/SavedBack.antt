@@ -54,7 +54,7 @@ pin_back true = refl
 pin_back false = refl
 
 lane_back : (lane : Lane) → lane_numbered (saved_lane lane) ≡ Some lane
-lane_back lane = rw (path_back lane.path, status_back lane.status, kept_back lane.kept) refl
+lane_back lane = rw (path_back lane.path, status_back lane.status, kept_back lane.applying) refl
 
 are_lanes : (lanes : List Lane) → list_all is_lane (map saved_lane lanes) ≡ true
 are_lanes [] = refl

@@ -46,7 +46,7 @@ pub either : {X : Type 0} (P : X → Type 0) (b : Bool) (x y : X) → P x → P 
 either P true x y p q = p
 either P false x y p q = q
 
-applied_tells : (kept : Option ℕ) (lane : Lane) → lane.kept ≡ kept → TellsProgress lane → TellsProgress (applied_by kept lane)
+applied_tells : (kept : Option ℕ) (lane : Lane) → lane.applying ≡ kept → TellsProgress lane → TellsProgress (applied_by kept lane)
 applied_tells (Some byte) lane is tells = λ some. cc
 applied_tells None lane is tells = tells
 
@@ -54,10 +54,10 @@ ticked_tells : (sim : SimModule) (lane : ℕ) → TellsProgress (lane_at sim lan
 unfolding ticked_lane
 ticked_tells sim lane tells =
     let moved = moved_lane sim.delays (lane_at sim lane) (next_path_state sim lane) in
-    either TellsProgress (is_last sim.apply_left) (applied_lane moved) moved (applied_tells moved.kept moved refl tells) tells
+    either TellsProgress (is_last sim.apply_left) (applied_lane moved) moved (applied_tells moved.applying moved refl tells) tells
 
 dropped_tells : (lane : Lane) → TellsProgress lane → TellsProgress (dropped_lane lane)
-dropped_tells lane tells = either TellsProgress (is_some lane.kept) (record lane { status = Rejected; kept = None }) lane (λ some. cc) tells
+dropped_tells lane tells = either TellsProgress (is_some lane.applying) (record lane { status = Rejected; applying = None }) lane (λ some. cc) tells
 
 applied_to_tells : (sim : SimModule) (mask : Lanes) (lane : ℕ) → TellsProgress (lane_at sim lane) → TellsProgress (applied_to sim mask lane)
 unfolding applied_to

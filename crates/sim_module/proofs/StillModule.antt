@@ -43,8 +43,8 @@ still_lane sim lane none same =
     let moved = moved_lane sim.delays (lane_at sim lane) (next_path_state sim lane) in
     let is : ticked_lane sim lane ≡ moved = ap (λ (left : ℕ). if is_last left then applied_lane moved else moved) none in
     let path : moved.path ≡ (lane_at sim lane).path = ap (λ (l : Lane). l.path) (sym is) ∙ same_path _ _ same_state in
-    let left : moved.left ≡ (lane_at sim lane).left = ap (λ (l : Lane). l.left) (sym is) ∙ eqb-true _ _ same_left in
-    is ∙ (λ i. record (lane_at sim lane) { path = path i; left = left i })
+    let left : moved.ticks_left ≡ (lane_at sim lane).ticks_left = ap (λ (l : Lane). l.ticks_left) (sym is) ∙ eqb-true _ _ same_left in
+    is ∙ (λ i. record (lane_at sim lane) { path = path i; ticks_left = left i })
 
 all_in : (test : ℕ → Bool) (lane : ℕ) → IsLane lane → list_all test all_lanes ≡ true → test lane ≡ true
 all_in test lane within all = each_of_eight (λ n. list_all test all_lanes ≡ true → test n ≡ true)
@@ -69,12 +69,12 @@ pub still_ticked : (moving : Moving) → IsStill moving → ticked (bare moving)
 unfolding ticked
 still_ticked moving still =
     let delay = module_delay moving.delays (next_module_state (bare moving)) in
-    let left : next_left (is_module_state (next_module_state (bare moving)) moving.state) moving.left delay ≡ moving.left =
-    (λ i. next_left (still.state i) (still.left i) delay) ∙ sym still.left in
+    let left : next_left (is_module_state (next_module_state (bare moving)) moving.state) moving.ticks_left delay ≡ moving.ticks_left =
+    (λ i. next_left (still.state i) (still.ticks_left i) delay) ∙ sym still.ticks_left in
     let apply_left : moving.apply_left - 1 ≡ moving.apply_left = ap (λ (n : ℕ). n - 1) still.apply_left ∙ sym still.apply_left in
     (λ i. record (bare moving) {
       state = same_state _ _ still.state i;
-      left = left i;
+      ticks_left = left i;
       lanes = still_lanes moving still i;
       apply_left = apply_left i;
       lane_flags = still.flags i;

@@ -16,7 +16,7 @@ use Rattle.sim_module.specs.Soundness.{IsSound}
 
 -- no apply is in progress
 abbrev pub HasNoApply : SimModule → Type 0
-HasNoApply sim = (lane : ℕ) → IsLane lane → (lane_at sim lane).kept ≡ None
+HasNoApply sim = (lane : ℕ) → IsLane lane → (lane_at sim lane).applying ≡ None
 
 -- there are eight lanes, these control bytes are active, and no apply is in progress that would change them
 pub record IsAtRest (control : List ℕ) (sim : SimModule) : Type 0 where

@@ -88,14 +88,14 @@ is_applicable sim mask = list_all (λ lane. not (set.contains mask lane) || is_n
 
 -- an apply in progress has ended without effect
 abbrev pub dropped_lane : Lane → Lane
-dropped_lane lane = if is_some lane.kept then record lane { status = Rejected; kept = None } else lane
+dropped_lane lane = if is_some lane.applying then record lane { status = Rejected; applying = None } else lane
 
 -- an apply of the lane begins, with the byte that is staged now
 abbrev pub begun_lane : Lane → Lane
-begun_lane lane = record lane { status = InProgress; kept = Some lane.staged }
+begun_lane lane = record lane { status = InProgress; applying = Some lane.staged }
 
 abbrev pub refused_lane : Lane → ConfigStatus → Lane
-refused_lane lane status = record lane { status = status; kept = None }
+refused_lane lane status = record lane { status = status; applying = None }
 
 unfoldable pub applied_to : SimModule → Lanes → ℕ → Lane
 applied_to sim mask lane =

@@ -11,7 +11,7 @@ use Rattle.sim_module.specs.declared.module.SimModule.{SimModule}
 
 -- what stands for a lane that there isn't
 abbrev pub no_lane : Lane
-no_lane = record { path = Deactivated; left = 0; status = Undefined; staged = 0; active = 0; kept = None }
+no_lane = record { path = Deactivated; ticks_left = 0; status = Undefined; staged = 0; active = 0; applying = None }
 
 -- lane 1 is the first
 abbrev pub lane_at : SimModule → ℕ → Lane

@@ -4,7 +4,7 @@ use Rattle.std.specs.Coded.{Coded, code_by, coded×}
 use Rattle.std.specs.FinMap as finmap
 use Rattle.std.specs.FinSet as set
 use Rattle.paged_memory.specs.Images.{Memory}
-use Rattle.paged_memory.specs.declared.selection.Selection.{Selection}
+use Rattle.paged_memory.specs.declared.mapped_page.MappedPage.{MappedPage}
 use Rattle.field_tables.specs.LaneSets.{Lanes}
 use Rattle.applications.specs.Advertised.{Advertised}
 use Rattle.module_states.specs.declared.state.ModuleState.{ModuleState}
@@ -20,11 +20,11 @@ pub record Simulated : Type 0 where
   pub image : Memory
   pub advert : Advertised
   pub delays : Delays
-  pub selection : Selection
+  pub selection : MappedPage
   pub pin : Bool
   pub control : ℕ
   pub state : ModuleState
-  pub left : ℕ
+  pub ticks_left : ℕ
   pub lanes : List Lane
   pub deinit : Lanes
   pub apply_left : ℕ
@@ -41,7 +41,7 @@ module_of fixed moving = record {
   pin = moving.pin;
   control = moving.control;
   state = moving.state;
-  left = moving.left;
+  ticks_left = moving.ticks_left;
   lanes = moving.lanes;
   deinit = moving.deinit;
   apply_left = moving.apply_left;
@@ -67,7 +67,7 @@ moving_of sim = record {
   pin = sim.pin;
   control = sim.control;
   state = sim.state;
-  left = sim.left;
+  ticks_left = sim.ticks_left;
   lanes = sim.lanes;
   deinit = sim.deinit;
   apply_left = sim.apply_left;

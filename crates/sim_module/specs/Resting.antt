@@ -15,7 +15,7 @@ RestsIf false sim = Unit {0}
 
 -- a lane keeps its state and its counter
 abbrev pub stays : Lane → Lane → Bool
-stays before after = is_path_state after.path before.path && after.left == before.left
+stays before after = is_path_state after.path before.path && after.ticks_left == before.ticks_left
 
 -- each lane does, by these lanes afterwards
 abbrev pub all_stay : SimModule → List Lane → Bool
@@ -25,7 +25,7 @@ all_stay sim after = list_all (λ lane. stays (lane_at sim lane) (get_or after (
 pub record IsStill (moving : Moving) : Type 0 where
   pub eight : length moving.lanes ≡ 8
   pub apply_left : moving.apply_left ≡ 0
-  pub left : moving.left ≡ 0
+  pub ticks_left : moving.ticks_left ≡ 0
   pub state : is_module_state (next_module_state (bare moving)) moving.state ≡ true
   pub lanes : all_stay (bare moving) (map (ticked_lane (bare moving)) all_lanes) ≡ true
   pub flags : ticked_flags (bare moving) ≡ moving.lane_flags

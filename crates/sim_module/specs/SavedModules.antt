@@ -27,14 +27,14 @@ custom_of _ = 0
 
 abbrev pub saved_lane : Lane → SavedLane
 saved_lane lane = record {
-  left = lane.left;
+  left = lane.ticks_left;
   path = code_of lane.path;
   status = status_code_of lane.status;
   custom = custom_of lane.status;
   staged = lane.staged;
   active = lane.active;
-  keeps = number_of (is_some lane.kept);
-  kept = unwrap_or lane.kept 0;
+  keeps = number_of (is_some lane.applying);
+  kept = unwrap_or lane.applying 0;
 }
 
 -- the numbers of what stands for a lane that there isn't
@@ -44,7 +44,7 @@ no_numbers = saved_lane no_lane
 abbrev pub saved : Moving → SavedModule
 saved moving = record {
   delays = moving.delays;
-  left = moving.left;
+  left = moving.ticks_left;
   apply_left = moving.apply_left;
   bank = moving.selection.bank;
   page = moving.selection.page;
@@ -68,11 +68,11 @@ kept_numbered keeps kept = if keeps == 1 then Some kept else None
 abbrev pub lane_with : SavedLane → Option PathState → Option ConfigStatus → Option Lane
 lane_with numbers (Some path) (Some status) = Some (record {
   path = path;
-  left = numbers.left;
+  ticks_left = numbers.left;
   status = status;
   staged = numbers.staged;
   active = numbers.active;
-  kept = kept_numbered numbers.keeps numbers.kept;
+  applying = kept_numbered numbers.keeps numbers.kept;
 })
 lane_with numbers path status = None
 
@@ -93,7 +93,7 @@ moving_with numbers state = record {
   pin = numbers.pin == 1;
   control = numbers.control;
   state = state;
-  left = numbers.left;
+  ticks_left = numbers.left;
   lanes = map lane_of numbers.lanes;
   deinit = lanes_in numbers.deinit;
   apply_left = numbers.apply_left;

@@ -17,7 +17,7 @@ use Rattle.datapath_states.specs.StatusCodes.{status_code_of}
 use Rattle.sim_module.specs.declared.module.SimModule.{SimModule}
 use Rattle.sim_module.specs.Lanes.{lane_at}
 use Rattle.sim_module.specs.Registers.{is_at, is_field_at, is_from, is_in, lane_flag_bytes}
-use Rattle.paged_memory.specs.Selections.{shown_key}
+use Rattle.paged_memory.specs.MappedPages.{shown_key}
 
 -- a page of bank 0 is mapped
 abbrev pub is_mapped : SimModule → ℕ → Bool

@@ -19,7 +19,7 @@ use Rattle.sim_module.specs.Ticks.{ticked}
 
 -- a lane for which an apply keeps a byte says so by its status
 abbrev pub TellsProgress : Lane → Type 0
-TellsProgress lane = IsTrue (is_some lane.kept) → IsTrue (is_in_progress lane)
+TellsProgress lane = IsTrue (is_some lane.applying) → IsTrue (is_in_progress lane)
 
 -- there are eight lanes, and those of an apply in progress have the status ConfigInProgress
 pub record IsSound (sim : SimModule) : Type 0 where
@@ -45,17 +45,17 @@ HoldsItsPath =
 pub record StaysUp (before after : Lane) : Type 0 where
   pub path : after.path ≡ before.path
   pub active : after.active ≡ before.active
-  pub kept : after.kept ≡ None
+  pub applying : after.applying ≡ None
 
 abbrev pub LanesStayUp : Type 0
 LanesStayUp =
-    (sim : SimModule) (lane : ℕ) → IsLane lane → (lane_at sim lane).path ≡ Activated → is_down sim lane ≡ false → (lane_at sim lane).kept ≡ None
+    (sim : SimModule) (lane : ℕ) → IsLane lane → (lane_at sim lane).path ≡ Activated → is_down sim lane ≡ false → (lane_at sim lane).applying ≡ None
     → StaysUp (lane_at sim lane) (lane_at (ticked sim) lane)
 
 -- a tick begins to bring up a lane that is deactivated and not down, for as long as DPInit lasts
 pub record ComesUp (after : Lane) (delay : ℕ) : Type 0 where
   pub path : after.path ≡ Init
-  pub left : after.left ≡ delay
+  pub ticks_left : after.ticks_left ≡ delay
 
 abbrev pub LanesComeUp : Type 0
 LanesComeUp =

@@ -6,7 +6,7 @@ use Rattle.bus_model.specs.declared.device.Dev.TheVariants.{A0}
 use Rattle.paged_memory.specs.declared.key.Key.{Key}
 use Rattle.paged_memory.specs.Images.{Memory, byte_at}
 use Rattle.paged_memory.specs.Keys.{lower_key, upper_key}
-use Rattle.paged_memory.specs.Selections.{first_page}
+use Rattle.paged_memory.specs.MappedPages.{first_page}
 use Rattle.field_tables.specs.FirstFault.{first_fault}
 use Rattle.field_tables.specs.Halves.{is_absent}
 use Rattle.field_tables.specs.LaneSets.{lanes_in}
@@ -38,11 +38,11 @@ byte_of_register memory register index = unwrap_or (byte_at memory A0 (span_of r
 abbrev pub start_lane : Memory → ℕ → Lane
 start_lane memory lane = record {
   path = Deactivated;
-  left = 0;
+  ticks_left = 0;
   status = Undefined;
   staged = byte_of_register memory CStagedControl (lane - 1);
   active = byte_of_register memory CActiveControl (lane - 1);
-  kept = None;
+  applying = None;
 }
 
 -- in low power if the global controls ask for it without the pin
@@ -58,7 +58,7 @@ start memory delays = record {
   pin = false;
   control = byte_of_register memory CGlobalControls 0;
   state = start_state (byte_of_register memory CGlobalControls 0);
-  left = 0;
+  ticks_left = 0;
   lanes = map (start_lane memory) all_lanes;
   deinit = lanes_in (byte_of_register memory CDPDeinit 0);
   apply_left = 0;

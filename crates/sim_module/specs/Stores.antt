@@ -1,5 +1,5 @@
 -- What a store makes of a module. (docs/module.md, "Stores"; OIF-CMIS-05.0, chapter 8 "Module Management Memory Map")
-use Rattle.std.specs.Prelude.{ℕ, ◌+◌, ◌-◌, Bool, true, false, if◌then◌else◌, List, [], ◌∷◌, nat_lt}
+use Rattle.std.specs.Prelude.{Some, ℕ, ◌+◌, ◌-◌, Bool, true, false, if◌then◌else◌, List, [], ◌∷◌, nat_lt}
 use Rattle.std.proofs.Math.ListN.{set}
 use Rattle.std.specs.FinMap as finmap
 use Rattle.bus_model.specs.declared.device.Dev.{Dev}
@@ -9,10 +9,10 @@ use Rattle.field_tables.specs.declared.field.Register.TheVariants.{CGlobalContro
 use Rattle.field_tables.specs.Registers.{first_byte}
 use Rattle.control_sets.specs.OutcomeOperations.{control_page}
 use Rattle.sim_module.specs.declared.module.SimModule.{SimModule}
-use Rattle.paged_memory.specs.declared.selection.Selecting.TheVariants.{BankAndPage}
+use Rattle.paged_memory.specs.declared.page_addressing.PageAddressing.TheVariants.{BankAndPage}
 use Rattle.sim_module.specs.Lanes.{lane_at}
 use Rattle.sim_module.specs.Registers.{is_at, is_in}
-use Rattle.paged_memory.specs.Selections.{selected, shown_key}
+use Rattle.paged_memory.specs.MappedPages.{selected, shown_key}
 use Rattle.sim_module.specs.Applies.{applied}
 use Rattle.sim_module.specs.ShownBytes.{is_mapped}
 
@@ -22,7 +22,7 @@ staged_at sim lane byte = record sim { lanes = set sim.lanes (lane - 1) (record 
 -- in lower memory
 abbrev pub stored_low : SimModule → ℕ → ℕ → SimModule
 stored_low sim address byte = record sim {
-  selection = selected BankAndPage sim.image sim.selection address byte;
+  selection = selected (Some BankAndPage) sim.image sim.selection address byte;
   control = if is_at CGlobalControls address then byte else sim.control;
 }
 

@@ -43,11 +43,11 @@ all_deactivated sim = list_all (is_deactivated sim) all_lanes
 
 abbrev pub next_module_state : SimModule → ModuleState
 next_module_state sim =
-    module_table.next_of sim.state (record { low_power = has_low_power sim; deactivated = all_deactivated sim; done = is_last sim.left })
+    module_table.next_of sim.state (record { low_power = has_low_power sim; deactivated = all_deactivated sim; done = is_last sim.ticks_left })
 
 abbrev pub next_path_state : SimModule → ℕ → PathState
 next_path_state sim lane =
-    path_table.next_of (lane_at sim lane).path (record { down = is_down sim lane; done = is_last (lane_at sim lane).left })
+    path_table.next_of (lane_at sim lane).path (record { down = is_down sim lane; done = is_last (lane_at sim lane).ticks_left })
 
 -- a counter goes on, or begins if a state was entered
 abbrev pub next_left : Bool → ℕ → ℕ → ℕ
@@ -55,15 +55,15 @@ next_left stays left delay = if stays then left - 1 else delay
 
 -- the lane with its next state
 abbrev pub moved_lane : Delays → Lane → PathState → Lane
-moved_lane delays lane path = record lane { path = path; left = next_left (is_path_state path lane.path) lane.left (path_delay delays path) }
+moved_lane delays lane path = record lane { path = path; ticks_left = next_left (is_path_state path lane.path) lane.ticks_left (path_delay delays path) }
 
 -- an apply that is done makes the byte that it kept active
 abbrev pub applied_by : Option ℕ → Lane → Lane
-applied_by (Some byte) lane = record lane { active = byte; status = Success; kept = None }
+applied_by (Some byte) lane = record lane { active = byte; status = Success; applying = None }
 applied_by None lane = lane
 
 abbrev pub applied_lane : Lane → Lane
-applied_lane lane = applied_by lane.kept lane
+applied_lane lane = applied_by lane.applying lane
 
 unfoldable pub ticked_lane : SimModule → ℕ → Lane
 ticked_lane sim lane =
@@ -92,7 +92,7 @@ ticked_flags sim = slice_set sim.lane_flags 0 (bit_or (slice_index sim.lane_flag
 unfoldable pub ticked : SimModule → SimModule
 ticked sim = record sim {
   state = next_module_state sim;
-  left = next_left (is_module_state (next_module_state sim) sim.state) sim.left (module_delay sim.delays (next_module_state sim));
+  ticks_left = next_left (is_module_state (next_module_state sim) sim.state) sim.ticks_left (module_delay sim.delays (next_module_state sim));
   lanes = map (ticked_lane sim) all_lanes;
   apply_left = sim.apply_left - 1;
   lane_flags = ticked_flags sim;

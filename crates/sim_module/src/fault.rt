@@ -1,6 +1,6 @@
 use applications::AdvertFault;
 use paged_memory::Key;
-use text_lines::{Spelled, Spelling};
+use text_lines::{PrintedWords, ToWords};
 use thiserror::Error;
 
 /// Why there is no simulated module of an image.
@@ -17,19 +17,19 @@ pub enum SimFault {
     ActiveNotPaths(u8),
 }
 
-impl Spelled for SimFault {
+impl ToWords for SimFault {
     ghost use Rattle.sim_module.specs.FaultWords.{sim_fault_words};
 
     ghost words = { sim_fault_words };
 
     ghost most = { 6 };
 
-    fn spelling(&self) -> Spelling {
+    fn to_words(&self) -> PrintedWords {
         match self {
-            SimFault::Absent(key) => Spelling::of("SM1").and(key),
-            SimFault::Advert(fault) => Spelling::of("SM2").and(fault),
-            SimFault::BadDelay => Spelling::of("SM3"),
-            SimFault::ActiveNotPaths(lane) => Spelling::of("SM4").and(lane),
+            SimFault::Absent(key) => PrintedWords::of("SM1").and(key),
+            SimFault::Advert(fault) => PrintedWords::of("SM2").and(fault),
+            SimFault::BadDelay => PrintedWords::of("SM3"),
+            SimFault::ActiveNotPaths(lane) => PrintedWords::of("SM4").and(lane),
         }
     }
 }

@@ -7,7 +7,7 @@ pub struct Lane {
     /// The state of the lane's data path.
     pub path: PathState,
     /// The ticks until the work of a transient state is done, and 0 if none runs.
-    pub left: u16,
+    pub ticks_left: u16,
     /// What became of the last apply.
     pub status: ConfigStatus,
     /// The lane's control byte of Staged Control Set 0.
@@ -15,7 +15,7 @@ pub struct Lane {
     /// The lane's control byte of the Active Control Set.
     pub active: u8,
     /// The control byte that an apply in progress keeps for the lane.
-    pub kept: Option<u8>,
+    pub applying: Option<u8>,
 }
 
 impl Lane {
@@ -38,7 +38,7 @@ impl Lane {
     {
         Lane {
             path,
-            left: next_left(path == self.path, self.left, delays.of_path(path)),
+            ticks_left: next_left(path == self.path, self.ticks_left, delays.of_path(path)),
             ..self
         }
     }
@@ -47,18 +47,18 @@ impl Lane {
     pub(crate) fn stays(self, after: Lane) -> bool
         ensures { result ≡ resting.stays self after }
     {
-        after.path == self.path && after.left == self.left
+        after.path == self.path && after.ticks_left == self.ticks_left
     }
 
     // The lane after its apply is done.
     pub(crate) fn applied(self) -> Lane
         ensures { result ≡ ticks.applied_lane self }
     {
-        match self.kept {
+        match self.applying {
             Some(byte) => Lane {
                 active: byte,
                 status: ConfigStatus::Success,
-                kept: None,
+                applying: None,
                 ..self
             },
             None => self,
@@ -69,10 +69,10 @@ impl Lane {
     pub(crate) fn dropped(self) -> Lane
         ensures { result ≡ applies.dropped_lane self }
     {
-        if self.kept.is_some() {
+        if self.applying.is_some() {
             Lane {
                 status: ConfigStatus::Rejected,
-                kept: None,
+                applying: None,
                 ..self
             }
         } else {
@@ -86,7 +86,7 @@ impl Lane {
     {
         Lane {
             status: ConfigStatus::InProgress,
-            kept: Some(self.staged),
+            applying: Some(self.staged),
             ..self
         }
     }
@@ -97,7 +97,7 @@ impl Lane {
     {
         Lane {
             status,
-            kept: None,
+            applying: None,
             ..self
         }
     }

@@ -5,7 +5,7 @@ use applications::LaneSet;
 use datapath_states::PathState;
 use field_tables::LaneNumber;
 use module_states::ModuleState;
-use paged_memory::Selection;
+use paged_memory::MappedPage;
 use std::array;
 
 /// How many bytes have flags of the lanes, from that of the changed path states on.
@@ -15,14 +15,14 @@ pub const LANE_FLAGS: usize = 19;
 #[derive(Clone, Copy, Debug)]
 pub struct Moving {
     pub(crate) delays: Delays,
-    pub(crate) selection: Selection,
+    pub(crate) selection: MappedPage,
     /// Whether the host holds the low power pin.
     pub(crate) pin: bool,
     /// Byte 26 of lower memory, as it was stored.
     pub(crate) control: u8,
     pub(crate) state: ModuleState,
     /// The ticks until the work of a transient module state is done, and 0 if none runs.
-    pub(crate) left: u16,
+    pub(crate) ticks_left: u16,
     pub(crate) lanes: [Lane; 8],
     /// The lanes whose DPDeinit bit is set.
     pub(crate) deinit: LaneSet,

@@ -11,7 +11,7 @@ use crate::moving::{LANE_FLAGS, Moving};
 use applications::LaneSet;
 use datapath_states::{ConfigStatus, PathState};
 use module_states::ModuleState;
-use paged_memory::Selection;
+use paged_memory::MappedPage;
 
 /// A lane as plain numbers.
 #[repr(C)]
@@ -71,7 +71,7 @@ impl SavedLane {
         ensures { result ≡ spec.saved_lane lane }
     {
         SavedLane {
-            left: lane.left,
+            left: lane.ticks_left,
             path: lane.path.code(),
             status: lane.status.code(),
             custom: match lane.status {
@@ -80,11 +80,11 @@ impl SavedLane {
             },
             staged: lane.staged,
             active: lane.active,
-            keeps: match lane.kept {
+            keeps: match lane.applying {
                 Some(_) => 1,
                 None => 0,
             },
-            kept: lane.kept.unwrap_or(0),
+            kept: lane.applying.unwrap_or(0),
         }
     }
 
@@ -94,11 +94,11 @@ impl SavedLane {
     {
         Some(Lane {
             path: path_numbered(self.path)?,
-            left: self.left,
+            ticks_left: self.left,
             status: status_numbered(self.custom, self.status)?,
             staged: self.staged,
             active: self.active,
-            kept: if self.keeps == 1 {
+            applying: if self.keeps == 1 {
                 Some(self.kept)
             } else {
                 None
@@ -129,7 +129,7 @@ impl Moving {
     {
         SavedModule {
             delays: self.delays,
-            left: self.left,
+            left: self.ticks_left,
             apply_left: self.apply_left,
             bank: self.selection.bank,
             page: self.selection.page,
@@ -164,7 +164,7 @@ impl Moving {
         }
         Some(Moving {
             delays: saved.delays,
-            selection: Selection {
+            selection: MappedPage {
                 bank: saved.bank,
                 page: saved.page,
                 waiting: saved.waiting,
@@ -172,7 +172,7 @@ impl Moving {
             pin: saved.pin == 1,
             control: saved.control,
             state: state_numbered(saved.state)?,
-            left: saved.left,
+            ticks_left: saved.left,
             lanes: lanes_numbered(&saved.lanes),
             deinit: LaneSet::from(saved.deinit),
             apply_left: saved.apply_left,
@@ -185,11 +185,11 @@ impl Moving {
 // What stands for a lane that there isn't.
 const NO_LANE: Lane = Lane {
     path: PathState::Deactivated,
-    left: 0,
+    ticks_left: 0,
     status: ConfigStatus::Undefined,
     staged: 0,
     active: 0,
-    kept: None,
+    applying: None,
 };
 
 fn are_lanes(saved: &[SavedLane; 8]) -> bool

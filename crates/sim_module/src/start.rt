@@ -13,7 +13,7 @@ use control_sets::{ControlFault, paths_of};
 use datapath_states::{ConfigStatus, PathState};
 use field_tables::{LaneNumber, Register, register};
 use module_states::ModuleState;
-use paged_memory::{Image, Key, Selection};
+use paged_memory::{Image, Key, MappedPage};
 use std::array;
 
 impl SimModule {
@@ -96,11 +96,11 @@ fn start_lane(image: &Image, lane: LaneNumber) -> Lane
 {
     Lane {
         path: PathState::Deactivated,
-        left: 0,
+        ticks_left: 0,
         status: ConfigStatus::Undefined,
         staged: byte_of_register(image, Register::CStagedControl, lane.number() - 1),
         active: byte_of_register(image, Register::CActiveControl, lane.number() - 1),
-        kept: None,
+        applying: None,
     }
 }
 
@@ -132,11 +132,11 @@ fn start(image: &Image, advert: Advert, delays: Delays) -> SimModule
     let control = byte_of_register(image, Register::CGlobalControls, 0);
     let moving = Moving {
         delays,
-        selection: Selection::first_page(),
+        selection: MappedPage::first_page(),
         pin: false,
         control,
         state: start_state(control),
-        left: 0,
+        ticks_left: 0,
         lanes: start_lanes(image),
         deinit: LaneSet::from(byte_of_register(image, Register::CDPDeinit, 0)),
         apply_left: 0,

@@ -4,7 +4,7 @@ use crate::moving::Moving;
 use crate::registers::{control_page, index_in, is_at};
 use applications::LaneSet;
 use field_tables::Register;
-use paged_memory::Selecting;
+use paged_memory::PageAddressing;
 
 impl Moving {
     ghost use Rattle.std.specs.Prelude.{◌≡◌, ◌≤◌, ◌+◌, length};
@@ -15,9 +15,12 @@ impl Moving {
     fn store_low(&mut self, fixed: &Fixed, address: u8, byte: u8)
         ensures { module_of fixed.now self.new ≡ spec.stored_low (module_of fixed.now self.old) address byte }
     {
-        self.selection = self
-            .selection
-            .selected(Selecting::BankAndPage, &fixed.image, address, byte);
+        self.selection = self.selection.selected(
+            Some(PageAddressing::BankAndPage),
+            &fixed.image,
+            address,
+            byte,
+        );
         if is_at(Register::CGlobalControls, address) {
             self.control = byte;
         }

@@ -18,10 +18,10 @@ impl Moving {
     fn next_module_state(&self) -> ModuleState
         ensures { result ≡ spec.next_module_state (bare self.now) }
     {
-        let inputs = module_states::Inputs {
+        let inputs = module_states::ModuleInputs {
             low_power: self.has_low_power(),
             deactivated: self.all_deactivated(),
-            done: self.left == 1,
+            done: self.ticks_left == 1,
         };
         module_states::next(self.state, inputs)
     }
@@ -41,9 +41,9 @@ impl Moving {
         ensures { result ≡ spec.next_path_state (bare self.now) lane }
     {
         let before = self.lane(lane);
-        let inputs = datapath_states::Inputs {
+        let inputs = datapath_states::PathInputs {
             down: self.is_down(active, held, lane),
-            done: before.left == 1,
+            done: before.ticks_left == 1,
         };
         datapath_states::next(before.path, inputs)
     }
@@ -120,7 +120,7 @@ impl Moving {
         if self.apply_left != 0 {
             return false;
         }
-        if self.left != 0 {
+        if self.ticks_left != 0 {
             return false;
         }
         if state != self.state {
@@ -142,7 +142,11 @@ impl Moving {
         let lanes = self.ticked_lanes();
         let flags = self.lane_flags[0] | self.arriving(&lanes).byte();
         let rests = self.is_still(state, &lanes, flags);
-        self.left = next_left(state == self.state, self.left, self.delays.of_module(state));
+        self.ticks_left = next_left(
+            state == self.state,
+            self.ticks_left,
+            self.delays.of_module(state),
+        );
         self.state = state;
         self.lanes = lanes;
         self.lane_flags[0] = flags;

@@ -5,11 +5,11 @@
 mod decimal;
 mod hexadecimal;
 mod lines;
-mod spelling;
+mod printed_words;
 mod words;
 
 pub use decimal::read_decimal;
 pub use hexadecimal::{HexByte, Hexadecimal, read_hex_byte, read_hexadecimal};
 pub use lines::{LF, Lines, split_ended_line, split_line};
-pub use spelling::{Spelled, Spelling, Word};
+pub use printed_words::{PrintedWords, ToWords, Word};
 pub use words::split_words;

@@ -1,4 +1,4 @@
-use text_lines::{Spelled, Spelling};
+use text_lines::{PrintedWords, ToWords};
 use thiserror::Error;
 
 /// Why a text lists no weights.
@@ -21,22 +21,22 @@ pub enum WeightsFault {
     Memory,
 }
 
-impl Spelled for WeightsFault {
+impl ToWords for WeightsFault {
     ghost use Rattle.applications.specs.FaultWords.{weights_fault_words};
 
     ghost words = { weights_fault_words };
 
     ghost most = { 2 };
 
-    fn spelling(&self) -> Spelling {
+    fn to_words(&self) -> PrintedWords {
         match self {
-            WeightsFault::NotToml => Spelling::of("WT1"),
-            WeightsFault::NoHostTable => Spelling::of("WT2"),
-            WeightsFault::BadKey => Spelling::of("WT3"),
-            WeightsFault::SameKeyTwice(host_id) => Spelling::of("WT4").and(host_id),
-            WeightsFault::BadWeight(host_id) => Spelling::of("WT5").and(host_id),
-            WeightsFault::OtherKey => Spelling::of("WT6"),
-            WeightsFault::Memory => Spelling::of("memory"),
+            WeightsFault::NotToml => PrintedWords::of("WT1"),
+            WeightsFault::NoHostTable => PrintedWords::of("WT2"),
+            WeightsFault::BadKey => PrintedWords::of("WT3"),
+            WeightsFault::SameKeyTwice(host_id) => PrintedWords::of("WT4").and(host_id),
+            WeightsFault::BadWeight(host_id) => PrintedWords::of("WT5").and(host_id),
+            WeightsFault::OtherKey => PrintedWords::of("WT6"),
+            WeightsFault::Memory => PrintedWords::of("memory"),
         }
     }
 }

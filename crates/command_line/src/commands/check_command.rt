@@ -15,7 +15,7 @@ use lane_planner::first_best;
 use plan_certificate::{Certificate, STATES, Verdict};
 use reports::{good_json, plan_text};
 use std::alloc::{AllocError, Global};
-use text_lines::Spelled;
+use text_lines::ToWords;
 
 /// Whether the certificate is good, and if it is, its plan, and whether that is the first of the best, if that is asked for.
 pub fn check(
@@ -132,7 +132,7 @@ fn push_kept(text: &mut Vec<u8>, count: usize) -> Result<(), AllocError>
     if count == 0 {
         return Ok(());
     }
-    let line = count.spelling().line_after("kept");
+    let line = count.to_words().line_after("kept");
     text.extend_from_slice(line.as_slice())
 }
 

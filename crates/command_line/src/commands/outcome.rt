@@ -11,7 +11,7 @@ use super::session::ProcedureResults;
 use control_sets::ProvisionFault;
 use reports::Outcome;
 use std::alloc::AllocError;
-use text_lines::{HexByte, Spelled, Spelling};
+use text_lines::{HexByte, PrintedWords, ToWords};
 
 /// What came of procedures: each success, and the active control bytes if there is no fault.
 pub fn outcome_of(ended: &ProcedureResults, active: [u8; 8]) -> Outcome
@@ -86,7 +86,7 @@ fn push_steps(text: &mut Vec<u8>, word: &str, steps: u16) -> Result<(), AllocErr
     ensures { OnOk result (text.new.items
         ≡ text.old.items ++ text_of (spaced (word.now ∷ decimal steps ∷ []) ∷ [])) }
 {
-    let line = usize::from(steps).spelling().line_after(word);
+    let line = usize::from(steps).to_words().line_after(word);
     text.extend_from_slice(line.as_slice())
 }
 
@@ -97,7 +97,7 @@ fn push_active(text: &mut Vec<u8>, active: Option<[u8; 8]>) -> Result<(), AllocE
     let Some(active) = active else {
         return Ok(());
     };
-    let line = ControlWords(active).spelling().line_after("active");
+    let line = ControlWords(active).to_words().line_after("active");
     text.extend_from_slice(line.as_slice())
 }
 
@@ -106,16 +106,16 @@ fn push_active(text: &mut Vec<u8>, active: Option<[u8; 8]>) -> Result<(), AllocE
 struct ControlWords([u8; 8]);
 
 /// In lower-case hexadecimal.
-impl Spelled for ControlWords {
+impl ToWords for ControlWords {
     ghost use Rattle.command_line.specs.ProvisionCommand.{control_words};
 
     ghost words = { λ control. control_words control.0 };
 
     ghost most = { 8 };
 
-    fn spelling(&self) -> Spelling {
+    fn to_words(&self) -> PrintedWords {
         HexByte(self.0[0])
-            .spelling()
+            .to_words()
             .and(&HexByte(self.0[1]))
             .and(&HexByte(self.0[2]))
             .and(&HexByte(self.0[3]))

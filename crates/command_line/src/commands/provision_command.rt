@@ -14,7 +14,7 @@ use bus_model::Step;
 use control_sets::ProvisionFault;
 use reports::{Outcome, procedure_json, trace_text};
 use std::alloc::{AllocError, Global};
-use text_lines::Spelled;
+use text_lines::ToWords;
 
 /// How the plan that is given was provisioned, and activated if that is asked for: how many steps were made and the control
 /// bytes that are active, or the fault, after each step, if these are shown.
@@ -103,9 +103,9 @@ fn json(
         None => procedure_json(alloc, is_traced, steps, outcome, &[], ""),
         Some(fault) => {
             let fault = Fault::Provision(fault);
-            let spelling = fault.spelling();
+            let printed = fault.to_words();
             let sentence = Explained::of(fault).sentence();
-            procedure_json(alloc, is_traced, steps, outcome, spelling.words(), sentence)
+            procedure_json(alloc, is_traced, steps, outcome, printed.words(), sentence)
         }
     }
 }

@@ -10,7 +10,7 @@ use crate::fault::Fault;
 use crate::remark::{Clue, Explained};
 use reports::{bad_json, fault_json};
 use std::alloc::{AllocError, Global};
-use text_lines::Spelled;
+use text_lines::ToWords;
 
 /// How the fault of an answer is written, if it has one.
 #[derive(Drop)]
@@ -69,10 +69,10 @@ fn json_form(alloc: Global, fault: Fault, clue: Clue) -> Result<FaultForm, Alloc
 fn json_of(alloc: Global, fault: Fault, clue: Clue) -> Result<Vec<u8>, AllocError>
     ensures { IfOk result (λ text. text.items ≡ json_text (fault_tree fault clue.opening)) }
 {
-    let spelling = fault.spelling();
+    let printed = fault.to_words();
     let sentence = Explained { fault, clue }.sentence();
     match fault {
-        Fault::Bad(..) => bad_json(alloc, spelling.words(), sentence),
-        _ => fault_json(alloc, spelling.words(), sentence),
+        Fault::Bad(..) => bad_json(alloc, printed.words(), sentence),
+        _ => fault_json(alloc, printed.words(), sentence),
     }
 }

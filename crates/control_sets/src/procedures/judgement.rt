@@ -12,7 +12,7 @@ use module_states::ModuleState;
 
 /// What a reply says of a task.
 #[derive(Clone, Copy)]
-pub enum Judgement {
+pub enum ReplyJudgement {
     /// It is met.
     Met,
     /// It is not met yet, and may still be.
@@ -23,19 +23,19 @@ pub enum Judgement {
 
 impl Task {
     /// What a reply to its operation says.
-    pub fn judge(&self, reply: &Reply) -> Judgement
+    pub fn judge(&self, reply: &Reply) -> ReplyJudgement
         requires { Answers (operation self.now) reply.now }
         ensures { result ≡ judgement self.now reply.now }
     {
         match reply {
-            Reply::Done => Judgement::Met,
-            Reply::Refused => Judgement::NotYet,
+            Reply::Done => ReplyJudgement::Met,
+            Reply::Refused => ReplyJudgement::NotYet,
             Reply::Bytes(bytes) => self.judge_bytes(bytes),
         }
     }
 
     #[tactic(auto, unfolding(crate::specs::Judgements::judged))]
-    fn judge_bytes(&self, bytes: &[u8]) -> Judgement
+    fn judge_bytes(&self, bytes: &[u8]) -> ReplyJudgement
         requires { HasCount (operation self.now) (length bytes.now) }
         ensures { result ≡ judged self.now bytes.now }
     {
@@ -54,52 +54,57 @@ impl Task {
             }
             Task::AwaitApplied(waiting) => judge_statuses(lanes(bytes), *waiting),
             Task::CheckStaged(control) => match differing_lane(bytes, control) {
-                Some(lane) => Judgement::Fails(ProvisionFault::StagedDiffers(lane.number())),
-                None => Judgement::Met,
+                Some(lane) => ReplyJudgement::Fails(ProvisionFault::StagedDiffers(lane.number())),
+                None => ReplyJudgement::Met,
             },
             Task::CheckActive(control) => match differing_lane(bytes, control) {
-                Some(lane) => Judgement::Fails(ProvisionFault::ActiveDiffers(lane.number())),
-                None => Judgement::Met,
+                Some(lane) => ReplyJudgement::Fails(ProvisionFault::ActiveDiffers(lane.number())),
+                None => ReplyJudgement::Met,
             },
-            Task::Deinitialize(_) | Task::Stage(_) | Task::Apply(_) => Judgement::NotYet,
+            Task::Deinitialize(_) | Task::Stage(_) | Task::Apply(_) => ReplyJudgement::NotYet,
         }
     }
 }
 
-fn judge_module(code: u8) -> Judgement
+fn judge_module(code: u8) -> ReplyJudgement
     ensures { result ≡ judged_module code }
 {
     match module_states::state_of(code) {
-        Ok(ModuleState::Ready) => Judgement::Met,
-        Ok(_) => Judgement::Fails(ProvisionFault::ModuleState(code)),
-        Err(_) => Judgement::Fails(ProvisionFault::Reserved(code)),
+        Ok(ModuleState::Ready) => ReplyJudgement::Met,
+        Ok(_) => ReplyJudgement::Fails(ProvisionFault::ModuleState(code)),
+        Err(_) => ReplyJudgement::Fails(ProvisionFault::Reserved(code)),
     }
 }
 
 // Reserved codes are looked for in one set of lanes, the state in another.
-fn judge_states(codes: [u8; 8], looked: LaneSet, waiting: LaneSet, state: PathState) -> Judgement
+fn judge_states(
+    codes: [u8; 8],
+    looked: LaneSet,
+    waiting: LaneSet,
+    state: PathState,
+) -> ReplyJudgement
     ensures { result ≡ judged_states looked waiting state codes }
 {
     match lowest_reserved_state(&codes, looked) {
-        Some(lane) => Judgement::Fails(ProvisionFault::Reserved(at_lane(&codes, lane))),
+        Some(lane) => ReplyJudgement::Fails(ProvisionFault::Reserved(at_lane(&codes, lane))),
         None => met_if(all_lanes_have(&codes, waiting, state.code())),
     }
 }
 
-fn judge_statuses(codes: [u8; 8], lanes: LaneSet) -> Judgement
+fn judge_statuses(codes: [u8; 8], lanes: LaneSet) -> ReplyJudgement
     ensures { result ≡ judged_statuses lanes codes }
 {
     match lowest_reserved_status(&codes, lanes) {
-        Some(lane) => Judgement::Fails(ProvisionFault::Reserved(at_lane(&codes, lane))),
+        Some(lane) => ReplyJudgement::Fails(ProvisionFault::Reserved(at_lane(&codes, lane))),
         None => judge_rejections(codes, lanes),
     }
 }
 
-fn judge_rejections(codes: [u8; 8], lanes: LaneSet) -> Judgement
+fn judge_rejections(codes: [u8; 8], lanes: LaneSet) -> ReplyJudgement
     ensures { result ≡ unless_rejected codes (lowest_lane is_rejection lanes codes) (met_if (all_lanes_have 1 lanes codes)) }
 {
     match lowest_rejection(&codes, lanes) {
-        Some(lane) => Judgement::Fails(ProvisionFault::Rejected(
+        Some(lane) => ReplyJudgement::Fails(ProvisionFault::Rejected(
             lane.number(),
             at_lane(&codes, lane),
         )),
@@ -107,13 +112,13 @@ fn judge_rejections(codes: [u8; 8], lanes: LaneSet) -> Judgement
     }
 }
 
-fn met_if(holds: bool) -> Judgement
+fn met_if(holds: bool) -> ReplyJudgement
     ensures { result ≡ met_if holds }
 {
     if holds {
-        Judgement::Met
+        ReplyJudgement::Met
     } else {
-        Judgement::NotYet
+        ReplyJudgement::NotYet
     }
 }
 

@@ -2,11 +2,11 @@ ghost use Rattle.std.specs.Prelude.{◌≡◌, ◌+◌, ◌<◌};
 ghost use Rattle.bus_model.specs.Operations.{Answers, IsWellShaped};
 
 use crate::fault::ProvisionFault;
-use crate::procedures::judgement::Judgement;
-use crate::procedures::next::Next;
+use crate::procedures::judgement::ReplyJudgement;
+use crate::procedures::next::ProcedureNext;
 use crate::procedures::task::Task;
 use bus_model::{Op, Reply};
-use paged_memory::{Paging, Selected};
+use paged_memory::{KnownPage, PageAddressing};
 
 /// How many steps a procedure makes at most.
 pub const MAX_STEPS: u16 = 4096;
@@ -17,7 +17,7 @@ pub struct PageTracker {
     /// How many there were.
     pub steps: u16,
     /// What they say of the page selection.
-    pub selection: Selected,
+    pub selection: KnownPage,
 }
 
 impl PageTracker {
@@ -26,14 +26,14 @@ impl PageTracker {
     ghost use Rattle.control_sets.specs.OutcomeAnswers.{most_steps};
 
     /// What is wanted for the task, if there is one.
-    pub fn next(&self, task: Option<Task>) -> Next
+    pub fn next(&self, task: Option<Task>) -> ProcedureNext
         ensures value { result ≡ next_with self.now task }
         ensures shape { IfDo result IsWellShaped }
     {
         match task {
-            None => Next::Done(Ok(self.steps)),
-            Some(task) if self.steps < MAX_STEPS => Next::Do(self.operation(&task)),
-            Some(_) => Next::Done(Err(ProvisionFault::GaveUp)),
+            None => ProcedureNext::Done(Ok(self.steps)),
+            Some(task) if self.steps < MAX_STEPS => ProcedureNext::Do(self.operation(&task)),
+            Some(_) => ProcedureNext::Done(Err(ProvisionFault::GaveUp)),
         }
     }
 
@@ -42,11 +42,11 @@ impl PageTracker {
         ensures shape { IsWellShaped result }
     {
         self.selection
-            .wanted(Paging::BankAndPage, task.page(), task.op())
+            .wanted(PageAddressing::BankAndPage, task.page(), task.op())
     }
 
     /// Takes the reply to the operation for the task, and says what it says of the task.
-    pub fn take(&mut self, task: &Task, reply: &Reply) -> Judgement
+    pub fn take(&mut self, task: &Task, reply: &Reply) -> ReplyJudgement
         requires answers { Answers (operation_by self.old.selection task.now) reply.now }
         requires fewer { self.old.steps < most_steps }
         ensures judgement { result ≡ judgement_by self.old.selection task.now reply.now }
@@ -57,14 +57,14 @@ impl PageTracker {
         self.steps += 1;
         if self.selection.is_open() {
             if let Reply::Bytes(bytes) = reply {
-                self.selection = Selected::of(Paging::BankAndPage, bytes);
+                self.selection = KnownPage::of(PageAddressing::BankAndPage, bytes);
             }
-            return Judgement::NotYet;
+            return ReplyJudgement::NotYet;
         }
         match self.selection.missing(task.page()) {
             Some(_) => {
-                self.selection = Selected::Open;
-                Judgement::NotYet
+                self.selection = KnownPage::Open;
+                ReplyJudgement::NotYet
             }
             None => task.judge(reply),
         }

@@ -2,7 +2,7 @@
 ghost use Rattle.std.specs.Prelude.{◌≡◌, ◌↔◌, [], ◌∷◌, ℕ, length, slice_index, Some, IfSome, IsFalse, IsTrue};
 ghost use Rattle.bus_model.specs.Operations.{Answers, IsWellShaped};
 ghost use Rattle.bus_model.specs.declared.operation.Op.{Op};
-ghost use Rattle.control_sets.specs.declared.procedures.next.Next.TheVariants.{Do, Done};
+ghost use Rattle.control_sets.specs.declared.procedures.next.ProcedureNext.TheVariants.{Do, Done};
 ghost use Rattle.control_sets.specs.Asking.{IfDo, IsReplyTo, step_with};
 ghost use Rattle.control_sets.specs.OutcomeAnswers.{Answer};
 ghost use Rattle.control_sets.specs.OutcomeOfPower.{IsPowerChange};
@@ -15,8 +15,8 @@ mod runner;
 mod saved;
 
 use crate::fault::ProvisionFault;
-use crate::procedures::judgement::Judgement;
-use crate::procedures::next::Next;
+use crate::procedures::judgement::ReplyJudgement;
+use crate::procedures::next::ProcedureNext;
 use crate::procedures::page_tracker::MAX_STEPS;
 use crate::procedures::procedure::can_have;
 use crate::procedures::task::{read_of, store_byte};
@@ -71,7 +71,7 @@ impl PowerChange {
     }
 
     /// The operation to be made now, or the end.
-    pub fn next(&self) -> Next
+    pub fn next(&self) -> ProcedureNext
         ensures value { result ≡ power_next self.now }
         ensures shape { IfDo result IsWellShaped }
         ensures ends { (history : History) (answer : Answer) (made room : ℕ) → IsPowerAt history self.now →
@@ -80,24 +80,24 @@ impl PowerChange {
         self.wanted()
     }
 
-    fn wanted(&self) -> Next
+    fn wanted(&self) -> ProcedureNext
         ensures value { result ≡ power_next self.now }
         ensures shape { IfDo result IsWellShaped }
     {
         match self.fault {
-            Some(fault) => Next::Done(Err(fault)),
+            Some(fault) => ProcedureNext::Done(Err(fault)),
             None => self.next_op(),
         }
     }
 
-    fn next_op(&self) -> Next
+    fn next_op(&self) -> ProcedureNext
         ensures value { result ≡ next_op self.now.steps (operation_at self.now.power self.now.stage) }
         ensures shape { IfDo result IsWellShaped }
     {
         match self.op() {
-            None => Next::Done(Ok(self.steps)),
-            Some(op) if self.steps < MAX_STEPS => Next::Do(op),
-            Some(_) => Next::Done(Err(ProvisionFault::GaveUp)),
+            None => ProcedureNext::Done(Ok(self.steps)),
+            Some(op) if self.steps < MAX_STEPS => ProcedureNext::Do(op),
+            Some(_) => ProcedureNext::Done(Err(ProvisionFault::GaveUp)),
         }
     }
 
@@ -150,8 +150,8 @@ impl PowerChange {
         ensures { IsTrue result ↔ IsReplyTo (power_next self.now) reply.now }
     {
         match self.wanted() {
-            Next::Do(op) => can_have(&op, reply),
-            Next::Done(_) => false,
+            ProcedureNext::Do(op) => can_have(&op, reply),
+            ProcedureNext::Done(_) => false,
         }
     }
 }
@@ -197,26 +197,26 @@ fn first_byte(bytes: &[u8]) -> u8
     bytes[0]
 }
 
-fn stage_judged(judgement: Judgement) -> Result<PowerStage, ProvisionFault>
+fn stage_judged(judgement: ReplyJudgement) -> Result<PowerStage, ProvisionFault>
     ensures { result ≡ stage_judged judgement }
 {
     match judgement {
-        Judgement::Met => Ok(PowerStage::Met),
-        Judgement::NotYet => Ok(PowerStage::Stored),
-        Judgement::Fails(fault) => Err(fault),
+        ReplyJudgement::Met => Ok(PowerStage::Met),
+        ReplyJudgement::NotYet => Ok(PowerStage::Stored),
+        ReplyJudgement::Fails(fault) => Err(fault),
     }
 }
 
 // What the code of a module state says.
-fn judged_power(power: Power, code: u8) -> Judgement
+fn judged_power(power: Power, code: u8) -> ReplyJudgement
     ensures { result ≡ judged_power power code }
 {
     match (state_of(code), power) {
         (Ok(ModuleState::Ready), Power::Awake) | (Ok(ModuleState::LowPwr), Power::Asleep) => {
-            Judgement::Met
+            ReplyJudgement::Met
         }
-        (Ok(ModuleState::Fault), _) => Judgement::Fails(ProvisionFault::ModuleState(code)),
-        (Ok(_), _) => Judgement::NotYet,
-        (Err(_), _) => Judgement::Fails(ProvisionFault::Reserved(code)),
+        (Ok(ModuleState::Fault), _) => ReplyJudgement::Fails(ProvisionFault::ModuleState(code)),
+        (Ok(_), _) => ReplyJudgement::NotYet,
+        (Err(_), _) => ReplyJudgement::Fails(ProvisionFault::Reserved(code)),
     }
 }

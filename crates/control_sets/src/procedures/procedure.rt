@@ -5,13 +5,13 @@ ghost use Rattle.control_sets.specs.Tasks.{provisioning, activation};
 mod saved;
 
 use crate::fault::ProvisionFault;
-use crate::procedures::judgement::Judgement;
-use crate::procedures::next::Next;
+use crate::procedures::judgement::ReplyJudgement;
+use crate::procedures::next::ProcedureNext;
 use crate::procedures::page_tracker::PageTracker;
 use crate::procedures::task::Task;
 use bus_model::{Op, Reply};
 use field_tables::LaneSet;
-use paged_memory::Selected;
+use paged_memory::KnownPage;
 pub use saved::SavedProcedure;
 
 /// What a procedure brings about.
@@ -78,7 +78,7 @@ impl Procedure {
     ghost use Rattle.std.specs.Prelude.{◌<◌, ◌∷◌, [], List, IsFalse};
     ghost use Rattle.bus_model.specs.declared.operation.Op.{Op};
     ghost use Rattle.control_sets.specs.declared.procedures.task.Task.{Task};
-    ghost use Rattle.control_sets.specs.declared.procedures.next.Next.TheVariants.{Do};
+    ghost use Rattle.control_sets.specs.declared.procedures.next.ProcedureNext.TheVariants.{Do};
     ghost use Rattle.control_sets.specs.Pages.{History};
     ghost use Rattle.control_sets.specs.Procedures.{all_apart};
     ghost use Rattle.control_sets.specs.Asking.{IfDo, IsReplyTo, step_with};
@@ -93,7 +93,7 @@ impl Procedure {
             met: 0,
             tracker: PageTracker {
                 steps: 0,
-                selection: Selected::Unknown,
+                selection: KnownPage::Unknown,
             },
             fault: None,
         }
@@ -115,7 +115,7 @@ impl Procedure {
     }
 
     /// The operation to be made now, or the end.
-    pub fn next(&self) -> Next
+    pub fn next(&self) -> ProcedureNext
         ensures value { result ≡ next self.now }
         ensures shape { IfDo result IsWellShaped }
         ensures follows { (tasks : List Task) (history : History) → IsAt tasks history self.now →
@@ -124,12 +124,12 @@ impl Procedure {
         self.wanted()
     }
 
-    fn wanted(&self) -> Next
+    fn wanted(&self) -> ProcedureNext
         ensures value { result ≡ next self.now }
         ensures shape { IfDo result IsWellShaped }
     {
         match self.fault {
-            Some(fault) => Next::Done(Err(fault)),
+            Some(fault) => ProcedureNext::Done(Err(fault)),
             None => self.tracker.next(self.work.task(self.met)),
         }
     }
@@ -144,9 +144,9 @@ impl Procedure {
     {
         if let Some(task) = self.work.task(self.met) {
             match self.tracker.take(&task, reply) {
-                Judgement::Met => self.met += 1,
-                Judgement::NotYet => {}
-                Judgement::Fails(fault) => self.fault = Some(fault),
+                ReplyJudgement::Met => self.met += 1,
+                ReplyJudgement::NotYet => {}
+                ReplyJudgement::Fails(fault) => self.fault = Some(fault),
             }
         }
     }
@@ -156,8 +156,8 @@ impl Procedure {
         ensures { IsTrue result ↔ IsReplyTo (next self.now) reply.now }
     {
         match self.wanted() {
-            Next::Do(op) => can_have(&op, reply),
-            Next::Done(_) => false,
+            ProcedureNext::Do(op) => can_have(&op, reply),
+            ProcedureNext::Done(_) => false,
         }
     }
 

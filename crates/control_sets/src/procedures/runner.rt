@@ -13,7 +13,7 @@ ghost use Rattle.control_sets.specs.declared.procedures.task.Task.{Task};
 
 use crate::fault::ProvisionFault;
 use crate::plan_bytes::{bytes_of, lanes_of, lanes_outside};
-use crate::procedures::next::Next;
+use crate::procedures::next::ProcedureNext;
 use crate::procedures::procedure::Procedure;
 use applications::Advert;
 use arrayvec::ArrayVec;
@@ -102,11 +102,11 @@ fn carry_out<B: Bus>(bus: &mut B, mut procedure: Procedure) -> Result<u16, Provi
 {
     'told: loop {
         match procedure.next() {
-            Next::Do(op) => match bus.transact(op) {
+            ProcedureNext::Do(op) => match bus.transact(op) {
                 Ok(reply) => procedure.take(&reply),
                 Err(fault) => return Err(ProvisionFault::Bus(fault)),
             },
-            Next::Done(answer) => return answer,
+            ProcedureNext::Done(answer) => return answer,
         }
     }
 }

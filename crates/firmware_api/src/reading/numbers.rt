@@ -8,10 +8,10 @@ ghost use Rattle.firmware_api.specs.Halves.{has_place, key_of, memory_of};
 ghost use Rattle.firmware_api.specs.SavedReadings.{IsFit, halves_in, is_sound, reading_in};
 ghost use Rattle.firmware_api.specs.Waits.{wait_number};
 
-use crate::half::{Half, all_have_places, image_of};
+use crate::half::{HalfBytes, all_have_places, image_of};
 use arrayvec::ArrayVec;
 use module_reading::{PieceReading, Reading};
-use paged_memory::{PAGE_LEN, Selected};
+use paged_memory::{KnownPage, PAGE_LEN};
 
 /// What stands in each reading, so that other memory is not taken for one: `DCR1`.
 const READING: u32 = 0x4443_5231;
@@ -43,12 +43,12 @@ pub struct SavedReading {
     /// How many halves were read.
     pub count: u8,
     /// Those, the newest first.
-    pub halves: [Half; MAX_READ],
+    pub halves: [HalfBytes; MAX_READ],
     /// The bytes of the half in hand that were read.
     pub part: [u8; PAGE_LEN],
 }
 
-const NO_HALF: Half = Half {
+const NO_HALF: HalfBytes = HalfBytes {
     device: 0,
     upper: 0,
     bank: 0,
@@ -78,7 +78,12 @@ pub fn without_half(before: &SavedReading, read: &PieceReading, wait: bool) -> S
 }
 
 /// The numbers of a reading whose image has this half in addition.
-pub fn with_half(before: &SavedReading, read: &PieceReading, wait: bool, half: Half) -> SavedReading
+pub fn with_half(
+    before: &SavedReading,
+    read: &PieceReading,
+    wait: bool,
+    half: HalfBytes,
+) -> SavedReading
     requires count { before.now.count < read.now.reading.settled }
     requires settled { read.now.reading.settled ≤ 5 }
     requires places { IsTrue (list_all has_place (halves_in before.now)) }
@@ -94,7 +99,12 @@ pub fn with_half(before: &SavedReading, read: &PieceReading, wait: bool, half: H
 }
 
 #[tactic(auto, unfolding(crate::specs::SavedReadings::reading_in))]
-fn numbers(read: &PieceReading, wait: bool, count: u8, halves: [Half; MAX_READ]) -> SavedReading
+fn numbers(
+    read: &PieceReading,
+    wait: bool,
+    count: u8,
+    halves: [HalfBytes; MAX_READ],
+) -> SavedReading
     requires size { HasSize read.now }
     requires count { count ≤ read.now.reading.settled }
     requires settled { read.now.reading.settled ≤ 5 }
@@ -130,23 +140,23 @@ fn padded(part: &ArrayVec<u8, PAGE_LEN>) -> [u8; PAGE_LEN]
     all
 }
 
-fn numbers_of_selected(selected: Selected) -> (u8, u8)
+fn numbers_of_selected(selected: KnownPage) -> (u8, u8)
     ensures { selected_numbered result.0 result.1 ≡ Some selected }
 {
     match selected {
-        Selected::Unknown => (0, 0),
-        Selected::Open => (1, 0),
-        Selected::Page(page) => (2, page),
+        KnownPage::Unknown => (0, 0),
+        KnownPage::Open => (1, 0),
+        KnownPage::Page(page) => (2, page),
     }
 }
 
-fn selected(saved: &SavedReading) -> Option<Selected>
+fn selected(saved: &SavedReading) -> Option<KnownPage>
     ensures { result ≡ selected_numbered saved.now.selection saved.now.page }
 {
     match saved.selection {
-        0 => Some(Selected::Unknown),
-        1 => Some(Selected::Open),
-        2 => Some(Selected::Page(saved.page)),
+        0 => Some(KnownPage::Unknown),
+        1 => Some(KnownPage::Open),
+        2 => Some(KnownPage::Page(saved.page)),
         _ => None,
     }
 }

@@ -5,7 +5,7 @@ use control_sets::ProvisionFault;
 use field_tables::SffFault;
 use reports::ReportFault;
 use sim_module::SimFault;
-use text_lines::Spelled;
+use text_lines::ToWords;
 
 /// The faults that no module or bus within reach of a command line shows.
 #[test]
@@ -46,7 +46,7 @@ fn a_fault_has_its_line(rt: HostRuntime) {
         ),
     ];
     for (fault, line) in lines {
-        let spelled = fault.spelling().line_after(fault.word());
+        let spelled = fault.to_words().line_after(fault.word());
         assert_eq!(rt; spelled.as_slice(), line.as_bytes());
     }
 }

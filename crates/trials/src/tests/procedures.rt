@@ -4,7 +4,7 @@ use super::plans::bus_of;
 use applications::LaneSet;
 use arrayvec::ArrayVec;
 use bus_model::{Bus, BusFault, Device, Reply, ScriptBus};
-use control_sets::{Next, Procedure, ProvisionFault};
+use control_sets::{Procedure, ProcedureNext, ProvisionFault};
 use paged_memory::Window;
 use sample_modules::{with, with_run};
 use std::test::Fail;
@@ -20,13 +20,13 @@ fn driven<D: Device + Drop>(
 ) -> Result<Option<Result<u16, ProvisionFault>>, BusFault> {
     for _ in 0..5000u16 {
         match procedure.next() {
-            Next::Do(op) => {
+            ProcedureNext::Do(op) => {
                 let reply = bus.transact(op)?;
                 if !procedure.try_take(&reply) {
                     return Ok(None);
                 }
             }
-            Next::Done(answer) => return Ok(Some(answer)),
+            ProcedureNext::Done(answer) => return Ok(Some(answer)),
         }
     }
     Ok(None)
@@ -64,7 +64,7 @@ fn only_fitting_replies_are_taken(rt: HostRuntime) {
     assert!(rt; procedure.try_take(&bytes_read(&[0])));
     assert_eq!(rt;
         procedure.next(),
-        Next::Done(Err(ProvisionFault::Reserved(0)))
+        ProcedureNext::Done(Err(ProvisionFault::Reserved(0)))
     );
     assert!(rt; !procedure.is_answered_by(&Reply::Refused));
 }

@@ -4,7 +4,7 @@ ghost use Rattle.control_sets.specs.Procedures.{MakesHistory};
 
 use super::{Power, PowerChange};
 use crate::fault::ProvisionFault;
-use crate::procedures::next::Next;
+use crate::procedures::next::ProcedureNext;
 use bus_model::Bus;
 
 /// Wakes a module up or puts it to sleep, whatever the bus refuses on the way; answers the number of steps.
@@ -15,11 +15,11 @@ pub fn change_power<B: Bus>(bus: &mut B, power: Power) -> Result<u16, ProvisionF
     let mut change = PowerChange::to(power);
     'told: loop {
         match change.next() {
-            Next::Do(op) => match bus.transact(op) {
+            ProcedureNext::Do(op) => match bus.transact(op) {
                 Ok(reply) => change.take(&reply),
                 Err(fault) => return Err(ProvisionFault::Bus(fault)),
             },
-            Next::Done(answer) => return answer,
+            ProcedureNext::Done(answer) => return answer,
         }
     }
 }

@@ -5,7 +5,7 @@ use super::{Procedure, Work};
 use crate::procedures::page_tracker::PageTracker;
 use crate::procedures::saved_fault::SavedFault;
 use field_tables::LaneSet;
-use paged_memory::Selected;
+use paged_memory::KnownPage;
 
 /// A procedure as plain numbers, for a caller that keeps it in memory of another language.
 #[repr(C)]
@@ -40,13 +40,13 @@ impl SavedProcedure {
         }
     }
 
-    fn selected(&self) -> Option<Selected>
+    fn selected(&self) -> Option<KnownPage>
         ensures { result ≡ selected_numbered self.now.selection self.now.page }
     {
         match self.selection {
-            0 => Some(Selected::Unknown),
-            1 => Some(Selected::Open),
-            2 => Some(Selected::Page(self.page)),
+            0 => Some(KnownPage::Unknown),
+            1 => Some(KnownPage::Open),
+            2 => Some(KnownPage::Page(self.page)),
             _ => None,
         }
     }
@@ -99,13 +99,13 @@ fn numbers_of_work(work: &Work) -> (u8, [u8; 8], u8)
     }
 }
 
-fn numbers_of_selected(selected: Selected) -> (u8, u8)
+fn numbers_of_selected(selected: KnownPage) -> (u8, u8)
     ensures same { selected_numbered result.0 result.1 ≡ Some selected }
     ensures page { result.1 ≡ page_read_back selected }
 {
     match selected {
-        Selected::Unknown => (0, 0),
-        Selected::Open => (1, 0),
-        Selected::Page(page) => (2, page),
+        KnownPage::Unknown => (0, 0),
+        KnownPage::Open => (1, 0),
+        KnownPage::Page(page) => (2, page),
     }
 }

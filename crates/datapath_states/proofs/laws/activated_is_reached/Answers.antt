@@ -1,6 +1,6 @@
 use Rattle.std.proofs.Common.{◌≡◌, List, true, false, [], ◌∷◌, refl, arith}
 use Rattle.std.proofs.lemmas.List.Elements.{All-from_recursion}
-use Rattle.datapath_states.specs.declared.machine.Inputs.{Inputs}
+use Rattle.datapath_states.specs.declared.machine.PathInputs.{PathInputs}
 use Rattle.datapath_states.specs.declared.state.PathState.TheVariants.{Activated, TxTurnOn}
 use Rattle.datapath_states.specs.Transitions.{next_of}
 use Rattle.datapath_states.specs.Runs.{machine, IsUp}
@@ -14,8 +14,8 @@ returns-clause-in_five c state = arrives machine NearActivated IsUp nearer_activ
 pub returns-clause-not_in_four : goal.returns-clause-not_in_four
 unfolding next_of
 returns-clause-not_in_four c in_four =
-    let turn : Inputs = record { down = false; done = true } in
-    let turns : List Inputs = turn ∷ turn ∷ turn ∷ turn ∷ [] in
+    let turn : PathInputs = record { down = false; done = true } in
+    let turns : List PathInputs = turn ∷ turn ∷ turn ∷ turn ∷ [] in
     let up = All-from_recursion IsUp turns (refl, (refl, (refl, (refl, tt)))) in
     let there : TxTurnOn ≡ Activated = in_four turns up ((λ _. refl), ((λ _. refl), ((λ _. refl), ((λ _. refl), tt)))) (omega arith) in
     cc

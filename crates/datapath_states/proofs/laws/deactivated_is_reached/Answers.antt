@@ -1,6 +1,6 @@
 use Rattle.std.proofs.Common.{◌≡◌, List, true, [], ◌∷◌, refl, arith}
 use Rattle.std.proofs.lemmas.List.Elements.{All-from_recursion}
-use Rattle.datapath_states.specs.declared.machine.Inputs.{Inputs}
+use Rattle.datapath_states.specs.declared.machine.PathInputs.{PathInputs}
 use Rattle.datapath_states.specs.declared.state.PathState.TheVariants.{Deactivated, Deinit}
 use Rattle.datapath_states.specs.Transitions.{next_of}
 use Rattle.datapath_states.specs.Runs.{machine, IsDown}
@@ -14,8 +14,8 @@ returns-clause-in_five c state = arrives machine NearDeactivated IsDown nearer_d
 pub returns-clause-not_in_four : goal.returns-clause-not_in_four
 unfolding next_of
 returns-clause-not_in_four c in_four =
-    let turn : Inputs = record { down = true; done = true } in
-    let turns : List Inputs = turn ∷ turn ∷ turn ∷ turn ∷ [] in
+    let turn : PathInputs = record { down = true; done = true } in
+    let turns : List PathInputs = turn ∷ turn ∷ turn ∷ turn ∷ [] in
     let down = All-from_recursion IsDown turns (refl, (refl, (refl, (refl, tt)))) in
     let there : Deinit ≡ Deactivated = in_four turns down ((λ _. refl), ((λ _. refl), ((λ _. refl), ((λ _. refl), tt)))) (omega arith) in
     cc

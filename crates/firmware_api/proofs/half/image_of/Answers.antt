@@ -1,7 +1,7 @@
 use Rattle.std.proofs.Common.{◌≡◌, [], Result, Ok, Err, refl, sym, ap, subst, ◌∙◌, arith}
 use Rattle.std.specs.Prelude.{IsOk, IsErr, OnOk}
 use Rattle.std.specs.FinMap as finmap
-use Rattle.firmware_api.specs.declared.half.Half.{Half}
+use Rattle.firmware_api.specs.declared.half.HalfBytes.{HalfBytes}
 use Rattle.firmware_api.proofs.HalfMemories.{has_room, memory_with, no_halves, same_insert}
 use Rattle.firmware_api.proofs.half.image_of.Goals as goal
 
@@ -19,7 +19,7 @@ unwrap-requires c =
 
 pub loop-place-preserved : goal.loop-place-preserved
 loop-place-preserved c =
-    let none : Half = record { device = 0; upper = 0; bank = 0; page = 0; bytes = [] } in
+    let none : HalfBytes = record { device = 0; upper = 0; bank = 0; page = 0; bytes = [] } in
     let put = subst (λ result. OnOk result (c.put.new.self ≡ finmap.insert c.loop-place.image c.key.result c.from.result)) c.unwrap.ensures c.put.ensures.ok in
     put ∙ same_insert c.loop-place.invariant c.key.ensures c.from.ensures
     ∙ sym (memory_with c.args.halves.now c.loop-place.place none c.loop-place-test.true c.loop-place.auto.place)

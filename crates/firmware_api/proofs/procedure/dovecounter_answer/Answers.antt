@@ -1,4 +1,4 @@
-use Rattle.control_sets.specs.declared.procedures.next.Next.TheVariants.{Done}
+use Rattle.control_sets.specs.declared.procedures.next.ProcedureNext.TheVariants.{Done}
 use Rattle.firmware_api.proofs.SavedLaws.{saved_follows, saved_power_ends}
 use Rattle.firmware_api.proofs.procedure.dovecounter_answer.Goals as goal
 

@@ -1,7 +1,7 @@
 use Rattle.std.proofs.Common.{◌∷◌, refl, sym, subst, ◌∙◌}
 use Rattle.bus_model.specs.declared.operation.Op.{Op}
 use Rattle.bus_model.specs.declared.operation.Reply.{Reply}
-use Rattle.control_sets.specs.declared.procedures.next.Next.TheVariants.{Do}
+use Rattle.control_sets.specs.declared.procedures.next.ProcedureNext.TheVariants.{Do}
 use Rattle.control_sets.specs.Asking.{step_with}
 use Rattle.firmware_api.specs.SavedProcedures.{IsSavedAt, IsSavedPowerAt}
 use Rattle.firmware_api.proofs.SavedLaws.{asked_is_next, same_do, same_some, taken_by_power, taken_by_tasks}

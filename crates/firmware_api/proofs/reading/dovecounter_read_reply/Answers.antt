@@ -1,6 +1,6 @@
 use Rattle.std.proofs.Common.{refl, ap, sym, subst, ◌∙◌}
 use Rattle.std.specs.Option.{option_map}
-use Rattle.module_reading.specs.declared.reading.Next.TheVariants.{Do}
+use Rattle.module_reading.specs.declared.reading.ReadingNext.TheVariants.{Do}
 use Rattle.module_reading.specs.ImageReading.{IsReplyTo}
 use Rattle.module_reading.specs.PieceReading as pieces
 use Rattle.firmware_api.proofs.SavedLaws.{same_some}

@@ -2,11 +2,11 @@ use Rattle.std.proofs.Common.{◌≡◌, ℕ, ◌++◌, [], Bool, List, get_or, 
 use Rattle.std.proofs.lemmas.List.Elements.{All-get_or}
 use Rattle.plan_certificate.specs.declared.moves.Move.{Move}
 use Rattle.plan_certificate.specs.declared.state.State.{State}
-use Rattle.plan_certificate.specs.declared.state.Step.{Step}
-use Rattle.plan_certificate.specs.States.{free_step, free_steps, state_place}
-use Rattle.plan_certificate.specs.Moves.{LeadsOn, move_step, steps_by}
+use Rattle.plan_certificate.specs.declared.state.Decision.{Decision}
+use Rattle.plan_certificate.specs.States.{free_decision, free_decisions, state_place}
+use Rattle.plan_certificate.specs.Moves.{LeadsOn, move_decision, decisions_by}
 use Rattle.lane_planner.specs.Tables.{IsMost, gain_at}
-use Rattle.lane_planner.proofs.MoreMoves.{no_step_more, one_step_more}
+use Rattle.lane_planner.proofs.MoreMoves.{no_decision_more, one_decision_more}
 use Rattle.lane_planner.proofs.MostGained.{most_of_none, most_kept, most_of_one, most_risen}
 use Rattle.lane_planner.proofs.TableGains.{small_in}
 use Rattle.lane_planner.proofs.gains.most.Goals as goal
@@ -17,15 +17,15 @@ loop-one-init c =
     let table = c.args.table.now in
     let state : State = c.args.state.now in
     let most : ℕ = c.if-may_stay_free.most in
-    let Most : Bool → Type 0 = λ free. IsMost table (free_steps free state ++ []) most in
+    let Most : Bool → Type 0 = λ free. IsMost table (free_decisions free state ++ []) most in
     elim c.if-may_stay_free.branch [
       | then-may_stay_free w ↦
-          let step : Step = free_step state in
-          let place : w.place.result ≡ state_place step.end = w.place.ensures ∙ ap (λ (s : Step). state_place s.end) w.free_step-free.ensures in
-          let rest : most ≡ gain_at table step.end = w.most-is ∙ w.at-most.ensures ∙ ap (λ (n : ℕ). get_or table n 0) place in
-          let small = small_in table step.end c.requires.table (omega (arith, c.requires.open)) in
+          let decision : Decision = free_decision state in
+          let place : w.place.result ≡ state_place decision.end = w.place.ensures ∙ ap (λ (s : Decision). state_place s.end) w.free_decision-free.ensures in
+          let rest : most ≡ gain_at table decision.end = w.most-is ∙ w.at-most.ensures ∙ ap (λ (n : ℕ). get_or table n 0) place in
+          let small = small_in table decision.end c.requires.table (omega (arith, c.requires.open)) in
           record {
-            most = subst Most (sym w.if-may_stay_free.true) (most_of_one table step most (omega (arith, rest)));
+            most = subst Most (sym w.if-may_stay_free.true) (most_of_one table decision most (omega (arith, rest)));
             small = omega (arith, rest, small);
           }
       | else-may_stay_free w ↦ record {
@@ -41,37 +41,37 @@ loop-one-preserved c =
     let moves = c.args.moves.now in
     let move : Move = c.one-item.result in
     let index = c.loop-one.one-index in
-    let step : Step = move_step state move in
+    let decision : Decision = move_decision state move in
     let free : Bool = c.args.may_stay_free in
-    let before : List Step = steps_by free state (take index moves) in
+    let before : List Decision = decisions_by free state (take index moves) in
     let most : ℕ = c.if-is_open.most in
     let leads = subst (LeadsOn state.boundary) (sym c.one-item.is) (All-get_or (LeadsOn state.boundary) moves index move c.loop-one-test.true c.requires.lead_on) in
-    let small = small_in table step.end c.requires.table leads.within in
+    let small = small_in table decision.end c.requires.table leads.within in
     elim c.if-is_open.branch [
       | then-is_open+then-most-through w ↦
-          let more = one_step_more free state moves index move c.loop-one-test.true c.one-item.is (sym c.is_open.ensures ∙ w.if-is_open.true) in
-          let place : w.place-then-is_open.result ≡ state_place step.end = w.place-then-is_open.ensures ∙ ap (λ (s : Step). state_place s.end) w.step.ensures in
-          let rest : w.at.result ≡ gain_at table step.end = w.at.ensures ∙ ap (λ (n : ℕ). get_or table n 0) place in
-          let new = most_risen table before step c.loop-one.most most c.loop-one.invariant.most (omega (arith, w.most-is, rest, w.from.ensures)) (omega (arith, w.if-most-through.true, w.most-is)) in
+          let more = one_decision_more free state moves index move c.loop-one-test.true c.one-item.is (sym c.is_open.ensures ∙ w.if-is_open.true) in
+          let place : w.place-then-is_open.result ≡ state_place decision.end = w.place-then-is_open.ensures ∙ ap (λ (s : Decision). state_place s.end) w.decision.ensures in
+          let rest : w.at.result ≡ gain_at table decision.end = w.at.ensures ∙ ap (λ (n : ℕ). get_or table n 0) place in
+          let new = most_risen table before decision c.loop-one.most most c.loop-one.invariant.most (omega (arith, w.most-is, rest, w.from.ensures)) (omega (arith, w.if-most-through.true, w.most-is)) in
           record {
-            most = subst (λ (steps : List Step). IsMost table steps most) (sym more) new;
+            most = subst (λ (decisions : List Decision). IsMost table decisions most) (sym more) new;
             small = omega (arith, w.most-is, rest, w.from.ensures, small, leads.further, leads.within);
           }
       | then-is_open+else-most-through w ↦
-          let more = one_step_more free state moves index move c.loop-one-test.true c.one-item.is (sym c.is_open.ensures ∙ w.if-is_open.true) in
-          let place : w.place-then-is_open.result ≡ state_place step.end = w.place-then-is_open.ensures ∙ ap (λ (s : Step). state_place s.end) w.step.ensures in
-          let rest : w.at.result ≡ gain_at table step.end = w.at.ensures ∙ ap (λ (n : ℕ). get_or table n 0) place in
+          let more = one_decision_more free state moves index move c.loop-one-test.true c.one-item.is (sym c.is_open.ensures ∙ w.if-is_open.true) in
+          let place : w.place-then-is_open.result ≡ state_place decision.end = w.place-then-is_open.ensures ∙ ap (λ (s : Decision). state_place s.end) w.decision.ensures in
+          let rest : w.at.result ≡ gain_at table decision.end = w.at.ensures ∙ ap (λ (n : ℕ). get_or table n 0) place in
           let same : c.loop-one.most ≡ most = sym w.most-is in
-          let new = most_kept table before step most (subst (IsMost table before) same c.loop-one.invariant.most) (omega (arith, w.if-most-through.false, same, rest, w.from.ensures)) in
+          let new = most_kept table before decision most (subst (IsMost table before) same c.loop-one.invariant.most) (omega (arith, w.if-most-through.false, same, rest, w.from.ensures)) in
           record {
-            most = subst (λ (steps : List Step). IsMost table steps most) (sym more) new;
+            most = subst (λ (decisions : List Decision). IsMost table decisions most) (sym more) new;
             small = omega (arith, same, c.loop-one.invariant.small);
           }
       | else-is_open w ↦
-          let more = no_step_more free state moves index move c.loop-one-test.true c.one-item.is (sym c.is_open.ensures ∙ w.if-is_open.false) in
+          let more = no_decision_more free state moves index move c.loop-one-test.true c.one-item.is (sym c.is_open.ensures ∙ w.if-is_open.false) in
           let same : c.loop-one.most ≡ most = sym w.most-is in
           record {
-            most = subst (λ (steps : List Step). IsMost table steps most) (sym more) (subst (IsMost table before) same c.loop-one.invariant.most);
+            most = subst (λ (decisions : List Decision). IsMost table decisions most) (sym more) (subst (IsMost table before) same c.loop-one.invariant.most);
             small = omega (arith, same, c.loop-one.invariant.small);
           }
     ]

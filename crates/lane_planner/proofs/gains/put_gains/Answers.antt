@@ -3,7 +3,7 @@ use Rattle.std.specs.List.{All}
 use Rattle.plan_certificate.specs.declared.moves.Move.{Move}
 use Rattle.plan_certificate.specs.declared.state.State.{State}
 use Rattle.plan_certificate.specs.States.{state_at}
-use Rattle.plan_certificate.specs.Moves.{LeadsOn, moves_at, steps_by}
+use Rattle.plan_certificate.specs.Moves.{LeadsOn, moves_at, decisions_by}
 use Rattle.plan_certificate.proofs.HeaviestMoves.{heaviest_lead_on}
 use Rattle.lane_planner.specs.Marks.{IsMarked}
 use Rattle.lane_planner.specs.Tables.{HasGains, IsMost}
@@ -48,7 +48,7 @@ loop-used-preserved-then-marks-place c =
     let marked : IsMarked c.args.marks.now place = subst (IsMarked c.args.marks.now) read c.if-marks-place.true in
     let state : c.at-state.result ≡ state_at place = c.at-state.ensures ∙ ap state_at read in
     let free : Bool = c.list.new.self.may_stay_free in
-    let found = subst (λ (moves : List Move). IsMost table (steps_by free (state_at place) moves) c.most-gain.result) c.as_slice.ensures.value (subst (λ (s : State). IsMost table (steps_by free s c.as_slice.result.now) c.most-gain.result) state c.most-gain.ensures.most) in
+    let found = subst (λ (moves : List Move). IsMost table (decisions_by free (state_at place) moves) c.most-gain.result) c.as_slice.ensures.value (subst (λ (s : State). IsMost table (decisions_by free s c.as_slice.result.now) c.most-gain.result) state c.most-gain.ensures.most) in
     let gain = gain_is_most advert weights kept table place c.most-gain.result boundary free (moves_at c.args.advert.now c.args.weights.now c.args.kept.now (boundary + 1)) c.list.new.self.moves.items at (omega (arith, c.loop-boundary-test.true, c.loop-boundary.auto.boundary)) has ((c.requires.marks.reached place below).0 marked) c.list.ensures found in
     let more = gains_more advert weights kept place table c.most-gain.result has below gain (omega (arith, c.most-gain.ensures.small, ap (λ (s : State). s.boundary) state)) in
     subst (HasGains advert weights kept place) (sym c.put.ensures) (subst (λ (n : ℕ). HasGains advert weights kept place (set table n c.most-gain.result)) (sym read) more)

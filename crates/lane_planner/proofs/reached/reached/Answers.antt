@@ -2,11 +2,11 @@ use Rattle.std.proofs.Common.{Bool, ◌≡◌, ℕ, ◌+◌, ◌*◌, ◌<◌, L
 use Rattle.std.specs.List.{All}
 use Rattle.plan_certificate.specs.declared.moves.Move.{Move}
 use Rattle.plan_certificate.specs.declared.state.State.{State}
-use Rattle.plan_certificate.specs.declared.state.Step.{Step}
+use Rattle.plan_certificate.specs.declared.state.Decision.{Decision}
 use Rattle.plan_certificate.specs.States.{state_at}
-use Rattle.plan_certificate.specs.Moves.{LeadsOn, moves_at, steps_by}
+use Rattle.plan_certificate.specs.Moves.{LeadsOn, moves_at, decisions_by}
 use Rattle.plan_certificate.proofs.HeaviestMoves.{heaviest_lead_on}
-use Rattle.plan_certificate.proofs.MoveSteps.{listed_are_steps}
+use Rattle.plan_certificate.proofs.MoveDecisions.{listed_are_decisions}
 use Rattle.lane_planner.specs.Marks.{AreMarks, IsMarked, MarksEnds}
 use Rattle.lane_planner.proofs.Marking.{marks_more, marks_past}
 use Rattle.lane_planner.proofs.MarkingEnds.{ends_of_heaviest, marks_ended, marks_of_blank}
@@ -42,10 +42,10 @@ loop-used-preserved c =
           let are = c.list.ensures in
           let low : state.boundary ≡ boundary = omega (arith, c.loop-used-test.true) in
           let free : Bool = c.list.new.self.may_stay_free in
-          let steps = listed_are_steps advert weights kept state boundary free all c.list.new.self.moves.items low c.loop-boundary-test.true are in
-          let at_state = subst (λ (s : State). MarksEnds (steps_by free s w.as_slice.result.now) before after) (w.at-state.ensures ∙ ap state_at read) w.mark_ends.ensures in
-          let of_heaviest = subst (λ (moves : List Move). MarksEnds (steps_by free state moves) before after) w.as_slice.ensures.value at_state in
-          let new = subst (λ (ss : List Step). MarksEnds ss before after) steps (ends_of_heaviest free state all c.list.new.self.moves.items before after are.heavy of_heaviest) in
+          let decisions = listed_are_decisions advert weights kept state boundary free all c.list.new.self.moves.items low c.loop-boundary-test.true are in
+          let at_state = subst (λ (s : State). MarksEnds (decisions_by free s w.as_slice.result.now) before after) (w.at-state.ensures ∙ ap state_at read) w.mark_ends.ensures in
+          let of_heaviest = subst (λ (moves : List Move). MarksEnds (decisions_by free state moves) before after) w.as_slice.ensures.value at_state in
+          let new = subst (λ (ss : List Decision). MarksEnds ss before after) decisions (ends_of_heaviest free state all c.list.new.self.moves.items before after are.heavy of_heaviest) in
           let below : place < 2304 = omega (arith, c.loop-boundary-test.true, c.loop-used-test.true) in
           let marked : IsMarked before place = subst (IsMarked before) read w.if-marks-place.true in
           subst (AreMarks advert weights kept (place + 1)) (sym w.marks-is) (marks_more advert weights kept place before after c.loop-used.invariant below marked new)

@@ -1,6 +1,6 @@
 use Rattle.std.proofs.Common.{◌≡◌, List, true, [], ◌∷◌, refl, arith}
 use Rattle.std.proofs.lemmas.List.Elements.{All-from_recursion}
-use Rattle.module_states.specs.declared.machine.Inputs.{Inputs}
+use Rattle.module_states.specs.declared.machine.ModuleInputs.{ModuleInputs}
 use Rattle.module_states.specs.declared.state.ModuleState.TheVariants.{LowPwr, PwrDn}
 use Rattle.module_states.specs.Transitions.{next_of}
 use Rattle.module_states.specs.Runs.{machine, PowersDown}
@@ -14,7 +14,7 @@ returns-clause-in_three c state sound = arrives machine NearLowPwr PowersDown ne
 pub returns-clause-not_in_two : goal.returns-clause-not_in_two
 unfolding next_of
 returns-clause-not_in_two c in_two =
-    let turn : Inputs = record { low_power = true; deactivated = true; done = true } in
-    let turns : List Inputs = turn ∷ turn ∷ [] in
+    let turn : ModuleInputs = record { low_power = true; deactivated = true; done = true } in
+    let turns : List ModuleInputs = turn ∷ turn ∷ [] in
     let there : PwrDn ≡ LowPwr = in_two turns (All-from_recursion PowersDown turns ((refl, refl), ((refl, refl), tt))) ((λ _. refl), ((λ _. refl), tt)) (omega arith) in
     cc

@@ -1,6 +1,6 @@
 use Rattle.std.proofs.Common.{◌≡◌, List, true, false, [], ◌∷◌, refl, arith}
 use Rattle.std.proofs.lemmas.List.Elements.{All-from_recursion}
-use Rattle.module_states.specs.declared.machine.Inputs.{Inputs}
+use Rattle.module_states.specs.declared.machine.ModuleInputs.{ModuleInputs}
 use Rattle.module_states.specs.declared.state.ModuleState.TheVariants.{PwrUp, Ready}
 use Rattle.module_states.specs.Transitions.{next_of}
 use Rattle.module_states.specs.Runs.{machine, PowersUp}
@@ -14,7 +14,7 @@ returns-clause-in_three c state sound = arrives machine NearReady PowersUp neare
 pub returns-clause-not_in_two : goal.returns-clause-not_in_two
 unfolding next_of
 returns-clause-not_in_two c in_two =
-    let turn : Inputs = record { low_power = false; deactivated = true; done = true } in
-    let turns : List Inputs = turn ∷ turn ∷ [] in
+    let turn : ModuleInputs = record { low_power = false; deactivated = true; done = true } in
+    let turns : List ModuleInputs = turn ∷ turn ∷ [] in
     let there : PwrUp ≡ Ready = in_two turns (All-from_recursion PowersUp turns (refl, (refl, tt))) ((λ _. refl), ((λ _. refl), tt)) (omega arith) in
     cc

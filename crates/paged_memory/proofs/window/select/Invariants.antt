@@ -1,6 +1,6 @@
 use Rattle.std.proofs.Common.{◌≡◌, ◌+◌, drop}
 use Rattle.std.specs.FinMap as map
-use Rattle.paged_memory.specs.Selections.{selected_in_turn}
+use Rattle.paged_memory.specs.MappedPages.{selected_in_turn}
 use Rattle.paged_memory.proofs.window.select.Given as goal
 
 -- what is left to store selects what the whole store does

@@ -54,25 +54,25 @@ loop-before-preserved g c =
           let lanes = w.run-media_lanes.ensures ∙ ap (λ (a : App). run_of (before + 1) a.media_lanes) app in
           let weight = c.of-weight.ensures ∙ ap (λ (a : App). weight_at c.args.weights.now a.host_id) app in
           let is : ◌≡◌ {A = Move} (record { path = one; host_lanes = c.application-application.result.host_lanes; media_lanes = w.run-media_lanes.result; weight = c.of-weight.result }) (move_of c.args.advert.now c.args.weights.now one) = (λ i. record { path = one; host_lanes = (app i).host_lanes; media_lanes = lanes i; weight = weight i }) in
-          let step = move_of_one c.args.advert.now c.args.weights.now c.args.kept.now one can in
+          let decision = move_of_one c.args.advert.now c.args.weights.now c.args.kept.now one can in
           record {
             moves =
                 same
                 ∙ w.push.ensures.items
                 ∙ (λ i. c.loop-before.invariant.moves i ++ is i ∷ [])
                 ∙ append_assoc old (made so_far) _
-                ∙ ap (λ (more : List Move). old ++ more) (ap (λ (more : List Move). made so_far ++ more) (sym step) ∙ sym all);
+                ∙ ap (λ (more : List Move). old ++ more) (ap (λ (more : List Move). made so_far ++ more) (sym decision) ∙ sym all);
             few = omega (arith, ap (λ (items : List Move). length items) same, w.push.ensures.len, c.loop-before.invariant.few);
           }
       | else-is_eligible_as w ↦
           let same : c.if-is_eligible_as.moves.items ≡ c.loop-before.moves.items = (λ i. (w.moves-is i).items) in
           let barred : is_eligible c.args.advert.now c.args.kept.now one ≡ false = sym c.is_eligible_as.ensures ∙ w.if-is_eligible_as.false in
-          let step = no_move_of_one c.args.advert.now c.args.weights.now c.args.kept.now one barred in
+          let decision = no_move_of_one c.args.advert.now c.args.weights.now c.args.kept.now one barred in
           record {
             moves =
                 same
                 ∙ c.loop-before.invariant.moves
-                ∙ ap (λ (more : List Move). old ++ more) (sym (append-nil (made so_far)) ∙ ap (λ (more : List Move). made so_far ++ more) (sym step) ∙ sym all);
+                ∙ ap (λ (more : List Move). old ++ more) (sym (append-nil (made so_far)) ∙ ap (λ (more : List Move). made so_far ++ more) (sym decision) ∙ sym all);
             few = omega (arith, ap (λ (items : List Move). length items) same, c.loop-before.invariant.few);
           }
     ]

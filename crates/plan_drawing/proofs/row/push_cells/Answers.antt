@@ -11,8 +11,8 @@ loop-index-preserved c =
     let owners = c.args.owners.now in
     let i = loop.index in
     let owner = get_or owners i 0 in
-    let shown = cells c.args.row c.args.told.now.labels.items c.args.told.now.control in
-    let this = cell c.args.row c.args.told.now.labels.items c.args.told.now.control i loop.before owner in
+    let shown = cells c.args.row c.args.contents.now.labels.items c.args.contents.now.control in
+    let this = cell c.args.row c.args.contents.now.labels.items c.args.contents.now.control i loop.before owner in
     let below : i < length owners = omega (arith, c.loop-index-test.true) in
     let next : drop i owners ≡ owner ∷ drop (i + 1) owners = rw (add-one, drop-cons owners i 0) refl in
     loop.invariant
@@ -25,7 +25,7 @@ unfolding cells
 returns c =
     let loop = c.loop-index in
     let owners = c.args.owners.now in
-    let shown = cells c.args.row c.args.told.now.labels.items c.args.told.now.control in
+    let shown = cells c.args.row c.args.contents.now.labels.items c.args.contents.now.control in
     let past : length owners ≤ loop.index = omega (arith, c.loop-index-test.false) in
     let whole : c.args.out.now.items ++ shown 0 0 owners ≡ loop.out.items ++ edge c.args.row loop.before 0 ∷ [] =
     loop.invariant ∙ ap (λ (os : List ℕ). loop.out.items ++ shown loop.index loop.before os) (drop_all loop.index owners past) in

@@ -10,6 +10,6 @@ use Rattle.report_entries.proofs.entry_json.put_limits.Goals as goal
 pub returns : goal.returns
 unfolding limits_json
 returns c =
-    let members = alarm_members c.args.levels ++ warning_members c.args.levels in
+    let members = alarm_members c.args.limits ++ warning_members c.args.limits in
     let closed : all_member_tokens members ++ end_object ∷ [] ≡ members_tokens (members_of members) = of_members members in
     grind (arith, common_steps)

@@ -1,10 +1,10 @@
 //! A procedure for every bus, and what it tells of a window on that bus.
-ghost use Rattle.std.specs.Prelude.{◌≡◌, [], ◌∷◌, Bool, IfOk, IfSome};
+ghost use Rattle.std.specs.Prelude.{Some, ◌≡◌, [], ◌∷◌, Bool, IfOk, IfSome};
 ghost use Rattle.bus_model.specs.declared.device.Dev.TheVariants.{A0};
 ghost use Rattle.bus_model.specs.Operations.{fetch_step, store_step};
 ghost use Rattle.bus_model.specs.Runs.{Makes};
-ghost use Rattle.paged_memory.specs.declared.selection.Selecting.TheVariants.{BankAndPage};
-ghost use Rattle.paged_memory.specs.Selections.{selecting_on};
+ghost use Rattle.paged_memory.specs.declared.page_addressing.PageAddressing.TheVariants.{BankAndPage};
+ghost use Rattle.paged_memory.specs.MappedPages.{selecting_on};
 
 use arrayvec::ArrayVec;
 use bus_model::{Bus, BusFault, Dev, MAX_FETCH, ScriptBus};
@@ -24,7 +24,7 @@ pub fn select_on_window(
     bus: &mut ScriptBus<Window<16>>,
     page: u8,
 ) -> Result<Option<ArrayVec<u8, MAX_FETCH>>, BusFault>
-    ensures { selecting_on bus.old.device.memory A0 ≡ BankAndPage
+    ensures { selecting_on bus.old.device.memory A0 ≡ Some BankAndPage
         → IfOk result (λ answer. IfSome answer (λ bytes. bytes.items ≡ bus.new.device.selection.bank ∷ bus.new.device.selection.page ∷ [])) }
 {
     select(bus, page)

@@ -1,6 +1,6 @@
 use Rattle.std.proofs.Common.{◌∷◌, Result, sym, subst, ◌∙◌}
 use Rattle.control_sets.specs.declared.fault.ProvisionFault.{ProvisionFault}
-use Rattle.control_sets.specs.declared.procedures.next.Next.{Next}
+use Rattle.control_sets.specs.declared.procedures.next.ProcedureNext.{ProcedureNext}
 use Rattle.control_sets.specs.declared.procedures.power.PowerStage.{PowerStage}
 use Rattle.control_sets.specs.Asking.{IsReplyTo, step_with}
 use Rattle.control_sets.specs.PowerProgress.{IsPowerAt, with_stage}
@@ -16,7 +16,7 @@ returns-in-Ok-clause-told c history op at asks =
     let reply = c.args.reply.now in
     let is = sym c.stage_after.ensures ∙ c.in-Ok.is in
     subst (λ (after : Result PowerStage ProvisionFault). IsPowerAt (step_with op reply ∷ history) (with_stage old after)) is
-    (told old history op reply at asks (subst (λ (next : Next). IsReplyTo next reply) asks c.requires))
+    (told old history op reply at asks (subst (λ (next : ProcedureNext). IsReplyTo next reply) asks c.requires))
 
 pub returns-in-Err-clause-told : goal.returns-in-Err-clause-told
 returns-in-Err-clause-told c history op at asks =
@@ -24,4 +24,4 @@ returns-in-Err-clause-told c history op at asks =
     let reply = c.args.reply.now in
     let is = sym c.stage_after.ensures ∙ c.in-Err.is in
     subst (λ (after : Result PowerStage ProvisionFault). IsPowerAt (step_with op reply ∷ history) (with_stage old after)) is
-    (told old history op reply at asks (subst (λ (next : Next). IsReplyTo next reply) asks c.requires))
+    (told old history op reply at asks (subst (λ (next : ProcedureNext). IsReplyTo next reply) asks c.requires))

@@ -1,5 +1,5 @@
 use Rattle.std.proofs.Common.{◌++◌, ◌≡◌}
-use Rattle.text_lines.proofs.spelling.Spelling.and.Given as goal
+use Rattle.text_lines.proofs.printed_words.PrintedWords.and.Given as goal
 
 -- the words so far
 abbrev pub invariant-loop-word : goal.invariant-loop-word

@@ -1,6 +1,6 @@
 use Rattle.std.proofs.Common.{◌∷◌, ◌≡◌, ◌+◌, ◌*◌, ◌≤◌, length, map, take}
 use Rattle.text_lines.specs.Words.{spaced}
-use Rattle.text_lines.proofs.spelling.Spelling.line_after.Given as goal
+use Rattle.text_lines.proofs.printed_words.PrintedWords.line_after.Given as goal
 
 -- the first word and those so far
 abbrev pub invariant-loop-word : goal.invariant-loop-word

@@ -1,6 +1,6 @@
 use Rattle.std.proofs.Common.{◌≡◌, ◌∙◌, ◌++◌, ◌∷◌, [], rules, ap, sym, append_assoc}
 use Rattle.text_lines.proofs.SpacedWords.{spaced_more}
-use Rattle.text_lines.proofs.spelling.Spelling.line_after.Goals as goal
+use Rattle.text_lines.proofs.printed_words.PrintedWords.line_after.Goals as goal
 
 pub loop-word-preserved : goal.loop-word-preserved
 loop-word-preserved c =

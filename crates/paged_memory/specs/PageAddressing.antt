@@ -9,8 +9,8 @@ use Rattle.bus_model.specs.declared.operation.Reply.{Reply}
 use Rattle.bus_model.specs.declared.operation.Reply.TheVariants.{Bytes, Done, Refused}
 use Rattle.bus_model.specs.declared.operation.Step.{Step}
 use Rattle.bus_model.specs.SameOperation.{same_op}
-use Rattle.paged_memory.specs.declared.paging.Paging.{Paging}
-use Rattle.paged_memory.specs.declared.paging.Paging.TheVariants.{BankAndPage, PageAlone}
+use Rattle.paged_memory.specs.declared.page_addressing.PageAddressing.{PageAddressing}
+use Rattle.paged_memory.specs.declared.page_addressing.PageAddressing.TheVariants.{BankAndPage, PageAlone}
 
 -- steps that were made, the newest first: those before a step are the rest of the list
 abbrev pub History : Type 0
@@ -22,24 +22,24 @@ EachStep P [] = Unit {0}
 EachStep P (step ∷ before) = P step before × EachStep P before
 
 -- the first byte of the selection, which goes on up to byte 127
-abbrev pub first_byte : Paging → ℕ
+abbrev pub first_byte : PageAddressing → ℕ
 first_byte BankAndPage = 126
 first_byte PageAlone = 127
 
 -- the page is asked for, and bank 0 if a bank is
-abbrev pub selection : Paging → ℕ → Op
+abbrev pub selection : PageAddressing → ℕ → Op
 selection BankAndPage page = Store A0 126 (record { items = 0 ∷ page ∷ [] })
 selection PageAlone page = Store A0 127 (record { items = page ∷ [] })
 
-abbrev pub read_selection : Paging → Op
+abbrev pub read_selection : PageAddressing → Op
 read_selection BankAndPage = Fetch A0 126 2
 read_selection PageAlone = Fetch A0 127 1
 
 -- a store that covers the selection: accepted or refused, it may have changed what is selected
-abbrev pub may_select : Paging → Op → Bool
-may_select paging (Store A0 offset bytes) = nat_lt offset 128 && nat_lt (first_byte paging) (offset + length bytes.items)
-may_select paging (Store A2 offset bytes) = false
-may_select paging (Fetch dev offset count) = false
+abbrev pub may_select : PageAddressing → Op → Bool
+may_select addressing (Store A0 offset bytes) = nat_lt offset 128 && nat_lt (first_byte addressing) (offset + length bytes.items)
+may_select addressing (Store A2 offset bytes) = false
+may_select addressing (Fetch dev offset count) = false
 
 abbrev pub are_bank_and_page : ℕ → List ℕ → Bool
 are_bank_and_page page (bank ∷ number ∷ []) = bank == 0 && number == page
@@ -49,24 +49,24 @@ abbrev pub are_page_alone : ℕ → List ℕ → Bool
 are_page_alone page (number ∷ []) = number == page
 are_page_alone page _ = false
 
-abbrev pub is_selection_of : Paging → ℕ → List ℕ → Bool
+abbrev pub is_selection_of : PageAddressing → ℕ → List ℕ → Bool
 is_selection_of BankAndPage = are_bank_and_page
 is_selection_of PageAlone = are_page_alone
 
 -- what was read is the page of bank 0
-abbrev pub is_page : Paging → ℕ → Reply → Bool
-is_page paging page (Bytes bytes) = is_selection_of paging page bytes.items
-is_page paging page Done = false
-is_page paging page Refused = false
+abbrev pub is_page : PageAddressing → ℕ → Reply → Bool
+is_page addressing page (Bytes bytes) = is_selection_of addressing page bytes.items
+is_page addressing page Done = false
+is_page addressing page Refused = false
 
 -- the page was read back
-abbrev pub reads_back : Paging → ℕ → Step → Bool
-reads_back paging page step = same_op (read_selection paging) step.op && is_page paging page step.reply
+abbrev pub reads_back : PageAddressing → ℕ → Step → Bool
+reads_back addressing page step = same_op (read_selection addressing) step.op && is_page addressing page step.reply
 
 -- the page was read back, and nothing was stored on the selection since
-abbrev pub is_page_confirmed : Paging → ℕ → History → Bool
-is_page_confirmed paging page [] = false
-is_page_confirmed paging page (step ∷ before) = reads_back paging page step || (not (may_select paging step.op) && is_page_confirmed paging page before)
+abbrev pub is_page_confirmed : PageAddressing → ℕ → History → Bool
+is_page_confirmed addressing page [] = false
+is_page_confirmed addressing page (step ∷ before) = reads_back addressing page step || (not (may_select addressing step.op) && is_page_confirmed addressing page before)
 
 abbrev pub is_read : Reply → Bool
 is_read (Bytes bytes) = true
@@ -74,10 +74,10 @@ is_read Done = false
 is_read Refused = false
 
 -- a store on the selection, or a read back without an answer
-abbrev pub leaves_open : Paging → Step → Bool
-leaves_open paging step = may_select paging step.op || (same_op (read_selection paging) step.op && not (is_read step.reply))
+abbrev pub leaves_open : PageAddressing → Step → Bool
+leaves_open addressing step = may_select addressing step.op || (same_op (read_selection addressing) step.op && not (is_read step.reply))
 
 -- what the last selection did has not been read yet
-abbrev pub is_open : Paging → History → Bool
-is_open paging [] = false
-is_open paging (step ∷ before) = leaves_open paging step
+abbrev pub is_open : PageAddressing → History → Bool
+is_open addressing [] = false
+is_open addressing (step ∷ before) = leaves_open addressing step

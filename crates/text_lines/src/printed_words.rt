@@ -24,18 +24,18 @@ pub type Word = ArrayVec<u8, WORD>;
 
 /// Words of a line that is printed: at most eight, of at most 20 bytes each.
 #[derive(Drop)]
-pub struct Spelling {
+pub struct PrintedWords {
     words: ArrayVec<Word, WORDS>,
 }
 
-impl Model for Spelling {
+impl Model for PrintedWords {
     ghost Value = { List (List ℕ) };
 
-    ghost view = { λ spelling. map (λ word. word.items) spelling.words.items };
+    ghost view = { λ printed. map (λ word. word.items) printed.words.items };
 }
 
 /// What a line spells as words, as a fault by its code and its values.
-pub trait Spelled {
+pub trait ToWords {
     ghost use Rattle.std.specs.Prelude.{ℕ, List, ◌≡◌, ◌≤◌, length};
 
     /// The words.
@@ -44,32 +44,32 @@ pub trait Spelled {
     /// How many there are at most.
     ghost most: { ℕ };
 
-    fn spelling(&self) -> Spelling
+    fn to_words(&self) -> PrintedWords
         ensures words { result ≡ words self.now }
         ensures most { length result ≤ most };
 }
 
-impl Spelling {
+impl PrintedWords {
     /// One word, such as a code.
-    pub fn of(word: &str) -> Spelling
+    pub fn of(word: &str) -> PrintedWords
         requires { length word.now ≤ 20 }
         ensures words { result ≡ word.now ∷ [] }
         ensures most { length result ≤ 1 }
     {
-        Spelling::of_bytes(word.as_bytes())
+        PrintedWords::of_bytes(word.as_bytes())
     }
 
     /// Adds what a value spells.
-    pub fn and<V: Spelled>(self, value: &V) -> Spelling
+    pub fn and<V: ToWords>(self, value: &V) -> PrintedWords
         requires { length self + V.most ≤ 8 }
         ensures words { result ≡ self ++ V.words value.now }
         ensures most { length result ≤ length self + V.most }
     {
         let mut words = self.words;
-        for word in value.spelling().words {
+        for word in value.to_words().words {
             words.push(word);
         }
-        Spelling { words }
+        PrintedWords { words }
     }
 
     /// The line of a first word and these, with the LF that ends it.
@@ -93,48 +93,48 @@ impl Spelling {
         self.words.as_slice()
     }
 
-    fn of_bytes(word: &[u8]) -> Spelling
+    fn of_bytes(word: &[u8]) -> PrintedWords
         requires { length word.now ≤ 20 }
         ensures words { result ≡ word.now ∷ [] }
         ensures most { length result ≤ 1 }
     {
         let mut words = ArrayVec::new();
         words.push(ArrayVec::try_from(word).unwrap());
-        Spelling { words }
+        PrintedWords { words }
     }
 }
 
 /// A number, in decimal.
-impl Spelled for usize {
+impl ToWords for usize {
     ghost words = { λ number. decimal number ∷ [] };
 
     ghost most = { 1 };
 
-    fn spelling(&self) -> Spelling {
-        Spelling::of_bytes(Buffer::new().format(*self).as_bytes())
+    fn to_words(&self) -> PrintedWords {
+        PrintedWords::of_bytes(Buffer::new().format(*self).as_bytes())
     }
 }
 
 /// A number, in decimal.
-impl Spelled for u8 {
+impl ToWords for u8 {
     ghost words = { λ number. decimal number ∷ [] };
 
     ghost most = { 1 };
 
-    fn spelling(&self) -> Spelling {
-        Spelling::of_bytes(Buffer::new().format(*self).as_bytes())
+    fn to_words(&self) -> PrintedWords {
+        PrintedWords::of_bytes(Buffer::new().format(*self).as_bytes())
     }
 }
 
 /// A byte, as two lower-case hexadecimal digits.
-impl Spelled for HexByte {
+impl ToWords for HexByte {
     ghost words = { λ shown. encode_lower (shown.0 ∷ []) ∷ [] };
 
     ghost most = { 1 };
 
-    fn spelling(&self) -> Spelling {
+    fn to_words(&self) -> PrintedWords {
         let mut digits = [0; 2];
         encode_to_slice([self.0], &mut digits).unwrap();
-        Spelling::of_bytes(&digits)
+        PrintedWords::of_bytes(&digits)
     }
 }

@@ -1,0 +1,70 @@
+-- What the decisions from a state are: the free lane's, and those of paths that fit.
+use Rattle.std.proofs.Common.{◌≡◌, ◌+◌, ◌<◌, ◌⊎◌, Bool, true, false, List, [], ◌∷◌, ◌++◌, map, filter, cond, nat_lt, refl, sym, subst, inl, inr, arith}
+use Rattle.std.specs.List.{AllByRecursion, Contains}
+use Rattle.std.proofs.lemmas.Bool.{cases_Bool, and_parts}
+use Rattle.std.proofs.lemmas.Bool.Decides.{nat_tests}
+use Rattle.std.proofs.lemmas.List.Elements.{All-contains, All-from_recursion}
+use Rattle.field_tables.specs.LaneSets.{is_disjoint}
+use Rattle.applications.specs.Advertised.{Advertised}
+use Rattle.applications.specs.Weights.{HostWeights}
+use Rattle.plan_certificate.specs.declared.path.Path.{Path}
+use Rattle.plan_certificate.specs.declared.state.State.{State}
+use Rattle.plan_certificate.specs.declared.state.Decision.{Decision}
+use Rattle.plan_certificate.specs.Paths.{media_lanes}
+use Rattle.plan_certificate.specs.KeptPaths.{is_eligible, may_stay_free}
+use Rattle.plan_certificate.specs.States.{fits, free_decision, free_decisions, path_decision, path_decisions, paths_at, decisions_from}
+use Rattle.plan_certificate.proofs.Lists.{all_of_append, map_each}
+use Rattle.plan_certificate.proofs.MoveLists.{BeginsAt, each_begins}
+
+pub record OfPath (advert : Advertised) (weights : HostWeights) (kept : List Path) (state : State) (decision : Decision) : Type 0 where
+  pub path : Path
+  pub begins : path.host ≡ state.boundary + 1
+  pub can : is_eligible advert kept path ≡ true
+  pub unused : is_disjoint (media_lanes advert path) state.used ≡ true
+  pub is : decision ≡ path_decision advert weights state path
+
+-- the free lane's, where it may stay free
+abbrev pub IsFree : Advertised → List Path → State → Decision → Type 0
+IsFree advert kept state decision = (decision ≡ free_decision state) × (may_stay_free advert kept (state.boundary + 1) ≡ true)
+
+pub record IsDecision (advert : Advertised) (weights : HostWeights) (kept : List Path) (state : State) (decision : Decision) : Type 0 where
+  pub below : state.boundary < 8
+  pub kind : IsFree advert kept state decision ⊎ OfPath advert weights kept state decision
+
+-- ---- the decisions
+
+path_decisions_are : (advert : Advertised) (weights : HostWeights) (kept : List Path) (state : State) (paths : List Path) → AllByRecursion (BeginsAt (state.boundary + 1)) paths → AllByRecursion (OfPath advert weights kept state) (path_decisions advert weights kept state paths)
+unfolding path_decisions
+path_decisions_are advert weights kept state [] begin = tt
+path_decisions_are advert weights kept state (path ∷ paths) begin =
+    let rest = path_decisions_are advert weights kept state paths begin.1 in
+    let Made : Bool → Type 0 = λ b. AllByRecursion (OfPath advert weights kept state) (map (path_decision advert weights state) (cond b (path ∷ filter (fits advert kept state) paths) (filter (fits advert kept state) paths))) in
+    elim (cases_Bool (fits advert kept state path)) [
+      | inl does ↦
+          let parts = and_parts _ _ does in
+          subst Made (sym does) (record { path = path; begins = begin.0; can = parts.0; unused = parts.1; is = refl }, rest)
+      | inr fails ↦ subst Made (sym fails) rest
+    ]
+
+free_is_decision : (advert : Advertised) (weights : HostWeights) (kept : List Path) (state : State) (may : Bool) → may_stay_free advert kept (state.boundary + 1) ≡ may → state.boundary < 8 → AllByRecursion (IsDecision advert weights kept state) (free_decisions may state)
+free_is_decision advert weights kept state true is below = (record { below = below; kind = inl (refl, is) }, tt)
+free_is_decision advert weights kept state false is below = tt
+
+each_is_decision : (advert : Advertised) (weights : HostWeights) (kept : List Path) (state : State) → AllByRecursion (IsDecision advert weights kept state) (decisions_from advert weights kept state)
+unfolding decisions_from
+each_is_decision advert weights kept state =
+    let may : Bool = may_stay_free advert kept (state.boundary + 1) in
+    let of_paths = path_decisions advert weights kept state (paths_at advert (state.boundary + 1)) in
+    let Made : Bool → Type 0 = λ b. AllByRecursion (IsDecision advert weights kept state) (cond b (free_decisions may state ++ of_paths) []) in
+    elim (cases_Bool (nat_lt state.boundary 8)) [
+      | inl is ↦
+          let below : state.boundary < 8 = grind (arith, nat_tests) in
+          let paths = map_each (OfPath advert weights kept state) (IsDecision advert weights kept state) of_paths (λ decision h. record { below = below; kind = inr h }) (path_decisions_are advert weights kept state (paths_at advert (state.boundary + 1)) (each_begins advert (state.boundary + 1))) in
+          subst Made (sym is) (all_of_append (IsDecision advert weights kept state) (free_decisions may state) of_paths (free_is_decision advert weights kept state may refl below) paths)
+      | inr fails ↦ subst Made (sym fails) tt
+    ]
+
+pub decision_is : (advert : Advertised) (weights : HostWeights) (kept : List Path) (state : State) (decision : Decision) → Contains (decisions_from advert weights kept state) decision → IsDecision advert weights kept state decision
+decision_is advert weights kept state decision contains =
+    let decisions = decisions_from advert weights kept state in
+    All-contains (IsDecision advert weights kept state) decisions decision (All-from_recursion (IsDecision advert weights kept state) decisions (each_is_decision advert weights kept state)) contains
