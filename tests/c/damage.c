@@ -12,7 +12,7 @@
 #include <sys/wait.h>
 #include <unistd.h>
 
-enum { MOST = 1 << 21, INPUTS = 256, WORDS = 8, STATUSES = 5 };
+enum { MOST = 1 << 21, INPUTS = 512, WORDS = 8, STATUSES = 5 };
 
 struct input {
     char *words[WORDS], *text;
@@ -242,11 +242,17 @@ static int has_word(char **words, const char *word) {
 
 /* What the first and the last line of a command's answer begin with. */
 static int is_whole_answer(char **words, const char *last) {
-    static const char *forms[][3] = {
-        {"inventory", "family ", "sum-"},         {"apps", "apps ", "unsupported-media "},
-        {"monitors", "temperature ", ""},         {"flags", "", ""},
-        {"plan", "certificate ", "end\n"},        {"check", "good\n", "control "},
-        {"provision", "provisioned ", "active "}, {"trace", "1 fetch A0 3 1 = ", "active "}};
+    static const char *forms[][3] = {{"inventory", "family ", "sum-"},
+                                     {"apps", "apps ", "unsupported-media "},
+                                     {"monitors", "temperature ", ""},
+                                     {"flags", "", ""},
+                                     {"details", "family ", ""},
+                                     {"draw", "weight ", ""},
+                                     {"plan", "certificate ", "end\n"},
+                                     {"check", "good\n", "control "},
+                                     {"provision", "provisioned ", "active "},
+                                     {"trace", "1 fetch A0 3 1 = ", "active "}};
+    if (has_word(words, "--svg")) return begins(answer, "<svg ") && begins(last, "</svg>\n");
     for (size_t form = 0; form < sizeof forms / sizeof *forms; form++) {
         if (strcmp(words[1], forms[form][0])) continue;
         return begins(answer, forms[form][1]) && begins(last, has_word(words, "--first") ? "first " : forms[form][2]);
@@ -268,6 +274,14 @@ static int is_well_formed_json(char **words, int status, const char *last) {
     }
 }
 
+/* Whether each line is a comment or a sample, and one of them the fault if and only if the status tells of one. */
+static int is_well_formed_metrics(int status, const char *last) {
+    int lines = lines_with(""), comments = lines_with("# HELP dovecounter_") + lines_with("# TYPE dovecounter_");
+    int faults = lines_with("dovecounter_fault{");
+    return faults == (status == 1) && (status == 0 || status == 1) && begins(answer, "# HELP dovecounter_") &&
+           begins(last, "dovecounter_") && comments + lines_with("dovecounter_") == lines;
+}
+
 /* Whether the answer has the form that its status asks for. */
 static int is_well_formed(char **words, int status, size_t length) {
     if (!WIFEXITED(status) || length == 0 || answer[length - 1] != '\n') return 0;
@@ -277,6 +291,7 @@ static int is_well_formed(char **words, int status, size_t length) {
     const char *last = answer + length - 1;
     while (last > answer && last[-1] != '\n') last--;
     int faults = lines_with("fault "), bad = lines_with("bad ");
+    if (!strcmp(words[1], "metrics")) return is_well_formed_metrics(WEXITSTATUS(status), last);
     if (has_word(words, "--json")) return is_well_formed_json(words, WEXITSTATUS(status), last);
     switch (WEXITSTATUS(status)) {
     case 0: return faults == 0 && bad == 0 && is_whole_answer(words, last);
