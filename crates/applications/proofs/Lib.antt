@@ -1,4 +1,4 @@
-mod Listed
+pub mod Listed
 mod DocumentKeys
 mod HostMembers
 mod WeightAnswers
