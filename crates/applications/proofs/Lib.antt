@@ -1,4 +1,4 @@
-pub mod Listed
+mod Listed
 mod DocumentKeys
 mod HostMembers
 mod WeightAnswers

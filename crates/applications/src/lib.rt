@@ -10,8 +10,7 @@ mod weights;
 
 pub use advert::Advert;
 pub use app::{App, MAX_APPS};
-pub use descriptors::apps_in;
 pub use fault::AdvertFault;
 pub use field_tables::LaneSet;
-pub use refusal::{is_read_revision, page_refusal};
+pub use refusal::is_read_revision;
 pub use weights::{WeightLinesFault, Weights, WeightsFault};

@@ -1,16 +1,15 @@
 -- The Applications of a CMIS module, by name. (docs/details.md; OIF-CMIS-05.0, "Applications Advertising" and "Media Type
 -- Encodings")
-use Rattle.std.specs.Prelude.{ℕ, ◌==◌, ◌&&◌, not, nat_lt, Bool, if◌then◌else◌, is_some, List, [], ◌∷◌, ◌++◌, codes, Option, Some, None}
+use Rattle.std.specs.Prelude.{ℕ, ◌==◌, if◌then◌else◌, is_some, List, [], ◌∷◌, ◌++◌, codes, Option, Some, None}
 use Rattle.std.specs.List.{flat_map}
-use Rattle.applications.specs.Descriptors.{apps_of}
-use Rattle.applications.specs.Refusals.{page_fault}
+use Rattle.applications.specs.Advertised.{advertised_by}
+use Rattle.applications.specs.Refusals.{advert_fault}
 use Rattle.applications.specs.declared.app.App.{App}
 use Rattle.code_names.specs.Rows.{not_listed, text_of}
 use Rattle.code_names.specs.declared.table.Table.{Table}
 use Rattle.code_names.specs.declared.table.Table.TheVariants.{HostInterfaces, MultiModeMedia, SingleModeMedia, PassiveCopper, ActiveCables, BaseTMedia}
 use Rattle.field_tables.specs.declared.field.Field.TheVariants.{CMediaType}
 use Rattle.field_tables.specs.Readings.{number}
-use Rattle.module_decoding.specs.CmisPages.{is_flat}
 use Rattle.paged_memory.specs.Images.{Memory}
 use Rattle.report_entries.specs.Entries.{Entry, entry, fact}
 use Rattle.report_entries.specs.Facts as facts
@@ -51,22 +50,16 @@ lane_entries app =
     ∷ app_entry (codes "media-lanes") app (facts.number app.media_lanes)
     ∷ []
 
--- page 01h says on which media lanes it may begin
-abbrev pub media_start_entries : Bool → App → List Entry
-media_start_entries flat app = if flat then [] else app_entry (codes "media-starts") app (facts.lane_set app.media_starts) ∷ []
+unfoldable pub start_entries : App → List Entry
+start_entries app =
+    app_entry (codes "host-starts") app (facts.lane_set app.host_starts)
+    ∷ app_entry (codes "media-starts") app (facts.lane_set app.media_starts)
+    ∷ []
 
-unfoldable pub start_entries : Bool → App → List Entry
-start_entries flat app = app_entry (codes "host-starts") app (facts.lane_set app.host_starts) ∷ media_start_entries flat app
+unfoldable pub app_entries : ℕ → App → List Entry
+app_entries media app = interface_entries media app ++ (lane_entries app ++ start_entries app)
 
--- lower memory, all that describes those of a module with flat memory, has those of numbers 1 to 8
-unfoldable pub app_entries : Bool → ℕ → App → List Entry
-app_entries flat media app =
-    if flat && nat_lt 8 app.number then [] else interface_entries media app ++ (lane_entries app ++ start_entries flat app)
-
--- they are on pages that are not read
-abbrev pub are_unread : Memory → Bool
-are_unread memory = not (is_flat memory) && is_some (page_fault memory)
-
+-- none if they are not read
 unfoldable pub apps_entries : Memory → List Entry
 apps_entries memory =
-    if are_unread memory then [] else flat_map (app_entries (is_flat memory) (number memory CMediaType)) (apps_of memory)
+    if is_some (advert_fault memory) then [] else flat_map (app_entries (number memory CMediaType)) (advertised_by memory).apps

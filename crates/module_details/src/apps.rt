@@ -7,10 +7,9 @@ ghost use Rattle.module_details.specs.AppDetails as spec;
 ghost use Rattle.module_details.specs.AppDetails.{app_entries, app_entry, apps_entries, host_entry, interface_entries, lane_entries, medium_entry, start_entries};
 
 use crate::facts::named;
-use applications::{App, apps_in, page_refusal};
+use applications::{Advert, App};
 use code_names::{Name, Table};
 use field_tables::{Field, number};
-use module_decoding::is_flat;
 use paged_memory::Image;
 use report_entries::{Entry, Fact, Place, Said, say};
 use std::alloc::AllocError;
@@ -20,34 +19,28 @@ use std::alloc::AllocError;
 pub fn say_apps(entries: &mut Vec<Entry>, image: &Image) -> Result<(), AllocError>
     ensures { OnOk result (said_in entries.new ≡ said_in entries.old ++ apps_entries image.now) }
 {
-    let flat = is_flat(image);
-    if !flat && page_refusal(image).is_some() {
-        return Ok(());
+    match Advert::of(image) {
+        Ok(advert) => say_each(entries, number(image, Field::CMediaType), advert.apps()),
+        Err(_) => Ok(()),
     }
-    let media = number(image, Field::CMediaType);
-    let apps = apps_in(image);
-    say_each(entries, flat, media, apps.as_slice())
 }
 
-fn say_each(entries: &mut Vec<Entry>, flat: bool, media: u8, apps: &[App]) -> Result<(), AllocError>
-    ensures { OnOk result (said_in entries.new ≡ said_in entries.old ++ flat_map (app_entries flat media) apps.now) }
+fn say_each(entries: &mut Vec<Entry>, media: u8, apps: &[App]) -> Result<(), AllocError>
+    ensures { OnOk result (said_in entries.new ≡ said_in entries.old ++ flat_map (app_entries media) apps.now) }
 {
     for app in apps {
-        say_app(entries, flat, media, app)?;
+        say_app(entries, media, app)?;
     }
     Ok(())
 }
 
 #[tactic(auto, unfolding(crate::specs::AppDetails::app_entries))]
-fn say_app(entries: &mut Vec<Entry>, flat: bool, media: u8, app: &App) -> Result<(), AllocError>
-    ensures { OnOk result (said_in entries.new ≡ said_in entries.old ++ app_entries flat media app.now) }
+fn say_app(entries: &mut Vec<Entry>, media: u8, app: &App) -> Result<(), AllocError>
+    ensures { OnOk result (said_in entries.new ≡ said_in entries.old ++ app_entries media app.now) }
 {
-    if flat && app.number > 8 {
-        return Ok(());
-    }
     say_interfaces(entries, media, app)?;
     say_lanes(entries, app)?;
-    say_starts(entries, flat, app)
+    say_starts(entries, app)
 }
 
 #[tactic(auto, unfolding(crate::specs::AppDetails::interface_entries))]
@@ -93,13 +86,10 @@ fn say_lanes(entries: &mut Vec<Entry>, app: &App) -> Result<(), AllocError>
 }
 
 #[tactic(auto, unfolding(crate::specs::AppDetails::start_entries))]
-fn say_starts(entries: &mut Vec<Entry>, flat: bool, app: &App) -> Result<(), AllocError>
-    ensures { OnOk result (said_in entries.new ≡ said_in entries.old ++ start_entries flat app.now) }
+fn say_starts(entries: &mut Vec<Entry>, app: &App) -> Result<(), AllocError>
+    ensures { OnOk result (said_in entries.new ≡ said_in entries.old ++ start_entries app.now) }
 {
     say_of(entries, "host-starts", app, Fact::LaneSet(app.host_starts))?;
-    if flat {
-        return Ok(());
-    }
     say_of(
         entries,
         "media-starts",

@@ -2,7 +2,6 @@ pub mod FetchedHalves
 pub mod SameFamilies
 pub mod SameInventories
 pub mod SameApps
-mod SameDetailApps
 mod SameDetailRows
 mod SameDetails
 pub mod SameMonitors

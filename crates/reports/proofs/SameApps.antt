@@ -22,7 +22,7 @@ use Rattle.field_tables.proofs.SameRefusals.{same_refusal}
 use Rattle.field_tables.proofs.SameValues.{Agree, is_selection, same_number, same_reading_at}
 use Rattle.applications.specs.Advertised.{advertised_by}
 use Rattle.applications.specs.Descriptors.{app_at, apps_of, described, is_listed}
-use Rattle.applications.specs.Refusals.{advert_fault, module_reasons, page_fault, page_reasons}
+use Rattle.applications.specs.Refusals.{advert_fault, module_reasons, page_reasons}
 use Rattle.applications.specs.declared.fault.AdvertFault.{AdvertFault}
 use Rattle.reports.specs.Apps.{apps_entries, apps_fault}
 use Rattle.reports.specs.declared.fault.ReportFault.TheVariants.{Advert}
@@ -93,7 +93,7 @@ module _ (a b : Memory) (agree : CmisAgree a b) (second : Agree a b (upper_key A
       let later = same_apps_from (first + 1) count (omega (arith, from)) (omega (arith, to)) in
       λ i. here i ∷ later i
 
-  pub same_apps_of : apps_of a ≡ apps_of b
+  same_apps_of : apps_of a ≡ apps_of b
   unfolding apps_of
   same_apps_of = ap (take_while is_listed) (same_apps_from 1 15 (omega arith) (omega arith))
 
@@ -101,9 +101,6 @@ module _ (a b : Memory) (agree : CmisAgree a b) (second : Agree a b (upper_key A
   same_advertised =
       let unsupported = same_number a b fields.CUnsupportedMedia agree.first refl refl in
       λ i. record { apps = same_apps_of i; unsupported = lanes_in (unsupported i); paired = false }
-
-pub same_page_fault : (a b : Memory) → Agree a b (upper_key A0 0 0x00) → Agree a b (upper_key A0 0 0x01) → page_fault a ≡ page_fault b
-same_page_fault a b zeroth second = same_refusal a b page_reasons refl (zeroth, λ there. (second, λ both. (zeroth, λ right. (second, λ rights. tt))))
 
 pub same_advert_fault : (a b : Memory) → FamilyAgrees a b → advert_fault a ≡ advert_fault b
 unfolding advert_fault
