@@ -20,7 +20,7 @@
 extern "C" {
 #endif
 
-#define DOVECOUNTER_VERSION 5
+#define DOVECOUNTER_VERSION 4
 
 /* What a function answers. On any status but DOVECOUNTER_DONE it has written nothing, but for the length that
    dovecounter_certificate also writes if a buffer is too small, and the line that dovecounter_weights then writes. The comments name the faults that the program cmisctl prints for
@@ -361,10 +361,6 @@ struct dovecounter_plan {
    among them, and no such plan weighs more. Of several such plans it is the first, in the order of docs/planning.md. A path
    weighs what `weights` has at its HostInterfaceID. The kept paths may come in any order.
 
-   If `paired` is not 0, the module pairs first lanes: a path that begins at the second of its Application's first host lanes takes the
-   second of its first media lanes, and so on. If it is 0, it may take any of them. No register of a module says which holds, or lets a
-   host choose media lanes, so hand over 1 if in doubt: such a plan is allowed for 0 too. cmisctl plans for 0, and with --paired for 1.
-
    To provision the plan and leave the kept data paths alone, hand plan->control and plan->outside to dovecounter_provision,
    and then plan->control and plan->lanes to dovecounter_activate. To keep paths of this plan in a later one, save plan->paths, also
    across a restart: no register of the module says which media lanes a path takes. A structure's layout changes only with
@@ -375,46 +371,43 @@ struct dovecounter_plan {
    11 to 16   the halves do not say what the module advertises, as dovecounter_advertisement tells
    42         there are more than 8 kept paths
    43         a kept path is not allowed, or shares a lane with another one */
-uint32_t dovecounter_plan(const struct dovecounter_half *halves, size_t half_count, uint8_t paired,
-                          const uint32_t weights[256], const struct dovecounter_path *kept, size_t kept_count,
-                          struct dovecounter_plan *plan);
+uint32_t dovecounter_plan(const struct dovecounter_half *halves, size_t half_count, const uint32_t weights[256],
+                          const struct dovecounter_path *kept, size_t kept_count, struct dovecounter_plan *plan);
 
 /* What a certificate is worth. */
 struct dovecounter_judgement {
-    uint8_t reason; /* 0: it is good, and no plan with the paths that the text keeps weighs more than its own; else the number in
-                       VR1 to VR10 */
+    uint8_t reason; /* 0: it is good, and no plan with the paths that the text keeps weighs more than its own; else the digit of
+                       VR1 to VR9 */
     size_t number;  /* for VR1 and VR2 the path's number from 1, for VR8 and VR9 the kept path's, for VR5 and VR6 the entry's,
                        else 0 */
 };
 
 /* Judges the certificate with this text, as the command plan of cmisctl prints it, for the module with these halves and for these
-   weights, and writes to *judgement. The text says which paths are kept, and whether it is for a module that pairs first lanes: if
-   that differs from `paired`, the reason is VR10.
+   weights, and writes to *judgement. The text says which paths are kept.
 
    status     if
    1, 2       there are more than 16 halves, or one has no place
    11 to 16   the halves do not say what the module advertises, as dovecounter_advertisement tells
    21 to 24   the text is no certificate: the first of its faults */
-uint32_t dovecounter_check(const struct dovecounter_half *halves, size_t half_count, uint8_t paired,
-                           const uint32_t weights[256], const uint8_t *text, size_t text_length,
-                           struct dovecounter_judgement *judgement);
+uint32_t dovecounter_check(const struct dovecounter_half *halves, size_t half_count, const uint32_t weights[256],
+                           const uint8_t *text, size_t text_length, struct dovecounter_judgement *judgement);
 
 /* No certificate's text is longer. */
 #define DOVECOUNTER_CERTIFICATE_SIZE 74046
 
-/* Writes to the buffer the text of the certificate of the plan that dovecounter_plan gives for the same arguments: what
-   the command plan of cmisctl prints, with --keep if paths are kept and with --paired if `paired` is not 0, byte for byte, with the end
-   of its last line and without a NUL. Writes to *text_length how many bytes the text has, also if the buffer is too small; the buffer stays as it is
-   then. The bytes of the buffer after the text stay, too. dovecounter_check judges the certificate good for the same `paired`.
+/* Writes to the buffer the text of the certificate of the plan that dovecounter_plan gives for the same halves, weights and kept paths:
+   what the command plan of cmisctl prints, or plan --keep if paths are kept, byte for byte, with the end of its last line and without a
+   NUL. Writes to *text_length how many bytes the text has, also if the buffer is too small; the buffer stays as it is then. The bytes of
+   the buffer after the text stay, too. dovecounter_check judges the certificate good.
 
    status   if
    1, 2     there are more than 16 halves, or one has no place
    11 to 16 the halves do not say what the module advertises
    42, 43   the kept paths are too many, or not admissible
    4        buffer_size is below *text_length */
-uint32_t dovecounter_certificate(const struct dovecounter_half *halves, size_t half_count, uint8_t paired,
-                                 const uint32_t weights[256], const struct dovecounter_path *kept, size_t kept_count,
-                                 uint8_t *buffer, size_t buffer_size, size_t *text_length);
+uint32_t dovecounter_certificate(const struct dovecounter_half *halves, size_t half_count, const uint32_t weights[256],
+                                 const struct dovecounter_path *kept, size_t kept_count, uint8_t *buffer,
+                                 size_t buffer_size, size_t *text_length);
 
 /* Why a procedure ended without success. The comments say what `first` and `second` of a dovecounter_fault are then; else they
    are 0. */

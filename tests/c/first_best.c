@@ -1,7 +1,6 @@
-/* first_best RUNS SEED FOLDER [keep] [paired]: writes, for each number N from 1 to RUNS, the files N, an input of the command plan for a
+/* first_best RUNS SEED FOLDER [keep]: writes, for each number N from 1 to RUNS, the files N, an input of the command plan for a
    module made by chance, N.wanted, the weight and the paths of the plan that is to be given, and N.drawing, what draw is to say
-   of it, but for the names of interfaces. With keep, each third plan keeps paths, and its input is one of plan --keep. With paired,
-   the modules pair first lanes, as plan --paired takes them.
+   of it, but for the names of interfaces. With keep, each third plan keeps paths, and its input is one of plan --keep.
 
    A plan is a set of data paths. All plans that the module can carry are gone through, and the first of the best without needless
    paths is what docs/planning.md, "The first best plan", says, and not how the planner finds it. */
@@ -26,7 +25,7 @@ struct plan {
 };
 
 struct module {
-    int count, unsupported, paired;
+    int count, unsupported;
     struct app apps[APPS + 1];
     int weights[4];
     struct plan kept;
@@ -46,16 +45,8 @@ static int host_run(const struct module *m, struct path p) { return run(p.host, 
 
 static int media_run(const struct module *m, struct path p) { return run(p.media, m->apps[p.app].media_lanes); }
 
-/* How many of these lanes come before this one. */
-static int before(int lanes, int lane) {
-    int count = 0;
-    while (--lane > 0) count += lanes >> (lane - 1) & 1;
-    return count;
-}
-
 static int allowed(const struct module *m, struct path p) {
     struct app a = m->apps[p.app];
-    if (m->paired && before(a.host_starts, p.host) != before(a.media_starts, p.media)) return 0;
     return p.host + a.host_lanes <= 9 && p.media + a.media_lanes <= 9 && (a.host_starts >> (p.host - 1) & 1) &&
            (a.media_starts >> (p.media - 1) & 1) && !(media_run(m, p) & m->unsupported);
 }
@@ -137,9 +128,8 @@ static void extend(struct plan *plan, int lane, int host, int media) {
     extend(plan, lane + 1, host, media);
 }
 
-static void make(struct module *m, int paired) {
+static void make(struct module *m) {
     memset(m, 0, sizeof *m);
-    m->paired = paired;
     m->count = 1 + chance(APPS);
     m->unsupported = chance(4) ? 0 : chance(256) & chance(256);
     for (int id = 1; id < 4; id++) m->weights[id] = chance(4);
@@ -214,16 +204,12 @@ static FILE *open_at(const char *folder, int number, const char *end) {
 
 int main(int argc, char **argv) {
     if (argc < 4) return 2;
-    int runs = atoi(argv[1]), keeping = 0, paired = 0;
-    for (int i = 4; i < argc; i++) {
-        keeping |= !strcmp(argv[i], "keep");
-        paired |= !strcmp(argv[i], "paired");
-    }
+    int runs = atoi(argv[1]), keeping = argc > 4;
     state = strtoull(argv[2], 0, 10) * 2654435761u + 88172645463325252u;
     for (int number = 1; number <= runs;) {
         struct module m;
         struct plan empty = {0};
-        make(&m, paired);
+        make(&m);
         if (keeping && number % 3 == 0) keep(&m);
         of = &m, found = 0, seen = 0;
         extend(&empty, 1, 0, 0);

@@ -27,4 +27,3 @@ pub mod Sff8472Compliance
 pub mod SfpPassiveCables
 pub mod SfpActiveCables
 pub mod Names
-pub mod MediaInterfaces

@@ -17,13 +17,13 @@ use Rattle.command_line.specs.declared.choice.part.Part.TheVariants.{Image, Weig
 abbrev pub IsAnswerToTexts : Choice → Bool → Texts → Answer → Type 0
 IsAnswerToTexts (Report report bus) json texts = IsReportAnswer report bus json (texts Image)
 IsAnswerToTexts (Metrics bus all labels) json texts = IsMetricsAnswer bus all labels (texts Image)
-IsAnswerToTexts (Plan keep paired) json texts = IsPlanAnswer json paired (texts Image) (texts Weights) (texts Kept)
-IsAnswerToTexts (Draw svg keep paired) json texts = IsDrawAnswer svg paired (texts Image) (texts Weights) (texts Kept)
-IsAnswerToTexts (Check first paired) json texts = IsCheckAnswer json first paired (texts Image) (texts Weights) (texts Certificate)
-IsAnswerToTexts (Provision wake activate keep paired) json texts =
-    IsProcedureAnswer json false wake activate paired (texts Image) (texts Weights) (texts Kept) (texts Script)
-IsAnswerToTexts (Trace wake activate keep paired) json texts =
-    IsProcedureAnswer json true wake activate paired (texts Image) (texts Weights) (texts Kept) (texts Script)
+IsAnswerToTexts (Plan keep) json texts = IsPlanAnswer json (texts Image) (texts Weights) (texts Kept)
+IsAnswerToTexts (Draw svg keep) json texts = IsDrawAnswer svg (texts Image) (texts Weights) (texts Kept)
+IsAnswerToTexts (Check first) json texts = IsCheckAnswer json first (texts Image) (texts Weights) (texts Certificate)
+IsAnswerToTexts (Provision activate keep) json texts =
+    IsProcedureAnswer json false activate (texts Image) (texts Weights) (texts Kept) (texts Script)
+IsAnswerToTexts (Trace activate keep) json texts =
+    IsProcedureAnswer json true activate (texts Image) (texts Weights) (texts Kept) (texts Script)
 
 -- the answer to an input
 abbrev pub IsAnswerOf : Request → List ℕ → Answer → Type 0

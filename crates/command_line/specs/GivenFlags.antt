@@ -28,17 +28,11 @@ bus = codes "bus"
 abbrev pub json : Text
 json = codes "json"
 
-abbrev pub wake : Text
-wake = codes "wake"
-
 abbrev pub activate : Text
 activate = codes "activate"
 
 abbrev pub keep : Text
 keep = codes "keep"
-
-abbrev pub paired : Text
-paired = codes "paired"
 
 abbrev pub svg : Text
 svg = codes "svg"

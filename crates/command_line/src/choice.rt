@@ -1,12 +1,12 @@
 //! The command line: which command the words name, and which flags they give it.
 ghost use Rattle.std.specs.Prelude.{◌≡◌, ◌∷◌, map, codes, false, true, IfOk, IfErr, IfSome, IsSome, Some};
 ghost use Rattle.std.specs.Option.{option_map_or};
-ghost use Rattle.std.specs.Prelude.{[], filter, string_bytes, option_map, MatchResult, Ok};
+ghost use Rattle.std.specs.Prelude.{[], string_bytes, option_map, MatchResult, Ok};
 ghost use Rattle.std.specs.List.{list_all};
 ghost use Rattle.clap.specs.declared.builder.command.Command.TheViews.{out-Command as fields_of};
 ghost use Rattle.clap.specs.Words.{Text, all_of, app_of, first_of, found_of, rows_of, rule_of, subcommand_rows_of, takes};
 ghost use Rattle.command_line.specs.Choice.{program, request_of, request_in, request_with, choice_with, command_app};
-ghost use Rattle.command_line.specs.Choice.{commands, faults_of, json_request, json_word, plain_request, takes_json};
+ghost use Rattle.command_line.specs.Choice.{commands, faults_of, plain_request};
 ghost use Rattle.command_line.specs.ChoiceFault.{Gives};
 ghost use Rattle.command_line.specs.GivenFlags.{flag_rule, is_given};
 ghost use Rattle.command_line.specs.MetricsChoice.{all_by, labels_in, metrics_with};
@@ -17,7 +17,6 @@ pub mod commands;
 pub mod fault;
 mod help;
 pub mod part;
-mod plain;
 pub mod word_fault;
 
 use clap::error::ErrorKind;
@@ -26,7 +25,6 @@ use commands::{Choice, CommandEntry, CommandName, Flag, Request, Takes, command_
 use fault::ChoiceFault;
 use module_metrics::Labels;
 use notices::VERSION_WITH_TEXTS;
-use plain::plain_request;
 use std::alloc::{AllocError, Global};
 use word_fault::WordFault;
 
@@ -111,28 +109,21 @@ fn choice_with(
         CommandName::Metrics => metrics_with(alloc, given),
         CommandName::Plan => Ok(Choice::Plan {
             keep: has_flag(given, "keep"),
-            paired: has_flag(given, "paired"),
         }),
         CommandName::Draw => Ok(Choice::Draw {
             svg: has_flag(given, "svg"),
             keep: has_flag(given, "keep"),
-            paired: has_flag(given, "paired"),
         }),
         CommandName::Check => Ok(Choice::Check {
             first: has_flag(given, "first"),
-            paired: has_flag(given, "paired"),
         }),
         CommandName::Provision => Ok(Choice::Provision {
-            wake: has_flag(given, "wake"),
             activate: has_flag(given, "activate"),
             keep: has_flag(given, "keep"),
-            paired: has_flag(given, "paired"),
         }),
         CommandName::Trace => Ok(Choice::Trace {
-            wake: has_flag(given, "wake"),
             activate: has_flag(given, "activate"),
             keep: has_flag(given, "keep"),
-            paired: has_flag(given, "paired"),
         }),
     }
 }
@@ -220,6 +211,18 @@ fn requested(alloc: Global, matches: &ArgMatches<'_>) -> Result<Request, ChoiceF
     request_with(alloc, entry.command, Some(given))
 }
 
+// What a command's name alone asks for; `clap` need not be asked.
+fn plain_request(alloc: Global, words: &[String]) -> Option<Request>
+    ensures answer { IfSome result (λ request. request_of (map string_bytes words.now) ≡ Some (Ok request)) }
+    ensures taken { IfSome result (λ _. faults_of (map string_bytes words.now) ≡ []) }
+{
+    let [_, name] = words else {
+        return None;
+    };
+    let entry = command_named(name)?;
+    request_with(alloc, entry.command, None).ok()
+}
+
 // What the words ask for, as `clap` reads them.
 fn parsed(alloc: Global, words: &[String]) -> Result<Request, ChoiceFault>
     ensures answer { IfOk result (λ request. request_of (map string_bytes words.now) ≡ Some (Ok request)) }
@@ -242,17 +245,13 @@ pub fn request(alloc: Global, words: &[String]) -> Result<Request, ChoiceFault>
     }
 }
 
-/// Each command's name, alone after the program's own, is taken and chooses that command, without a flag; with `--json`, if the
-/// command has it, the same as JSON.
+/// Each command's name, alone after the program's own, is taken and chooses that command, without a flag.
 pub fn names_choose_their_commands()
     ensures taken { (program_name : Text)
         → list_all (λ entry. takes program (program_name ∷ entry.name ∷ [])) commands ≡ true }
     ensures chosen { (program_name : Text)
         → map (λ entry. request_of (program_name ∷ entry.name ∷ [])) commands
         ≡ map (λ entry. Some (Ok (plain_request entry.command))) commands }
-    ensures json { (program_name : Text)
-        → map (λ entry. request_of (program_name ∷ entry.name ∷ json_word ∷ [])) (filter takes_json commands)
-        ≡ map (λ entry. Some (Ok (json_request entry.command))) (filter takes_json commands) }
 {}
 
 /// Help and the version come by their flags alone, `help` is no command, and some command is wanted.

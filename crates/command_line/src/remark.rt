@@ -8,7 +8,6 @@ ghost use Rattle.command_line.specs.Runs.{answer_of};
 ghost use Rattle.command_line.specs.declared.remark.opening.Opening.TheVariants.{Other};
 
 mod clue;
-mod line_pieces;
 mod named;
 mod opening;
 mod place;

@@ -4,4 +4,3 @@ mod ModuleRefusals
 mod Padding
 mod HeldModules
 mod ReadingLaws
-mod RefusalTexts

@@ -1,5 +1,5 @@
--- The memory of a module whose halves are handed over, why its Applications are not read, and what it advertises.
--- (docs/firmware.md, "Halves" and "Plans"; OIF-CMIS-05.0, "Management Memory Map")
+-- The memory of a module whose halves are handed over, and why its Applications are not read. (docs/firmware.md, "Halves";
+-- OIF-CMIS-05.0, "Management Memory Map")
 use Rattle.std.specs.Prelude.{◌==◌, ◌&&◌, ◌||◌, Bool, ℕ, not, nat_lt, List, length, map, Option, Some, if◌then◌else◌}
 use Rattle.std.specs.List.{list_all}
 use Rattle.std.specs.Option.{option_map}
@@ -9,7 +9,6 @@ use Rattle.bus_model.specs.declared.device.Dev.TheVariants.{A0, A2}
 use Rattle.paged_memory.specs.declared.key.Key.{Key}
 use Rattle.paged_memory.specs.Keys.{lower_key, upper_key}
 use Rattle.paged_memory.specs.Images.{Memory, most_pages}
-use Rattle.applications.specs.Advertised.{Advertised, advertised_by, with_pairing}
 use Rattle.applications.specs.Refusals.{advert_fault}
 use Rattle.firmware_api.specs.declared.half.HalfBytes.{HalfBytes}
 use Rattle.firmware_api.specs.declared.status.Refusal.{Refusal}
@@ -38,7 +37,3 @@ module_refusal halves =
     if nat_lt most_pages (length halves) then Some TooManyHalves
     else (if not (list_all has_place halves) then Some NoPlace
     else option_map Advert (advert_fault (memory_of halves)))
-
--- unless the number is 0, the module pairs an Application's first host lanes with its first media lanes
-abbrev pub advert_of : List HalfBytes → ℕ → Advertised
-advert_of halves paired = with_pairing (not (paired == 0)) (advertised_by (memory_of halves))

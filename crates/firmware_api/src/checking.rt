@@ -2,7 +2,7 @@ ghost use Rattle.std.specs.Prelude.{◌≡◌, ◌≢◌, IfOk};
 ghost use Rattle.firmware_api.specs.Checks.{IsJudged, IsShownBest, IsTextJudged, IsTextShownBest, IsTold, judgement_of, reason_number};
 ghost use Rattle.firmware_api.specs.Statuses.{done};
 
-use crate::half::{HalfBytes, read_paired_advert};
+use crate::half::{HalfBytes, read_advert};
 use crate::status::{DONE, Refusal};
 use applications::{Advert, Weights};
 use plan_certificate::{Certificate, Reason, STATES, Verdict, check};
@@ -17,21 +17,19 @@ pub struct Judgement {
     pub number: usize,
 }
 
-/// Puts into `judgement` what the certificate with this text is worth for the module whose memory has these halves, and which
-/// pairs first lanes unless `paired` is 0.
+/// Puts into `judgement` what the certificate with this text is worth for the module whose memory has these halves.
 #[unsafe(no_mangle)]
 pub extern "C" fn dovecounter_check(
     halves: &[HalfBytes],
-    paired: u8,
     weights: &[u32; 256],
     text: &[u8],
     judgement: &mut Judgement,
 ) -> u32
-    ensures told { IsTold (IsJudged halves.now paired weights.now text.now) result judgement.new }
-    ensures best { result ≡ done → judgement.new.reason ≡ 0 → IsShownBest halves.now paired weights.now text.now }
+    ensures told { IsTold (IsJudged halves.now weights.now text.now) result judgement.new }
+    ensures best { result ≡ done → judgement.new.reason ≡ 0 → IsShownBest halves.now weights.now text.now }
     ensures refused { result ≢ done → judgement.new ≡ judgement.old }
 {
-    match judged(halves, paired, weights, text) {
+    match judged(halves, weights, text) {
         Ok(judged) => {
             *judgement = judged;
             DONE
@@ -40,16 +38,11 @@ pub extern "C" fn dovecounter_check(
     }
 }
 
-fn judged(
-    halves: &[HalfBytes],
-    paired: u8,
-    weights: &[u32; 256],
-    text: &[u8],
-) -> Result<Judgement, Refusal>
-    ensures judged { IsJudged halves.now paired weights.now text.now result }
-    ensures best { IfOk result (λ judged. judged.reason ≡ 0 → IsShownBest halves.now paired weights.now text.now) }
+fn judged(halves: &[HalfBytes], weights: &[u32; 256], text: &[u8]) -> Result<Judgement, Refusal>
+    ensures judged { IsJudged halves.now weights.now text.now result }
+    ensures best { IfOk result (λ judged. judged.reason ≡ 0 → IsShownBest halves.now weights.now text.now) }
 {
-    let advert = read_paired_advert(halves, paired)?;
+    let advert = read_advert(halves)?;
     text_judged(&advert, weights, text)
 }
 
@@ -97,6 +90,5 @@ fn reason_number(reason: Reason) -> u8
         Reason::StartNotWeight => 7,
         Reason::KeptNotAdmissible => 8,
         Reason::KeptMissing => 9,
-        Reason::PairingDiffers => 10,
     }
 }

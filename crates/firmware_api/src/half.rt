@@ -1,7 +1,7 @@
 ghost use Rattle.std.specs.Prelude.{◌≡◌, ◌≤◌, length, MatchOption, Ok, Err};
 ghost use Rattle.std.specs.List.{list_all};
 ghost use Rattle.applications.specs.Advertised.{advertised_by};
-ghost use Rattle.firmware_api.specs.Halves.{advert_of, has_place, key_of, memory_of, module_refusal};
+ghost use Rattle.firmware_api.specs.Halves.{has_place, key_of, memory_of, module_refusal};
 ghost use Rattle.firmware_api.specs.SimulatedModules.{half_refusal, unless_refused};
 ghost use Rattle.paged_memory.specs.Images.{most_pages};
 
@@ -64,16 +64,6 @@ pub fn read_advert(halves: &[HalfBytes]) -> Result<Advert, Refusal>
     match Advert::of(&image_of(halves)) {
         Ok(advert) => Ok(advert),
         Err(fault) => Err(Refusal::Advert(fault)),
-    }
-}
-
-/// The same of a module that pairs first lanes, if `paired` is not 0.
-pub fn read_paired_advert(halves: &[HalfBytes], paired: u8) -> Result<Advert, Refusal>
-    ensures { MatchOption (module_refusal halves.now) (result ≡ Ok (advert_of halves.now paired)) (λ refusal. result ≡ Err refusal) }
-{
-    match read_advert(halves) {
-        Ok(advert) => Ok(advert.with_pairing(paired != 0)),
-        Err(refusal) => Err(refusal),
     }
 }
 

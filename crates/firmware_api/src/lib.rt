@@ -11,7 +11,6 @@ mod flags;
 mod half;
 mod identity;
 mod kept;
-pub mod laws;
 mod measured_values;
 mod monitors;
 mod operation;

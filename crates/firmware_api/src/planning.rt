@@ -1,10 +1,11 @@
 ghost use Rattle.std.specs.Prelude.{◌≡◌, ◌≢◌, IfOk, MatchOption, Ok, Err};
+ghost use Rattle.applications.specs.Advertised.{advertised_by};
 ghost use Rattle.plan_certificate.specs.Plans.{IsAdmissible};
-ghost use Rattle.firmware_api.specs.Halves.{advert_of};
+ghost use Rattle.firmware_api.specs.Halves.{memory_of};
 ghost use Rattle.firmware_api.specs.Plans.{IsPlanned, kept_refusal, paths_of, plan_refusal};
 ghost use Rattle.firmware_api.specs.Statuses.{done, status_by, status_in};
 
-use crate::half::{HalfBytes, read_paired_advert};
+use crate::half::{HalfBytes, read_advert};
 use crate::status::{DONE, Refusal};
 use applications::{Advert, Weights};
 use arrayvec::ArrayVec;
@@ -31,20 +32,19 @@ pub struct LanePlan {
 }
 
 /// Puts into `plan`, among the plans that hold the kept paths, the first of those that weigh most for the module whose
-/// memory has these halves, and which pairs first lanes unless `paired` is 0. There is a weight for each HostInterfaceID.
+/// memory has these halves. There is a weight for each HostInterfaceID.
 #[unsafe(no_mangle)]
 pub extern "C" fn dovecounter_plan(
     halves: &[HalfBytes],
-    paired: u8,
     weights: &[u32; 256],
     kept: &[Path],
     plan: &mut LanePlan,
 ) -> u32
-    ensures status { result ≡ status_by (plan_refusal halves.now paired kept.now) }
-    ensures done { result ≡ done → IsPlanned (advert_of halves.now paired) weights.now kept.now plan.new }
+    ensures status { result ≡ status_by (plan_refusal halves.now kept.now) }
+    ensures done { result ≡ done → IsPlanned (advertised_by (memory_of halves.now)) weights.now kept.now plan.new }
     ensures refused { result ≢ done → plan.new ≡ plan.old }
 {
-    match planned(halves, paired, weights, kept) {
+    match planned(halves, weights, kept) {
         Ok(planned) => {
             *plan = planned;
             DONE
@@ -53,16 +53,11 @@ pub extern "C" fn dovecounter_plan(
     }
 }
 
-fn planned(
-    halves: &[HalfBytes],
-    paired: u8,
-    weights: &[u32; 256],
-    kept: &[Path],
-) -> Result<LanePlan, Refusal>
-    ensures status { status_in result ≡ status_by (plan_refusal halves.now paired kept.now) }
-    ensures planned { IfOk result (IsPlanned (advert_of halves.now paired) weights.now kept.now) }
+fn planned(halves: &[HalfBytes], weights: &[u32; 256], kept: &[Path]) -> Result<LanePlan, Refusal>
+    ensures status { status_in result ≡ status_by (plan_refusal halves.now kept.now) }
+    ensures planned { IfOk result (IsPlanned (advertised_by (memory_of halves.now)) weights.now kept.now) }
 {
-    let advert = read_paired_advert(halves, paired)?;
+    let advert = read_advert(halves)?;
     let kept = kept_plan(&advert, kept)?;
     Ok(best_plan(&advert, weights, &kept))
 }

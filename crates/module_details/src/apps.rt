@@ -8,7 +8,7 @@ ghost use Rattle.module_details.specs.AppDetails.{app_entries, app_entry, apps_e
 
 use crate::facts::named;
 use applications::{Advert, App};
-use code_names::{Table, media_interface_name};
+use code_names::{Name, Table};
 use field_tables::{Field, number};
 use paged_memory::Image;
 use report_entries::{Entry, Fact, Place, Said, say};
@@ -63,7 +63,8 @@ fn say_host(entries: &mut Vec<Entry>, app: &App) -> Result<(), AllocError>
 fn say_medium(entries: &mut Vec<Entry>, media: u8, app: &App) -> Result<(), AllocError>
     ensures { OnOk result (said_in entries.new ≡ said_in entries.old ++ medium_entry media app.now ∷ []) }
 {
-    say_of(entries, "media-interface", app, medium(media, app.media_id))
+    let medium = named_by(media_table(media), app.media_id);
+    say_of(entries, "media-interface", app, medium)
 }
 
 #[tactic(auto, unfolding(crate::specs::AppDetails::lane_entries))]
@@ -110,8 +111,26 @@ fn say_of(
     say(entries, name, Said::Fact(Place::App(app.number), fact))
 }
 
-fn medium(media: u8, code: u8) -> Fact
-    ensures { fact_of result ≡ spec.medium media code }
+// The table of a media type's media interfaces.
+fn media_table(media: u8) -> Option<Table>
+    ensures { result ≡ spec.media_table media }
 {
-    Fact::Named(code, media_interface_name(media, code).text())
+    match media {
+        1 => Some(Table::MultiModeMedia),
+        2 => Some(Table::SingleModeMedia),
+        3 => Some(Table::PassiveCopper),
+        4 => Some(Table::ActiveCables),
+        5 => Some(Table::BaseTMedia),
+        _ => None,
+    }
+}
+
+#[tactic(auto, unfolding(crate::specs::AppDetails::named_by))]
+fn named_by(table: Option<Table>, code: u8) -> Fact
+    ensures { fact_of result ≡ spec.named_by table code }
+{
+    match table {
+        None => Fact::Named(code, Name::Unlisted.text()),
+        Some(table) => named(table, code),
+    }
 }

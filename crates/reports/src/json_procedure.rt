@@ -1,24 +1,21 @@
-// What waking up, provisioning and activation came to, as JSON.
+// What provisioning and activation came to, as JSON.
 ghost use Rattle.std.specs.Prelude.{◌≡◌, ◌++◌, IfOk, OnOk, map};
 ghost use Rattle.json.specs.Tree.{json_tokens};
 ghost use Rattle.report_entries.specs.EntryJson.{IsJsonText, string_members};
 ghost use Rattle.report_entries.specs.JsonTrees.{all_member_tokens, all_tokens};
 ghost use Rattle.reports.specs.ProcedureJson.{active_members, answer_members, kind_members, op_members, operations_members, outcome_fault_members, outcome_members, place_members, procedure_json, reply_members, step_json, steps_json, steps_members, taken_members};
 
-use crate::json_fault::put_fault;
+use crate::json_fault::{Word, put_fault};
 use crate::json_plan::put_bytes;
 use bus_model::{Dev, Op, Reply, Step};
 use report_entries::json_document::{begin, end};
 use report_entries::{JsonWriter, put_count, put_shown};
 use std::alloc::{AllocError, Global};
-use text_lines::Word;
 
-/// What waking up, provisioning and activation came to.
+/// What provisioning and activation came to.
 #[derive(Clone, Copy)]
 pub struct Outcome {
-    /// The steps of waking up, if it was made and succeeded.
-    pub woken: Option<u16>,
-    /// The steps of provisioning, if it was made and succeeded.
+    /// The steps of provisioning, if it succeeded.
     pub provisioned: Option<u16>,
     /// The steps of activation, if it was made and succeeded.
     pub activated: Option<u16>,
@@ -149,7 +146,6 @@ fn put_answer(out: &mut JsonWriter, word: &str) -> Result<(), AllocError>
 fn put_outcome(out: &mut JsonWriter, outcome: Outcome) -> Result<(), AllocError>
     ensures { OnOk result (out.new ≡ out.old ++ all_member_tokens (outcome_members outcome)) }
 {
-    put_taken(out, "woken_steps", outcome.woken)?;
     put_taken(out, "provisioned_steps", outcome.provisioned)?;
     put_taken(out, "activated_steps", outcome.activated)?;
     put_active(out, outcome.active)

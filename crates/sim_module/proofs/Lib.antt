@@ -21,6 +21,5 @@ pub mod ReadBytes
 pub mod ActiveLaw
 pub mod Provisioned
 pub mod Activated
-pub mod ChangedPower
 pub mod DeinitBits
 pub mod ReleasedLanes

@@ -1,6 +1,3 @@
-ghost use Rattle.std.specs.Prelude.{◌≡◌};
-ghost use Rattle.sim_module.specs.Starts as spec;
-
 use datapath_states::PathState;
 use module_states::ModuleState;
 
@@ -69,6 +66,9 @@ impl Delays {
         }
     }
 }
+
+ghost use Rattle.std.specs.Prelude.{◌≡◌};
+ghost use Rattle.sim_module.specs.Starts as spec;
 
 fn is_delay(delay: u16) -> bool
     ensures { result ≡ spec.is_delay delay }

@@ -1,7 +1,4 @@
 //! Which lanes are to be deactivated, or kept so.
-ghost use Rattle.std.specs.Prelude.{◌≡◌};
-ghost use Rattle.sim_module.specs.Down as spec;
-
 use crate::moving::Moving;
 use control_sets::{agree, control_at};
 use field_tables::{Field, LaneNumber, is_set};
@@ -63,6 +60,9 @@ impl Moving {
             || self.has_low_power()
     }
 }
+
+ghost use Rattle.std.specs.Prelude.{◌≡◌};
+ghost use Rattle.sim_module.specs.Down as spec;
 
 /// Whether the byte of global controls, with the pin, asks for low power.
 pub fn asks_low_power(control: u8, pin: bool) -> bool

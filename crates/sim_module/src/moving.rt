@@ -1,7 +1,4 @@
 //! What changes of a module.
-ghost use Rattle.std.specs.Prelude.{◌≡◌, ◌-◌, get_or};
-ghost use Rattle.sim_module.specs.Lanes.{no_lane};
-
 use crate::delays::Delays;
 use crate::lane::Lane;
 use applications::LaneSet;
@@ -88,6 +85,9 @@ impl Moving {
         self.pin = on;
     }
 }
+
+ghost use Rattle.std.specs.Prelude.{◌≡◌, ◌-◌, get_or};
+ghost use Rattle.sim_module.specs.Lanes.{no_lane};
 
 /// One of all lanes.
 pub fn lane_in(lanes: &[Lane; 8], lane: LaneNumber) -> Lane

@@ -1,12 +1,4 @@
 //! A module at the start.
-ghost use Rattle.std.specs.Prelude.{◌≡◌, ◌≤◌, ◌+◌, map};
-ghost use Rattle.std.specs.List.{range_with_len};
-ghost use Rattle.applications.specs.Advertised.{advertised_by};
-ghost use Rattle.sim_module.specs.Lanes.{all_lanes};
-ghost use Rattle.field_tables.specs.Registers.{first_byte};
-ghost use Rattle.sim_module.specs.Registers.{lane_flag_bytes};
-ghost use Rattle.sim_module.specs.Starts as spec;
-
 use crate::SimModule;
 use crate::delays::Delays;
 use crate::down::asks_low_power;
@@ -49,6 +41,14 @@ impl SimModule {
         Ok(start(image, advert, delays))
     }
 }
+
+ghost use Rattle.std.specs.Prelude.{◌≡◌, ◌≤◌, ◌+◌, map};
+ghost use Rattle.std.specs.List.{range_with_len};
+ghost use Rattle.applications.specs.Advertised.{advertised_by};
+ghost use Rattle.sim_module.specs.Lanes.{all_lanes};
+ghost use Rattle.field_tables.specs.Registers.{first_byte};
+ghost use Rattle.sim_module.specs.Registers.{lane_flag_bytes};
+ghost use Rattle.sim_module.specs.Starts as spec;
 
 // Of the halves that a module needs, the first that an image lacks.
 fn absent_half(image: &Image) -> Option<Key>

@@ -1,7 +1,4 @@
 //! What a tick makes of a module.
-ghost use Rattle.std.specs.Prelude.{◌≡◌};
-ghost use Rattle.sim_module.specs.Ticks as spec;
-
 use crate::lane::{Lane, next_left};
 use crate::moving::{Moving, lane_in};
 use applications::LaneSet;
@@ -165,6 +162,9 @@ impl Moving {
         self.pass_tick()
     }
 }
+
+ghost use Rattle.std.specs.Prelude.{◌≡◌};
+ghost use Rattle.sim_module.specs.Ticks as spec;
 
 // Whether a path stays in the state until it is told to leave it.
 fn is_steady(state: PathState) -> bool

@@ -46,37 +46,27 @@ pub enum Choice {
     Plan {
         /// Whether the plan is to keep data paths that the input names.
         keep: bool,
-        /// Whether the module pairs first lanes.
-        paired: bool,
     },
     Draw {
         /// Whether the drawing is to be an SVG.
         svg: bool,
-        /// Both as for `Plan`.
+        /// As for `Plan`.
         keep: bool,
-        paired: bool,
     },
     Check {
         /// Whether the plan of the certificate is to be compared with the one that `plan` gives.
         first: bool,
-        /// As for `Plan`.
-        paired: bool,
     },
     Provision {
-        /// Whether the module is to be woken up before.
-        wake: bool,
         /// Whether the plan is to be activated too.
         activate: bool,
-        /// Both as for `Plan`.
+        /// As for `Plan`.
         keep: bool,
-        paired: bool,
     },
     /// The same, with each transaction.
     Trace {
-        wake: bool,
         activate: bool,
         keep: bool,
-        paired: bool,
     },
 }
 
@@ -138,14 +128,6 @@ const JSON: Flag = Flag {
     help: "Print the answer, or the fault, as JSON",
 };
 
-/// Asks for waking the module up.
-const WAKE: Flag = Flag {
-    name: "wake",
-    takes: Takes::Nothing,
-    word: "",
-    help: "Wake the module up before, by clearing its low power requests",
-};
-
 /// Asks for activation.
 const ACTIVATE: Flag = Flag {
     name: "activate",
@@ -160,14 +142,6 @@ const KEEP: Flag = Flag {
     takes: Takes::Nothing,
     word: "",
     help: "Keep data paths: a further part of the input names them, after the weights",
-};
-
-/// Says that the module pairs first lanes.
-const PAIRED: Flag = Flag {
-    name: "paired",
-    takes: Takes::Nothing,
-    word: "",
-    help: "The module joins the nth host start of an Application with its nth media start alone",
 };
 
 /// Asks for an SVG.
@@ -226,11 +200,11 @@ pub fn commands() -> &'static [CommandEntry]
         "flags" Report(Flags) [BUS JSON] "Print the states of the module and its lanes, and the flags that are raised";
         "details" Report(Details) [BUS JSON] "Print all that the module says of itself, with names";
         "metrics" Metrics [BUS LABEL FLAGS] "Print what 'inventory', 'monitors' and 'flags' say, as metrics for Prometheus";
-        "plan" Plan [KEEP PAIRED JSON] "Print the plan that weighs most for an image and weights, with its certificate";
-        "draw" Draw [SVG KEEP PAIRED] "Draw the plan, and say for each host lane what else could have been done there";
-        "check" Check [FIRST PAIRED JSON] "Judge a certificate for an image and weights, and print its plan if it is good";
-        "provision" Provision [WAKE ACTIVATE KEEP PAIRED JSON] "Put the plan into the Active Control Set of a simulated module, over a bus that does as a script says";
-        "trace" Trace [WAKE ACTIVATE KEEP PAIRED JSON] "Do what 'provision' does, and print each transaction";
+        "plan" Plan [KEEP JSON] "Print the plan that weighs most for an image and weights, with its certificate";
+        "draw" Draw [SVG KEEP] "Draw the plan, and say for each host lane what else could have been done there";
+        "check" Check [FIRST JSON] "Judge a certificate for an image and weights, and print its plan if it is good";
+        "provision" Provision [ACTIVATE KEEP JSON] "Put the plan into the Active Control Set of a simulated module, over a bus that does as a script says";
+        "trace" Trace [ACTIVATE KEEP JSON] "Do what 'provision' does, and print each transaction";
     }
 }
 

@@ -1,6 +1,4 @@
 //! What help says beside the commands and flags: what a command reads, examples, and how it may end.
-ghost use Rattle.std.specs.Prelude.{◌≡◌};
-ghost use Rattle.command_line.specs.Help.{help_of};
 
 use super::commands::{CommandName, ReportName};
 
@@ -49,9 +47,7 @@ macro_rules! end {
 }
 
 /// The end of the command's help.
-pub fn of_command(command: CommandName) -> &'static str
-    ensures { result.now ≡ help_of command }
-{
+pub fn of_command(command: CommandName) -> &'static str {
     match command {
         CommandName::Report(ReportName::Inventory) => end!([image] []
             ["inventory < examples/qsfp_dd_400g_dr4.txt" "inventory --bus < examples/qsfp28_100g_sr4.txt"

@@ -1,4 +1,4 @@
-ghost use Rattle.std.specs.Prelude.{◌≡◌, ◌≢◌, ◌++◌, ◌∷◌, [], ℕ, Bool, List, IfErr, IfOk, Ok, OnOk};
+ghost use Rattle.std.specs.Prelude.{◌≡◌, ◌≢◌, ◌++◌, ◌∷◌, [], ℕ, List, IfErr, IfOk, Ok, OnOk};
 ghost use Rattle.applications.specs.WeightFaults.{IsAnswer};
 ghost use Rattle.text_lines.specs.Lines.{text_of};
 ghost use Rattle.plan_certificate.specs.Certificates.{IsGood};
@@ -22,15 +22,14 @@ pub fn check(
     alloc: Global,
     is_json: bool,
     tells_first: bool,
-    is_paired: bool,
     image: &[u8],
     weights: &[u8],
     certificate: &[u8],
 ) -> Result<CommandOutput, Fault>
-    ensures answer { IsOwnAnswer (IsCheckAnswer is_json tells_first is_paired image.now weights.now certificate.now) (answer_of result) }
+    ensures answer { IsOwnAnswer (IsCheckAnswer is_json tells_first image.now weights.now certificate.now) (answer_of result) }
     ensures read { IfErr result (λ fault. fault ≢ Fault.Io) }
 {
-    let advert = read_advert(is_paired, image)?;
+    let advert = read_advert(image)?;
     let weights = Weights::read(alloc, weights)?;
     judged(alloc, is_json, tells_first, &advert, &weights, certificate)
 }
@@ -46,8 +45,8 @@ fn judged(
     weights: &Weights,
     text: &[u8],
 ) -> Result<CommandOutput, Fault>
-    ensures answer { (paired : Bool) (image listed : List ℕ) → IsAdvertText paired image advert.now → IsAnswer listed (Ok weights.now)
-        → IsOwnAnswer (IsCheckAnswer is_json tells_first paired image listed text.now) (answer_of result) }
+    ensures answer { (image listed : List ℕ) → IsAdvertText image advert.now → IsAnswer listed (Ok weights.now)
+        → IsOwnAnswer (IsCheckAnswer is_json tells_first image listed text.now) (answer_of result) }
     ensures read { IfErr result (λ fault. fault ≢ Fault.Io) }
 {
     let mut read = Certificate::<STATES>::blank();

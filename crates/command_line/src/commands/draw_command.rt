@@ -14,15 +14,14 @@ use std::alloc::Global;
 pub fn draw(
     alloc: Global,
     as_svg: bool,
-    is_paired: bool,
     image: &[u8],
     weights: &[u8],
     kept: &[u8],
 ) -> Result<CommandOutput, Fault>
-    ensures answer { IsOwnAnswer (IsDrawAnswer as_svg is_paired image.now weights.now kept.now) (answer_of result) }
+    ensures answer { IsOwnAnswer (IsDrawAnswer as_svg image.now weights.now kept.now) (answer_of result) }
     ensures read { IfErr result (λ fault. fault ≢ Fault.Io) }
 {
-    let (image, advert) = read_module(is_paired, image)?;
+    let (image, advert) = read_module(image)?;
     let weights = Weights::read(alloc, weights)?;
     let kept = read_kept(&advert, kept)?;
     let media_type = number(&image, Field::CMediaType);

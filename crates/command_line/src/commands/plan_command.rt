@@ -18,15 +18,14 @@ use text_lines::Lines;
 pub fn plan(
     alloc: Global,
     is_json: bool,
-    is_paired: bool,
     image: &[u8],
     weights: &[u8],
     kept: &[u8],
 ) -> Result<CommandOutput, Fault>
-    ensures answer { IsOwnAnswer (IsPlanAnswer is_json is_paired image.now weights.now kept.now) (answer_of result) }
+    ensures answer { IsOwnAnswer (IsPlanAnswer is_json image.now weights.now kept.now) (answer_of result) }
     ensures read { IfErr result (λ fault. fault ≢ Fault.Io) }
 {
-    let advert = read_advert(is_paired, image)?;
+    let advert = read_advert(image)?;
     let weights = Weights::read(alloc, weights)?;
     let kept = read_kept(&advert, kept)?;
     let (text, has_paths) = planned(alloc, is_json, &advert, &weights, &kept)?;

@@ -6,20 +6,20 @@ use applications::Advert;
 use paged_memory::Image;
 use plan_certificate::{KeptFault, Plan, kept_fault, kept_of};
 
-/// The image of this text, and what its module advertises, if it pairs first lanes or does not.
-pub fn read_module(paired: bool, text: &[u8]) -> Result<(Image, Advert), Fault>
-    ensures { MatchResult result (λ read. IsModuleText paired text.now read.0 read.1) (IsAdvertRefusal text.now) }
+/// The image of this text, and what its module advertises.
+pub fn read_module(text: &[u8]) -> Result<(Image, Advert), Fault>
+    ensures { MatchResult result (λ read. IsModuleText text.now read.0 read.1) (IsAdvertRefusal text.now) }
 {
     let image = Image::read(text)?;
     let advert = Advert::of(&image)?;
-    Ok((image, advert.with_pairing(paired)))
+    Ok((image, advert))
 }
 
-/// What the module advertises whose image has this text, if it pairs first lanes or does not.
-pub fn read_advert(paired: bool, text: &[u8]) -> Result<Advert, Fault>
-    ensures { MatchResult result (IsAdvertText paired text.now) (IsAdvertRefusal text.now) }
+/// What the module advertises whose image has this text.
+pub fn read_advert(text: &[u8]) -> Result<Advert, Fault>
+    ensures { MatchResult result (IsAdvertText text.now) (IsAdvertRefusal text.now) }
 {
-    let (_image, advert) = read_module(paired, text)?;
+    let (_image, advert) = read_module(text)?;
     Ok(advert)
 }
 

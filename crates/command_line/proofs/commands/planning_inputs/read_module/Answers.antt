@@ -1,6 +1,4 @@
-use Rattle.std.proofs.Common.{ap, ◌∙◌}
 use Rattle.std.proofs.lemmas.Result.{err_from_is_err_and}
-use Rattle.applications.specs.Advertised.{with_pairing}
 use Rattle.applications.specs.Refusals.{advert_fault}
 use Rattle.command_line.proofs.AdvertAnswers.{answered, refused}
 use Rattle.command_line.specs.PlanningInputs.{IsAdvertRefusal}
@@ -18,4 +16,4 @@ pub returns : goal.returns
 returns c =
     let memory = c.in_ok-image.image in
     let told = answered memory c.in_ok-advert.advert (advert_fault memory) c.in_ok-advert.ensures in
-    record { is_text = c.in_ok-image.ensures.ok; accepted = told.0; advertised = c.with_pairing.ensures ∙ ap (with_pairing c.args.paired) told.1 }
+    record { is_text = c.in_ok-image.ensures.ok; accepted = told.0; advertised = told.1 }
