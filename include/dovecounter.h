@@ -1,13 +1,14 @@
-/* Dovecounter for C: reads a pluggable optical module, divides the lanes of a CMIS module (OIF-CMIS-05.0) into data paths, checks
-   certificates of such plans, provisions a module over a bus that the caller owns, and simulates a module for tests.
+/* Dovecounter for C: reads a pluggable optical module, divides the lanes of a CMIS module (OIF-CMIS-05.0) into data
+   paths, checks certificates of such plans, provisions a module over a bus that the caller owns, and simulates a
+   module for tests.
 
-   Each function is proved to return, and to do what is said here. None allocates, prints, waits, keeps a pointer or ends
-   the process, and none has state of its own: calls may run at the same time, if none of them writes what another one
-   reads or writes.
+   Each function is proved to return, and to do what is said here. None allocates, prints, waits, keeps a pointer or
+   ends the process, and none has state of its own: calls may run at the same time, if none of them writes what
+   another one reads or writes.
 
-   The caller has to see to what no function can see: each pointer points to as much as its type and its length say, and is not
-   null, even if a length is 0; what a pointer to const points to does not change during the call; and what a function writes
-   overlaps nothing else that it is given. Numbers and bytes may have any value.
+   The caller has to see to what no function can see: each pointer points to as much as its type and its length say,
+   and is not null, even if a length is 0; what a pointer to const points to does not change during the call; and what
+   a function writes overlaps nothing else that it is given. Numbers and bytes may have any value.
 
    In a byte of lanes, bit i-1 stands for lane i: 0x01 is lane 1 and 0x80 is lane 8. */
 #ifndef DOVECOUNTER_H
@@ -20,12 +21,13 @@
 extern "C" {
 #endif
 
-#define DOVECOUNTER_VERSION 4
+#define DOVECOUNTER_VERSION 5
 
-/* What a function answers. On any status but DOVECOUNTER_DONE it has written nothing, but for the length that
-   dovecounter_certificate also writes if a buffer is too small, and the line that dovecounter_weights then writes. The comments name the faults that the program cmisctl prints for
-   the same reason. Each function below has a table of the statuses besides 0 that it answers; if more
-   than one applies, it answers the one that stands first. */
+/* What a function answers. On any status but DOVECOUNTER_DONE it has written nothing, with two exceptions:
+   dovecounter_certificate writes the text's length if the buffer is too small for it, and dovecounter_weights the
+   number of the faulty line. The comments name the faults that the program cmisctl prints for the same reason. Each
+   function below has a table of the statuses besides 0 that it answers; if more than one applies, it answers the one
+   that stands first in its table. */
 enum dovecounter_status {
     DOVECOUNTER_DONE = 0,
 
@@ -94,9 +96,9 @@ enum dovecounter_status {
 /* No text of the four functions below is longer. */
 #define DOVECOUNTER_TEXT_SIZE 256
 
-/* Writes to the buffer what a status means and what to do: ASCII, without an end of line and without a NUL. Writes to *text_length how
-   many bytes these are. The bytes of the buffer after them stay as they are. A status that stands for a fault of cmisctl has that
-   fault's sentence, which docs/faults.md lists.
+/* Writes to the buffer what a status means and what to do: ASCII, without an end of line and without a NUL. Writes to
+   *text_length how many bytes these are. The bytes of the buffer after them stay as they are. A status that stands
+   for a fault of cmisctl has that fault's sentence, which docs/faults.md lists.
 
    status   if
    3        it is no status
@@ -110,7 +112,7 @@ uint32_t dovecounter_status_text(uint32_t status, uint8_t *buffer, size_t buffer
    4        buffer_size is below the text's length */
 uint32_t dovecounter_fault_text(uint32_t code, uint8_t *buffer, size_t buffer_size, size_t *text_length);
 
-/* The same of the reason of a dovecounter_judgement, 1 to 9.
+/* The same of the reason of a dovecounter_judgement, 1 to 10.
 
    status   if
    3        it is no such reason
@@ -150,8 +152,12 @@ struct dovecounter_advertisement {
     struct dovecounter_application applications[15];
 };
 
-/* Writes to *advertisement what the module with these halves advertises. Of device 0xA0 the lower half and the pages 00h and 01h
-   of bank 0 are needed; other halves are ignored. If two halves have the same place, the first counts.
+/* Writes to *advertisement what the module with these halves advertises. Of device 0xA0 the lower half and the pages
+   00h and 01h of bank 0 are needed; other halves are ignored. If two halves have the same place, the first counts.
+
+   A lane count of 0 stands in a module for the count that the interface ID implies. If `counts_by_id` is not 0, such an Application
+   has the count that docs/planning.md tells by its IDs, or 0 if that is not known; if it is 0, the counts are those in the module.
+   dovecounter_plan, dovecounter_check and dovecounter_certificate go by the same counts for the same `counts_by_id`.
 
    status   if
    1, 2     there are more than 16 halves, or one has no place
@@ -162,14 +168,14 @@ struct dovecounter_advertisement {
    13       it has flat memory
    14       page 00h or 01h is missing
    15       the sum of one of them is wrong */
-uint32_t dovecounter_advertisement(const struct dovecounter_half *halves, size_t half_count,
+uint32_t dovecounter_advertisement(const struct dovecounter_half *halves, size_t half_count, uint8_t counts_by_id,
                                    struct dovecounter_advertisement *advertisement);
 
 enum dovecounter_family { DOVECOUNTER_CMIS = 1, DOVECOUNTER_SFF_8636 = 2, DOVECOUNTER_SFF_8472 = 3 };
 
-/* What a module is: what the command `inventory` prints. Amounts are in thousandths of the unit that it prints. Texts come without
-   the padding at their end and with `?` for a byte that is no printable ASCII; then comes NUL. What only CMIS has is 0 in other
-   modules. */
+/* What a module is: what the command `inventory` prints. Amounts are in thousandths of the unit that it prints. Texts
+   come without the padding at their end and with `?` for a byte that is no printable ASCII; then comes NUL. What only
+   CMIS has is 0 in other modules. */
 struct dovecounter_identity {
     int64_t max_power;      /* thousandths of a watt (CMIS) */
     int64_t length;         /* thousandths of a metre (CMIS) */
@@ -191,8 +197,8 @@ struct dovecounter_identity {
     char date[17];
 };
 
-/* Writes to *identity what the module with these halves is. Needed are the lower half of device 0xA0, and its page 00h unless the
-   module is of SFF-8472; other halves are ignored.
+/* Writes to *identity what the module with these halves is. Needed are the lower half of device 0xA0, and its page
+   00h unless the module is of SFF-8472; other halves are ignored.
 
    status   if
    1, 2     there are more than 16 halves, or one has no place
@@ -211,8 +217,8 @@ struct dovecounter_levels {
     uint8_t low_warning;
 };
 
-/* The states of a module, and the flags that it raises, a byte of lanes each: what the command `flags` prints. What a family does
-   not have is 0, and so is all that a CMIS module with flat memory does not tell. */
+/* The states of a module, and the flags that it raises, a byte of lanes each: what the command `flags` prints. What a
+   family does not have is 0, and so is all that a CMIS module with flat memory does not tell. */
 struct dovecounter_flags {
     uint8_t family;             /* of enum dovecounter_family */
     uint8_t lanes;              /* how many lanes are told of: 8, 4 or 1; 0 if a CMIS module has flat memory */
@@ -233,9 +239,9 @@ struct dovecounter_flags {
     struct dovecounter_levels rx_power;
 };
 
-/* Writes to *flags the states and the flags of the module with these halves. Needed are the lower half of device 0xA0, of a CMIS
-   module with paged memory page 11h of bank 0, and of a module of SFF-8472 the lower half of device 0xA2. In memory that was read,
-   most flags have become 0 by that.
+/* Writes to *flags the states and the flags of the module with these halves. Needed are the lower half of device
+   0xA0, of a CMIS module with paged memory page 11h of bank 0, and of a module of SFF-8472 the lower half of device
+   0xA2. A module clears most flags when they are read, so halves that are read later show what was raised since.
 
    status   if
    1, 2     there are more than 16 halves, or one has no place
@@ -288,9 +294,9 @@ struct dovecounter_monitors {
                     is none */
 };
 
-/* Writes to *monitors what the module with these halves measures. Needed are the lower half of device 0xA0; of a CMIS module with
-   paged memory the pages 01h, 02h and 11h of bank 0; of a module of SFF-8636 with paged memory page 03h; and of a module of SFF-8472
-   the lower half of device 0xA2. Other halves are ignored.
+/* Writes to *monitors what the module with these halves measures. Needed are the lower half of device 0xA0; of a CMIS
+   module with paged memory the pages 01h, 02h and 11h of bank 0; of a module of SFF-8636 with paged memory page 03h;
+   and of a module of SFF-8472 the lower half of device 0xA2. Other halves are ignored.
 
    status   if
    1, 2     there are more than 16 halves, or one has no place
@@ -304,8 +310,8 @@ struct dovecounter_monitors {
 uint32_t dovecounter_monitors(const struct dovecounter_half *halves, size_t half_count,
                               struct dovecounter_monitors *monitors);
 
-/* How long states last at most, in milliseconds, as the module advertises: the upper end of the range that its code stands for, and
-   DOVECOUNTER_UNBOUNDED if the range has none or the code is reserved. */
+/* How long states last at most, in milliseconds, as the module advertises: the upper end of the range that its code
+   stands for, and DOVECOUNTER_UNBOUNDED if the range has none or the code is reserved. */
 struct dovecounter_durations {
     uint32_t module_power_up;   /* MaxDurationModulePwrUp */
     uint32_t module_power_down; /* MaxDurationModulePwrDn */
@@ -326,13 +332,13 @@ struct dovecounter_durations {
 uint32_t dovecounter_durations(const struct dovecounter_half *halves, size_t half_count,
                                struct dovecounter_durations *durations);
 
-/* Writes to weights[0] to weights[255] how much each HostInterfaceID is worth, as the lines of a text say: 0 if it isn't listed.
-   A line `[host]` comes first, and after it a line such as `0Dh = 101` for each ID that is wanted: two hexadecimal digits of either
-   case and `h`, and the weight, a decimal number up to 4294967295 without leading zeros. Blanks and tabs may stand at both ends of a
-   line and around `=`; from `#` on a line is a comment; a line may have nothing else, or be empty. The text is UTF-8; LF ends a line,
-   and the last one may have none. cmisctl reads the same weights from it. Other TOML that cmisctl reads, such as 1_000, or lines that
-   end in CR LF, is refused here. On status 91 and 94 *line becomes the number of the faulty line, from 1 on, and on 92 it becomes 0;
-   else it stays.
+/* Writes to weights[0] to weights[255] how much each HostInterfaceID is worth, as the lines of a text say: 0 if it
+   isn't listed. A line `[host]` comes first, and after it a line such as `0Dh = 101` for each ID that is wanted: two
+   hexadecimal digits of either case and `h`, and the weight, a decimal number up to 4294967295 without leading zeros.
+   Blanks and tabs may stand at both ends of a line and around `=`; from `#` on a line is a comment; a line may have
+   nothing else, or be empty. The text is UTF-8; LF ends a line, and the last one may have none. cmisctl reads the
+   same weights from it. Other TOML that cmisctl reads, such as 1_000, or lines that end in CR LF, is refused here. On
+   status 91 and 94 *line becomes the number of the faulty line, from 1 on, and on 92 it becomes 0; else it stays.
 
    status   if
    91       a line is none of these, comes before `[host]`, or is a second `[host]`
@@ -357,60 +363,75 @@ struct dovecounter_plan {
     struct dovecounter_path paths[8]; /* by rising host lane; zeros after the last one */
 };
 
-/* Writes to *plan the best plan for the module with these halves: its paths are allowed, no two share a lane, the kept paths are
-   among them, and no such plan weighs more. Of several such plans it is the first, in the order of docs/planning.md. A path
-   weighs what `weights` has at its HostInterfaceID. The kept paths may come in any order.
+/* Writes to *plan the best plan for the module with these halves: its paths are allowed, no two share a lane, the
+   kept paths are among them, and no such plan weighs more. Of several such plans it is the first, in the order of
+   docs/planning.md. A path weighs what `weights` has at its HostInterfaceID. The kept paths may come in any order.
 
-   To provision the plan and leave the kept data paths alone, hand plan->control and plan->outside to dovecounter_provision,
-   and then plan->control and plan->lanes to dovecounter_activate. To keep paths of this plan in a later one, save plan->paths, also
-   across a restart: no register of the module says which media lanes a path takes. A structure's layout changes only with
-   DOVECOUNTER_VERSION.
+   If `paired` is not 0, the module pairs first lanes: a path that begins at the second of its Application's first
+   host lanes takes the second of its first media lanes, and so on. If it is 0, it may take any of them. No register
+   of a module says which holds, or lets a host choose media lanes, so hand over 1 if in doubt: such a plan is allowed
+   for 0 too. cmisctl plans for 0, and with --paired for 1.
+
+   An Application with a lane count of 0 is not planned, unless `counts_by_id` is not 0 and the count is known by the
+   interface ID, as dovecounter_advertisement tells. No plan weighs less for that. cmisctl plans for 0, and with
+   --counts-by-id for 1.
+
+   To provision the plan and leave the kept data paths alone, hand plan->control and plan->outside to
+   dovecounter_provision, and then plan->control and plan->lanes to dovecounter_activate. To keep paths of this plan
+   in a later one, save plan->paths, also across a restart: no register of the module says which media lanes a path
+   takes. A structure's layout changes only with DOVECOUNTER_VERSION.
 
    status     if
    1, 2       there are more than 16 halves, or one has no place
    11 to 16   the halves do not say what the module advertises, as dovecounter_advertisement tells
    42         there are more than 8 kept paths
    43         a kept path is not allowed, or shares a lane with another one */
-uint32_t dovecounter_plan(const struct dovecounter_half *halves, size_t half_count, const uint32_t weights[256],
-                          const struct dovecounter_path *kept, size_t kept_count, struct dovecounter_plan *plan);
+uint32_t dovecounter_plan(const struct dovecounter_half *halves, size_t half_count, uint8_t paired,
+                          uint8_t counts_by_id, const uint32_t weights[256], const struct dovecounter_path *kept, size_t kept_count,
+                          struct dovecounter_plan *plan);
 
 /* What a certificate is worth. */
 struct dovecounter_judgement {
-    uint8_t reason; /* 0: it is good, and no plan with the paths that the text keeps weighs more than its own; else the digit of
-                       VR1 to VR9 */
+    uint8_t reason; /* 0: it is good, and no plan with the paths that the text keeps weighs more than its own; else the number in
+                       VR1 to VR10 */
     size_t number;  /* for VR1 and VR2 the path's number from 1, for VR8 and VR9 the kept path's, for VR5 and VR6 the entry's,
                        else 0 */
 };
 
-/* Judges the certificate with this text, as the command plan of cmisctl prints it, for the module with these halves and for these
-   weights, and writes to *judgement. The text says which paths are kept.
+/* Judges the certificate with this text, as the command plan of cmisctl prints it, for the module with these halves
+   and for these weights, and writes to *judgement. The text says which paths are kept, and whether it is for a module
+   that pairs first lanes: if that differs from `paired`, the reason is VR10. It does not say by which lane counts it
+   was made: hand over the `counts_by_id` that it was made with.
 
    status     if
    1, 2       there are more than 16 halves, or one has no place
    11 to 16   the halves do not say what the module advertises, as dovecounter_advertisement tells
    21 to 24   the text is no certificate: the first of its faults */
-uint32_t dovecounter_check(const struct dovecounter_half *halves, size_t half_count, const uint32_t weights[256],
-                           const uint8_t *text, size_t text_length, struct dovecounter_judgement *judgement);
+uint32_t dovecounter_check(const struct dovecounter_half *halves, size_t half_count, uint8_t paired,
+                           uint8_t counts_by_id, const uint32_t weights[256], const uint8_t *text, size_t text_length,
+                           struct dovecounter_judgement *judgement);
 
 /* No certificate's text is longer. */
 #define DOVECOUNTER_CERTIFICATE_SIZE 74046
 
-/* Writes to the buffer the text of the certificate of the plan that dovecounter_plan gives for the same halves, weights and kept paths:
-   what the command plan of cmisctl prints, or plan --keep if paths are kept, byte for byte, with the end of its last line and without a
-   NUL. Writes to *text_length how many bytes the text has, also if the buffer is too small; the buffer stays as it is then. The bytes of
-   the buffer after the text stay, too. dovecounter_check judges the certificate good.
+/* Writes to the buffer the text of the certificate of the plan that dovecounter_plan gives for the same arguments:
+   what the command plan of cmisctl prints, with --keep if paths are kept, with --paired if `paired` is not 0 and with
+   --counts-by-id if `counts_by_id` is not 0, byte for byte, with the end of its last line and without a NUL. Writes
+   to *text_length how many bytes the text has, also if the buffer is too small; the buffer stays as it is then. The
+   bytes of the buffer after the text stay, too. dovecounter_check judges the certificate good for the same `paired`
+   and `counts_by_id`.
 
    status   if
    1, 2     there are more than 16 halves, or one has no place
    11 to 16 the halves do not say what the module advertises
    42, 43   the kept paths are too many, or not admissible
    4        buffer_size is below *text_length */
-uint32_t dovecounter_certificate(const struct dovecounter_half *halves, size_t half_count, const uint32_t weights[256],
-                                 const struct dovecounter_path *kept, size_t kept_count, uint8_t *buffer,
-                                 size_t buffer_size, size_t *text_length);
+uint32_t dovecounter_certificate(const struct dovecounter_half *halves, size_t half_count, uint8_t paired,
+                                 uint8_t counts_by_id, const uint32_t weights[256], const struct dovecounter_path *kept, size_t kept_count,
+                                 uint8_t *buffer, size_t buffer_size, size_t *text_length);
 
-/* Why a procedure ended without success. The comments say what `first` and `second` of a dovecounter_fault are then; else they
-   are 0. */
+/* Why a procedure ended without success. The comments say what `first` and `second` of a dovecounter_fault are then;
+   else they are 0. */
 enum dovecounter_fault_code {
     DOVECOUNTER_NO_FAULT = 0,
     DOVECOUNTER_REJECTED = 1,          /* PV1: the module rejected the configuration of the lane `first` by the status `second` */
@@ -423,10 +444,10 @@ enum dovecounter_fault_code {
     DOVECOUNTER_RESERVED_CODE = 7      /* PV7: the standard reserves the code `first` that the module shows */
 };
 
-/* What the host has done to the module before a fault. Provisioning: PV6, and PV7 by the module's state, nothing; PV2, its lanes were
-   taken down, and the bytes staged; PV1 and PV3, the bytes were also applied; PV4, and PV7 by a path state or a status, any part of
-   this. Activation: PV3 and PV6, nothing; PV4 and PV7, lanes may be coming up or going down. Waking up and going to sleep: PV6 and
-   PV7, byte 26 was stored; PV4, maybe. */
+/* What the host has done to the module before a fault. Provisioning: PV6, and PV7 by the module's state, nothing;
+   PV2, its lanes were taken down, and the bytes staged; PV1 and PV3, the bytes were also applied; PV4, and PV7 by a
+   path state or a status, any part of this. Activation: PV3 and PV6, nothing; PV4 and PV7, lanes may be coming up or
+   going down. Waking up and going to sleep: PV6 and PV7, byte 26 was stored; PV4, maybe. */
 struct dovecounter_fault {
     uint8_t code; /* of enum dovecounter_fault_code */
     uint8_t first;
@@ -453,25 +474,27 @@ struct dovecounter_procedure {
     struct dovecounter_progress saved;
 };
 
-/* Begins to put a plan's control bytes of host lanes 1 to 8 into the Active Control Set, and writes to *procedure. The data paths of
-   `lanes` are taken down first, and the bytes are applied to these lanes: hand over `outside` of the plan, which is 0xFF, all lanes, if
-   nothing is kept. After a success they are DPDeactivated until dovecounter_activate. No other lane is taken down or applied, but its
-   DPDeinit bit is stored as 0: a lane that is up stays up if the module is ready, no apply is in progress and nothing else takes it
-   down; a lane that the host held down begins to come up. The bytes of these other lanes in the Active Control Set already have to be
-   those of the plan. Nobody else may use the module meanwhile: no driver, no other process, no second master of the bus. */
+/* Begins to put a plan's control bytes of host lanes 1 to 8 into the Active Control Set, and writes to *procedure.
+   The data paths of `lanes` are taken down first, and the bytes are applied to these lanes: hand over `outside` of
+   the plan, which is 0xFF, all lanes, if nothing is kept. After a success they are DPDeactivated until
+   dovecounter_activate. No other lane is taken down or applied, but its DPDeinit bit is stored as 0: a lane that is
+   up stays up if the module is ready, no apply is in progress and nothing else takes it down; a lane that the host
+   held down begins to come up. The bytes of these other lanes in the Active Control Set already have to be those of
+   the plan. Nobody else may use the module meanwhile: no driver, no other process, no second master of the bus. */
 void dovecounter_provision(const uint8_t control[8], uint8_t lanes, struct dovecounter_procedure *procedure);
 
-/* Begins to bring up the data paths of `lanes`, those of a plan whose control bytes are in the Active Control Set, and to take down
-   those of all other lanes; writes to *procedure. After a success the lanes are DPActivated. */
+/* Begins to bring up the data paths of `lanes`, those of a plan whose control bytes are in the Active Control Set,
+   and to take down those of all other lanes; writes to *procedure. After a success the lanes are DPActivated. */
 void dovecounter_activate(const uint8_t control[8], uint8_t lanes, struct dovecounter_procedure *procedure);
 
-/* Begins to wake a module up, and writes to *procedure. Byte 26 is read and stored again with its low power requests cleared, by
-   software (bit 4) and by the pin (bit 6, LowPwrAllowRequestHW); so is SoftwareReset (bit 3). After a success the module is in
-   ModuleReady. PV6 says that it is in ModuleFault. It draws more power then: the caller has to see that it may. */
+/* Begins to wake a module up, and writes to *procedure. Byte 26 is read and stored again with its low power requests
+   cleared, by software (bit 4) and by the pin (bit 6, LowPwrAllowRequestHW); so is SoftwareReset (bit 3). After a
+   success the module is in ModuleReady. PV6 says that it is in ModuleFault. It draws more power then: the caller has
+   to see that it may. */
 void dovecounter_wake(struct dovecounter_procedure *procedure);
 
-/* Begins to put a module to sleep likewise, by its low power request by software (bit 4). After a success it is in ModuleLowPwr, and
-   its data paths are down. */
+/* Begins to put a module to sleep likewise, by its low power request by software (bit 4). After a success it is in
+   ModuleLowPwr, and its data paths are down. */
 void dovecounter_sleep(struct dovecounter_procedure *procedure);
 
 enum dovecounter_kind { DOVECOUNTER_FETCH = 0, DOVECOUNTER_STORE = 1 };
@@ -500,10 +523,11 @@ enum dovecounter_outcome {
     DOVECOUNTER_FETCHED = 2  /* it gave all bytes of a fetch */
 };
 
-/* Tells the procedure once what came of that operation, with DOVECOUNTER_FETCHED also the bytes, as many as were asked for; writes to
-   *procedure. A refused operation is asked for again, up to 4096 operations in all. A module may take seconds to minutes for a state
-   that is awaited, and at 400 kHz 4096 operations are over much sooner: pause before an operation whose `wait` is 1, so long that 4096
-   pauses last longer than the longest of dovecounter_durations. After PV3 and PV4 the procedure may be begun again.
+/* Tells the procedure once what came of that operation, with DOVECOUNTER_FETCHED also the bytes, as many as were
+   asked for (of another outcome no bytes are looked at); writes to *procedure. A refused operation is asked for
+   again, up to 4096 operations in all. A module may take seconds to minutes for a state that is awaited, and at 400
+   kHz 4096 operations are over much sooner: pause before an operation whose `wait` is 1, so long that 4096 pauses
+   last longer than the longest of dovecounter_durations. After PV3 and PV4 the procedure may be begun again.
 
    status   if
    31       the numbers are none of a procedure
@@ -526,8 +550,8 @@ struct dovecounter_answer {
    33       the procedure has not ended */
 uint32_t dovecounter_answer(const struct dovecounter_procedure *procedure, struct dovecounter_answer *answer);
 
-/* The reading of a module under way, and what it has read. Copy it and keep it as you like, but change nothing: other numbers are
-   refused, or are another reading's. */
+/* The reading of a module under way, and what it has read. Copy it and keep it as you like, but change nothing: other
+   numbers are refused, or are another reading's. */
 struct dovecounter_reading {
     uint32_t magic;
     uint16_t steps;
@@ -543,18 +567,21 @@ struct dovecounter_reading {
     uint8_t part[128];
 };
 
-/* Begins to read the halves of a module that its reports and its plans need, and writes to *reading. For a CMIS module these are the
-   lower half and the pages 00h, 01h, 02h and 11h of bank 0, or the lower half and page 00h if its memory is flat; for an SFF-8636
-   module the lower half and the pages 00h and 03h, likewise; for an SFF-8472 module the lower half of 0xA0, and that of 0xA2 if it has
-   diagnostics without an address change; for other modules the lower half of 0xA0. The bus fetches at most `most` bytes at once: a half
-   comes in pieces of the largest multiple of 8 that is not above that, and with 128 at once. Nobody else may use the module meanwhile.
+/* Begins to read the halves of a module that its reports and its plans need, and writes to *reading. For a CMIS
+   module these are the lower half and the pages 00h, 01h, 02h and 11h of bank 0, or the lower half and page 00h if
+   its memory is flat; for an SFF-8636 module the lower half and the pages 00h and 03h, likewise; for an SFF-8472
+   module the lower half of 0xA0, and that of 0xA2 if it has diagnostics without an address change; for other modules
+   the lower half of 0xA0. The bus fetches at most `most` bytes at once: a half comes in pieces of the largest
+   multiple of 8 that is not above that, and with 128 at once. Nobody else may use the module meanwhile. CMIS modules
+   are here those of identifiers 0x18, 0x19, 0x1B and 0x1E to 0x25, of any revision; the functions that decode and
+   plan take fewer of them.
 
    status   if
    36       most is below 8 */
 uint32_t dovecounter_read(uint8_t most, struct dovecounter_reading *reading);
 
-/* Writes to *operation what to do on the bus now, as dovecounter_next does. After status 32 reading->halves and reading->count may be
-   handed to the functions that take halves.
+/* Writes to *operation what to do on the bus now, as dovecounter_next does. After status 32 reading->halves and
+   reading->count may be handed to the functions that take halves.
 
    status   if
    31       the numbers are none of a reading
@@ -562,8 +589,9 @@ uint32_t dovecounter_read(uint8_t most, struct dovecounter_reading *reading);
    35       4096 operations were told, and not all was read */
 uint32_t dovecounter_read_next(const struct dovecounter_reading *reading, struct dovecounter_operation *operation);
 
-/* Tells the reading once what came of that operation, as dovecounter_reply does; writes to *reading. A refused operation is asked for
-   again, up to 4096 operations in all, of which the pieces of a half that were read count as one.
+/* Tells the reading once what came of that operation, as dovecounter_reply does; writes to *reading. A refused
+   operation is asked for again, up to 4096 operations in all, of which the pieces of a half that were read count as
+   one.
 
    status   if
    31       the numbers are none of a reading
@@ -595,9 +623,8 @@ struct dovecounter_lane {
     uint8_t kept;   /* that byte, or 0 */
 };
 
-/* What changes of a simulated module (docs/module.md); its halves never do. Read what you like, copy it and keep it, and change
-   nothing: other numbers are refused, or are another module. On x86-64 its calls take at most so much stack: begin 16 KB, fetch 31 KB,
-   store 26 KB, and the others, which look at no halves, 1.1 KB. */
+/* What changes of a simulated module (docs/module.md); its halves never do. Read what you like, copy it and keep it,
+   and change nothing: other numbers are refused, or are another module. */
 struct dovecounter_module {
     struct dovecounter_delays delays;
     uint16_t left;       /* ticks until the work of the module's state is done, 0 if none runs */
@@ -614,8 +641,8 @@ struct dovecounter_module {
     struct dovecounter_lane lanes[8]; /* lane 1 first */
 };
 
-/* Begins a simulated module that has these halves: at least the lower half and the pages 00h, 01h, 10h and 11h of device 0xA0.
-   Writes *module.
+/* Begins a simulated module that has these halves: at least the lower half and the pages 00h, 01h, 10h and 11h of
+   device 0xA0. Writes *module.
 
    status     if
    1, 2       there are more than 16 halves, or one has no place
@@ -626,8 +653,8 @@ struct dovecounter_module {
 uint32_t dovecounter_module_begin(const struct dovecounter_half *halves, size_t half_count,
                                   const struct dovecounter_delays *delays, struct dovecounter_module *module);
 
-/* Fetches 1 to 128 bytes of one half, from the address `offset` on, from the module that has these halves, which are to be those that
-   it began with. A flag that is read becomes 0. Writes *module and the bytes.
+/* Fetches 1 to 128 bytes of one half, from the address `offset` on, from the module that has these halves, which are
+   to be those that it began with. A flag that is read becomes 0. Writes *module and the bytes.
 
    status     if
    1, 2       there are more than 16 halves, or one has no place
@@ -639,8 +666,8 @@ uint32_t dovecounter_module_fetch(const struct dovecounter_half *halves, size_t 
                                   struct dovecounter_module *module, uint8_t device, uint8_t offset, uint8_t *bytes,
                                   size_t byte_count);
 
-/* Stores 1 to 8 bytes in one half, from the address `offset` on, one after the other. A store that is cut short is a store of its first
-   bytes. Writes *module.
+/* Stores 1 to 8 bytes in one half, from the address `offset` on, one after the other. A store that is cut short is a
+   store of its first bytes. Writes *module.
 
    status     if
    1, 2       there are more than 16 halves, or one has no place

@@ -186,16 +186,17 @@ class Image:
 
             return cls(_halves_in_row(read))
 
-    def advertisement(self) -> Advertisement:
-        """What the module advertises. Raises a Fault of AD1 to AD6."""
+    def advertisement(self, counts_by_id: bool = False) -> Advertisement:
+        """What the module advertises, with the lane counts that it has, or with those by which
+        `plan` goes with `counts_by_id`. Raises a Fault of AD1 to AD6."""
         found = library.Advertisement()
-        self.take(_advertisement(*self.arguments(), byref(found)))
+        self.take(_advertisement(*self.arguments(), counts_by_id, byref(found)))
         return advertisement_of(found)
 
-    def applications(self) -> Tuple[Application, ...]:
+    def applications(self, counts_by_id: bool = False) -> Tuple[Application, ...]:
         """The Applications that the module advertises, by rising number. Raises a Fault of AD1 to
         AD6."""
-        return self.advertisement().applications
+        return self.advertisement(counts_by_id).applications
 
     def durations(self) -> Durations:
         """How long states of the module last at most, in milliseconds. Raises a Fault of AD1 to

@@ -24,7 +24,7 @@ from ctypes import (
 )
 from typing import Any, Callable, Dict, List, Tuple
 
-VERSION = 4  # DOVECOUNTER_VERSION
+VERSION = 5  # DOVECOUNTER_VERSION
 TEXT_SIZE = 256  # DOVECOUNTER_TEXT_SIZE
 FILE = f"libdovecounter.so.{VERSION}"
 
@@ -193,13 +193,16 @@ FUNCTIONS: Dict[str, Tuple[Any, Tuple[Any, ...]]] = {
     "status_text": _TEXT,
     "fault_text": _TEXT,
     "verdict_text": _TEXT,
-    "advertisement": (c_uint32, (*_HALVES, POINTER(Advertisement))),
+    "advertisement": (c_uint32, (*_HALVES, c_uint8, POINTER(Advertisement))),
     "identity": (c_uint32, (*_HALVES, POINTER(Identity))),
     "flags": (c_uint32, (*_HALVES, POINTER(Flags))),
     "monitors": (c_uint32, (*_HALVES, POINTER(Monitors))),
     "durations": (c_uint32, (*_HALVES, POINTER(Durations))),
-    "plan": (c_uint32, (*_HALVES, _WEIGHTS, POINTER(Path), c_size_t, POINTER(Plan))),
-    "check": (c_uint32, (*_HALVES, _WEIGHTS, *_BYTES, POINTER(Judgement))),
+    "plan": (
+        c_uint32,
+        (*_HALVES, c_uint8, c_uint8, _WEIGHTS, POINTER(Path), c_size_t, POINTER(Plan)),
+    ),
+    "check": (c_uint32, (*_HALVES, c_uint8, c_uint8, _WEIGHTS, *_BYTES, POINTER(Judgement))),
     "weights": (c_uint32, (*_BYTES, _WEIGHTS, POINTER(c_size_t))),
     "provision": (None, (_CONTROL, c_uint8, POINTER(Procedure))),
     "activate": (None, (_CONTROL, c_uint8, POINTER(Procedure))),

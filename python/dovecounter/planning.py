@@ -49,7 +49,7 @@ class Judgement:
 
     reason: Optional[str]
     """None if it is good: no plan with the paths that it keeps weighs more than its own. Else "VR1"
-    to "VR9" """
+    to "VR10" """
     number: int
     """for VR1 and VR2 of the path from 1, for VR8 and VR9 of the kept path, for VR5 and VR6 of the
     entry, else 0"""
@@ -94,16 +94,26 @@ def _kept(paths: Sequence[DataPath]) -> Any:
     )
 
 
-def plan(image: Image, weights: Mapping[int, int], keep: Sequence[DataPath] = ()) -> Plan:
+def plan(
+    image: Image,
+    weights: Mapping[int, int],
+    keep: Sequence[DataPath] = (),
+    paired: bool = False,
+    counts_by_id: bool = False,
+) -> Plan:
     """The best plan for the module: its paths are allowed, no two share a lane, the kept ones are
     among them, and no such plan weighs more; of several the first (docs/planning.md). A path weighs
     what `weights` has at its HostInterfaceID, 0 to 4294967295, and nothing if it isn't there.
+    `paired` says that the module pairs an Application's first host lanes with its first media lanes
+    in their order, which no register tells; else each may go with each. `counts_by_id` says that a
+    lane count of 0 is the one that the interface ID implies, as far as that is known; else an
+    Application without a lane count is not planned.
     Raises a Fault of AD1 to AD6, KP2 or KP3; ValueError for a number that is out of range."""
     found = library.Plan()
     halves, table = image.arguments(), _weights(weights)
 
     def status(count: int) -> int:
-        return int(_plan(*halves, table, _kept(keep[:count]), count, byref(found)))
+        return int(_plan(*halves, paired, counts_by_id, table, _kept(keep[:count]), count, byref(found)))
 
     answer = status(len(keep))
     if CODES.get(answer) == "KP3":
@@ -117,10 +127,18 @@ def plan(image: Image, weights: Mapping[int, int], keep: Sequence[DataPath] = ()
     return Plan(found.weight, paths, bytes(found.control), found.lanes, found.outside)
 
 
-def check(image: Image, weights: Mapping[int, int], certificate: Union[str, bytes]) -> Judgement:
+def check(
+    image: Image,
+    weights: Mapping[int, int],
+    certificate: Union[str, bytes],
+    paired: bool = False,
+    counts_by_id: bool = False,
+) -> Judgement:
     """Judges the certificate with this text, as `cmisctl plan` prints it, for the module and these
-    weights. The text says which paths are kept. Raises a Fault of AD1 to AD6 or CT1 to CT4;
-    ValueError for a number that is out of range."""
+    weights. The text says which paths are kept, and whether it is for a module that pairs first
+    lanes, as `paired` says of this one: if they differ, the reason is VR10. By which lane counts it
+    was made only `counts_by_id` says: it has to be as it was for `plan`. Raises a Fault of AD1 to
+    AD6 or CT1 to CT4; ValueError for a number that is out of range."""
     text = (
         certificate.encode("utf-8", "surrogateescape")
         if isinstance(certificate, str)
@@ -131,7 +149,7 @@ def check(image: Image, weights: Mapping[int, int], certificate: Union[str, byte
 
     def status(count: int) -> int:
         beginning = b"".join(line + b"\n" for line in lines[:count]) if count < len(lines) else text
-        return int(_check(*halves, table, beginning, len(beginning), byref(found)))
+        return int(_check(*halves, paired, counts_by_id, table, beginning, len(beginning), byref(found)))
 
     answer = status(len(lines))
     code = CODES.get(answer)

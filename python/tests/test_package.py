@@ -96,6 +96,27 @@ def test_what_an_image_advertises_and_its_plans_are_what_the_program_prints(
         assert told[-1] == f"control {best.control.hex(' ')}"
 
 
+def test_a_module_that_pairs_first_lanes() -> None:
+    certificate = "\n".join(cmisctl("plan", DR4.to_text(), table(WEIGHTS)))
+    paired = "\n".join(cmisctl("plan --paired", DR4.to_text(), table(WEIGHTS)))
+    assert check(DR4, WEIGHTS, certificate) == check(DR4, WEIGHTS, paired, True) == Judgement(None, 0)
+    assert check(DR4, WEIGHTS, paired) == check(DR4, WEIGHTS, certificate, True) == Judgement("VR10", 0)
+    apart = [DataPath(2, 3, 1)]
+    assert apart[0] in plan(DR4, WEIGHTS, apart).paths
+    assert str(fault_of(plan, DR4, WEIGHTS, apart, True)) == "KP3 1"
+
+
+def test_a_module_that_leaves_lane_counts_to_interface_ids() -> None:
+    image = DR4.changed(LOWER, 88, b"\0").changed(LOWER, 92, b"\0")
+    assert plan(image, WEIGHTS).paths == ()
+    assert plan(image, WEIGHTS, counts_by_id=True) == plan(DR4, WEIGHTS)
+    assert [one.host_lanes for one in image.applications()] == [0, 0]
+    assert image.applications(counts_by_id=True) == DR4.applications()
+    certificate = "\n".join(cmisctl("plan --counts-by-id", image.to_text(), table(WEIGHTS)))
+    assert check(image, WEIGHTS, certificate, counts_by_id=True) == Judgement(None, 0)
+    assert check(image, WEIGHTS, certificate) == Judgement("VR1", 1)
+
+
 def test_a_fault_has_the_program_s_values() -> None:
     images = [
         DR4.without(LOWER),

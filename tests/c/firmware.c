@@ -25,7 +25,7 @@ static uint32_t plan_status(size_t count) {
     struct dovecounter_plan plan, before;
     memset(&plan, 0x5A, sizeof plan);
     before = plan;
-    uint32_t status = dovecounter_plan(halves, count, weights, nothing, 0, &plan);
+    uint32_t status = dovecounter_plan(halves, count, 0, 0, weights, nothing, 0, &plan);
     if (status != DOVECOUNTER_DONE) expect_same("a refused plan is not written", &before, &plan, sizeof plan);
     return status;
 }
@@ -36,7 +36,7 @@ static void expect_status(const char *what, uint32_t wanted, size_t count) {
     memset(&advertisement, 0x5A, sizeof advertisement);
     before = advertisement;
     expect(what, wanted, plan_status(count));
-    expect(what, wanted, dovecounter_advertisement(halves, count, &advertisement));
+    expect(what, wanted, dovecounter_advertisement(halves, count, 0, &advertisement));
     if (wanted != DOVECOUNTER_DONE)
         expect_same("a refused advertisement is not written", &before, &advertisement, sizeof advertisement);
 }
@@ -80,9 +80,10 @@ static void try_halves(void) {
     expect_status("no half", DOVECOUNTER_ABSENT, 0);
     expect_status("two halves", DOVECOUNTER_ABSENT, 2);
     memset(many, 0, sizeof many);
-    expect("seventeen halves", DOVECOUNTER_TOO_MANY_HALVES, dovecounter_plan(many, 17, weights, nothing, 0, &plan));
+    expect("seventeen halves", DOVECOUNTER_TOO_MANY_HALVES,
+           dovecounter_plan(many, 17, 0, 0, weights, nothing, 0, &plan));
     expect("sixteen halves without a device", DOVECOUNTER_NO_PLACE,
-           dovecounter_plan(many, 16, weights, nothing, 0, &plan));
+           dovecounter_plan(many, 16, 0, 0, weights, nothing, 0, &plan));
     for (size_t i = 0; i < sizeof changes / sizeof changes[0]; i++) {
         const struct change *change = &changes[i];
         make_module();
@@ -96,7 +97,7 @@ static void try_advertisement(void) {
     struct dovecounter_advertisement advertisement;
     static const struct dovecounter_application none;
     make_module();
-    dovecounter_advertisement(halves, 3, &advertisement);
+    dovecounter_advertisement(halves, 3, 0, &advertisement);
     expect("Applications", 1, advertisement.count);
     expect("unsupported media lanes", 0, advertisement.unsupported);
     expect("number", 1, advertisement.applications[0].number);
@@ -111,7 +112,7 @@ static void try_advertisement(void) {
     memcpy(halves[0].bytes + 86, "\x0D\x14\x21\x55\xFF", 5);
     halves[2].bytes[176 - 128] = 0x0F;
     set_sum(&halves[2], 130, 254, 255);
-    dovecounter_advertisement(halves, 3, &advertisement);
+    dovecounter_advertisement(halves, 3, 0, &advertisement);
     expect("host starts of pairs", 0x55, advertisement.applications[0].host_starts);
     expect("media starts of pairs", 0x0F, advertisement.applications[0].media_starts);
 }
@@ -120,7 +121,7 @@ static void try_plan(struct dovecounter_plan *plan) {
     static const uint8_t control[8] = {0x10, 0x10, 0x10, 0x10, 0x10, 0x10, 0x10, 0x10};
     static const struct dovecounter_path none;
     make_module();
-    expect("plan", DOVECOUNTER_DONE, dovecounter_plan(halves, 3, weights, nothing, 0, plan));
+    expect("plan", DOVECOUNTER_DONE, dovecounter_plan(halves, 3, 0, 0, weights, nothing, 0, plan));
     expect("weight", 400, (unsigned long)plan->weight);
     expect("paths", 1, plan->count);
     expect("lanes", 0xFF, plan->lanes);
@@ -138,7 +139,7 @@ static void refuse_kept(const char *what, uint32_t wanted, const struct dovecoun
     struct dovecounter_plan plan, before;
     memset(&plan, 0x5A, sizeof plan);
     before = plan;
-    expect(what, wanted, dovecounter_plan(halves, 3, weights, kept, count, &plan));
+    expect(what, wanted, dovecounter_plan(halves, 3, 0, 0, weights, kept, count, &plan));
     expect_same("a plan with refused kept paths is not written", &before, &plan, sizeof plan);
 }
 
@@ -157,9 +158,10 @@ static void try_kept(void) {
     static const uint8_t control[8] = {0x20, 0x20, 0x24, 0x24, 0x28, 0x28, 0x2C, 0x2C};
     struct dovecounter_plan plan;
     make_two_applications();
-    expect("plan with two Applications", DOVECOUNTER_DONE, dovecounter_plan(halves, 3, weights, nothing, 0, &plan));
+    expect("plan with two Applications", DOVECOUNTER_DONE,
+           dovecounter_plan(halves, 3, 0, 0, weights, nothing, 0, &plan));
     expect("nothing kept: Application", 1, plan.paths[0].application);
-    expect("kept", DOVECOUNTER_DONE, dovecounter_plan(halves, 3, weights, &first, 1, &plan));
+    expect("kept", DOVECOUNTER_DONE, dovecounter_plan(halves, 3, 0, 0, weights, &first, 1, &plan));
     expect("kept: weight", 200, (unsigned long)plan.weight);
     expect("kept: paths", 4, plan.count);
     expect("kept: lanes", 0xFF, plan.lanes);
@@ -170,7 +172,85 @@ static void try_kept(void) {
     refuse_kept("KP3, a lane twice", DOVECOUNTER_KEPT_NOT_ADMISSIBLE, other, 2);
     refuse_kept("KP3, no such Application", DOVECOUNTER_KEPT_NOT_ADMISSIBLE, &absent, 1);
     expect("the halves come before kept paths", DOVECOUNTER_ABSENT,
-           dovecounter_plan(halves, 0, weights, nine, 9, &plan));
+           dovecounter_plan(halves, 0, 0, 0, weights, nine, 9, &plan));
+    weights[0x0D] = 0;
+}
+
+/* ---- a module that pairs first lanes ---- */
+
+static void judge_text(const char *what, uint8_t reason, uint8_t paired, const uint8_t *text, size_t length) {
+    struct dovecounter_judgement judgement = {77, 77};
+    expect(what, DOVECOUNTER_DONE, dovecounter_check(halves, 3, paired, 0, weights, text, length, &judgement));
+    expect(what, reason, judgement.reason);
+    expect(what, 0, (unsigned long)judgement.number);
+}
+
+/* The second of the second Application's first host lanes is 3, and the second of its first media lanes is 2. */
+static void try_paired(void) {
+    static const struct dovecounter_path own = {2, 3, 2}, other = {2, 3, 1};
+    static uint8_t text[DOVECOUNTER_CERTIFICATE_SIZE];
+    struct dovecounter_plan plan;
+    size_t length;
+    make_two_applications();
+    expect("lanes apart", DOVECOUNTER_DONE, dovecounter_plan(halves, 3, 0, 0, weights, &other, 1, &plan));
+    expect("lanes apart, paired", DOVECOUNTER_KEPT_NOT_ADMISSIBLE,
+           dovecounter_plan(halves, 3, 1, 0, weights, &other, 1, &plan));
+    expect("lanes apart, certified", DOVECOUNTER_KEPT_NOT_ADMISSIBLE,
+           dovecounter_certificate(halves, 3, 1, 0, weights, &other, 1, text, sizeof text, &length));
+    expect("lanes of one place, by any number but 0", DOVECOUNTER_DONE,
+           dovecounter_plan(halves, 3, 255, 0, weights, &own, 1, &plan));
+    expect("their weight", 200, (unsigned long)plan.weight);
+    for (size_t i = 0; i < 4; i++) expect("media lanes in order", (unsigned long)i + 1, plan.paths[i].media);
+    for (uint8_t paired = 0; paired < 2; paired++) {
+        expect("certified", DOVECOUNTER_DONE,
+               dovecounter_certificate(halves, 3, paired, 0, weights, &own, 1, text, sizeof text, &length));
+        expect_same("its first line", paired ? "certificate 4\n" : "certificate 2\n", text, 14);
+        judge_text("a certificate of the same module", 0, paired, text, length);
+        judge_text("VR10", 10, !paired, text, length);
+    }
+    weights[0x0D] = 0;
+}
+
+/* ---- a module that leaves lane counts to the interface IDs ---- */
+
+static void expect_counts(const char *what, uint8_t host, uint8_t media, uint8_t counts_by_id) {
+    struct dovecounter_advertisement advertisement;
+    dovecounter_advertisement(halves, 3, counts_by_id, &advertisement);
+    expect(what, host, advertisement.applications[0].host_lanes);
+    expect(what, media, advertisement.applications[0].media_lanes);
+}
+
+/* 400GAUI-8 to 400GBASE-DR4, and 100GAUI-2 to 100GBASE-DR. */
+static void try_counts(void) {
+    static const struct dovecounter_path first = {2, 3, 2};
+    static uint8_t text[DOVECOUNTER_CERTIFICATE_SIZE];
+    struct dovecounter_plan said, plan;
+    struct dovecounter_judgement judgement;
+    size_t length;
+    make_two_applications();
+    halves[0].bytes[85] = 2;
+    expect("counts that stand", DOVECOUNTER_DONE, dovecounter_plan(halves, 3, 0, 1, weights, &first, 1, &said));
+    halves[0].bytes[88] = halves[0].bytes[92] = 0;
+    expect_counts("as they stand", 0, 0, 0);
+    expect_counts("by the IDs", 8, 4, 1);
+    expect_counts("by any number but 0", 8, 4, 255);
+    expect("no lanes", DOVECOUNTER_KEPT_NOT_ADMISSIBLE, dovecounter_plan(halves, 3, 0, 0, weights, &first, 1, &plan));
+    expect("counts by the IDs", DOVECOUNTER_DONE, dovecounter_plan(halves, 3, 0, 1, weights, &first, 1, &plan));
+    expect("their weight", 200, (unsigned long)plan.weight);
+    expect_same("the same plan", &said, &plan, sizeof plan);
+    expect("certified without lanes", DOVECOUNTER_KEPT_NOT_ADMISSIBLE,
+           dovecounter_certificate(halves, 3, 0, 0, weights, &first, 1, text, sizeof text, &length));
+    expect("certified", DOVECOUNTER_DONE,
+           dovecounter_certificate(halves, 3, 0, 2, weights, &first, 1, text, sizeof text, &length));
+    expect("judged", DOVECOUNTER_DONE, dovecounter_check(halves, 3, 0, 3, weights, text, length, &judgement));
+    expect("good", 0, judgement.reason);
+    expect("judged without lanes", DOVECOUNTER_DONE,
+           dovecounter_check(halves, 3, 0, 0, weights, text, length, &judgement));
+    expect("VR8", 8, judgement.reason);
+    halves[0].bytes[88] = 0x80;
+    expect_counts("media lanes by the ID", 8, 4, 1);
+    halves[0].bytes[85] = 3;
+    expect_counts("copper, whose IDs tell no lanes", 8, 0, 1);
     weights[0x0D] = 0;
 }
 
@@ -186,7 +266,7 @@ static void check_text(const char *what, const char *text, uint32_t status, uint
     memset(&judgement, 0x5A, sizeof judgement);
     before = judgement;
     make_module();
-    expect(what, status, dovecounter_check(halves, 3, weights, (const uint8_t *)text, strlen(text), &judgement));
+    expect(what, status, dovecounter_check(halves, 3, 0, 0, weights, (const uint8_t *)text, strlen(text), &judgement));
     if (status != DOVECOUNTER_DONE) {
         expect_same("a refused judgement is not written", &before, &judgement, sizeof judgement);
         return;
@@ -200,7 +280,7 @@ static const char good[] = "certificate 1\nweight 400\npath 1 1 1\nstate 0 00 40
 static void try_check(void) {
     struct dovecounter_judgement judgement;
     check_text("a good certificate", good, DOVECOUNTER_DONE, 0, 0);
-    check_text("CT1", "certificate 3\n", DOVECOUNTER_BAD_LINE, 0, 0);
+    check_text("CT1", "certificate 5\n", DOVECOUNTER_BAD_LINE, 0, 0);
     check_text("CT2", "certificate 1\nweight 0\nstate 1 00 0\nstate 0 00 0\nend\n", DOVECOUNTER_OUT_OF_ORDER, 0, 0);
     check_text("CT3",
                "certificate 1\nweight 0\npath 1 1 1\npath 1 1 1\npath 1 1 1\npath 1 1 1\npath 1 1 1\npath 1 1 1\n"
@@ -221,7 +301,7 @@ static void try_check(void) {
                DOVECOUNTER_DONE, 0, 0);
     make_module();
     expect("the halves come before the text", DOVECOUNTER_ABSENT,
-           dovecounter_check(halves, 0, weights, (const uint8_t *)"", 0, &judgement));
+           dovecounter_check(halves, 0, 0, 0, weights, (const uint8_t *)"", 0, &judgement));
 }
 
 /* ---- written certificates ---- */
@@ -232,7 +312,7 @@ static void write_text(const char *what, const struct dovecounter_path *kept, si
     size_t needed = strlen(wanted), length = 12345;
     uint8_t *buffer = malloc(size + (size == 0));
     memset(buffer, 0x5A, size + (size == 0));
-    uint32_t status = dovecounter_certificate(halves, 3, weights, kept, kept_count, buffer, size, &length);
+    uint32_t status = dovecounter_certificate(halves, 3, 0, 0, weights, kept, kept_count, buffer, size, &length);
     expect(what, size < needed ? DOVECOUNTER_TOO_SMALL : DOVECOUNTER_DONE, status);
     expect("length of a certificate's text", (unsigned long)needed, (unsigned long)length);
     if (status == DOVECOUNTER_DONE) expect_same(what, wanted, buffer, needed);
@@ -247,7 +327,8 @@ static void refuse_text(const char *what, uint32_t wanted, const struct dovecoun
     size_t length = 12345;
     memset(buffer, 0x5A, sizeof buffer);
     memcpy(before, buffer, sizeof buffer);
-    expect(what, wanted, dovecounter_certificate(in, count, weights, kept, kept_count, buffer, sizeof buffer, &length));
+    expect(what, wanted,
+           dovecounter_certificate(in, count, 0, 0, weights, kept, kept_count, buffer, sizeof buffer, &length));
     expect("a refused certificate has no length", 12345, (unsigned long)length);
     expect_same("a refused certificate is not written", before, buffer, sizeof buffer);
 }
@@ -258,11 +339,13 @@ static void expect_good_text(const char *what, const struct dovecounter_path *ke
     struct dovecounter_judgement judgement = {77, 77};
     struct dovecounter_plan plan;
     size_t length = 0;
-    expect(what, DOVECOUNTER_DONE, dovecounter_plan(halves, 3, weights, kept, kept_count, &plan));
-    expect(what, DOVECOUNTER_DONE,
-           dovecounter_certificate(halves, 3, weights, kept, kept_count, (uint8_t *)text, sizeof text - 1, &length));
+    expect(what, DOVECOUNTER_DONE, dovecounter_plan(halves, 3, 0, 0, weights, kept, kept_count, &plan));
+    expect(
+        what, DOVECOUNTER_DONE,
+        dovecounter_certificate(halves, 3, 0, 0, weights, kept, kept_count, (uint8_t *)text, sizeof text - 1, &length));
     text[length] = 0;
-    expect(what, DOVECOUNTER_DONE, dovecounter_check(halves, 3, weights, (const uint8_t *)text, length, &judgement));
+    expect(what, DOVECOUNTER_DONE,
+           dovecounter_check(halves, 3, 0, 0, weights, (const uint8_t *)text, length, &judgement));
     expect(what, 0, judgement.reason);
     int end =
         snprintf(head, sizeof head, "certificate %d\nweight %lu\n", kept_count ? 2 : 1, (unsigned long)plan.weight);
@@ -458,7 +541,7 @@ static void try_kept_procedure(void) {
     struct dovecounter_procedure procedure;
     struct dovecounter_fault fault;
     make_two_applications();
-    expect("kept", DOVECOUNTER_DONE, dovecounter_plan(halves, 3, weights, &kept, 1, &plan));
+    expect("kept", DOVECOUNTER_DONE, dovecounter_plan(halves, 3, 0, 0, weights, &kept, 1, &plan));
     memcpy(module.active, before, 8);
     dovecounter_provision(plan.control, plan.outside, &procedure);
     expect("provisioned beside a kept path", 0, carry_out(&module, &procedure).code);
@@ -514,6 +597,8 @@ int main(void) {
     try_advertisement();
     try_plan(&plan);
     try_kept();
+    try_paired();
+    try_counts();
     try_check();
     try_certificate();
     try_durations();

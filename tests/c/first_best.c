@@ -1,6 +1,8 @@
-/* first_best RUNS SEED FOLDER [keep]: writes, for each number N from 1 to RUNS, the files N, an input of the command plan for a
+/* first_best RUNS SEED FOLDER [keep] [paired] [counts]: writes, for each number N from 1 to RUNS, the files N, an input of the command plan for a
    module made by chance, N.wanted, the weight and the paths of the plan that is to be given, and N.drawing, what draw is to say
-   of it, but for the names of interfaces. With keep, each third plan keeps paths, and its input is one of plan --keep.
+   of it, but for the names of interfaces. With keep, each third plan keeps paths, and its input is one of plan --keep. With paired,
+   the modules pair first lanes, as plan --paired takes them. With counts, descriptors leave lane counts at 0 by chance, for plan
+   --counts-by-id: a path takes the lanes of its interface (SFF-8024), and there is none if that has no count, or isn't known.
 
    A plan is a set of data paths. All plans that the module can carry are gone through, and the first of the best without needless
    paths is what docs/planning.md, "The first best plan", says, and not how the planner finds it. */
@@ -11,8 +13,23 @@
 
 enum { LANES = 8, APPS = 4 };
 
+/* An interface's code (SFF-8024), and how many lanes it has; 0: more than eight, or not said by the code. */
+struct interface {
+    int code, lanes;
+};
+
+/* Host interfaces, and media interfaces of the media types 1, 2 and 3. */
+static const struct interface host_interfaces[] = {{0x01, 1}, {0x0A, 1}, {0x46, 1}, {0x08, 2}, {0x0D, 2},
+                                                   {0x4D, 2}, {0x0B, 4}, {0x0F, 4}, {0x4F, 4}, {0x3A, 4},
+                                                   {0x11, 8}, {0x51, 8}, {0x10, 0}, {0xC3, 0}};
+static const struct interface media_interfaces[3][10] = {
+    {{0x02, 1}, {0x0D, 1}, {0x1D, 1}, {0x0C, 2}, {0x1B, 2}, {0x09, 4}, {0x11, 4}, {0x10, 8}, {0x0F, 0}, {0xC0, 0}},
+    {{0x14, 1}, {0x3E, 1}, {0x4C, 1}, {0x17, 4}, {0x1C, 4}, {0x1D, 4}, {0x31, 4}, {0x1B, 8}, {0x32, 8}, {0x00, 0}},
+    {{0x01, 0}, {0x02, 0}, {0x09, 0}, {0x0C, 0}, {0x11, 0}, {0x14, 0}, {0x1C, 0}, {0x1D, 0}, {0x00, 0}, {0xBF, 0}}};
+
 struct app {
     int host_id, host_lanes, media_lanes, host_starts, media_starts;
+    int media_code, counts; /* the code of the media interface; what the descriptor says of both lane counts */
 };
 
 struct path {
@@ -25,9 +42,9 @@ struct plan {
 };
 
 struct module {
-    int count, unsupported;
+    int count, unsupported, paired, media_type;
     struct app apps[APPS + 1];
-    int weights[4];
+    int host_codes[4], weights[4]; /* by an Application's host_id */
     struct plan kept;
 };
 
@@ -45,8 +62,17 @@ static int host_run(const struct module *m, struct path p) { return run(p.host, 
 
 static int media_run(const struct module *m, struct path p) { return run(p.media, m->apps[p.app].media_lanes); }
 
+/* How many of these lanes come before this one. */
+static int before(int lanes, int lane) {
+    int count = 0;
+    while (--lane > 0) count += lanes >> (lane - 1) & 1;
+    return count;
+}
+
 static int allowed(const struct module *m, struct path p) {
     struct app a = m->apps[p.app];
+    if (!a.host_lanes || !a.media_lanes) return 0;
+    if (m->paired && before(a.host_starts, p.host) != before(a.media_starts, p.media)) return 0;
     return p.host + a.host_lanes <= 9 && p.media + a.media_lanes <= 9 && (a.host_starts >> (p.host - 1) & 1) &&
            (a.media_starts >> (p.media - 1) & 1) && !(media_run(m, p) & m->unsupported);
 }
@@ -128,8 +154,32 @@ static void extend(struct plan *plan, int lane, int host, int media) {
     extend(plan, lane + 1, host, media);
 }
 
-static void make(struct module *m) {
+/* Leaves lane counts to the interfaces by chance: the descriptor says 0, and the lanes are those of the interface. */
+static void leave_counts(struct module *m) {
+    const struct interface *of_host[4];
+    m->media_type = 1 + (chance(8) ? chance(2) : 2);
+    for (int id = 1; id < 4; id++) {
+        int same;
+        do {
+            same = 0;
+            of_host[id] = &host_interfaces[chance(14)];
+            for (int other = 1; other < id; other++) same |= of_host[other] == of_host[id];
+        } while (same);
+        m->host_codes[id] = of_host[id]->code;
+    }
+    for (int app = 1; app <= m->count; app++) {
+        struct app *a = &m->apps[app];
+        const struct interface *of_media = &media_interfaces[m->media_type - 1][chance(10)];
+        a->media_code = of_media->code;
+        if (chance(3)) a->counts &= 0x0F, a->host_lanes = of_host[a->host_id]->lanes;
+        if (chance(3)) a->counts &= 0xF0, a->media_lanes = of_media->lanes;
+    }
+}
+
+static void make(struct module *m, int paired, int counts) {
     memset(m, 0, sizeof *m);
+    m->paired = paired;
+    for (int id = 1; id < 4; id++) m->host_codes[id] = id;
     m->count = 1 + chance(APPS);
     m->unsupported = chance(4) ? 0 : chance(256) & chance(256);
     for (int id = 1; id < 4; id++) m->weights[id] = chance(4);
@@ -140,7 +190,10 @@ static void make(struct module *m) {
         a->media_lanes = 1 + chance(4);
         a->host_starts = chance(256) | (chance(2) ? 1 : 0x11);
         a->media_starts = chance(256) | 1;
+        a->media_code = 0x1c;
+        a->counts = a->host_lanes << 4 | a->media_lanes;
     }
+    if (counts) leave_counts(m);
 }
 
 /* Some paths of the module that share no lane. */
@@ -163,11 +216,12 @@ static void write_half(FILE *out, const char *key, const int bytes[128]) {
 static void write_image(FILE *out, const struct module *m) {
     int lower[128] = {0x18, 0x50}, page00[128] = {0x18}, page01[128] = {0};
     int sum = 0;
+    lower[85] = m->media_type;
     for (int i = 86; i <= 117; i++) lower[i] = 0xff;
     for (int app = 1; app <= m->count; app++) {
         struct app a = m->apps[app];
         int *d = lower + 86 + 4 * (app - 1);
-        d[0] = a.host_id, d[1] = 0x1c, d[2] = a.host_lanes << 4 | a.media_lanes, d[3] = a.host_starts;
+        d[0] = m->host_codes[a.host_id], d[1] = a.media_code, d[2] = a.counts, d[3] = a.host_starts;
         page01[176 - 128 + app - 1] = a.media_starts;
     }
     page00[210 - 128] = m->unsupported;
@@ -181,7 +235,7 @@ static void write_image(FILE *out, const struct module *m) {
     write_half(out, "upper A0 00 00", page00);
     write_half(out, "upper A0 00 01", page01);
     fprintf(out, "end\n---\n[host]\n");
-    for (int id = 1; id < 4; id++) fprintf(out, "%02xh = %d\n", (unsigned)id, m->weights[id]);
+    for (int id = 1; id < 4; id++) fprintf(out, "%02xh = %d\n", (unsigned)m->host_codes[id], m->weights[id]);
 }
 
 static void write_paths(FILE *out, const char *word, const struct plan *plan) {
@@ -204,12 +258,17 @@ static FILE *open_at(const char *folder, int number, const char *end) {
 
 int main(int argc, char **argv) {
     if (argc < 4) return 2;
-    int runs = atoi(argv[1]), keeping = argc > 4;
+    int runs = atoi(argv[1]), keeping = 0, paired = 0, counts = 0;
+    for (int i = 4; i < argc; i++) {
+        keeping |= !strcmp(argv[i], "keep");
+        paired |= !strcmp(argv[i], "paired");
+        counts |= !strcmp(argv[i], "counts");
+    }
     state = strtoull(argv[2], 0, 10) * 2654435761u + 88172645463325252u;
     for (int number = 1; number <= runs;) {
         struct module m;
         struct plan empty = {0};
-        make(&m);
+        make(&m, paired, counts);
         if (keeping && number % 3 == 0) keep(&m);
         of = &m, found = 0, seen = 0;
         extend(&empty, 1, 0, 0);

@@ -92,6 +92,19 @@ static void try_module(unsigned wanted_operations) {
     expect("operations of which each was refused", 4096, read_module(8, 256, &reading));
 }
 
+/* What the decoders say of a module that was read, although they don't take it. */
+static void refuse_to_decode(const struct dovecounter_reading *reading) {
+    struct dovecounter_identity identity;
+    struct dovecounter_flags flags;
+    struct dovecounter_monitors monitors;
+    struct dovecounter_advertisement advertisement;
+    expect("no identity", DOVECOUNTER_UNKNOWN_MODULE, dovecounter_identity(reading->halves, reading->count, &identity));
+    expect("no flags", DOVECOUNTER_UNKNOWN_MODULE, dovecounter_flags(reading->halves, reading->count, &flags));
+    expect("no monitors", DOVECOUNTER_UNKNOWN_MODULE, dovecounter_monitors(reading->halves, reading->count, &monitors));
+    expect("no advertisement", DOVECOUNTER_NOT_CMIS,
+           dovecounter_advertisement(reading->halves, reading->count, 0, &advertisement));
+}
+
 static void try_modules(void) {
     struct dovecounter_reading reading;
     make("CMIS", 0x18, 0, 5);
@@ -103,6 +116,10 @@ static void try_modules(void) {
     try_module(12);
     make("CMIS with flat memory", 0x1E, 0x80, 2);
     try_module(2);
+    make("SFP-DD with CMIS", 0x1F, 0, 5);
+    try_module(13);
+    read_module(128, 0, &reading);
+    refuse_to_decode(&reading);
     make("SFF-8636", 0x11, 0, 3);
     module.selects_by_page = true;
     try_module(7);

@@ -50,6 +50,9 @@ _RULES = {
 
 def complaints(value, schema, whole, place="$"):
     """What a schema refuses about a value; `whole` is the document that it stands in."""
+    if schema is False:
+        yield f"{place} has no place"
+        return
     for word, wanted in schema.items():
         if word in _RULES:
             of_type, fits = _RULES[word]
@@ -81,6 +84,11 @@ def _complaints_within(value, word, wanted, schema, whole, place):
     elif word == "allOf":
         for one in wanted:
             yield from complaints(value, one, whole, place)
+    elif word == "if":
+        branch = "else" if any(complaints(value, wanted, whole, place)) else "then"
+        yield from complaints(value, schema.get(branch, {}), whole, place)
+    elif word in ("then", "else"):
+        pass
     elif word == "items":
         for index, item in enumerate(value if isinstance(value, list) else []):
             yield from complaints(item, wanted, whole, f"{place}[{index}]")

@@ -68,7 +68,7 @@ enum status state(struct port *port) {
 
 static void print_plan(const struct port *port) {
     struct dovecounter_advertisement module;
-    dovecounter_advertisement(port->reading.halves, port->reading.count, &module);
+    dovecounter_advertisement(port->reading.halves, port->reading.count, port->counts_by_id, &module);
     printf("weight %llu\n", (unsigned long long)port->plan.weight);
     for (size_t i = 0; i < port->plan.count; i++) {
         const struct dovecounter_path *path = &port->plan.paths[i];
@@ -83,8 +83,8 @@ static void print_plan(const struct port *port) {
 static bool find_plan(struct port *port) {
     uint32_t weights[256] = {0};
     if (!read_weights(port->weights, weights) || !read_module(port, false)) return false;
-    uint32_t status =
-        dovecounter_plan(port->reading.halves, port->reading.count, weights, port->kept, port->kept_count, &port->plan);
+    uint32_t status = dovecounter_plan(port->reading.halves, port->reading.count, !port->unpaired, port->counts_by_id,
+                                       weights, port->kept, port->kept_count, &port->plan);
     if (status == DOVECOUNTER_DONE && bytes_at(port, ACTIVE) == NULL) status = DOVECOUNTER_ENDED;
     if (status != DOVECOUNTER_DONE) return refuse(port, status), false;
     print_plan(port);

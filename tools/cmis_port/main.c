@@ -9,16 +9,18 @@
 
 static const char usage[] =
     "usage: cmis-port BUS image | state | plan WEIGHTS | provision WEIGHTS\n"
-    "  BUS           /dev/i2c-N, the eeprom file of the driver optoe, or sim:IMAGE[,SCRIPT]\n"
-    "  WEIGHTS       a file with the line [host], and lines such as 0Dh = 101\n"
-    "  image         prints the module's memory, as cmisctl reads it\n"
-    "  state         prints the states of the module and its lanes, and the active control bytes\n"
-    "  plan          prints the best plan, and what stands against provisioning it\n"
-    "  provision     puts the best plan into the module\n"
-    "  --keep A,H,M  leaves a data path alone: its Application, first host lane, first media lane\n"
-    "  --activate    brings the plan's data paths up\n"
-    "  --force       takes down what is up, or provisions a plan without paths\n"
-    "  --log FILE    writes each operation there\n";
+    "  BUS             /dev/i2c-N, the eeprom file of the driver optoe, or sim:IMAGE[,SCRIPT]\n"
+    "  WEIGHTS         a file with the line [host], and lines such as 0Dh = 101\n"
+    "  image           prints the module's memory, as cmisctl reads it\n"
+    "  state           prints the states of the module and its lanes, and the active control bytes\n"
+    "  plan            prints the best plan, and what stands against provisioning it\n"
+    "  provision       puts the best plan into the module\n"
+    "  --keep A,H,M    leaves a data path alone: its Application, first host lane, first media lane\n"
+    "  --unpaired      lets any first host lane go with any first media lane, and not only those of one place\n"
+    "  --counts-by-id  takes a lane count of 0 as the one that the interface ID implies\n"
+    "  --activate      brings the plan's data paths up\n"
+    "  --force         takes down what is up, or provisions a plan without paths\n"
+    "  --log FILE      writes each operation there\n";
 
 static bool read_path(const char *word, struct dovecounter_path *path) {
     unsigned application, host, media;
@@ -34,6 +36,8 @@ static bool take_flag(struct port *port, int flag) {
     case 'k': return port->kept_count < 9 && read_path(optarg, &port->kept[port->kept_count++]);
     case 'l': return (port->log_name = optarg) != NULL;
     case 'a': return port->activate = true;
+    case 'u': return port->unpaired = true;
+    case 'c': return port->counts_by_id = true;
     case 'f': return port->force = true;
     case 'h': return port->help = true;
     default: return false;
@@ -41,9 +45,11 @@ static bool take_flag(struct port *port, int flag) {
 }
 
 static bool read_flags(int count, char **words, struct port *port) {
-    static const struct option flags[] = {{"keep", required_argument, NULL, 'k'}, {"log", required_argument, NULL, 'l'},
-                                          {"activate", no_argument, NULL, 'a'},   {"force", no_argument, NULL, 'f'},
-                                          {"help", no_argument, NULL, 'h'},       {0}};
+    static const struct option flags[] = {
+        {"keep", required_argument, NULL, 'k'},   {"log", required_argument, NULL, 'l'},
+        {"activate", no_argument, NULL, 'a'},     {"force", no_argument, NULL, 'f'},
+        {"help", no_argument, NULL, 'h'},         {"unpaired", no_argument, NULL, 'u'},
+        {"counts-by-id", no_argument, NULL, 'c'}, {0}};
     int flag;
     optind = 0;
     while ((flag = getopt_long(count, words, "h", flags, NULL)) != -1)
@@ -54,7 +60,7 @@ static bool read_flags(int count, char **words, struct port *port) {
 struct command {
     const char *name;
     enum status (*run)(struct port *port);
-    bool plans, stores; /* it takes weights and --keep; it takes --activate and --force */
+    bool plans, stores; /* it takes weights, --keep, --unpaired and --counts-by-id; it takes --activate and --force */
 };
 
 /* The command that the words name, if all flags are its own; else NULL. */
@@ -68,7 +74,8 @@ static const struct command *read_words(int count, char **words, struct port *po
     port->weights = words[optind + 2];
     for (const struct command *each = commands; each < commands + 4; each++) {
         if (strcmp(words[optind + 1], each->name) != 0) continue;
-        bool stray = (port->kept_count > 0 && !each->plans) || ((port->activate || port->force) && !each->stores);
+        bool asks = port->kept_count > 0 || port->unpaired || port->counts_by_id;
+        bool stray = (asks && !each->plans) || ((port->activate || port->force) && !each->stores);
         return !stray && count - optind == (each->plans ? 3 : 2) ? each : NULL;
     }
     return NULL;

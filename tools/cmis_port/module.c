@@ -9,7 +9,7 @@ enum { PAUSE = 10, GRACE = 10000, HOUR = 3600000 }; /* milliseconds */
 /* Shown by the first half that is read, while the second may be silent. */
 bool is_other_family(const struct port *port) {
     struct dovecounter_advertisement module;
-    return dovecounter_advertisement(port->reading.halves, port->reading.count, &module) == DOVECOUNTER_NOT_CMIS;
+    return dovecounter_advertisement(port->reading.halves, port->reading.count, 0, &module) == DOVECOUNTER_NOT_CMIS;
 }
 
 /* Reads what the library asks for, from the beginning again if the adapter fetches less at once. */

@@ -25,7 +25,7 @@ struct simulated {
 struct port {
     /* what is asked for */
     const char *name, *weights, *log_name;
-    bool activate, force, help;
+    bool activate, force, help, unpaired, counts_by_id;
     struct dovecounter_path kept[9];
     size_t kept_count;
 

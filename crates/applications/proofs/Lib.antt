@@ -1,4 +1,5 @@
-mod Listed
+pub mod Listed
+mod CountedApps
 mod DocumentKeys
 mod HostMembers
 mod WeightAnswers

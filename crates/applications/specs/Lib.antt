@@ -1,5 +1,6 @@
 pub mod Usable
 pub mod Descriptors
+pub mod CountsById
 pub mod Advertised
 pub mod AdvertisedCode
 pub mod Refusals

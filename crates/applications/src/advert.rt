@@ -1,4 +1,6 @@
 use crate::app::{App, MAX_APPS};
+use crate::conventions::Conventions;
+use crate::counts::counted_apps;
 use crate::descriptors::apps_in;
 use crate::fault::AdvertFault;
 use crate::refusal::refusal;
@@ -30,10 +32,10 @@ impl Model for Advert {
 
 impl Advert {
     ghost use Rattle.std.specs.Prelude.{◌≡◌, ◌≤◌, MatchOption, length};
-    ghost use Rattle.applications.specs.Advertised.{InOrder, advertised_by, with_pairing};
+    ghost use Rattle.applications.specs.Advertised.{InOrder, advertised_by, advertised_under, with_counts, with_pairing};
     ghost use Rattle.applications.specs.Refusals.{advert_fault};
 
-    /// What the module of an image advertises.
+    /// What the module of an image advertises, with the lane counts that its descriptors say and no pairing.
     pub fn of(image: &Image) -> Result<Advert, AdvertFault>
         ensures { MatchOption (advert_fault image.now) (result ≡ Ok (advertised_by image.now)) (λ fault. result ≡ Err fault) }
     {
@@ -45,6 +47,31 @@ impl Advert {
             unsupported: LaneSet::from(number(image, Field::CUnsupportedMedia)),
             paired: false,
         })
+    }
+
+    /// What it advertises to a host that reads it by these conventions.
+    pub fn under(conventions: Conventions, image: &Image) -> Result<Advert, AdvertFault>
+        ensures { MatchOption (advert_fault image.now) (result ≡ Ok (advertised_under conventions image.now)) (λ fault. result ≡ Err fault) }
+    {
+        let media_type = number(image, Field::CMediaType);
+        match Advert::of(image) {
+            Ok(advert) => {
+                let counted = advert.with_counts(conventions.counts_by_id, media_type);
+                Ok(counted.with_pairing(conventions.paired))
+            }
+            Err(fault) => Err(fault),
+        }
+    }
+
+    // The same, with the lane counts that the interface IDs imply, or as it stands.
+    fn with_counts(self, by_id: bool, media_type: u8) -> Advert
+        ensures { result ≡ with_counts by_id media_type self }
+    {
+        if !by_id {
+            return self;
+        }
+        let apps = counted_apps(media_type, self.apps.as_slice());
+        Advert { apps, ..self }
     }
 
     /// The same of a module that pairs an Application's first host lanes with its first media lanes in their order, or does not.

@@ -3,6 +3,8 @@
 
 mod advert;
 mod app;
+mod conventions;
+mod counts;
 mod descriptors;
 mod fault;
 mod refusal;
@@ -10,7 +12,9 @@ mod weights;
 
 pub use advert::Advert;
 pub use app::{App, MAX_APPS};
+pub use conventions::Conventions;
+pub use descriptors::apps_in;
 pub use fault::AdvertFault;
 pub use field_tables::LaneSet;
-pub use refusal::is_read_revision;
+pub use refusal::{is_read_revision, page_refusal};
 pub use weights::{WeightLinesFault, Weights, WeightsFault};

@@ -32,8 +32,8 @@ pub fn refusal(image: &Image) -> Option<AdvertFault>
     page_refusal(image)
 }
 
-// Why pages 00h and 01h are not read.
-fn page_refusal(image: &Image) -> Option<AdvertFault>
+/// Why pages 00h and 01h are not read.
+pub fn page_refusal(image: &Image) -> Option<AdvertFault>
     ensures { result ≡ page_fault image.now }
 {
     let administrative = Key::upper(Dev::A0, 0, 0x00);

@@ -39,6 +39,9 @@ identifier_names =
     ∷ name 0x20 (codes "SFP+ and later with CMIS")
     ∷ name 0x21 (codes "OSFP-XD with CMIS")
     ∷ name 0x22 (codes "OIF-ELSFP with CMIS")
+    ∷ name 0x23 (codes "CDFP (x4 PCIe) with CMIS")
+    ∷ name 0x24 (codes "CDFP (x8 PCIe) with CMIS")
+    ∷ name 0x25 (codes "CDFP (x16 PCIe) with CMIS")
     ∷ reserved_from 0x26 0x7F
     ∷ vendor_specific_from 0x80 0xFF
     ∷ []

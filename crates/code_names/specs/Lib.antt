@@ -27,3 +27,4 @@ pub mod Sff8472Compliance
 pub mod SfpPassiveCables
 pub mod SfpActiveCables
 pub mod Names
+pub mod MediaInterfaces

@@ -3,12 +3,14 @@
 #![tactic(auto)]
 
 mod laws;
+mod media_interfaces;
 mod names;
 mod row;
 mod table;
 mod tables;
 
 pub use laws::each_code_has_one_row;
+pub use media_interfaces::media_interface_name;
 pub use names::name_of;
 pub use row::Name;
 pub use table::Table;

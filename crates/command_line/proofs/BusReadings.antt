@@ -9,6 +9,7 @@ use Rattle.bus_model.specs.declared.script.Directive.{Directive}
 use Rattle.paged_memory.specs.Images.{Memory}
 use Rattle.paged_memory.specs.ImageText.{IsTextOf}
 use Rattle.paged_memory.specs.Windows.{Windowed, started, window_conduct}
+use Rattle.control_sets.specs.OutcomeAnswers.{most_steps}
 use Rattle.control_sets.specs.Procedures.{MakesHistory}
 use Rattle.reports.specs.FetchedImages.{IsFetching}
 use Rattle.reports.specs.declared.fault.ReportFault.{ReportFault}
@@ -20,10 +21,10 @@ use Rattle.command_line.specs.declared.fault.Fault.TheVariants as fault
 
 -- a new bus with a new window is where a reading begins
 pub fetched_from : (memory : Memory) (window : Windowed) (script : List Directive) (bus : Scripted Windowed) (after : WindowBus) (answer : Result Memory ReportFault)
-    → window ≡ started memory → script ≡ [] → bus ≡ record { device = window; script = script; steps = []; room = 4096 }
+    → window ≡ started memory → script ≡ [] → bus ≡ record { device = window; script = script; steps = []; room = most_steps }
     → MakesHistory (script_rules window_conduct) (seen_at bus) after (λ history. IsFetching (IsFull after) history answer) → IsFetchedFrom memory answer
 fetched_from memory window script bus after answer shows none new made =
-    let begins : seen_at bus ≡ window_at_start memory = ap seen_at new ∙ (λ i. record { steps = []; room = 4096; state = (none i, shows i) }) in
+    let begins : seen_at bus ≡ window_at_start memory = ap seen_at new ∙ (λ i. record { steps = []; room = most_steps; state = (none i, shows i) }) in
     (after, subst (λ (before : WindowBus). MakesHistory (script_rules window_conduct) before after (λ history. IsFetching (IsFull after) history answer)) begins made)
 
 -- a fault of the reading is the program's

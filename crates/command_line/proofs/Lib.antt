@@ -2,10 +2,12 @@ mod AdvertAnswers
 mod BusReadings
 mod CommandLineLemmas
 pub mod FaultForms
+mod FaultSentences
 mod FoldLemmas
 mod GivenWords
 mod GoodTexts
 mod MetricsAnswers
+mod OddLineLemmas
 mod OwnAnswers
 mod PartCuts
 mod PlainChoices

@@ -1,5 +1,6 @@
 -- What a command answers to the texts of its parts is among its answers to the input.
 use Rattle.std.proofs.Common.{◌≡◌, ℕ, ◌≤◌, Bool, true, false, List, length, Option, Some, None, IfSome, Ok, Err, arith}
+use Rattle.applications.specs.declared.conventions.Conventions.{Conventions}
 use Rattle.applications.specs.WeightFaults.{IsAnswer}
 use Rattle.applications.specs.declared.weights.fault.WeightsFault.{WeightsFault}
 use Rattle.applications.specs.declared.weights.fault.WeightsFault.TheVariants as weights
@@ -28,15 +29,15 @@ own_answer parts IsMine input (Err f) within is own = (within, is, own)
 pub few_parts : (choice : Choice) → length (parts_read choice) ≤ most_parts
 few_parts (Report report bus) = omega arith
 few_parts (Metrics bus all labels) = omega arith
-few_parts (Plan true) = omega arith
-few_parts (Plan false) = omega arith
-few_parts (Draw svg true) = omega arith
-few_parts (Draw svg false) = omega arith
-few_parts (Check first) = omega arith
-few_parts (Provision activate true) = omega arith
-few_parts (Provision activate false) = omega arith
-few_parts (Trace activate true) = omega arith
-few_parts (Trace activate false) = omega arith
+few_parts (Plan true conventions) = omega arith
+few_parts (Plan false conventions) = omega arith
+few_parts (Draw svg true conventions) = omega arith
+few_parts (Draw svg false conventions) = omega arith
+few_parts (Check first conventions) = omega arith
+few_parts (Provision wake activate true conventions) = omega arith
+few_parts (Provision wake activate false conventions) = omega arith
+few_parts (Trace wake activate true conventions) = omega arith
+few_parts (Trace wake activate false conventions) = omega arith
 
 -- what holds of the bytes that were read holds of the input, where that is known
 pub of_input : (o : Option (List ℕ)) (bytes : List ℕ) (P : List ℕ → Type 0) → IfSome o (λ input. (bytes ≡ input) × (length input ≤ input_limit))
@@ -49,7 +50,7 @@ pub if_known : {T : Type 0} (o : Option T) (P Q : T → Type 0) → ((x : T) →
 if_known None P Q k h = tt
 if_known (Some x) P Q k h = k x h
 
-pub check_weights_refused : (json first : Bool) (image text certificate : List ℕ) (f : WeightsFault) → Advertises image → IsAnswer text (Err f)
-    → IsOwnAnswer (IsCheckAnswer json first image text certificate) (Err (fault_of_weights f))
-check_weights_refused json first image text certificate weights.Memory told is = tt
-check_weights_refused json first image text certificate f told is = (told, (λ same. absurd cc, is))
+pub check_weights_refused : (json first : Bool) (conventions : Conventions) (image text certificate : List ℕ) (f : WeightsFault) → Advertises conventions image → IsAnswer text (Err f)
+    → IsOwnAnswer (IsCheckAnswer json first conventions image text certificate) (Err (fault_of_weights f))
+check_weights_refused json first conventions image text certificate weights.Memory told is = tt
+check_weights_refused json first conventions image text certificate f told is = (told, (λ same. absurd cc, is))

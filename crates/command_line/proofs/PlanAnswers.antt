@@ -1,5 +1,6 @@
 -- The plan that is given, and the answer of the command `plan`, by what its texts answer.
 use Rattle.std.proofs.Common.{◌≡◌, ◌∙◌, ◌↔◌, ◌<◌, ℕ, Bool, true, false, ap, All, AllPairs, Contains, List, Ok, Err, map, sym, subst}
+use Rattle.applications.specs.declared.conventions.Conventions.{Conventions}
 use Rattle.applications.specs.Advertised.{Advertised}
 use Rattle.applications.specs.Weights.{HostWeights}
 use Rattle.applications.specs.WeightFaults.{IsAnswer}
@@ -26,13 +27,13 @@ use Rattle.command_line.specs.declared.fault.Fault.{Fault}
 use Rattle.command_line.specs.declared.fault.Fault.TheVariants as fault
 
 -- a certificate with these kept paths is given for their text
-module _ (image_text weights_text kept_text : List ℕ) (advert : Advertised) (listed : HostWeights) (kept : List Path) (certificate : Claim) where
-  unfoldable pub is_given : certificate.kept ≡ kept → IsAdvertText image_text advert → IsAnswer weights_text (Ok listed) → AreKept advert kept_text kept
+module _ (conventions : Conventions) (image_text weights_text kept_text : List ℕ) (advert : Advertised) (listed : HostWeights) (kept : List Path) (certificate : Claim) where
+  unfoldable pub is_given : certificate.kept ≡ kept → IsAdvertText conventions image_text advert → IsAnswer weights_text (Ok listed) → AreKept advert kept_text kept
       → IsGood advert listed certificate → IsBest advert listed kept certificate.paths → IsFirstBest advert listed kept certificate.paths
       → AllPairs (λ path later. path.host < later.host) certificate.paths
       → All (λ entry. IsGain advert listed kept (state_of entry) entry.potential) certificate.entries
       → ((state : State) → IsReached advert listed kept state ↔ Contains (map state_of certificate.entries) state)
-      → verdict advert listed certificate ≡ Good → IsGiven image_text weights_text kept_text certificate
+      → verdict advert listed certificate ≡ Good → IsGiven conventions image_text weights_text kept_text certificate
   is_given same is_advert are_weights are_kept good best first rising gains states judged = record {
     advert = advert;
     weights = listed;
@@ -70,34 +71,34 @@ tells_text false advert listed kept text is written = written
 tells_text true advert listed kept text is written = absurd cc
 
 -- what is told of a certified plan is told of the one that is given
-pub plan_told : (json : Bool) (image_text weights_text kept_text : List ℕ) (advert : Advertised) (listed : HostWeights) (kept : List Path) (text : List ℕ)
-    → IsAdvertText image_text advert → IsAnswer weights_text (Ok listed) → AreKept advert kept_text kept → TellsPlan json advert listed kept text
-    → IsPlannedAs json image_text weights_text kept_text text
+pub plan_told : (json : Bool) (conventions : Conventions) (image_text weights_text kept_text : List ℕ) (advert : Advertised) (listed : HostWeights) (kept : List Path) (text : List ℕ)
+    → IsAdvertText conventions image_text advert → IsAnswer weights_text (Ok listed) → AreKept advert kept_text kept → TellsPlan json advert listed kept text
+    → IsPlannedAs json conventions image_text weights_text kept_text text
 unfolding is_given
-plan_told true image_text weights_text kept_text advert listed kept text is_advert are_weights are_kept told =
+plan_told true conventions image_text weights_text kept_text advert listed kept text is_advert are_weights are_kept told =
     let all = told.certified in
     record {
       certificate = told.certificate;
-      given = is_given image_text weights_text kept_text advert listed kept told.certificate all.keeps is_advert are_weights are_kept
+      given = is_given conventions image_text weights_text kept_text advert listed kept told.certificate all.keeps is_advert are_weights are_kept
           all.good all.best all.first all.rising all.gains all.states all.judged;
       told = told.written ∙ ap (λ (k : List Path). json_text (plan_json advert listed k told.certificate.paths)) (sym all.keeps);
     }
-plan_told false image_text weights_text kept_text advert listed kept text is_advert are_weights are_kept told =
+plan_told false conventions image_text weights_text kept_text advert listed kept text is_advert are_weights are_kept told =
     let all = told.certified in
     record {
       certificate = told.certificate;
-      given = is_given image_text weights_text kept_text advert listed kept told.certificate all.keeps is_advert are_weights are_kept
+      given = is_given conventions image_text weights_text kept_text advert listed kept told.certificate all.keeps is_advert are_weights are_kept
           all.good all.best all.first all.rising all.gains all.states all.judged;
       told = told.written;
       read_again = told.read_back;
     }
 
-module _ (json : Bool) (image listed kept : List ℕ) where
-  pub advert_refused : (f : Fault) → IsAdvertRefusal image f → IsOwnAnswer (IsPlanAnswer json image listed kept) (Err f)
+module _ (json : Bool) (conventions : Conventions) (image listed kept : List ℕ) where
+  pub advert_refused : (f : Fault) → IsAdvertRefusal image f → IsOwnAnswer (IsPlanAnswer json conventions image listed kept) (Err f)
   advert_refused (fault.Image f) is = is
   advert_refused (fault.Advert f) is = is
   advert_refused f is = absurd is
 
-  pub weights_refused : (f : WeightsFault) → Advertises image → IsAnswer listed (Err f) → IsOwnAnswer (IsPlanAnswer json image listed kept) (Err (fault_of_weights f))
+  pub weights_refused : (f : WeightsFault) → Advertises conventions image → IsAnswer listed (Err f) → IsOwnAnswer (IsPlanAnswer json conventions image listed kept) (Err (fault_of_weights f))
   weights_refused weights.Memory told is = tt
   weights_refused f told is = (told, (λ same. absurd cc, is))

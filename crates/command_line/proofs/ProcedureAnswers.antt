@@ -1,19 +1,20 @@
 -- The answer of a command that carries out procedures, by what it sets up and does.
-use Rattle.std.proofs.Common.{◌≡◌, ◌∙◌, ◌-◌, ℕ, Bool, true, false, List, [], ◌∷◌, Option, Some, None, Result, Ok, Err, IfOk, refl, sym, subst, ap, ap₂, ◌++◌, ◌⊎◌, inl, inr, length, arith}
-use Rattle.std.specs.Prelude.{MatchOption, is_ok, option_map, slice_index}
+use Rattle.std.proofs.Common.{◌≡◌, ◌∙◌, ◌-◌, ◌*◌, ℕ, Bool, true, false, List, [], ◌∷◌, Option, Some, None, is_some, IfSome, Result, Ok, Err, refl, sym, subst, ap, ap₂, ◌++◌, length, reverse, arith}
+use Rattle.std.specs.Prelude.{◌&&◌, MatchOption, is_none, option_map, slice_index}
 use Rattle.std.proofs.lemmas.Grind.{common_steps}
 use Rattle.hex.specs.Hex.{encode_lower}
 use Rattle.text_lines.specs.Lines.{text_of}
 use Rattle.bus_model.specs.declared.operation.Step.{Step}
 use Rattle.bus_model.specs.declared.script.Directive.{Directive}
+use Rattle.applications.specs.declared.conventions.Conventions.{Conventions}
 use Rattle.applications.specs.Advertised.{Advertised}
 use Rattle.applications.specs.WeightFaults.{IsAnswer}
 use Rattle.applications.specs.declared.weights.fault.WeightsFault.{WeightsFault}
 use Rattle.applications.specs.declared.weights.fault.WeightsFault.TheVariants as weights
 use Rattle.bus_model.specs.ScriptBuses.{seen_at}
-use Rattle.control_sets.specs.Answers.{provisioned_steps}
+use Rattle.control_sets.specs.OutcomeAnswers.{most_steps}
 use Rattle.control_sets.specs.declared.fault.ProvisionFault.{ProvisionFault}
-use Rattle.control_sets.specs.declared.procedures.runner.Provisioned.{Provisioned}
+use Rattle.control_sets.specs.declared.procedures.power.Power.TheVariants.{Awake}
 use Rattle.control_sets.specs.ControlBytes.{control_bytes}
 use Rattle.control_sets.specs.PlanLanes.{lanes_outside, plan_lanes}
 use Rattle.plan_certificate.specs.Plans.{IsAdmissible, Keeps}
@@ -28,14 +29,18 @@ use Rattle.sim_module.specs.Soundness.{IsSound}
 use Rattle.sim_module.specs.declared.fault.SimFault.{SimFault}
 use Rattle.sim_module.specs.declared.module.SimModule.{SimModule}
 use Rattle.sim_module.proofs.Activated.{activation_rests}
+use Rattle.sim_module.proofs.ChangedPower.{power_rests}
 use Rattle.sim_module.proofs.Provisioned.{active_if_none}
 use Rattle.sim_module.proofs.SoundModule.{made_keeps, sound_start}
+use Rattle.sim_module.proofs.SoundRuns.{runs_leave_sound}
 use Rattle.command_line.specs.Faults.{fault_of_weights}
 use Rattle.command_line.specs.PlanningInputs.{Advertises, IsAdvertRefusal}
-use Rattle.command_line.specs.ProvisionCommand.{Activates, CarriesOut, StepsOrFault, GoesOn, IsCarriedOut, IsProcedureAnswer, IsSetUpRefusal, ModuleBus, Provisions, control_words, delays, line_if, outcome_fault, outcome_lines, outcome_of, active_line, activated_line, provisioned_line, told_output}
+use Rattle.command_line.specs.ProvisionCommand.{Activates, BusProcedure, CarriesOut, IsCarriedOut, IsProcedureAnswer, IsSetUpRefusal, MakesIf, ModuleBus, Provisions, StepsOrFault, Wakes, control_words, delays, fault_of, line_if, outcome_fault, outcome_lines, outcome_of, active_line, activated_line, provisioned_line, steps_of, told_output, woken_line}
 use Rattle.reports.specs.declared.json_procedure.Outcome.{Outcome}
 use Rattle.command_line.specs.Runs.{IsOwnAnswer}
+use Rattle.command_line.proofs.OwnAnswers.{if_known}
 use Rattle.command_line.specs.Sessions.{IsSessionOf}
+use Rattle.command_line.specs.declared.commands.outcome.ProcedureResults.{ProcedureResults}
 use Rattle.command_line.specs.declared.commands.session.Session.{Session}
 use Rattle.command_line.specs.declared.told_fault.ToldFault.{ToldFault}
 use Rattle.command_line.specs.declared.told_fault.ToldFault.TheVariants.{Procedure}
@@ -43,20 +48,20 @@ use Rattle.command_line.specs.declared.fault.Fault.{Fault}
 use Rattle.command_line.specs.declared.fault.Fault.TheVariants as fault
 
 -- a refusal of the texts is the command's own
-pub refused_answer : (json traced activate : Bool) (image listed kept script : List ℕ) (f : Fault) → IsSetUpRefusal image listed kept script f
-    → IsOwnAnswer (IsProcedureAnswer json traced activate image listed kept script) (Err f)
-refused_answer json traced activate image listed kept script fault.Memory is = tt
-refused_answer json traced activate image listed kept script fault.Io is = absurd is
-refused_answer json traced activate image listed kept script fault.TooLong is = absurd is
-refused_answer json traced activate image listed kept script (fault.Parts n) is = absurd is
-refused_answer json traced activate image listed kept script f is = is
+pub refused_answer : (json traced wake activate : Bool) (conventions : Conventions) (image listed kept script : List ℕ) (f : Fault) → IsSetUpRefusal conventions image listed kept script f
+    → IsOwnAnswer (IsProcedureAnswer json traced wake activate conventions image listed kept script) (Err f)
+refused_answer json traced wake activate conventions image listed kept script fault.Memory is = tt
+refused_answer json traced wake activate conventions image listed kept script fault.Io is = absurd is
+refused_answer json traced wake activate conventions image listed kept script fault.TooLong is = absurd is
+refused_answer json traced wake activate conventions image listed kept script (fault.Parts n) is = absurd is
+refused_answer json traced wake activate conventions image listed kept script f is = is
 
-module _ (image listed kept script : List ℕ) where
-  pub weights_refused : (f : WeightsFault) → Advertises image → IsAnswer listed (Err f) → IsSetUpRefusal image listed kept script (fault_of_weights f)
+module _ (conventions : Conventions) (image listed kept script : List ℕ) where
+  pub weights_refused : (f : WeightsFault) → Advertises conventions image → IsAnswer listed (Err f) → IsSetUpRefusal conventions image listed kept script (fault_of_weights f)
   weights_refused weights.Memory told is = tt
   weights_refused f told is = (told, (λ same. absurd cc, is))
 
-  pub advert_refused : (f : Fault) → IsAdvertRefusal image f → IsSetUpRefusal image listed kept script f
+  pub advert_refused : (f : Fault) → IsAdvertRefusal image f → IsSetUpRefusal conventions image listed kept script f
   advert_refused fault.Memory is = tt
   advert_refused (fault.Module g) is = absurd is
   advert_refused (fault.Script g) is = absurd is
@@ -78,21 +83,7 @@ module_stops told f (Some g) h = cc
 
 -- a bus with this module before any step
 abbrev pub bus_with : List Directive → SimModule → ModuleBus
-bus_with script module' = record { steps = []; room = 8192; state = (script, module') }
-
--- activation was made, or it was not
-pub goes_on_made : (activate : Bool) (advert : Advertised) (paths : List Path) (provisioned : Result Provisioned ProvisionFault) (between after : ModuleBus) (ended : StepsOrFault)
-    → activate ≡ true → is_ok provisioned ≡ true → Activates advert paths between after ended → GoesOn activate advert paths (provisioned_steps provisioned) between after (Some ended)
-goes_on_made true advert paths (Ok p) between after ended wanted is made = made
-goes_on_made true advert paths (Err f) between after ended wanted is made = absurd cc
-goes_on_made false advert paths provisioned between after ended wanted is made = absurd cc
-
-pub goes_on_not : (activate : Bool) (advert : Advertised) (paths : List Path) (provisioned : Result Provisioned ProvisionFault) (between : ModuleBus)
-    → (activate ≡ false) ⊎ (is_ok provisioned ≡ false) → GoesOn activate advert paths (provisioned_steps provisioned) between between None
-goes_on_not false advert paths provisioned between why = refl
-goes_on_not true advert paths (Err f) between why = refl
-goes_on_not true advert paths (Ok p) between (inl never) = absurd cc
-goes_on_not true advert paths (Ok p) between (inr never) = absurd cc
+bus_with script module' = record { steps = []; room = 3 * most_steps; state = (script, module') }
 
 -- eight words, by their bytes
 pub eight_words : (bytes : List ℕ) → length bytes ≡ 8 → control_words bytes
@@ -111,35 +102,34 @@ eight_words (a ∷ b ∷ c ∷ d ∷ e ∷ f ∷ g ∷ h ∷ i ∷ rest) is = ab
 
 -- the lines one after the other
 pub outcome_text : (old : List ℕ) (outcome : Outcome)
-    → ((old ++ text_of (line_if provisioned_line outcome.provisioned)) ++ text_of (line_if activated_line outcome.activated)) ++ text_of (line_if active_line outcome.active)
+    → (((old ++ text_of (line_if woken_line outcome.woken)) ++ text_of (line_if provisioned_line outcome.provisioned)) ++ text_of (line_if activated_line outcome.activated)) ++ text_of (line_if active_line outcome.active)
     ≡ old ++ text_of (outcome_lines outcome)
 outcome_text old outcome = grind (arith, common_steps)
 
 -- what is told, by what the bus has
-pub told_as : (json traced : Bool) (bus : ModuleBus) (provisioned : StepsOrFault) (activated : Option StepsOrFault) (text active : List ℕ) (steps : List Step) (outcome : Outcome) (ended : Option ProvisionFault)
-    → text ≡ told_output json traced steps outcome ended → outcome ≡ outcome_of provisioned activated active → steps ≡ bus.steps → active ≡ active_bytes bus.state.1
-    → text ≡ told_output json traced bus.steps (outcome_of provisioned activated (active_bytes bus.state.1)) ended
-told_as json traced bus provisioned activated text active steps outcome ended told is same shown =
-    told ∙ ap₂ (λ (l : List Step) (o : Outcome). told_output json traced l o ended) same (is ∙ ap (λ (l : List ℕ). outcome_of provisioned activated l) shown)
+pub told_as : (json traced : Bool) (bus : ModuleBus) (results : ProcedureResults) (text active : List ℕ) (steps : List Step) (outcome : Outcome) (ended : Option ProvisionFault)
+    → text ≡ told_output json traced steps outcome ended → outcome ≡ outcome_of results active → steps ≡ bus.steps → active ≡ active_bytes bus.state.1
+    → text ≡ told_output json traced bus.steps (outcome_of results (active_bytes bus.state.1)) ended
+told_as json traced bus results text active steps outcome ended told is same shown =
+    told ∙ ap₂ (λ (l : List Step) (o : Outcome). told_output json traced l o ended) same (is ∙ ap (λ (l : List ℕ). outcome_of results l) shown)
 
 -- a new module is in no apply
 new_at_rest : (memory : Memory) (given : Delays) → HasNoApply (start memory given)
 unfolding start
 new_at_rest memory given lane is = made_keeps (λ (l : Lane). l.applying ≡ None) (start_lane memory) no_lane (λ n. refl) refl all_lanes (lane - 1)
 
-module _ (image listed kept script : List ℕ) (session : Session) (is : IsSessionOf image listed kept script session) where
+module _ (conventions : Conventions) (image listed kept script : List ℕ) (session : Session) (is : IsSessionOf conventions image listed kept script session) where
   -- what a session's bus makes of the plan
-  pub carried : (json traced activate : Bool) (text : List ℕ) (after : ModuleBus) (provisioned : StepsOrFault) (activated : Option StepsOrFault) (ended : Option ProvisionFault) (told_fault : Option ToldFault)
-      → CarriesOut activate session.advert session.plan session.kept (seen_at session.bus) after provisioned activated
-      → text ≡ told_output json traced after.steps (outcome_of provisioned activated (active_bytes after.state.1)) ended → ended ≡ outcome_fault provisioned activated → told_fault ≡ option_map Procedure ended
-      → IsCarriedOut json traced activate image listed kept script text told_fault
-  carried json traced activate text after provisioned activated ended told_fault done told fault same = record {
+  pub carried : (json traced wake activate : Bool) (text : List ℕ) (after : ModuleBus) (results : ProcedureResults) (ended : Option ProvisionFault) (told_fault : Option ToldFault)
+      → CarriesOut wake activate session.advert session.plan session.kept (seen_at session.bus) after results
+      → text ≡ told_output json traced after.steps (outcome_of results (active_bytes after.state.1)) ended → ended ≡ outcome_fault results → told_fault ≡ option_map Procedure ended
+      → IsCarriedOut json traced wake activate conventions image listed kept script text told_fault
+  carried json traced wake activate text after results ended told_fault done told fault same = record {
     set_up = is.set_up;
     after = after;
-    provisioned = provisioned;
-    activated = activated;
+    results = results;
     done = rw (is.advert, is.plan, is.kept, is.bus) at done;
-    told = told ∙ ap (told_output json traced after.steps (outcome_of provisioned activated (active_bytes after.state.1))) fault;
+    told = told ∙ ap (told_output json traced after.steps (outcome_of results (active_bytes after.state.1))) fault;
     fault = same ∙ ap (option_map Procedure) fault;
   }
 
@@ -159,39 +149,64 @@ module _ (image listed kept script : List ℕ) (session : Session) (is : IsSessi
   pub session_keeps : Keeps session.kept session.plan
   session_keeps = rw (is.kept, is.plan) is.set_up.given.is_good.keeps
 
--- after a success the control bytes are active, and no apply is in progress
-rests_after : (advert : Advertised) (paths kept : List Path) (before between : ModuleBus) (provisioned : StepsOrFault) → IsSound before.state.1 × HasNoApply before.state.1
-    → Provisions advert paths kept before between provisioned
-    → IfOk provisioned (λ steps. IsAtRest (control_bytes advert paths) between.state.1)
-rests_after advert paths kept before between (Ok steps) begins (history, ran, outcome) =
-    active_if_none (lanes_outside advert kept) before between history (control_bytes advert paths) steps begins ran outcome
-rests_after advert paths kept before between (Err f) begins made = tt
+-- by the same condition in other words
+pub makes_as : (given wanted : Bool) (Does : BusProcedure) (before after : ModuleBus) (ended : Option StepsOrFault)
+    → given ≡ wanted → MakesIf given Does before after ended → MakesIf wanted Does before after ended
+makes_as given wanted Does before after ended same made = subst (λ (b : Bool). MakesIf b Does before after ended) same made
 
-active_at_rest : (control : List ℕ) (bus : ModuleBus) (provisioned : StepsOrFault) → IfOk provisioned (λ steps. IsAtRest control bus.state.1)
-    → IfOk provisioned (λ steps. active_bytes bus.state.1 ≡ control)
-active_at_rest control bus (Ok steps) rest = rest.active
-active_at_rest control bus (Err f) rest = tt
+-- how a module is before a procedure
+abbrev Begins : ModuleBus → Type 0
+Begins bus = IsSound bus.state.1 × HasNoApply bus.state.1
 
-pub active_after : (advert : Advertised) (paths kept : List Path) (before between : ModuleBus) (provisioned : StepsOrFault) → IsSound before.state.1 × HasNoApply before.state.1
-    → Provisions advert paths kept before between provisioned
-    → IfOk provisioned (λ steps. active_bytes between.state.1 ≡ control_bytes advert paths)
-active_after advert paths kept before between provisioned begins made =
-    active_at_rest (control_bytes advert paths) between provisioned (rests_after advert paths kept before between provisioned begins made)
+-- waking up leaves it so
+begins_awake : (before after : ModuleBus) (ended : StepsOrFault) → Begins before → Wakes before after ended → Begins after
+begins_awake before after ended (sound, none) (history, ran, outcome) = (
+  runs_leave_sound before after (reverse history) sound ran,
+  (power_rests before after history Awake (active_bytes before.state.1) ended (record { eight = sound.eight; none = none; active = refl }) ran outcome).none,
+)
 
--- and they stay so, whether activation is made or not
-still_at_rest : (activate : Bool) (advert : Advertised) (paths : List Path) (between after : ModuleBus) (provisioned : StepsOrFault) (activated : Option StepsOrFault)
-    → IfOk provisioned (λ steps. IsAtRest (control_bytes advert paths) between.state.1) → GoesOn activate advert paths provisioned between after activated
-    → IfOk provisioned (λ steps. IsAtRest (control_bytes advert paths) after.state.1)
-still_at_rest activate advert paths between after (Err f) activated rest goes_on = tt
-still_at_rest true advert paths between after (Ok steps) (Some ended) rest (history, ran, outcome) =
-    activation_rests between after history (control_bytes advert paths) (control_bytes advert paths) (plan_lanes advert paths) ended rest ran outcome
-still_at_rest true advert paths between after (Ok steps) None rest goes_on = absurd goes_on
-still_at_rest false advert paths between after (Ok steps) None rest goes_on = subst (λ (bus : ModuleBus). IsAtRest (control_bytes advert paths) bus.state.1) (sym goes_on) rest
-still_at_rest false advert paths between after (Ok steps) (Some ended) rest goes_on = absurd goes_on
+begins_woken : (wake : Bool) (before after : ModuleBus) (woken : Option StepsOrFault) → Begins before → MakesIf wake Wakes before after woken → Begins after
+begins_woken true before after (Some ended) begins made = begins_awake before after ended begins made
+begins_woken true before after None begins none = absurd none
+begins_woken false before after (Some ended) begins none = absurd none
+begins_woken false before after None begins same = subst Begins (sym same) begins
 
-pub still_active_after : (activate : Bool) (advert : Advertised) (paths kept : List Path) (before between after : ModuleBus) (provisioned : StepsOrFault) (activated : Option StepsOrFault)
-    → IsSound before.state.1 × HasNoApply before.state.1 → Provisions advert paths kept before between provisioned → GoesOn activate advert paths provisioned between after activated
-    → IfOk provisioned (λ steps. active_bytes after.state.1 ≡ control_bytes advert paths)
-still_active_after activate advert paths kept before between after provisioned activated begins made goes_on =
-    active_at_rest (control_bytes advert paths) after provisioned
-    (still_at_rest activate advert paths between after provisioned activated (rests_after advert paths kept before between provisioned begins made) goes_on)
+module _ (advert : Advertised) (paths : List Path) where
+  -- the control bytes are active, and no apply is in progress
+  abbrev Rests : ModuleBus → Type 0
+  Rests bus = IsAtRest (control_bytes advert paths) bus.state.1
+
+  -- after a success
+  rests_provisioned : (wanted : Bool) (kept : List Path) (before after : ModuleBus) (provisioned : Option StepsOrFault) → Begins before → MakesIf wanted (Provisions advert paths kept) before after provisioned
+      → IfSome (steps_of provisioned) (λ steps. Rests after)
+  rests_provisioned true kept before after (Some (Ok steps)) begins (history, ran, outcome) =
+      active_if_none (lanes_outside advert kept) before after history (control_bytes advert paths) steps begins ran outcome
+  rests_provisioned false kept before after (Some (Ok steps)) begins none = absurd none
+  rests_provisioned wanted kept before after (Some (Err f)) begins made = tt
+  rests_provisioned wanted kept before after None begins made = tt
+
+  -- and still, whether activation is made or not
+  rests_activated : (wanted : Bool) (before after : ModuleBus) (activated : Option StepsOrFault) → Rests before → MakesIf wanted (Activates advert paths) before after activated → Rests after
+  rests_activated true before after (Some ended) rest (history, ran, outcome) =
+      activation_rests before after history (control_bytes advert paths) (control_bytes advert paths) (plan_lanes advert paths) ended rest ran outcome
+  rests_activated true before after None rest none = absurd none
+  rests_activated false before after (Some ended) rest none = absurd none
+  rests_activated false before after None rest same = subst Rests (sym same) rest
+
+  -- the procedures, as far as they are made
+  pub carries_out : (wake activate : Bool) (kept : List Path) (before woken provisioned after : ModuleBus) (results : ProcedureResults) → IsSound before.state.1 × HasNoApply before.state.1
+      → MakesIf wake Wakes before woken results.woken → MakesIf (is_none (fault_of results.woken)) (Provisions advert paths kept) woken provisioned results.provisioned
+      → MakesIf (activate && is_some (steps_of results.provisioned)) (Activates advert paths) provisioned after results.activated
+      → CarriesOut wake activate advert paths kept before after results
+  carries_out wake activate kept before woken provisioned after results begins wakes provisions activates =
+      let rest = rests_provisioned (is_none (fault_of results.woken)) kept woken provisioned results.provisioned (begins_woken wake before woken results.woken begins wakes) provisions in
+      record {
+        woken = woken;
+        provisioned = provisioned;
+        wakes = wakes;
+        provisions = provisions;
+        activates = activates;
+        active = if_known (steps_of results.provisioned) (λ steps. Rests provisioned) _ (λ steps is. is.active) rest;
+        still_active = if_known (steps_of results.provisioned) (λ steps. Rests provisioned) _
+            (λ steps is. (rests_activated (activate && is_some (steps_of results.provisioned)) provisioned after results.activated is activates).active) rest;
+      }

@@ -1,9 +1,9 @@
 -- What is said beside an answer is what its input gives cause for.
 use Rattle.std.proofs.Common.{◌≡◌, ◌∙◌, ℕ, Bool, true, false, List, Option, Some, None, IfSome, Ok, Err, ap, sym, refl, subst}
 use Rattle.command_line.specs.Input.{IsReadOf}
-use Rattle.command_line.specs.Remarks.{opening_for}
+use Rattle.command_line.specs.Remarks.{clue_for}
 use Rattle.command_line.specs.RemarksBeside.{IsRemarkBeside}
-use Rattle.command_line.specs.Runs.{Answer, EndsByFailure, IsSaidBeside, IsWritten, SaysReading, ended, ending_after, opening_beside, output_of, status_after}
+use Rattle.command_line.specs.Runs.{Answer, EndsByFailure, IsSaidBeside, IsWritten, SaysReading, clue_beside, ended, ending_after, opening_beside, output_of, status_after}
 use Rattle.reports.specs.declared.fault.ReportFault.TheVariants as report
 use Rattle.command_line.specs.Faults.{fault_of_told}
 use Rattle.command_line.specs.declared.told_fault.ToldFault.{ToldFault}
@@ -20,34 +20,30 @@ use Rattle.command_line.specs.declared.status.Status.TheVariants.{ReadOrWrite}
 use Rattle.command_line.specs.declared.ending.Ending.{Ending}
 use Rattle.command_line.specs.Program.{refusal_ending, refusal_remark}
 
--- a fault of reading is explained without the input
-pub read_opening : (input : List ℕ) (f : Fault) → IsReadOf input (Err f) → Other ≡ opening_for f input
-read_opening input fault.TooLong is = refl
-read_opening input fault.Io is = refl
-read_opening input fault.Memory is = refl
-read_opening input f is = absurd is
+-- of a fault of reading the input tells nothing
+pub read_clue : (input : List ℕ) (f : Fault) → IsReadOf input (Err f) → record { opening = Other; weights_line = None } ≡ clue_for f input
+read_clue input fault.TooLong is = refl
+read_clue input fault.Io is = refl
+read_clue input fault.Memory is = refl
+read_clue input f is = absurd is
 
--- a remark with the opening that the input has
-with_opening : (f : Fault) (clue : Clue) (opening : Opening) (remark : Remark) → remark ≡ Refused record { fault = f; clue = clue } → clue.opening ≡ opening
-    → remark ≡ Refused record { fault = f; clue = record { opening = opening; weights_line = clue.weights_line } }
-with_opening f clue opening remark is same = is ∙ ap (λ o. Refused record { fault = f; clue = record { opening = o; weights_line = clue.weights_line } }) same
+-- nor of a fault that a text tells of
+told_clue : (told : ToldFault) (input : List ℕ) → record { opening = Other; weights_line = None } ≡ clue_for (fault_of_told told) input
+told_clue (Procedure f) input = refl
+told_clue (Metrics report.Memory) input = refl
+told_clue (Metrics f) input = refl
 
--- the input's beginning explains no fault that a text tells of
-told_opening : (told : ToldFault) (input : List ℕ) → Other ≡ opening_for (fault_of_told told) input
-told_opening (Procedure f) input = refl
-told_opening (Metrics report.Memory) input = refl
-told_opening (Metrics f) input = refl
-
-explained_as : (told : ToldFault) (clue : Clue) (input : List ℕ) (remark : Remark) → remark ≡ Refused record { fault = fault_of_told told; clue = clue } → clue.opening ≡ Other
-    → remark ≡ Refused record { fault = fault_of_told told; clue = record { opening = opening_for (fault_of_told told) input; weights_line = clue.weights_line } }
-explained_as told clue input remark is same =
-    with_opening (fault_of_told told) clue (opening_for (fault_of_told told) input) remark is (same ∙ told_opening told input)
+-- a remark with the clue that the input gives
+with_clue : (f : Fault) (clue other : Clue) (remark : Remark) → remark ≡ Refused record { fault = f; clue = clue } → clue ≡ other
+    → remark ≡ Refused record { fault = f; clue = other }
+with_clue f clue other remark is same = is ∙ ap (λ (c : Clue). Refused record { fault = f; clue = c }) same
 
 pub said_beside : (failed : Bool) (status : Status) (input : List ℕ) (answer : Answer) (clue : Clue) (remark : Remark) → IsRemarkBeside answer clue remark
-    → clue.opening ≡ opening_beside answer input → IsSaidBeside failed input answer (ending_after failed status remark).remark
+    → clue ≡ clue_beside answer input → IsSaidBeside failed input answer (ending_after failed status remark).remark
 said_beside true status input answer clue remark is same = refl
-said_beside false status input (Err f) clue remark is same = (clue.weights_line, with_opening f clue (opening_for f input) remark is same)
-said_beside false status input (Ok (text, Some told)) clue remark is same = (clue.weights_line, explained_as told clue input remark is same)
+said_beside false status input (Err f) clue remark is same = with_clue f clue (clue_for f input) remark is same
+said_beside false status input (Ok (text, Some told)) clue remark is same =
+    with_clue (fault_of_told told) clue (clue_for (fault_of_told told) input) remark is (same ∙ told_clue told input)
 said_beside false status input (Ok (text, None)) clue remark is same = is
 
 -- what follows of two facts of the input holds of it, where it is known

@@ -1,9 +1,11 @@
--- What the command `check` answers to the texts of its parts, with the flags `--first` and `--json` or without them.
+-- What the command `check` answers to the texts of its parts, with the flags `--first`, `--paired` and `--json` or
+-- without them.
 -- (docs/formats.md, "Input", "check" and "JSON"; this project's own)
 use Rattle.std.specs.Prelude.{◌≡◌, ◌↔◌, ℕ, Bool, true, false, IsTrue, List, [], ◌∷◌, ◌++◌, ◌==◌, if◌then◌else◌, length, codes, Option, Some, None, Ok, Err}
 use Rattle.std.specs.Fmt.{decimal}
 use Rattle.text_lines.specs.Lines.{lines_of, text_of}
 use Rattle.text_lines.specs.Words.{spaced}
+use Rattle.applications.specs.declared.conventions.Conventions.{Conventions}
 use Rattle.applications.specs.Advertised.{Advertised}
 use Rattle.applications.specs.Weights.{HostWeights}
 use Rattle.applications.specs.WeightFaults.{IsAnswer}
@@ -65,27 +67,27 @@ pub record TellsGood (json first : Bool) (advert : Advertised) (weights : HostWe
   pub told : text ≡ good_output json is_first advert weights certificate
 
 -- the texts are those of an image, of weights and of a certificate, of which this is the verdict
-pub record IsJudged (image_text weights_text certificate_text : List ℕ) (judged : Verdict) : Type 0 where
+pub record IsJudged (conventions : Conventions) (image_text weights_text certificate_text : List ℕ) (judged : Verdict) : Type 0 where
   pub advert : Advertised
   pub weights : HostWeights
   pub certificate : Claim
-  pub is_advert : IsAdvertText image_text advert
+  pub is_advert : IsAdvertText conventions image_text advert
   pub are_weights : IsAnswer weights_text (Ok weights)
   pub is_certificate : IsTextOf most_states (lines_of certificate_text) certificate
   pub is_verdict : verdict advert weights certificate ≡ judged
 
 -- the certificate is good, so its plan is best among those that hold the kept paths, and the plan is told
-pub record IsGoodAnswer (json first : Bool) (image_text weights_text certificate_text text : List ℕ) : Type 0 where
-  pub judged : IsJudged image_text weights_text certificate_text Good
+pub record IsGoodAnswer (json first : Bool) (conventions : Conventions) (image_text weights_text certificate_text text : List ℕ) : Type 0 where
+  pub judged : IsJudged conventions image_text weights_text certificate_text Good
   pub is_best : IsBest judged.advert judged.weights judged.certificate.kept judged.certificate.paths
   pub told : TellsGood json first judged.advert judged.weights judged.certificate text
 
 -- the answer to the texts of an image, of weights and of a certificate
-abbrev pub IsCheckAnswer : Bool → Bool → List ℕ → List ℕ → List ℕ → Answer → Type 0
-IsCheckAnswer json first image weights certificate (Ok (text, None)) = IsGoodAnswer json first image weights certificate text
-IsCheckAnswer json first image weights certificate (Ok (text, ended)) = ⊥
-IsCheckAnswer json first image weights certificate (Err (fault.Bad reason number)) = IsJudged image weights certificate (Bad reason number)
-IsCheckAnswer json first image weights certificate (Err (fault.Certificate f)) =
-    Advertises image × ((listed : HostWeights) × IsAnswer weights (Ok listed)) × IsFirstFault most_states (lines_of certificate) f
-IsCheckAnswer json first image weights certificate (Err (fault.Weights f)) = Advertises image × IsWeightsRefusal weights f
-IsCheckAnswer json first image weights certificate (Err f) = IsAdvertRefusal image f
+abbrev pub IsCheckAnswer : Bool → Bool → Conventions → List ℕ → List ℕ → List ℕ → Answer → Type 0
+IsCheckAnswer json first conventions image weights certificate (Ok (text, None)) = IsGoodAnswer json first conventions image weights certificate text
+IsCheckAnswer json first conventions image weights certificate (Ok (text, ended)) = ⊥
+IsCheckAnswer json first conventions image weights certificate (Err (fault.Bad reason number)) = IsJudged conventions image weights certificate (Bad reason number)
+IsCheckAnswer json first conventions image weights certificate (Err (fault.Certificate f)) =
+    Advertises conventions image × ((listed : HostWeights) × IsAnswer weights (Ok listed)) × IsFirstFault most_states (lines_of certificate) f
+IsCheckAnswer json first conventions image weights certificate (Err (fault.Weights f)) = Advertises conventions image × IsWeightsRefusal weights f
+IsCheckAnswer json first conventions image weights certificate (Err f) = IsAdvertRefusal image f

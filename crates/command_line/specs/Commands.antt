@@ -17,13 +17,13 @@ use Rattle.command_line.specs.declared.choice.part.Part.TheVariants.{Image, Weig
 abbrev pub IsAnswerToTexts : Choice → Bool → Texts → Answer → Type 0
 IsAnswerToTexts (Report report bus) json texts = IsReportAnswer report bus json (texts Image)
 IsAnswerToTexts (Metrics bus all labels) json texts = IsMetricsAnswer bus all labels (texts Image)
-IsAnswerToTexts (Plan keep) json texts = IsPlanAnswer json (texts Image) (texts Weights) (texts Kept)
-IsAnswerToTexts (Draw svg keep) json texts = IsDrawAnswer svg (texts Image) (texts Weights) (texts Kept)
-IsAnswerToTexts (Check first) json texts = IsCheckAnswer json first (texts Image) (texts Weights) (texts Certificate)
-IsAnswerToTexts (Provision activate keep) json texts =
-    IsProcedureAnswer json false activate (texts Image) (texts Weights) (texts Kept) (texts Script)
-IsAnswerToTexts (Trace activate keep) json texts =
-    IsProcedureAnswer json true activate (texts Image) (texts Weights) (texts Kept) (texts Script)
+IsAnswerToTexts (Plan keep conventions) json texts = IsPlanAnswer json conventions (texts Image) (texts Weights) (texts Kept)
+IsAnswerToTexts (Draw svg keep conventions) json texts = IsDrawAnswer svg conventions (texts Image) (texts Weights) (texts Kept)
+IsAnswerToTexts (Check first conventions) json texts = IsCheckAnswer json first conventions (texts Image) (texts Weights) (texts Certificate)
+IsAnswerToTexts (Provision wake activate keep conventions) json texts =
+    IsProcedureAnswer json false wake activate conventions (texts Image) (texts Weights) (texts Kept) (texts Script)
+IsAnswerToTexts (Trace wake activate keep conventions) json texts =
+    IsProcedureAnswer json true wake activate conventions (texts Image) (texts Weights) (texts Kept) (texts Script)
 
 -- the answer to an input
 abbrev pub IsAnswerOf : Request → List ℕ → Answer → Type 0

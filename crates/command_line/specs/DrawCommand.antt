@@ -1,9 +1,10 @@
--- What the command `draw` answers to the texts of its parts, with the flag `--svg` or without it. (docs/formats.md, "Input" and
+-- What the command `draw` answers to the texts of its parts, with the flags `--svg` and `--paired` or without them. (docs/formats.md, "Input" and
 -- "draw"; this project's own)
 use Rattle.std.specs.Prelude.{ℕ, Bool, List, None, Ok, Err}
 use Rattle.paged_memory.specs.Images.{Memory}
 use Rattle.field_tables.specs.declared.field.Field.TheVariants.{CMediaType}
 use Rattle.field_tables.specs.Readings.{number}
+use Rattle.applications.specs.declared.conventions.Conventions.{Conventions}
 use Rattle.applications.specs.Advertised.{Advertised}
 use Rattle.applications.specs.Weights.{HostWeights}
 use Rattle.applications.specs.WeightFaults.{IsAnswer}
@@ -14,21 +15,21 @@ use Rattle.command_line.specs.PlanningInputs.{Advertises, AreKept, IsAdvertRefus
 use Rattle.command_line.specs.Runs.{Answer}
 
 -- the drawing of the plan for the image, the weights and the kept paths of these texts
-pub record IsDrawn (as_svg : Bool) (image_text weights_text kept_text text : List ℕ) : Type 0 where
+pub record IsDrawn (as_svg : Bool) (conventions : Conventions) (image_text weights_text kept_text text : List ℕ) : Type 0 where
   pub memory : Memory
   pub advert : Advertised
   pub weights : HostWeights
   pub kept : List Path
   pub has_paths : Bool
-  pub is_module : IsModuleText image_text memory advert
+  pub is_module : IsModuleText conventions image_text memory advert
   pub are_weights : IsAnswer weights_text (Ok weights)
   pub are_kept : AreKept advert kept_text kept
   pub drawn : IsDrawing as_svg (number memory CMediaType) advert weights kept text has_paths
 
 -- the answer to the texts of an image, of weights and of kept paths
-abbrev pub IsDrawAnswer : Bool → List ℕ → List ℕ → List ℕ → Answer → Type 0
-IsDrawAnswer as_svg image weights kept (Ok (text, None)) = IsDrawn as_svg image weights kept text
-IsDrawAnswer as_svg image weights kept (Ok (text, ended)) = ⊥
-IsDrawAnswer as_svg image weights kept (Err (fault.Kept f)) = IsKeptRefusal image weights kept f
-IsDrawAnswer as_svg image weights kept (Err (fault.Weights f)) = Advertises image × IsWeightsRefusal weights f
-IsDrawAnswer as_svg image weights kept (Err f) = IsAdvertRefusal image f
+abbrev pub IsDrawAnswer : Bool → Conventions → List ℕ → List ℕ → List ℕ → Answer → Type 0
+IsDrawAnswer as_svg conventions image weights kept (Ok (text, None)) = IsDrawn as_svg conventions image weights kept text
+IsDrawAnswer as_svg conventions image weights kept (Ok (text, ended)) = ⊥
+IsDrawAnswer as_svg conventions image weights kept (Err (fault.Kept f)) = IsKeptRefusal conventions image weights kept f
+IsDrawAnswer as_svg conventions image weights kept (Err (fault.Weights f)) = Advertises conventions image × IsWeightsRefusal weights f
+IsDrawAnswer as_svg conventions image weights kept (Err f) = IsAdvertRefusal image f

@@ -1,6 +1,7 @@
 -- What is written of a fault: its line, or, if JSON is asked for, its code, its values and its sentence as JSON. (docs/formats.md,
 -- "Faults" and "JSON"; this project's own)
-use Rattle.std.specs.Prelude.{ℕ, Bool, true, false, List, [], ◌∷◌, ◌++◌, codes}
+use Rattle.std.specs.Prelude.{ℕ, Bool, true, false, is_some, List, [], ◌∷◌, ◌++◌, codes}
+use Rattle.notices.specs.Sentences.{row_by_code}
 use Rattle.json.specs.Json.{Json}
 use Rattle.report_entries.specs.EntryJson.{json_text}
 use Rattle.reports.specs.FaultJson.{fault_json}
@@ -16,6 +17,10 @@ use Rattle.command_line.specs.declared.remark.opening.Opening.TheVariants.{Other
 -- what a person is told of it, by how the input begins
 abbrev pub fault_sentence : Fault → Opening → List ℕ
 fault_sentence fault opening = sentence_of (sentence_key fault opening)
+
+-- there is one
+abbrev pub has_sentence : Fault → Opening → Bool
+has_sentence fault opening = is_some (row_by_code (sentence_key fault opening))
 
 -- a bad certificate has a verdict
 abbrev pub fault_tree : Fault → Opening → Json

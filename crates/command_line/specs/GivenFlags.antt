@@ -28,11 +28,20 @@ bus = codes "bus"
 abbrev pub json : Text
 json = codes "json"
 
+abbrev pub wake : Text
+wake = codes "wake"
+
 abbrev pub activate : Text
 activate = codes "activate"
 
 abbrev pub keep : Text
 keep = codes "keep"
+
+abbrev pub paired : Text
+paired = codes "paired"
+
+abbrev pub counts_by_id : Text
+counts_by_id = codes "counts-by-id"
 
 abbrev pub svg : Text
 svg = codes "svg"

@@ -2,6 +2,7 @@
 -- own)
 use Rattle.std.specs.Prelude.{◌≡◌, ◌↔◌, ◌<◌, ℕ, Contains, List, map, Ok}
 use Rattle.std.specs.List.{All, AllPairs}
+use Rattle.applications.specs.declared.conventions.Conventions.{Conventions}
 use Rattle.applications.specs.Advertised.{Advertised}
 use Rattle.applications.specs.Weights.{HostWeights}
 use Rattle.applications.specs.WeightFaults.{IsAnswer}
@@ -17,10 +18,10 @@ use Rattle.command_line.specs.PlanningInputs.{AreKept, IsAdvertText}
 
 -- a good certificate that keeps these paths, with what can be gained from each state, so its plan is best; it is the first of
 -- the best plans, with its paths by rising host lane
-pub record IsGiven (image_text weights_text kept_text : List ℕ) (certificate : Claim) : Type 0 where
+pub record IsGiven (conventions : Conventions) (image_text weights_text kept_text : List ℕ) (certificate : Claim) : Type 0 where
   pub advert : Advertised
   pub weights : HostWeights
-  pub is_advert : IsAdvertText image_text advert
+  pub is_advert : IsAdvertText conventions image_text advert
   pub are_weights : IsAnswer weights_text (Ok weights)
   pub are_kept : AreKept advert kept_text certificate.kept
   pub is_good : IsGood advert weights certificate

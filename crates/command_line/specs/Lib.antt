@@ -14,8 +14,11 @@ pub mod Input
 pub mod Parts
 pub mod PartsRead
 pub mod PartsLeft
+pub mod Help
 pub mod Faults
 pub mod Places
+pub mod PlanWarnings
+pub mod OddLines
 pub mod Remarks
 pub mod FaultTexts
 pub mod Runs

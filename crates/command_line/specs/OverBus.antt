@@ -10,6 +10,7 @@ use Rattle.paged_memory.specs.Images.{Memory}
 use Rattle.paged_memory.specs.ImageText.{IsTextOf}
 use Rattle.paged_memory.specs.ImageFaults.{IsFirstFault}
 use Rattle.paged_memory.specs.Windows.{Windowed, started, window_conduct}
+use Rattle.control_sets.specs.OutcomeAnswers.{most_steps}
 use Rattle.control_sets.specs.Procedures.{MakesHistory}
 use Rattle.reports.specs.FetchedImages.{IsFetching}
 use Rattle.reports.specs.declared.fault.ReportFault.{ReportFault}
@@ -22,7 +23,7 @@ WindowBus = Seen (List Directive × Windowed)
 
 -- before any step, without a script, with a new window of a memory
 abbrev pub window_at_start : Memory → WindowBus
-window_at_start memory = record { steps = []; room = 4096; state = ([], started memory) }
+window_at_start memory = record { steps = []; room = most_steps; state = ([], started memory) }
 
 -- to read the module of this memory over that bus is answered so
 abbrev pub IsFetchedFrom : Memory → Result Memory ReportFault → Type 0

@@ -16,11 +16,11 @@ kept_if false rest = rest
 abbrev pub parts_read : Choice → List Part
 parts_read (Report report bus) = Image ∷ []
 parts_read (Metrics bus all labels) = Image ∷ []
-parts_read (Plan keep) = Image ∷ Weights ∷ kept_if keep []
-parts_read (Draw svg keep) = Image ∷ Weights ∷ kept_if keep []
-parts_read (Check first) = Image ∷ Weights ∷ Certificate ∷ []
-parts_read (Provision activate keep) = Image ∷ Weights ∷ kept_if keep (Script ∷ [])
-parts_read (Trace activate keep) = Image ∷ Weights ∷ kept_if keep (Script ∷ [])
+parts_read (Plan keep conventions) = Image ∷ Weights ∷ kept_if keep []
+parts_read (Draw svg keep conventions) = Image ∷ Weights ∷ kept_if keep []
+parts_read (Check first conventions) = Image ∷ Weights ∷ Certificate ∷ []
+parts_read (Provision wake activate keep conventions) = Image ∷ Weights ∷ kept_if keep (Script ∷ [])
+parts_read (Trace wake activate keep conventions) = Image ∷ Weights ∷ kept_if keep (Script ∷ [])
 
 abbrev pub is_part : Part → Part → Bool
 is_part Image Image = true

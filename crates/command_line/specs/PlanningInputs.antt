@@ -5,7 +5,8 @@ use Rattle.text_lines.specs.Lines.{lines_of}
 use Rattle.paged_memory.specs.Images.{Memory}
 use Rattle.paged_memory.specs.ImageText.{IsTextOf}
 use Rattle.paged_memory.specs.ImageFaults.{IsFirstFault}
-use Rattle.applications.specs.Advertised.{Advertised, advertised_by}
+use Rattle.applications.specs.declared.conventions.Conventions.{Conventions}
+use Rattle.applications.specs.Advertised.{Advertised, advertised_under}
 use Rattle.applications.specs.Refusals.{advert_fault}
 use Rattle.applications.specs.WeightFaults.{IsAnswer}
 use Rattle.applications.specs.declared.weights.fault.WeightsFault.{WeightsFault}
@@ -20,20 +21,20 @@ use Rattle.plan_certificate.specs.declared.path.Path.{Path}
 use Rattle.command_line.specs.declared.fault.Fault.{Fault}
 use Rattle.command_line.specs.declared.fault.Fault.TheVariants as fault
 
--- the text is that of this image, whose module advertises this
-pub record IsModuleText (text : List ℕ) (memory : Memory) (advert : Advertised) : Type 0 where
+-- the text is that of this image, whose module advertises this if it pairs first lanes, or does not
+pub record IsModuleText (conventions : Conventions) (text : List ℕ) (memory : Memory) (advert : Advertised) : Type 0 where
   pub is_text : IsTextOf (lines_of text) memory
   pub accepted : advert_fault memory ≡ None
-  pub advertised : advert ≡ advertised_by memory
+  pub advertised : advert ≡ advertised_under conventions memory
 
 -- the text is that of an image whose module advertises this
-pub record IsAdvertText (text : List ℕ) (advert : Advertised) : Type 0 where
+pub record IsAdvertText (conventions : Conventions) (text : List ℕ) (advert : Advertised) : Type 0 where
   pub memory : Memory
-  pub is_module : IsModuleText text memory advert
+  pub is_module : IsModuleText conventions text memory advert
 
 -- the text is that of an image whose module says what it advertises
-abbrev pub Advertises : List ℕ → Type 0
-Advertises text = (advert : Advertised) × IsAdvertText text advert
+abbrev pub Advertises : Conventions → List ℕ → Type 0
+Advertises conventions text = (advert : Advertised) × IsAdvertText conventions text advert
 
 -- the text is no image's, or the module doesn't say what it advertises
 abbrev pub IsAdvertRefusal : List ℕ → Fault → Type 0
@@ -56,18 +57,18 @@ AreNotKept advert text (NotAdmissible number) = (kept : List Path) × IsKeptText
 AreNotKept advert text f = IsFirstKeptFault (lines_of text) f
 
 -- the image and the weights are accepted, and the kept paths are not
-pub record IsKeptRefusal (image_text weights_text kept_text : List ℕ) (refused : KeptFault) : Type 0 where
+pub record IsKeptRefusal (conventions : Conventions) (image_text weights_text kept_text : List ℕ) (refused : KeptFault) : Type 0 where
   pub advert : Advertised
   pub weights : HostWeights
-  pub is_advert : IsAdvertText image_text advert
+  pub is_advert : IsAdvertText conventions image_text advert
   pub are_weights : IsAnswer weights_text (Ok weights)
   pub are_not_kept : AreNotKept advert kept_text refused
 
 -- the image, the weights and the kept paths are accepted
-pub record ArePlanningInputs (image_text weights_text kept_text : List ℕ) : Type 0 where
+pub record ArePlanningInputs (conventions : Conventions) (image_text weights_text kept_text : List ℕ) : Type 0 where
   pub advert : Advertised
   pub weights : HostWeights
   pub kept : List Path
-  pub is_advert : IsAdvertText image_text advert
+  pub is_advert : IsAdvertText conventions image_text advert
   pub are_weights : IsAnswer weights_text (Ok weights)
   pub are_kept : AreKept advert kept_text kept

@@ -1,7 +1,8 @@
 -- What the commands `provision` and `trace` answer to the texts of their parts: the plan that is given is provisioned on a simulated
--- module of the image, but for its kept paths, over a bus that does as the script says, and activated if that is asked
--- for. (docs/formats.md, "Input", "provision" and "trace"; this project's own)
-use Rattle.std.specs.Prelude.{◌≡◌, ℕ, Bool, true, false, List, [], ◌∷◌, ◌++◌, codes, map, option_map, Option, Some, None, Result, Ok, Err, IfOk}
+-- module of the image, but for its kept paths, over a bus that does as the script says; the module is woken up before and the plan
+-- activated after, if that is asked for. (docs/formats.md, "Input", "provision" and "trace"; this project's own)
+use Rattle.std.specs.Prelude.{◌≡◌, ◌*◌, ◌&&◌, ℕ, Bool, true, false, List, [], ◌∷◌, ◌++◌, codes, map, option_map, Option, Some, None, is_none, is_some, Result, Ok, Err, IfSome}
+use Rattle.std.specs.Option.{option_or}
 use Rattle.std.specs.Fmt.{decimal}
 use Rattle.hex.specs.Hex.{encode_lower}
 use Rattle.text_lines.specs.Lines.{lines_of, text_of}
@@ -13,15 +14,19 @@ use Rattle.bus_model.specs.ScriptText.{IsTextOf}
 use Rattle.bus_model.specs.declared.operation.Step.{Step}
 use Rattle.bus_model.specs.declared.script.Directive.{Directive}
 use Rattle.paged_memory.specs.Images.{Memory}
+use Rattle.applications.specs.declared.conventions.Conventions.{Conventions}
 use Rattle.applications.specs.Advertised.{Advertised}
 use Rattle.plan_certificate.specs.Certificates.{Claim}
 use Rattle.plan_certificate.specs.declared.path.Path.{Path}
 use Rattle.control_sets.specs.ControlBytes.{control_bytes}
 use Rattle.control_sets.specs.PlanLanes.{lanes_outside, plan_lanes}
+use Rattle.control_sets.specs.OutcomeAnswers.{most_steps}
 use Rattle.control_sets.specs.OutcomeOfActivation.{IsActivation}
+use Rattle.control_sets.specs.OutcomeOfPower.{IsPowerChange}
 use Rattle.control_sets.specs.OutcomeOfProvisioning.{IsProvisioning}
 use Rattle.control_sets.specs.Procedures.{MakesHistory}
 use Rattle.control_sets.specs.declared.fault.ProvisionFault.{ProvisionFault}
+use Rattle.control_sets.specs.declared.procedures.power.Power.TheVariants.{Awake}
 use Rattle.sim_module.specs.Lanes.{active_bytes}
 use Rattle.sim_module.specs.Modules.{conduct}
 use Rattle.sim_module.specs.Starts.{start, start_fault}
@@ -39,6 +44,7 @@ use Rattle.command_line.specs.declared.remark.opening.Opening.TheVariants.{Other
 use Rattle.command_line.specs.GivenPlan.{IsGiven}
 use Rattle.command_line.specs.PlanningInputs.{Advertises, ArePlanningInputs, IsAdvertRefusal, IsKeptRefusal, IsWeightsRefusal}
 use Rattle.command_line.specs.Runs.{Answer}
+use Rattle.command_line.specs.declared.commands.outcome.ProcedureResults.{ProcedureResults}
 use Rattle.command_line.specs.declared.told_fault.ToldFault.{ToldFault}
 use Rattle.command_line.specs.declared.told_fault.ToldFault.TheVariants.{Procedure}
 use Rattle.command_line.specs.declared.fault.Fault.{Fault}
@@ -52,40 +58,65 @@ delays = record { apply = 4; init = 4; turn_on = 4; turn_off = 4; deinit = 4; po
 abbrev pub ModuleBus : Type 0
 ModuleBus = Seen (List Directive × SimModule)
 
--- before any step, with the module of an image as it starts
+-- before any step, with room for those of all three procedures, and the module of an image as it starts
 abbrev pub bus_at_start : Memory → List Directive → ModuleBus
-bus_at_start memory script = record { steps = []; room = 8192; state = (script, start memory delays) }
+bus_at_start memory script = record { steps = []; room = 3 * most_steps; state = (script, start memory delays) }
 
 -- number of steps, or why the procedure ended without success
 abbrev pub StepsOrFault : Type 0
 StepsOrFault = Result ℕ ProvisionFault
 
--- to provision these paths, on the lanes outside the kept ones, makes one of the other and ends so
-abbrev pub Provisions : Advertised → List Path → List Path → ModuleBus → ModuleBus → StepsOrFault → Type 0
+-- what a procedure makes of a bus, and how it ends
+abbrev pub BusProcedure : Type 1
+BusProcedure = ModuleBus → ModuleBus → StepsOrFault → Type 0
+
+-- waking the module up
+abbrev pub Wakes : BusProcedure
+Wakes before after ended =
+    MakesHistory (script_rules conduct) before after (λ history. IsPowerChange Awake (IsFull after) history ended)
+
+-- provisioning of these paths, on the lanes outside the kept ones
+abbrev pub Provisions : Advertised → List Path → List Path → BusProcedure
 Provisions advert paths kept before after ended =
     MakesHistory (script_rules conduct) before after
     (λ history. IsProvisioning (control_bytes advert paths) (lanes_outside advert kept) (IsFull after) history ended)
 
-abbrev pub Activates : Advertised → List Path → ModuleBus → ModuleBus → StepsOrFault → Type 0
+abbrev pub Activates : Advertised → List Path → BusProcedure
 Activates advert paths before after ended =
     MakesHistory (script_rules conduct) before after
     (λ history. IsActivation (control_bytes advert paths) (plan_lanes advert paths) (IsFull after) history ended)
 
--- activation follows a success of provisioning, if it is asked for, and else no step is made
-abbrev pub GoesOn : Bool → Advertised → List Path → StepsOrFault → ModuleBus → ModuleBus → Option StepsOrFault → Type 0
-GoesOn true advert paths (Ok steps) before after (Some ended) = Activates advert paths before after ended
-GoesOn true advert paths (Err fault) before after None = after ≡ before
-GoesOn false advert paths provisioned before after None = after ≡ before
-GoesOn activate advert paths provisioned before after activated = ⊥
+-- it is made if it is wanted, and else no step is made
+abbrev pub MakesIf : Bool → BusProcedure → ModuleBus → ModuleBus → Option StepsOrFault → Type 0
+MakesIf true Does before after (Some ended) = Does before after ended
+MakesIf false Does before after None = after ≡ before
+MakesIf wanted Does before after ended = ⊥
 
--- both procedures, as far as they are made; after a success of the first the control bytes are active, and still so at the
--- end, whatever comes of the second
-pub record CarriesOut (activate : Bool) (advert : Advertised) (paths kept : List Path) (before after : ModuleBus) (provisioned : StepsOrFault) (activated : Option StepsOrFault) : Type 0 where
-  pub between : ModuleBus
-  pub provisions : Provisions advert paths kept before between provisioned
-  pub active : IfOk provisioned (λ steps. active_bytes between.state.1 ≡ control_bytes advert paths)
-  pub goes_on : GoesOn activate advert paths provisioned between after activated
-  pub still_active : IfOk provisioned (λ steps. active_bytes after.state.1 ≡ control_bytes advert paths)
+-- the steps of a procedure that was made and succeeded
+abbrev pub steps_of : Option StepsOrFault → Option ℕ
+steps_of None = None
+steps_of (Some (Ok steps)) = Some steps
+steps_of (Some (Err fault)) = None
+
+-- the fault of one that was made and failed
+abbrev pub fault_of : Option StepsOrFault → Option ProvisionFault
+fault_of None = None
+fault_of (Some (Ok steps)) = None
+fault_of (Some (Err fault)) = Some fault
+
+-- waking up, if it is asked for; provisioning, unless that failed; activation, if it is asked for and provisioning succeeded. After
+-- such a success the control bytes are active, and still so at the end, whatever comes of activation
+pub record CarriesOut (wake activate : Bool) (advert : Advertised) (paths kept : List Path) (before after : ModuleBus) (results : ProcedureResults) : Type 0 where
+  pub woken : ModuleBus
+  pub provisioned : ModuleBus
+  pub wakes : MakesIf wake Wakes before woken results.woken
+  pub provisions : MakesIf (is_none (fault_of results.woken)) (Provisions advert paths kept) woken provisioned results.provisioned
+  pub activates : MakesIf (activate && is_some (steps_of results.provisioned)) (Activates advert paths) provisioned after results.activated
+  pub active : IfSome (steps_of results.provisioned) (λ steps. active_bytes provisioned.state.1 ≡ control_bytes advert paths)
+  pub still_active : IfSome (steps_of results.provisioned) (λ steps. active_bytes after.state.1 ≡ control_bytes advert paths)
+
+unfoldable pub woken_line : ℕ → List ℕ
+woken_line steps = spaced (codes "woken" ∷ decimal steps ∷ [])
 
 unfoldable pub provisioned_line : ℕ → List ℕ
 provisioned_line steps = spaced (codes "provisioned" ∷ decimal steps ∷ [])
@@ -100,18 +131,22 @@ control_words bytes = map (λ byte. encode_lower (byte ∷ [])) bytes
 unfoldable pub active_line : List ℕ → List ℕ
 active_line bytes = spaced (codes "active" ∷ control_words bytes)
 
--- what came of them: each success, and the active bytes if there is no fault
-abbrev pub outcome_of : StepsOrFault → Option StepsOrFault → List ℕ → Outcome
-outcome_of (Err fault) activated active = record { provisioned = None; activated = None; active = None }
-outcome_of (Ok steps) None active = record { provisioned = Some steps; activated = None; active = Some active }
-outcome_of (Ok steps) (Some (Ok more)) active = record { provisioned = Some steps; activated = Some more; active = Some active }
-outcome_of (Ok steps) (Some (Err fault)) active = record { provisioned = Some steps; activated = None; active = None }
+-- the fault of the one that failed, after which none is made
+abbrev pub outcome_fault : ProcedureResults → Option ProvisionFault
+outcome_fault results = option_or (option_or (fault_of results.woken) (fault_of results.provisioned)) (fault_of results.activated)
 
-abbrev pub outcome_fault : StepsOrFault → Option StepsOrFault → Option ProvisionFault
-outcome_fault (Err fault) activated = Some fault
-outcome_fault (Ok steps) None = None
-outcome_fault (Ok steps) (Some (Ok more)) = None
-outcome_fault (Ok steps) (Some (Err fault)) = Some fault
+abbrev pub active_unless : Option ProvisionFault → List ℕ → Option (List ℕ)
+active_unless None active = Some active
+active_unless (Some fault) active = None
+
+-- what came of them: each success, and the active bytes if there is no fault
+abbrev pub outcome_of : ProcedureResults → List ℕ → Outcome
+outcome_of results active = record {
+  woken = steps_of results.woken;
+  provisioned = steps_of results.provisioned;
+  activated = steps_of results.activated;
+  active = active_unless (outcome_fault results) active;
+}
 
 -- ---- as text
 
@@ -120,7 +155,7 @@ line_if line None = []
 line_if line (Some told) = line told ∷ []
 
 abbrev pub outcome_lines : Outcome → List (List ℕ)
-outcome_lines outcome = line_if provisioned_line outcome.provisioned ++ line_if activated_line outcome.activated ++ line_if active_line outcome.active
+outcome_lines outcome = line_if woken_line outcome.woken ++ line_if provisioned_line outcome.provisioned ++ line_if activated_line outcome.activated ++ line_if active_line outcome.active
 
 -- the steps stand first, if they are shown
 abbrev pub steps_lines : Bool → List Step → List (List ℕ)
@@ -146,42 +181,41 @@ told_output true traced steps outcome refused = json_text (told_tree traced step
 told_output false traced steps outcome refused = told_text traced steps outcome
 
 -- the texts are those of an image, of weights, of kept paths and of a script; their plan, and the module that the image makes
-pub record IsSetUp (image_text weights_text kept_text script_text : List ℕ) : Type 0 where
+pub record IsSetUp (conventions : Conventions) (image_text weights_text kept_text script_text : List ℕ) : Type 0 where
   pub certificate : Claim
-  pub given : IsGiven image_text weights_text kept_text certificate
+  pub given : IsGiven conventions image_text weights_text kept_text certificate
   pub script : List Directive
   pub is_script : IsTextOf (lines_of script_text) script
   pub starts : start_fault given.is_advert.memory delays ≡ None
 
 -- the image makes no module
-pub record IsNoModule (image_text weights_text kept_text script_text : List ℕ) (refused : SimFault) : Type 0 where
-  pub inputs : ArePlanningInputs image_text weights_text kept_text
+pub record IsNoModule (conventions : Conventions) (image_text weights_text kept_text script_text : List ℕ) (refused : SimFault) : Type 0 where
+  pub inputs : ArePlanningInputs conventions image_text weights_text kept_text
   pub script : List Directive
   pub is_script : IsTextOf (lines_of script_text) script
   pub stops : start_fault inputs.is_advert.memory delays ≡ Some refused
 
 -- the first of the texts that is none
-abbrev pub IsSetUpRefusal : List ℕ → List ℕ → List ℕ → List ℕ → Fault → Type 0
-IsSetUpRefusal image weights kept script fault.Memory = Unit {0}
-IsSetUpRefusal image weights kept script (fault.Module f) = IsNoModule image weights kept script f
-IsSetUpRefusal image weights kept script (fault.Script f) = ArePlanningInputs image weights kept × IsFirstFault (lines_of script) f
-IsSetUpRefusal image weights kept script (fault.Kept f) = IsKeptRefusal image weights kept f
-IsSetUpRefusal image weights kept script (fault.Weights f) = Advertises image × IsWeightsRefusal weights f
-IsSetUpRefusal image weights kept script f = IsAdvertRefusal image f
+abbrev pub IsSetUpRefusal : Conventions → List ℕ → List ℕ → List ℕ → List ℕ → Fault → Type 0
+IsSetUpRefusal conventions image weights kept script fault.Memory = Unit {0}
+IsSetUpRefusal conventions image weights kept script (fault.Module f) = IsNoModule conventions image weights kept script f
+IsSetUpRefusal conventions image weights kept script (fault.Script f) = ArePlanningInputs conventions image weights kept × IsFirstFault (lines_of script) f
+IsSetUpRefusal conventions image weights kept script (fault.Kept f) = IsKeptRefusal conventions image weights kept f
+IsSetUpRefusal conventions image weights kept script (fault.Weights f) = Advertises conventions image × IsWeightsRefusal weights f
+IsSetUpRefusal conventions image weights kept script f = IsAdvertRefusal image f
 
 -- what was done, and what is told of it
-pub record IsCarriedOut (json traced activate : Bool) (image_text weights_text kept_text script_text text : List ℕ) (told_fault : Option ToldFault) : Type 0 where
-  pub set_up : IsSetUp image_text weights_text kept_text script_text
+pub record IsCarriedOut (json traced wake activate : Bool) (conventions : Conventions) (image_text weights_text kept_text script_text text : List ℕ) (told_fault : Option ToldFault) : Type 0 where
+  pub set_up : IsSetUp conventions image_text weights_text kept_text script_text
   pub after : ModuleBus
-  pub provisioned : StepsOrFault
-  pub activated : Option StepsOrFault
-  pub done : CarriesOut activate set_up.given.advert set_up.certificate.paths set_up.certificate.kept (bus_at_start set_up.given.is_advert.memory set_up.script) after provisioned activated
-  pub told : text ≡ told_output json traced after.steps (outcome_of provisioned activated (active_bytes after.state.1)) (outcome_fault provisioned activated)
-  pub fault : told_fault ≡ option_map Procedure (outcome_fault provisioned activated)
+  pub results : ProcedureResults
+  pub done : CarriesOut wake activate set_up.given.advert set_up.certificate.paths set_up.certificate.kept (bus_at_start set_up.given.is_advert.memory set_up.script) after results
+  pub told : text ≡ told_output json traced after.steps (outcome_of results (active_bytes after.state.1)) (outcome_fault results)
+  pub fault : told_fault ≡ option_map Procedure (outcome_fault results)
 
--- the answer to the texts of an image, of weights, of kept paths and of a script, by whether it is JSON, the steps are shown and
--- activation is asked for
-abbrev pub IsProcedureAnswer : Bool → Bool → Bool → List ℕ → List ℕ → List ℕ → List ℕ → Answer → Type 0
-IsProcedureAnswer json traced activate image weights kept script (Ok (text, told)) =
-    IsCarriedOut json traced activate image weights kept script text told
-IsProcedureAnswer json traced activate image weights kept script (Err f) = IsSetUpRefusal image weights kept script f
+-- the answer to the texts of an image, of weights, of kept paths and of a script, by whether it is JSON, the steps are shown,
+-- waking up and activation are asked for and the module pairs first lanes
+abbrev pub IsProcedureAnswer : Bool → Bool → Bool → Bool → Conventions → List ℕ → List ℕ → List ℕ → List ℕ → Answer → Type 0
+IsProcedureAnswer json traced wake activate conventions image weights kept script (Ok (text, told)) =
+    IsCarriedOut json traced wake activate conventions image weights kept script text told
+IsProcedureAnswer json traced wake activate conventions image weights kept script (Err f) = IsSetUpRefusal conventions image weights kept script f

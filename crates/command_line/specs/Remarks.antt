@@ -6,12 +6,14 @@ use Rattle.std.specs.Option.{option_map_or}
 use Rattle.notices.specs.Sentences.{row_by_code}
 use Rattle.paged_memory.specs.declared.fault.ImageFault.TheVariants as image
 use Rattle.command_line.specs.Faults.{fault_words}
+use Rattle.command_line.specs.OddLines.{odd_line_of_weights}
 use Rattle.command_line.specs.Places.{first_word, place_of, place_text}
 use Rattle.command_line.specs.declared.fault.Fault.{Fault}
 use Rattle.command_line.specs.declared.fault.Fault.TheVariants as fault
 use Rattle.command_line.specs.declared.remark.Explained.{Explained}
 use Rattle.command_line.specs.declared.remark.Remark.{Remark}
 use Rattle.command_line.specs.declared.remark.Remark.TheVariants.{Nothing, Unwritten, NoMemory, Refused, Warned}
+use Rattle.command_line.specs.declared.remark.clue.Clue.{Clue}
 use Rattle.command_line.specs.declared.remark.opening.Opening.{Opening}
 use Rattle.command_line.specs.declared.remark.opening.Opening.TheVariants.{Empty, Mark, Returns, Binary, Other}
 
@@ -51,6 +53,15 @@ opening_key Other = codes "IM1"
 abbrev pub opening_for : Fault → List ℕ → Opening
 opening_for (fault.Image image.BadHeader) input = opening_of input
 opening_for _ input = Other
+
+-- only faults of weights are explained by a line of them
+abbrev pub odd_line_for : Fault → List ℕ → Option ℕ
+odd_line_for (fault.Weights f) input = odd_line_of_weights input
+odd_line_for _ input = None
+
+-- what an input tells of a fault
+abbrev pub clue_for : Fault → List ℕ → Clue
+clue_for f input = record { opening = opening_for f input; weights_line = odd_line_for f input }
 
 -- the sentence of a code
 abbrev pub sentence_of : List ℕ → List ℕ

@@ -6,7 +6,8 @@ use Rattle.std.specs.Io.KnownBytes.{Appends}
 use Rattle.command_line.specs.declared.fault.Fault.{Fault}
 use Rattle.command_line.specs.declared.fault.Fault.TheVariants.{Memory, Io, TooLong, Parts, Provision}
 use Rattle.command_line.specs.declared.command_output.CommandOutput.{CommandOutput}
-use Rattle.command_line.specs.Remarks.{opening_for}
+use Rattle.command_line.specs.Remarks.{clue_for}
+use Rattle.command_line.specs.declared.remark.clue.Clue.{Clue}
 use Rattle.command_line.specs.declared.remark.opening.Opening.{Opening}
 use Rattle.command_line.specs.declared.remark.opening.Opening.TheVariants.{Other}
 use Rattle.command_line.specs.declared.ending.Ending.{Ending}
@@ -37,10 +38,14 @@ Answer = Result (List ℕ × Option ToldFault) Fault
 abbrev pub answer_of : Result CommandOutput Fault → Answer
 answer_of result = result_map_both (λ told. (told.text.items, told.fault)) (λ fault. fault) result
 
+-- what an input tells beside an answer to it
+abbrev pub clue_beside : Answer → List ℕ → Clue
+clue_beside (Err fault) input = clue_for fault input
+clue_beside (Ok text) input = record { opening = Other; weights_line = None }
+
 -- what is known beside an answer of how its input begins
 abbrev pub opening_beside : Answer → List ℕ → Opening
-opening_beside (Err fault) input = opening_for fault input
-opening_beside (Ok text) input = Other
+opening_beside answer input = (clue_beside answer input).opening
 
 -- what is written of an answer, as JSON or not; metrics have their fault, and one object has both, the text of a procedure and its fault
 abbrev pub output_of : Bool → Opening → Answer → List ℕ
@@ -92,10 +97,9 @@ IsWritten output answer before after write_failed status =
 abbrev pub EndsByFailure : Bool → Bool → Status → Type 0
 EndsByFailure read_failed write_failed status = (status ≡ ReadOrWrite) ↔ ((read_failed || write_failed) ≡ true)
 
--- a fault is explained by how the input begins; which line of weights is named is left open
+-- a fault is explained by what the input tells of it
 abbrev pub IsExplained : List ℕ → Fault → Remark → Type 0
-IsExplained input fault remark =
-    (line : Option ℕ) × (remark ≡ Refused record { fault = fault; clue = record { opening = opening_for fault input; weights_line = line } })
+IsExplained input fault remark = remark ≡ Refused record { fault = fault; clue = clue_for fault input }
 
 -- what is said beside an answer to this input that was written; what is warned of is left open
 abbrev pub IsRemarkOn : List ℕ → Answer → Remark → Type 0

@@ -1,11 +1,12 @@
 -- What a session holds, by the texts that it was set up from. (This project's own.)
 use Rattle.std.specs.Prelude.{◌≡◌, ℕ, List}
 use Rattle.bus_model.specs.ScriptBuses.{seen_at}
+use Rattle.applications.specs.declared.conventions.Conventions.{Conventions}
 use Rattle.command_line.specs.ProvisionCommand.{IsSetUp, bus_at_start}
 use Rattle.command_line.specs.declared.commands.session.Session.{Session}
 
-pub record IsSessionOf (image_text weights_text kept_text script_text : List ℕ) (session : Session) : Type 0 where
-  pub set_up : IsSetUp image_text weights_text kept_text script_text
+pub record IsSessionOf (conventions : Conventions) (image_text weights_text kept_text script_text : List ℕ) (session : Session) : Type 0 where
+  pub set_up : IsSetUp conventions image_text weights_text kept_text script_text
   pub advert : session.advert ≡ set_up.given.advert
   pub plan : session.plan ≡ set_up.certificate.paths
   pub kept : session.kept ≡ set_up.certificate.kept

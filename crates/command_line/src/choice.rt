@@ -1,12 +1,12 @@
 //! The command line: which command the words name, and which flags they give it.
 ghost use Rattle.std.specs.Prelude.{◌≡◌, ◌∷◌, map, codes, false, true, IfOk, IfErr, IfSome, IsSome, Some};
 ghost use Rattle.std.specs.Option.{option_map_or};
-ghost use Rattle.std.specs.Prelude.{[], string_bytes, option_map, MatchResult, Ok};
+ghost use Rattle.std.specs.Prelude.{[], filter, string_bytes, option_map, MatchResult, Ok};
 ghost use Rattle.std.specs.List.{list_all};
 ghost use Rattle.clap.specs.declared.builder.command.Command.TheViews.{out-Command as fields_of};
 ghost use Rattle.clap.specs.Words.{Text, all_of, app_of, first_of, found_of, rows_of, rule_of, subcommand_rows_of, takes};
-ghost use Rattle.command_line.specs.Choice.{program, request_of, request_in, request_with, choice_with, command_app};
-ghost use Rattle.command_line.specs.Choice.{commands, faults_of, plain_request};
+ghost use Rattle.command_line.specs.Choice.{program, request_of, request_in, request_with, choice_with, command_app, conventions_in};
+ghost use Rattle.command_line.specs.Choice.{commands, faults_of, json_request, json_word, plain_request, takes_json};
 ghost use Rattle.command_line.specs.ChoiceFault.{Gives};
 ghost use Rattle.command_line.specs.GivenFlags.{flag_rule, is_given};
 ghost use Rattle.command_line.specs.MetricsChoice.{all_by, labels_in, metrics_with};
@@ -17,14 +17,17 @@ pub mod commands;
 pub mod fault;
 mod help;
 pub mod part;
+mod plain;
 pub mod word_fault;
 
+use applications::Conventions;
 use clap::error::ErrorKind;
 use clap::{Arg, ArgAction, ArgMatches, Command};
 use commands::{Choice, CommandEntry, CommandName, Flag, Request, Takes, command_named};
 use fault::ChoiceFault;
 use module_metrics::Labels;
 use notices::VERSION_WITH_TEXTS;
+use plain::plain_request;
 use std::alloc::{AllocError, Global};
 use word_fault::WordFault;
 
@@ -93,6 +96,16 @@ fn has_flag(given: Option<&ArgMatches<'_>>, flag: &str) -> bool
     }
 }
 
+// How what a module advertises is to be read, by the flags that say so.
+fn conventions_in(given: Option<&ArgMatches<'_>>) -> Conventions
+    ensures { result ≡ conventions_in (option_map_or (λ matches. rows_of (found_of matches.now)) given.entry []) }
+{
+    Conventions {
+        paired: has_flag(given, "paired"),
+        counts_by_id: has_flag(given, "counts-by-id"),
+    }
+}
+
 /// A command with its own flags, by its matches; without any, no flag is given.
 fn choice_with(
     alloc: Global,
@@ -109,21 +122,28 @@ fn choice_with(
         CommandName::Metrics => metrics_with(alloc, given),
         CommandName::Plan => Ok(Choice::Plan {
             keep: has_flag(given, "keep"),
+            conventions: conventions_in(given),
         }),
         CommandName::Draw => Ok(Choice::Draw {
             svg: has_flag(given, "svg"),
             keep: has_flag(given, "keep"),
+            conventions: conventions_in(given),
         }),
         CommandName::Check => Ok(Choice::Check {
             first: has_flag(given, "first"),
+            conventions: conventions_in(given),
         }),
         CommandName::Provision => Ok(Choice::Provision {
+            wake: has_flag(given, "wake"),
             activate: has_flag(given, "activate"),
             keep: has_flag(given, "keep"),
+            conventions: conventions_in(given),
         }),
         CommandName::Trace => Ok(Choice::Trace {
+            wake: has_flag(given, "wake"),
             activate: has_flag(given, "activate"),
             keep: has_flag(given, "keep"),
+            conventions: conventions_in(given),
         }),
     }
 }
@@ -211,18 +231,6 @@ fn requested(alloc: Global, matches: &ArgMatches<'_>) -> Result<Request, ChoiceF
     request_with(alloc, entry.command, Some(given))
 }
 
-// What a command's name alone asks for; `clap` need not be asked.
-fn plain_request(alloc: Global, words: &[String]) -> Option<Request>
-    ensures answer { IfSome result (λ request. request_of (map string_bytes words.now) ≡ Some (Ok request)) }
-    ensures taken { IfSome result (λ _. faults_of (map string_bytes words.now) ≡ []) }
-{
-    let [_, name] = words else {
-        return None;
-    };
-    let entry = command_named(name)?;
-    request_with(alloc, entry.command, None).ok()
-}
-
 // What the words ask for, as `clap` reads them.
 fn parsed(alloc: Global, words: &[String]) -> Result<Request, ChoiceFault>
     ensures answer { IfOk result (λ request. request_of (map string_bytes words.now) ≡ Some (Ok request)) }
@@ -245,13 +253,17 @@ pub fn request(alloc: Global, words: &[String]) -> Result<Request, ChoiceFault>
     }
 }
 
-/// Each command's name, alone after the program's own, is taken and chooses that command, without a flag.
+/// Each command's name, alone after the program's own, is taken and chooses that command, without a flag; with `--json`, if the
+/// command has it, the same as JSON.
 pub fn names_choose_their_commands()
     ensures taken { (program_name : Text)
         → list_all (λ entry. takes program (program_name ∷ entry.name ∷ [])) commands ≡ true }
     ensures chosen { (program_name : Text)
         → map (λ entry. request_of (program_name ∷ entry.name ∷ [])) commands
         ≡ map (λ entry. Some (Ok (plain_request entry.command))) commands }
+    ensures json { (program_name : Text)
+        → map (λ entry. request_of (program_name ∷ entry.name ∷ json_word ∷ [])) (filter takes_json commands)
+        ≡ map (λ entry. Some (Ok (json_request entry.command))) (filter takes_json commands) }
 {}
 
 /// Help and the version come by their flags alone, `help` is no command, and some command is wanted.

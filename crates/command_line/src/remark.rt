@@ -8,6 +8,7 @@ ghost use Rattle.command_line.specs.Runs.{answer_of};
 ghost use Rattle.command_line.specs.declared.remark.opening.Opening.TheVariants.{Other};
 
 mod clue;
+mod line_pieces;
 mod named;
 mod opening;
 mod place;

@@ -3,6 +3,7 @@ ghost use Rattle.std.specs.List.{range_with_len};
 ghost use Rattle.control_sets.specs.HostPaths.{agree, all_agree, begins, control_at, host_paths, is_reached, is_right, path_from, wrong_lane};
 
 use crate::control_byte::ControlByte;
+use crate::control_set::ControlSet;
 use crate::fault::ControlFault;
 use arrayvec::ArrayVec;
 use field_tables::LaneNumber;
@@ -19,7 +20,7 @@ pub struct HostPath {
 }
 
 /// The host paths that the control bytes of host lanes 1 to 8 tell, by rising host lane.
-pub fn paths_of(bytes: [u8; 8]) -> Result<ArrayVec<HostPath, 8>, ControlFault>
+pub fn paths_of(bytes: ControlSet) -> Result<ArrayVec<HostPath, 8>, ControlFault>
     ensures refused { MatchOption (wrong_lane bytes) (IsOk result) (λ lane. result ≡ Err (ControlFault.NotPaths lane)) }
     ensures paths { IfOk result (λ paths. paths.items ≡ host_paths bytes) }
 {
@@ -30,7 +31,7 @@ pub fn paths_of(bytes: [u8; 8]) -> Result<ArrayVec<HostPath, 8>, ControlFault>
 }
 
 #[tactic(auto, unfolding(crate::specs::HostPaths::wrong_lane))]
-fn wrong_lane(bytes: &[u8; 8]) -> Option<LaneNumber>
+fn wrong_lane(bytes: &ControlSet) -> Option<LaneNumber>
     ensures { result ≡ wrong_lane bytes.now }
 {
     LaneNumber::all()
@@ -40,41 +41,41 @@ fn wrong_lane(bytes: &[u8; 8]) -> Option<LaneNumber>
 }
 
 #[tactic(auto, unfolding(crate::specs::HostPaths::is_right))]
-fn is_right(bytes: &[u8; 8], lane: LaneNumber) -> bool
+fn is_right(bytes: &ControlSet, lane: LaneNumber) -> bool
     ensures { result ≡ is_right bytes.now lane }
 {
     !control_at(bytes, lane).is_used() || is_reached(bytes, lane)
 }
 
-fn is_reached(bytes: &[u8; 8], lane: LaneNumber) -> bool
+fn is_reached(bytes: &ControlSet, lane: LaneNumber) -> bool
     ensures { result ≡ is_reached bytes.now lane }
 {
     let first = control_at(bytes, lane).first_lane();
     first.number() <= lane.number() && all_agree(bytes, first, lane)
 }
 
-fn all_agree(bytes: &[u8; 8], first: LaneNumber, lane: LaneNumber) -> bool
+fn all_agree(bytes: &ControlSet, first: LaneNumber, lane: LaneNumber) -> bool
     ensures { result ≡ all_agree bytes.now first lane }
 {
     (first.number()..lane.number() + 1).all(|other| agree(bytes, lane, LaneNumber::at(other - 1)))
 }
 
 /// Whether two lanes are told the same, but for ExplicitControl.
-pub fn agree(bytes: &[u8; 8], lane: LaneNumber, other: LaneNumber) -> bool
+pub fn agree(bytes: &ControlSet, lane: LaneNumber, other: LaneNumber) -> bool
     ensures { result ≡ agree bytes.now lane other }
 {
     control_at(bytes, lane) == control_at(bytes, other)
 }
 
 /// What a lane is told.
-pub fn control_at(bytes: &[u8; 8], lane: LaneNumber) -> ControlByte
+pub fn control_at(bytes: &ControlSet, lane: LaneNumber) -> ControlByte
     ensures { result ≡ control_at bytes.now lane }
 {
     ControlByte::from(bytes[lane.index()])
 }
 
 #[tactic(auto, unfolding(crate::specs::HostPaths::host_paths))]
-fn host_paths(bytes: &[u8; 8]) -> ArrayVec<HostPath, 8>
+fn host_paths(bytes: &ControlSet) -> ArrayVec<HostPath, 8>
     ensures { result.items ≡ host_paths bytes.now }
 {
     let mut paths = ArrayVec::new();
@@ -87,7 +88,7 @@ fn host_paths(bytes: &[u8; 8]) -> ArrayVec<HostPath, 8>
     paths
 }
 
-fn begins(bytes: &[u8; 8], lane: LaneNumber) -> bool
+fn begins(bytes: &ControlSet, lane: LaneNumber) -> bool
     ensures { result ≡ begins bytes.now lane }
 {
     let control = control_at(bytes, lane);
@@ -95,7 +96,7 @@ fn begins(bytes: &[u8; 8], lane: LaneNumber) -> bool
 }
 
 #[tactic(auto, unfolding(crate::specs::HostPaths::path_from))]
-fn path_from(bytes: &[u8; 8], lane: LaneNumber) -> HostPath
+fn path_from(bytes: &ControlSet, lane: LaneNumber) -> HostPath
     ensures { result ≡ path_from bytes.now lane }
 {
     HostPath {
@@ -105,7 +106,7 @@ fn path_from(bytes: &[u8; 8], lane: LaneNumber) -> HostPath
     }
 }
 
-fn agreeing(bytes: &[u8; 8], lane: LaneNumber) -> u8
+fn agreeing(bytes: &ControlSet, lane: LaneNumber) -> u8
     ensures { result ≡ count_by (agree bytes.now lane) (range_with_len 1 8) }
 {
     LaneNumber::all()

@@ -3,6 +3,7 @@
 #![tactic(auto)]
 
 mod control_byte;
+mod control_set;
 mod fault;
 mod host_path;
 pub mod laws;
@@ -10,6 +11,7 @@ mod plan_bytes;
 mod procedures;
 
 pub use control_byte::ControlByte;
+pub use control_set::ControlSet;
 pub use fault::{ControlFault, ProvisionFault};
 pub use host_path::{HostPath, agree, control_at, paths_of};
 pub use plan_bytes::{bytes_of, lanes_of, lanes_outside};

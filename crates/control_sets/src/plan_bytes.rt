@@ -1,16 +1,17 @@
-ghost use Rattle.std.specs.Prelude.{◌≡◌, ◌≤◌, ◌<◌, true};
+ghost use Rattle.std.specs.Prelude.{◌≡◌, ◌<◌, true};
 ghost use Rattle.plan_certificate.specs.Paths.{is_allowed};
 ghost use Rattle.plan_certificate.specs.Plans.{AreAllowed, IsAdmissible};
 ghost use Rattle.control_sets.specs.ControlBytes.{control_byte, control_bytes, control_in};
 ghost use Rattle.control_sets.specs.PlanLanes.{lanes_outside, plan_lanes};
 
 use crate::control_byte::ControlByte;
+use crate::control_set::ControlSet;
 use applications::Advert;
 use field_tables::{LaneNumber, LaneSet};
 use plan_certificate::{Path, Plan};
 
 /// The control bytes of host lanes 1 to 8 that ask for a plan.
-pub fn bytes_of(advert: &Advert, plan: &Plan) -> [u8; 8]
+pub fn bytes_of(advert: &Advert, plan: &Plan) -> ControlSet
     requires { IsAdmissible advert.now plan.now }
     ensures { result ≡ control_bytes advert.now plan.now }
 {

@@ -1,7 +1,7 @@
 //! What holds of the tables as a whole. Each function is a theorem: its contract says it, and its
 //! body is empty.
 
-ghost use Rattle.std.specs.Prelude.{◌≡◌, ◌≢◌, ℕ, ◌≤◌, ◌↔◌, Some, not, IsTrue, All, count_by};
+ghost use Rattle.std.specs.Prelude.{◌≡◌, ℕ, ◌≤◌, ◌↔◌, Some, not, IsTrue, All, count_by};
 ghost use Rattle.std.specs.Bool.{IsFalse};
 ghost use Rattle.datapath_states.specs.declared.machine.PathInputs.{PathInputs};
 ghost use Rattle.datapath_states.specs.declared.state.PathState.{PathState};

@@ -1,5 +1,5 @@
 //! Amounts of readings.
-ghost use Rattle.std.specs.Prelude.{◌≡◌, ◌<◌, ◌≤◌, ◌-◌, ◌*◌, ◌+ℤ◌, ◌*ℤ◌, IsTrue, MatchOption, Ok, Err, is_none};
+ghost use Rattle.std.specs.Prelude.{◌≡◌, ◌<◌, ◌≤◌, ◌-◌, ◌*◌, ◌*ℤ◌, IsTrue, MatchOption, Ok, Err, is_none};
 ghost use Rattle.std.specs.Int.{int_pow};
 ghost use Rattle.field_tables.specs.Readings.{IsWord};
 ghost use Rattle.external_calibration.specs.Amounts.{amount_of, on_polynomial, thousandths};

@@ -3,7 +3,7 @@ use Rattle.std.proofs.Common.{◌≡◌, List, Option, Some, None, Result, Ok, E
 use Rattle.std.specs.Prelude.{IfOk, MatchOption}
 use Rattle.std.specs.Option.{option_map}
 use Rattle.paged_memory.specs.Images.{Memory}
-use Rattle.applications.specs.Advertised.{Advertised, advertised_by}
+use Rattle.applications.specs.Advertised.{Advertised}
 use Rattle.applications.specs.Refusals.{advert_fault}
 use Rattle.applications.specs.declared.fault.AdvertFault.{AdvertFault}
 use Rattle.sim_module.specs.declared.delays.Delays.{Delays}
@@ -13,6 +13,7 @@ use Rattle.sim_module.specs.declared.module.SimModule.{SimModule}
 use Rattle.sim_module.specs.declared.moving.Moving.{Moving}
 use Rattle.sim_module.specs.declared.saved.SavedModule.{SavedModule}
 use Rattle.sim_module.specs.Lanes.{active_bytes}
+use Rattle.sim_module.specs.OwnAdverts.{own_advert}
 use Rattle.sim_module.specs.Record.{bare, module_of}
 use Rattle.sim_module.specs.SavedModules.{restored}
 use Rattle.sim_module.specs.Starts.{start, start_fault}
@@ -86,14 +87,14 @@ held_with None (Some fault) read right advert sim none reads is = cc
 held_with (Some refusal) fault read right advert sim none reads is = cc
 
 abbrev IsRead : Memory → Result Advertised AdvertFault → Type 0
-IsRead memory read = MatchOption (advert_fault memory) (read ≡ Ok (advertised_by memory)) (λ fault. read ≡ Err fault)
+IsRead memory read = MatchOption (advert_fault memory) (read ≡ Ok (own_advert memory)) (λ fault. read ≡ Err fault)
 
 pub held_is : (halves : List HalfBytes) (numbers : SavedModule) (image : Memory) (read : Result Advertised AdvertFault) (advert : Advertised)
     (sim : Option SimModule) → unless_refused (half_refusal halves) (memory_of halves) ≡ Ok image → IsRead image read → read ≡ Ok advert →
     sim ≡ module_in (record { image = image; advert = advert }) numbers → held halves numbers ≡ module_or sim
 held_is halves numbers image read advert sim reads advertises is made =
     let same = right_value (half_refusal halves) (memory_of halves) image reads in
-    held_with (half_refusal halves) (advert_fault (memory_of halves)) read (advertised_by (memory_of halves)) advert
+    held_with (half_refusal halves) (advert_fault (memory_of halves)) read (own_advert (memory_of halves)) advert
     (λ a. module_in (record { image = memory_of halves; advert = a }) numbers)
     (no_refusal (half_refusal halves) (memory_of halves) image reads) (subst (λ (memory : Memory). IsRead memory read) (sym same) advertises) is
     ∙ ap (λ (memory : Memory). module_or (module_in (record { image = memory; advert = advert }) numbers)) same

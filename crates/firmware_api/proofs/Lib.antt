@@ -4,3 +4,4 @@ mod ModuleRefusals
 mod Padding
 mod HeldModules
 mod ReadingLaws
+mod RefusalTexts

@@ -5,13 +5,14 @@ use Rattle.std.specs.List.{list_all}
 use Rattle.std.specs.Option.{option_map}
 use Rattle.std.proofs.lemmas.Bool.{ltb-true, ltb-false}
 use Rattle.paged_memory.specs.Images.{Memory}
-use Rattle.applications.specs.Advertised.{Advertised, advertised_by}
+use Rattle.applications.specs.Advertised.{Advertised, advertised_by, advertised_under}
+use Rattle.applications.specs.declared.conventions.Conventions.{Conventions}
 use Rattle.applications.specs.Refusals.{advert_fault}
 use Rattle.applications.specs.declared.fault.AdvertFault.{AdvertFault}
 use Rattle.firmware_api.specs.declared.half.HalfBytes.{HalfBytes}
 use Rattle.firmware_api.specs.declared.status.Refusal.{Refusal}
 use Rattle.firmware_api.specs.declared.status.Refusal.TheVariants.{TooManyHalves, NoPlace, Advert}
-use Rattle.firmware_api.specs.Halves.{has_place, memory_of, module_refusal}
+use Rattle.firmware_api.specs.Halves.{advert_of, has_place, memory_of, module_refusal}
 
 is_below : (m n : ℕ) (b : Bool) → nat_lt m n ≡ b → m < n → nat_lt m n ≡ true
 is_below m n true e below = e
@@ -45,16 +46,16 @@ passes_on : (fault : Option AdvertFault) (read : Result Advertised AdvertFault) 
 passes_on None read advert answers = ap passed answers
 passes_on (Some fault) read advert answers = ap passed answers
 
-abbrev pub IsRead : Result Advertised AdvertFault → Memory → Type 0
-IsRead read memory = MatchOption (advert_fault memory) (read ≡ Ok (advertised_by memory)) (λ fault. read ≡ Err fault)
+abbrev pub IsRead : Conventions → Result Advertised AdvertFault → Memory → Type 0
+IsRead conventions read memory = MatchOption (advert_fault memory) (read ≡ Ok (advertised_under conventions memory)) (λ fault. read ≡ Err fault)
 
-abbrev pub IsPassed : Result Advertised Refusal → List HalfBytes → Type 0
-IsPassed told halves = MatchOption (module_refusal halves) (told ≡ Ok (advertised_by (memory_of halves))) (λ refusal. told ≡ Err refusal)
+abbrev pub IsPassed : Conventions → Result Advertised Refusal → List HalfBytes → Type 0
+IsPassed conventions told halves = MatchOption (module_refusal halves) (told ≡ Ok (advert_of halves conventions)) (λ refusal. told ≡ Err refusal)
 
-pub reads : (halves : List HalfBytes) (memory : Memory) (read : Result Advertised AdvertFault) → length halves ≤ 16 → list_all has_place halves ≡ true →
-    memory ≡ memory_of halves → IsRead read memory → IsPassed (passed read) halves
-reads halves memory read few all same is =
-    rw (placed halves few all) (passes_on (advert_fault (memory_of halves)) read (advertised_by (memory_of halves)) (subst (IsRead read) same is))
+pub reads : (conventions : Conventions) (halves : List HalfBytes) (memory : Memory) (read : Result Advertised AdvertFault) → length halves ≤ 16 → list_all has_place halves ≡ true →
+    memory ≡ memory_of halves → IsRead conventions read memory → IsPassed conventions (passed read) halves
+reads conventions halves memory read few all same is =
+    rw (placed halves few all) (passes_on (advert_fault (memory_of halves)) read (advert_of halves conventions) (subst (IsRead conventions read) same is))
 
 few : (halves : List HalfBytes) → module_refusal halves ≡ None → length halves ≤ 16
 unfolding module_refusal
@@ -69,5 +70,7 @@ few_by halves advert None e read = few halves e
 few_by halves advert (Some refusal) e read = absurd (let same = read in cc)
 
 -- of halves that a module's Applications were read of
-pub few_if_read : (halves : List HalfBytes) (advert : Advertised) → IsPassed (Ok advert) halves → length halves ≤ 16
+pub few_if_read : (halves : List HalfBytes) (advert : Advertised)
+    → MatchOption (module_refusal halves) (◌≡◌ {A = Result Advertised Refusal} (Ok advert) (Ok (advertised_by (memory_of halves)))) (λ refusal. ◌≡◌ {A = Result Advertised Refusal} (Ok advert) (Err refusal))
+    → length halves ≤ 16
 few_if_read halves advert read = few_by halves advert (module_refusal halves) refl read

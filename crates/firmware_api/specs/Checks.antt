@@ -2,14 +2,15 @@
 -- project's own)
 use Rattle.std.specs.Prelude.{◌≡◌, ℕ, List, MatchOption, Result, Ok, Err}
 use Rattle.text_lines.specs.Lines.{lines_of}
-use Rattle.applications.specs.Advertised.{Advertised, advertised_by}
+use Rattle.applications.specs.Advertised.{Advertised}
+use Rattle.applications.specs.declared.conventions.Conventions.{Conventions}
 use Rattle.applications.specs.Weights.{HostWeights}
 use Rattle.plan_certificate.specs.declared.fault.CertificateFault.{CertificateFault}
 use Rattle.plan_certificate.specs.Limits.{most_states}
 use Rattle.plan_certificate.specs.declared.verdict.Verdict.{Verdict}
 use Rattle.plan_certificate.specs.declared.verdict.Verdict.TheVariants.{Good, Bad}
 use Rattle.plan_certificate.specs.declared.verdict.Reason.{Reason}
-use Rattle.plan_certificate.specs.declared.verdict.Reason.TheVariants.{PathNotAllowed, LaneTwice, WeightWrong, NoStart, NotClosed, TooLow, StartNotWeight, KeptNotAdmissible, KeptMissing}
+use Rattle.plan_certificate.specs.declared.verdict.Reason.TheVariants.{PathNotAllowed, LaneTwice, WeightWrong, NoStart, NotClosed, TooLow, StartNotWeight, KeptNotAdmissible, KeptMissing, PairingDiffers}
 use Rattle.plan_certificate.specs.Certificates.{Claim, IsGood}
 use Rattle.plan_certificate.specs.CertificateFaults.{IsAnswer}
 use Rattle.plan_certificate.specs.CertificateText.{IsTextOf}
@@ -19,7 +20,7 @@ use Rattle.firmware_api.specs.declared.checking.Judgement.{Judgement}
 use Rattle.firmware_api.specs.declared.half.HalfBytes.{HalfBytes}
 use Rattle.firmware_api.specs.declared.status.Refusal.{Refusal}
 use Rattle.firmware_api.specs.declared.status.Refusal.TheVariants.{Certificate}
-use Rattle.firmware_api.specs.Halves.{memory_of, module_refusal}
+use Rattle.firmware_api.specs.Halves.{advert_of, module_refusal}
 use Rattle.firmware_api.specs.Statuses.{done, status_of}
 
 -- the number in its code
@@ -33,6 +34,7 @@ reason_number TooLow = 6
 reason_number StartNotWeight = 7
 reason_number KeptNotAdmissible = 8
 reason_number KeptMissing = 9
+reason_number PairingDiffers = 10
 
 abbrev pub judgement_of : Verdict → Judgement
 judgement_of Good = record { reason = 0; number = 0 }
@@ -49,9 +51,9 @@ IsTextJudged advert weights text judged =
     (read : Result Claim CertificateFault) × IsAnswer most_states (lines_of text) read × (judged ≡ judgement_by advert weights read)
 
 -- refusals of the halves come first
-abbrev pub IsJudged : List HalfBytes → HostWeights → List ℕ → Result Judgement Refusal → Type 0
-IsJudged halves weights text judged =
-    MatchOption (module_refusal halves) (IsTextJudged (advertised_by (memory_of halves)) weights text judged) (λ refusal. judged ≡ Err refusal)
+abbrev pub IsJudged : List HalfBytes → Conventions → HostWeights → List ℕ → Result Judgement Refusal → Type 0
+IsJudged halves conventions weights text judged =
+    MatchOption (module_refusal halves) (IsTextJudged (advert_of halves conventions) weights text judged) (λ refusal. judged ≡ Err refusal)
 
 -- what C is told of a result: the judgement, or the refusal's number
 abbrev pub Tells : ℕ → Judgement → Result Judgement Refusal → Type 0
@@ -69,5 +71,5 @@ IsTextShownBest advert weights text =
     × IsBest advert weights certificate.kept certificate.paths
 
 -- the same for the module whose memory has these halves
-abbrev pub IsShownBest : List HalfBytes → HostWeights → List ℕ → Type 0
-IsShownBest halves weights text = IsTextShownBest (advertised_by (memory_of halves)) weights text
+abbrev pub IsShownBest : List HalfBytes → Conventions → HostWeights → List ℕ → Type 0
+IsShownBest halves conventions weights text = IsTextShownBest (advert_of halves conventions) weights text

@@ -1,5 +1,5 @@
--- The memory of a module whose halves are handed over, and why its Applications are not read. (docs/firmware.md, "Halves";
--- OIF-CMIS-05.0, "Management Memory Map")
+-- The memory of a module whose halves are handed over, why its Applications are not read, and what it advertises.
+-- (docs/firmware.md, "Halves" and "Plans"; OIF-CMIS-05.0, "Management Memory Map")
 use Rattle.std.specs.Prelude.{◌==◌, ◌&&◌, ◌||◌, Bool, ℕ, not, nat_lt, List, length, map, Option, Some, if◌then◌else◌}
 use Rattle.std.specs.List.{list_all}
 use Rattle.std.specs.Option.{option_map}
@@ -9,6 +9,8 @@ use Rattle.bus_model.specs.declared.device.Dev.TheVariants.{A0, A2}
 use Rattle.paged_memory.specs.declared.key.Key.{Key}
 use Rattle.paged_memory.specs.Keys.{lower_key, upper_key}
 use Rattle.paged_memory.specs.Images.{Memory, most_pages}
+use Rattle.applications.specs.Advertised.{Advertised, advertised_under}
+use Rattle.applications.specs.declared.conventions.Conventions.{Conventions}
 use Rattle.applications.specs.Refusals.{advert_fault}
 use Rattle.firmware_api.specs.declared.half.HalfBytes.{HalfBytes}
 use Rattle.firmware_api.specs.declared.status.Refusal.{Refusal}
@@ -37,3 +39,11 @@ module_refusal halves =
     if nat_lt most_pages (length halves) then Some TooManyHalves
     else (if not (list_all has_place halves) then Some NoPlace
     else option_map Advert (advert_fault (memory_of halves)))
+
+-- how a host reads what the module advertises: each number but 0 says yes
+abbrev pub conventions_of : ℕ → ℕ → Conventions
+conventions_of paired counts_by_id = record { paired = not (paired == 0); counts_by_id = not (counts_by_id == 0) }
+
+-- what it advertises to such a host
+abbrev pub advert_of : List HalfBytes → Conventions → Advertised
+advert_of halves conventions = advertised_under conventions (memory_of halves)

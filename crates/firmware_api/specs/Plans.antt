@@ -1,8 +1,9 @@
 -- A plan as C sees it, and why kept paths are refused. (docs/firmware.md, "Plans"; this project's own)
-use Rattle.std.specs.Prelude.{◌≡◌, ◌-◌, ◌<◌, nat_lt, List, ◌++◌, length, replicate, AllPairs, Option, Some, None, if◌then◌else◌}
+use Rattle.std.specs.Prelude.{◌≡◌, ℕ, ◌-◌, ◌<◌, nat_lt, List, ◌++◌, length, replicate, AllPairs, Option, Some, None, if◌then◌else◌}
 use Rattle.std.specs.Option.{option_map}
 use Rattle.field_tables.specs.LaneSets.{byte_of}
-use Rattle.applications.specs.Advertised.{Advertised, advertised_by}
+use Rattle.applications.specs.Advertised.{Advertised}
+use Rattle.applications.specs.declared.conventions.Conventions.{Conventions}
 use Rattle.applications.specs.Weights.{HostWeights}
 use Rattle.plan_certificate.specs.declared.path.Path.{Path}
 use Rattle.plan_certificate.specs.Limits.{most_paths}
@@ -15,7 +16,7 @@ use Rattle.firmware_api.specs.declared.half.HalfBytes.{HalfBytes}
 use Rattle.firmware_api.specs.declared.planning.LanePlan.{LanePlan}
 use Rattle.firmware_api.specs.declared.status.Refusal.{Refusal}
 use Rattle.firmware_api.specs.declared.status.Refusal.TheVariants.{KeptNotAdmissible, TooManyKept}
-use Rattle.firmware_api.specs.Halves.{memory_of, module_refusal}
+use Rattle.firmware_api.specs.Halves.{advert_of, module_refusal}
 
 -- there are more than a plan has, or the module can't carry them together
 abbrev pub kept_refusal : Advertised → List Path → Option Refusal
@@ -28,8 +29,8 @@ refusal_before (Some refusal) later = Some refusal
 refusal_before None later = later
 
 -- refusals of the halves come first
-abbrev pub plan_refusal : List HalfBytes → List Path → Option Refusal
-plan_refusal halves kept = refusal_before (module_refusal halves) (kept_refusal (advertised_by (memory_of halves)) kept)
+abbrev pub plan_refusal : List HalfBytes → Conventions → List Path → Option Refusal
+plan_refusal halves conventions kept = refusal_before (module_refusal halves) (kept_refusal (advert_of halves conventions) kept)
 
 -- what stands after the last path
 abbrev pub no_path : Path

@@ -6,13 +6,13 @@ use Rattle.std.specs.Option.{option_map}
 use Rattle.arrayvec.specs.ArrayVec.{ArrayVec}
 use Rattle.bus_model.specs.declared.device.Dev.{Dev}
 use Rattle.bus_model.specs.declared.device.Dev.TheVariants.{A0, A2}
-use Rattle.applications.specs.Advertised.{advertised_by}
 use Rattle.applications.specs.Refusals.{advert_fault}
 use Rattle.applications.specs.declared.fault.AdvertFault.{AdvertFault}
 use Rattle.sim_module.specs.declared.delays.Delays.{Delays}
 use Rattle.sim_module.specs.declared.fixed.Fixed.{Fixed}
 use Rattle.sim_module.specs.declared.module.SimModule.{SimModule}
 use Rattle.sim_module.specs.declared.saved.SavedModule.{SavedModule}
+use Rattle.sim_module.specs.OwnAdverts.{own_advert}
 use Rattle.sim_module.specs.Record.{module_of}
 use Rattle.sim_module.specs.SavedModules.{restored}
 use Rattle.sim_module.specs.ShownBytes.{fetched}
@@ -43,7 +43,7 @@ begun halves delays =
 
 -- what never changes of the module that has these halves
 abbrev pub fixed_by : List HalfBytes → Fixed
-fixed_by halves = record { image = memory_of halves; advert = advertised_by (memory_of halves) }
+fixed_by halves = record { image = memory_of halves; advert = own_advert (memory_of halves) }
 
 -- the module of which this never changes, and the rest has these numbers
 abbrev pub module_in : Fixed → SavedModule → Option SimModule

@@ -1,6 +1,6 @@
 -- The numbers by which C knows refusals. In those of faults the last digit is the number in the fault's code.
 -- (docs/firmware.md, "Statuses"; this project's own)
-use Rattle.std.specs.Prelude.{ℕ, Option, Some, None, Result, Ok, Err}
+use Rattle.std.specs.Prelude.{ℕ, Bool, true, false, Option, Some, None, Result, Ok, Err}
 use Rattle.applications.specs.declared.fault.AdvertFault.{AdvertFault}
 use Rattle.applications.specs.declared.fault.AdvertFault.TheVariants.{NotCmis, Revision, NotEightLanes, FlatMemory, Absent, BadSum}
 use Rattle.applications.specs.declared.weights.lines.WeightLinesFault.{WeightLinesFault}
@@ -91,3 +91,10 @@ status_by (Some refusal) = status_of refusal
 abbrev pub status_in : {A : Type 0} → Result A Refusal → ℕ
 status_in (Ok value) = done
 status_in (Err refusal) = status_of refusal
+
+-- A module's family is known by its identifier before it is decoded, and with flat memory values have no limits: no call answers
+-- these two.
+abbrev pub is_answered : Refusal → Bool
+is_answered (Sff (sff_fault.WrongIdentifier identifier)) = false
+is_answered (Sff sff_fault.FlatMemory) = false
+is_answered _ = true

@@ -1,10 +1,9 @@
 ghost use Rattle.std.specs.Prelude.{◌≡◌, ◌≢◌};
-ghost use Rattle.applications.specs.Advertised.{advertised_by};
 ghost use Rattle.firmware_api.specs.Advertisements.{advertisement_of, application_at, application_of, applications_of};
-ghost use Rattle.firmware_api.specs.Halves.{memory_of, module_refusal};
+ghost use Rattle.firmware_api.specs.Halves.{advert_of, conventions_of, module_refusal};
 ghost use Rattle.firmware_api.specs.Statuses.{done, status_by};
 
-use crate::half::{HalfBytes, read_advert};
+use crate::half::{HalfBytes, conventions_of, read_advert_under};
 use crate::status::DONE;
 use applications::{Advert, App, MAX_APPS};
 
@@ -39,17 +38,19 @@ pub struct Advertisement {
     pub applications: [Application; MAX_APPS],
 }
 
-/// Puts into `advertisement` what the module whose memory has these halves advertises.
+/// Puts into `advertisement` what the module whose memory has these halves advertises, with the lane counts that it has, or with
+/// those that the interface IDs imply where they are 0, unless `counts_by_id` is 0.
 #[unsafe(no_mangle)]
 pub extern "C" fn dovecounter_advertisement(
     halves: &[HalfBytes],
+    counts_by_id: u8,
     advertisement: &mut Advertisement,
 ) -> u32
     ensures status { result ≡ status_by (module_refusal halves.now) }
-    ensures done { result ≡ done → advertisement.new ≡ advertisement_of (advertised_by (memory_of halves.now)) }
+    ensures done { result ≡ done → advertisement.new ≡ advertisement_of (advert_of halves.now (conventions_of 0 counts_by_id)) }
     ensures refused { result ≢ done → advertisement.new ≡ advertisement.old }
 {
-    match read_advert(halves) {
+    match read_advert_under(conventions_of(0, counts_by_id), halves) {
         Ok(advert) => {
             *advertisement = advertisement_of(&advert);
             DONE

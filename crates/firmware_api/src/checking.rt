@@ -1,10 +1,11 @@
 ghost use Rattle.std.specs.Prelude.{◌≡◌, ◌≢◌, IfOk};
 ghost use Rattle.firmware_api.specs.Checks.{IsJudged, IsShownBest, IsTextJudged, IsTextShownBest, IsTold, judgement_of, reason_number};
+ghost use Rattle.firmware_api.specs.Halves.{conventions_of};
 ghost use Rattle.firmware_api.specs.Statuses.{done};
 
-use crate::half::{HalfBytes, read_advert};
+use crate::half::{HalfBytes, conventions_of, read_advert_under};
 use crate::status::{DONE, Refusal};
-use applications::{Advert, Weights};
+use applications::{Advert, Conventions, Weights};
 use plan_certificate::{Certificate, Reason, STATES, Verdict, check};
 
 /// What a certificate is worth.
@@ -17,19 +18,22 @@ pub struct Judgement {
     pub number: usize,
 }
 
-/// Puts into `judgement` what the certificate with this text is worth for the module whose memory has these halves.
+/// Puts into `judgement` what the certificate with this text is worth for the module whose memory has these halves, which
+/// pairs first lanes unless `paired` is 0, and whose lane counts of 0 are implied by the interface IDs unless `counts_by_id` is 0.
 #[unsafe(no_mangle)]
 pub extern "C" fn dovecounter_check(
     halves: &[HalfBytes],
+    paired: u8,
+    counts_by_id: u8,
     weights: &[u32; 256],
     text: &[u8],
     judgement: &mut Judgement,
 ) -> u32
-    ensures told { IsTold (IsJudged halves.now weights.now text.now) result judgement.new }
-    ensures best { result ≡ done → judgement.new.reason ≡ 0 → IsShownBest halves.now weights.now text.now }
+    ensures told { IsTold (IsJudged halves.now (conventions_of paired counts_by_id) weights.now text.now) result judgement.new }
+    ensures best { result ≡ done → judgement.new.reason ≡ 0 → IsShownBest halves.now (conventions_of paired counts_by_id) weights.now text.now }
     ensures refused { result ≢ done → judgement.new ≡ judgement.old }
 {
-    match judged(halves, weights, text) {
+    match judged(halves, conventions_of(paired, counts_by_id), weights, text) {
         Ok(judged) => {
             *judgement = judged;
             DONE
@@ -38,11 +42,16 @@ pub extern "C" fn dovecounter_check(
     }
 }
 
-fn judged(halves: &[HalfBytes], weights: &[u32; 256], text: &[u8]) -> Result<Judgement, Refusal>
-    ensures judged { IsJudged halves.now weights.now text.now result }
-    ensures best { IfOk result (λ judged. judged.reason ≡ 0 → IsShownBest halves.now weights.now text.now) }
+fn judged(
+    halves: &[HalfBytes],
+    conventions: Conventions,
+    weights: &[u32; 256],
+    text: &[u8],
+) -> Result<Judgement, Refusal>
+    ensures judged { IsJudged halves.now conventions weights.now text.now result }
+    ensures best { IfOk result (λ judged. judged.reason ≡ 0 → IsShownBest halves.now conventions weights.now text.now) }
 {
-    let advert = read_advert(halves)?;
+    let advert = read_advert_under(conventions, halves)?;
     text_judged(&advert, weights, text)
 }
 
@@ -90,5 +99,6 @@ fn reason_number(reason: Reason) -> u8
         Reason::StartNotWeight => 7,
         Reason::KeptNotAdmissible => 8,
         Reason::KeptMissing => 9,
+        Reason::PairingDiffers => 10,
     }
 }

@@ -1,12 +1,12 @@
 ghost use Rattle.std.specs.Prelude.{◌≡◌, ◌≤◌, length, MatchOption, Ok, Err};
 ghost use Rattle.std.specs.List.{list_all};
 ghost use Rattle.applications.specs.Advertised.{advertised_by};
-ghost use Rattle.firmware_api.specs.Halves.{has_place, key_of, memory_of, module_refusal};
+ghost use Rattle.firmware_api.specs.Halves.{advert_of, conventions_of, has_place, key_of, memory_of, module_refusal};
 ghost use Rattle.firmware_api.specs.SimulatedModules.{half_refusal, unless_refused};
 ghost use Rattle.paged_memory.specs.Images.{most_pages};
 
 use crate::status::Refusal;
-use applications::Advert;
+use applications::{Advert, Conventions};
 use paged_memory::{Dev, Image, Key, MAX_PAGES, PAGE_LEN, Page};
 
 /// 128 bytes of a module's memory, and where they stand.
@@ -50,10 +50,31 @@ impl HalfBytes {
     }
 }
 
-/// What the module whose memory has these halves advertises.
+/// How a host reads what a module advertises, by numbers of which those other than 0 say yes.
+pub fn conventions_of(paired: u8, counts_by_id: u8) -> Conventions
+    ensures { result ≡ conventions_of paired counts_by_id }
+{
+    Conventions {
+        paired: paired != 0,
+        counts_by_id: counts_by_id != 0,
+    }
+}
+
+/// What the module whose memory has these halves advertises, as it stands there.
 pub fn read_advert(halves: &[HalfBytes]) -> Result<Advert, Refusal>
     ensures { MatchOption (module_refusal halves.now) (result ≡ Ok (advertised_by (memory_of halves.now)))
         (λ refusal. result ≡ Err refusal) }
+{
+    let as_it_stands = Conventions {
+        paired: false,
+        counts_by_id: false,
+    };
+    read_advert_under(as_it_stands, halves)
+}
+
+/// What it advertises to a host that reads it by these conventions.
+pub fn read_advert_under(conventions: Conventions, halves: &[HalfBytes]) -> Result<Advert, Refusal>
+    ensures { MatchOption (module_refusal halves.now) (result ≡ Ok (advert_of halves.now conventions)) (λ refusal. result ≡ Err refusal) }
 {
     if halves.len() > MAX_PAGES {
         return Err(Refusal::TooManyHalves);
@@ -61,7 +82,7 @@ pub fn read_advert(halves: &[HalfBytes]) -> Result<Advert, Refusal>
     if !all_have_places(halves) {
         return Err(Refusal::NoPlace);
     }
-    match Advert::of(&image_of(halves)) {
+    match Advert::under(conventions, &image_of(halves)) {
         Ok(advert) => Ok(advert),
         Err(fault) => Err(Refusal::Advert(fault)),
     }

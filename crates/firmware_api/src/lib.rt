@@ -11,6 +11,7 @@ mod flags;
 mod half;
 mod identity;
 mod kept;
+pub mod laws;
 mod measured_values;
 mod monitors;
 mod operation;

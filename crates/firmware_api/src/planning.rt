@@ -1,15 +1,14 @@
 ghost use Rattle.std.specs.Prelude.{◌≡◌, ◌≢◌, IfOk, MatchOption, Ok, Err};
-ghost use Rattle.applications.specs.Advertised.{advertised_by};
 ghost use Rattle.plan_certificate.specs.Plans.{IsAdmissible};
-ghost use Rattle.firmware_api.specs.Halves.{memory_of};
+ghost use Rattle.firmware_api.specs.Halves.{advert_of, conventions_of};
 ghost use Rattle.firmware_api.specs.Plans.{IsPlanned, kept_refusal, paths_of, plan_refusal};
 ghost use Rattle.firmware_api.specs.Statuses.{done, status_by, status_in};
 
-use crate::half::{HalfBytes, read_advert};
+use crate::half::{HalfBytes, conventions_of, read_advert_under};
 use crate::status::{DONE, Refusal};
-use applications::{Advert, Weights};
+use applications::{Advert, Conventions, Weights};
 use arrayvec::ArrayVec;
-use control_sets::{bytes_of, lanes_of, lanes_outside};
+use control_sets::{ControlSet, bytes_of, lanes_of, lanes_outside};
 use lane_planner::first_plan;
 use plan_certificate::{MAX_PATHS, Path, Plan, kept_fault, weight_of};
 
@@ -26,25 +25,28 @@ pub struct LanePlan {
     /// The host lanes that no kept path takes.
     pub outside: u8,
     /// The control bytes of host lanes 1 to 8.
-    pub control: [u8; 8],
+    pub control: ControlSet,
     /// By rising host lane; zeros after the last one.
     pub paths: [Path; MAX_PATHS],
 }
 
 /// Puts into `plan`, among the plans that hold the kept paths, the first of those that weigh most for the module whose
-/// memory has these halves. There is a weight for each HostInterfaceID.
+/// memory has these halves, which pairs first lanes unless `paired` is 0, and whose lane counts of 0 are implied by the interface IDs
+/// unless `counts_by_id` is 0. There is a weight for each HostInterfaceID.
 #[unsafe(no_mangle)]
 pub extern "C" fn dovecounter_plan(
     halves: &[HalfBytes],
+    paired: u8,
+    counts_by_id: u8,
     weights: &[u32; 256],
     kept: &[Path],
     plan: &mut LanePlan,
 ) -> u32
-    ensures status { result ≡ status_by (plan_refusal halves.now kept.now) }
-    ensures done { result ≡ done → IsPlanned (advertised_by (memory_of halves.now)) weights.now kept.now plan.new }
+    ensures status { result ≡ status_by (plan_refusal halves.now (conventions_of paired counts_by_id) kept.now) }
+    ensures done { result ≡ done → IsPlanned (advert_of halves.now (conventions_of paired counts_by_id)) weights.now kept.now plan.new }
     ensures refused { result ≢ done → plan.new ≡ plan.old }
 {
-    match planned(halves, weights, kept) {
+    match planned(halves, conventions_of(paired, counts_by_id), weights, kept) {
         Ok(planned) => {
             *plan = planned;
             DONE
@@ -53,11 +55,16 @@ pub extern "C" fn dovecounter_plan(
     }
 }
 
-fn planned(halves: &[HalfBytes], weights: &[u32; 256], kept: &[Path]) -> Result<LanePlan, Refusal>
-    ensures status { status_in result ≡ status_by (plan_refusal halves.now kept.now) }
-    ensures planned { IfOk result (IsPlanned (advertised_by (memory_of halves.now)) weights.now kept.now) }
+fn planned(
+    halves: &[HalfBytes],
+    conventions: Conventions,
+    weights: &[u32; 256],
+    kept: &[Path],
+) -> Result<LanePlan, Refusal>
+    ensures status { status_in result ≡ status_by (plan_refusal halves.now conventions kept.now) }
+    ensures planned { IfOk result (IsPlanned (advert_of halves.now conventions) weights.now kept.now) }
 {
-    let advert = read_advert(halves)?;
+    let advert = read_advert_under(conventions, halves)?;
     let kept = kept_plan(&advert, kept)?;
     Ok(best_plan(&advert, weights, &kept))
 }

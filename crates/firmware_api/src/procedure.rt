@@ -26,7 +26,8 @@ use crate::operation::{Operation, reply_of};
 use crate::status::{DONE, Refusal};
 use bus_model::{Dev, Op, Reply, Step};
 use control_sets::{
-    Power, PowerChange, Procedure, ProcedureNext, ProvisionFault, SavedFault, SavedProcedure,
+    ControlSet, Power, PowerChange, Procedure, ProcedureNext, ProvisionFault, SavedFault,
+    SavedProcedure,
 };
 use field_tables::LaneSet;
 
@@ -55,7 +56,11 @@ pub struct Answer {
 
 /// Puts into `procedure` the procedure that makes these control bytes active, by taking down and applying these lanes.
 #[unsafe(no_mangle)]
-pub extern "C" fn dovecounter_provision(control: &[u8; 8], lanes: u8, procedure: &mut KeptProcedure)
+pub extern "C" fn dovecounter_provision(
+    control: &ControlSet,
+    lanes: u8,
+    procedure: &mut KeptProcedure,
+)
     ensures { IsSavedAt (provisioning control.now (lanes_in lanes)) [] procedure.new }
 {
     *procedure = begun(Kept::OfTasks(Procedure::provisioning(*control, LaneSet::from(lanes))));
@@ -64,7 +69,11 @@ pub extern "C" fn dovecounter_provision(control: &[u8; 8], lanes: u8, procedure:
 /// Puts into `procedure` the procedure that brings up the data paths of these lanes, if these control bytes are active,
 /// and takes down those of all others.
 #[unsafe(no_mangle)]
-pub extern "C" fn dovecounter_activate(control: &[u8; 8], lanes: u8, procedure: &mut KeptProcedure)
+pub extern "C" fn dovecounter_activate(
+    control: &ControlSet,
+    lanes: u8,
+    procedure: &mut KeptProcedure,
+)
     ensures { IsSavedAt (activation control.now (lanes_in lanes)) [] procedure.new }
 {
     *procedure = begun(Kept::OfTasks(Procedure::activation(*control, LaneSet::from(lanes))));

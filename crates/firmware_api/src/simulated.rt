@@ -11,10 +11,10 @@ ghost use Rattle.firmware_api.specs.Statuses.{done, status_by, status_in};
 
 use crate::half::{HalfBytes, image_in};
 use crate::status::{DONE, Refusal};
-use applications::Advert;
 use arrayvec::ArrayVec;
 use bus_model::{Dev, Device, MAX_FETCH, MAX_STORE};
-use sim_module::{Delays, Moving, SavedModule, SimModule};
+use control_sets::ControlSet;
+use sim_module::{Delays, Moving, SavedModule, SimModule, own_advert};
 
 /// Puts into `simulated` what changes of the module that has these halves and delays, as it is at the start.
 #[unsafe(no_mangle)]
@@ -120,7 +120,7 @@ pub extern "C" fn dovecounter_module_pin(simulated: &mut SavedModule, on: u8) ->
 
 /// Puts into `active` the control bytes of the Active Control Set, lane 1 first.
 #[unsafe(no_mangle)]
-pub extern "C" fn dovecounter_module_active(simulated: &SavedModule, active: &mut [u8; 8]) -> u32
+pub extern "C" fn dovecounter_module_active(simulated: &SavedModule, active: &mut ControlSet) -> u32
     ensures status { result ≡ status_by (spec.refusal_in (restored simulated.now)) }
     ensures done { (fixed : Fixed) (sim : SimModule) → spec.module_in fixed simulated.now ≡ Some sim → active.new ≡ active_bytes sim }
     ensures refused { result ≢ done → active.new ≡ active.old }
@@ -149,7 +149,7 @@ fn held(halves: &[HalfBytes], saved: &SavedModule) -> Result<SimModule, Refusal>
     ensures { result ≡ spec.held halves.now saved.now }
 {
     let image = image_in(halves)?;
-    let advert = match Advert::of(&image) {
+    let advert = match own_advert(&image) {
         Ok(advert) => advert,
         Err(fault) => return Err(Refusal::Advert(fault)),
     };

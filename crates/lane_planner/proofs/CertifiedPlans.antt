@@ -24,14 +24,15 @@ use Rattle.lane_planner.proofs.ReachedStates.{start_reached}
 
 module _ (advert : Advertised) (weights : HostWeights) (kept paths : List Path) (marks : List Bool) (table : List ℕ) (admissible : IsAdmissible advert kept)
     (reached : MarksReached advert weights kept marks) (has : HasGains advert weights kept 0 table) (off : IsReadOff advert weights kept table paths) where
-  pub certified : IsCertified advert weights kept (claim_by kept paths marks table)
+  pub certified : IsCertified advert weights kept (claim_by advert.paired kept paths marks table)
   certified =
-      let claim = claim_by kept paths marks table in
+      let claim = claim_by advert.paired kept paths marks table in
       let entries = marked_entries marks table most_states in
       let are : AreEntries marks table most_states entries = are_marked marks table most_states (omega arith) in
       let weight : get_or table 0 0 ≡ gain_at table start = ap (λ (n : ℕ). get_or table n 0) (sym start_place) in
       let first = read_off_is_first advert weights kept table paths has off in
       let good : IsGood advert weights claim = record {
+        paired = refl;
         kept = admissible;
         admissible = off.plan.admissible;
         keeps = off.plan.keeps;
@@ -53,10 +54,10 @@ module _ (advert : Advertised) (weights : HostWeights) (kept paths : List Path) 
 -- ---- its text
 
 pub plan_text : (advert : Advertised) (weights : HostWeights) (kept paths : List Path) (marks : List Bool) (table : List ℕ) → IsAdmissible advert kept
-    → MarksReached advert weights kept marks → HasGains advert weights kept 0 table → IsReadOff advert weights kept table paths → IsReadable most_states (claim_by kept paths marks table)
-    → IsPlanText advert weights kept (text_of (certificate_lines (claim_by kept paths marks table)))
+    → MarksReached advert weights kept marks → HasGains advert weights kept 0 table → IsReadOff advert weights kept table paths → IsReadable most_states (claim_by advert.paired kept paths marks table)
+    → IsPlanText advert weights kept (text_of (certificate_lines (claim_by advert.paired kept paths marks table)))
 plan_text advert weights kept paths marks table admissible reached has off readable =
-    let certificate = claim_by kept paths marks table in
+    let certificate = claim_by advert.paired kept paths marks table in
     record {
       certificate = certificate;
       certified = certified advert weights kept paths marks table admissible reached has off;

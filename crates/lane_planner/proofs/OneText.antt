@@ -125,7 +125,8 @@ module _ (advert : Advertised) (weights : HostWeights) (kept : List Path) where
       (λ entry. (entry_in_other text other is also entry, entry_in_other other text also is entry)) in
       let weight : is.certificate.weight ≡ also.certificate.weight = is.certified.good.weighs ∙ ap (plan_weight advert weights) paths ∙ sym also.certified.good.weighs in
       let keeps : is.certificate.kept ≡ also.certificate.kept = is.certified.keeps ∙ sym also.certified.keeps in
-      λ i. record { weight = weight i; kept = keeps i; paths = paths i; entries = entries i }
+      let paired : is.certificate.paired ≡ also.certificate.paired = is.certified.good.paired ∙ sym also.certified.good.paired in
+      λ i. record { paired = paired i; weight = weight i; kept = keeps i; paths = paths i; entries = entries i }
 
   pub one_text : (text other : List ℕ) → IsPlanText advert weights kept text → IsPlanText advert weights kept other → text ≡ other
   one_text text other is also = is.written ∙ ap (λ (c : Claim). text_of (certificate_lines c)) (one_certificate text other is also) ∙ sym also.written

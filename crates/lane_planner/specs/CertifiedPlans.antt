@@ -36,8 +36,9 @@ pub record IsPlanText (advert : Advertised) (weights : HostWeights) (kept : List
   pub read_back : IsTextOf most_states (lines_of text) certificate
 
 -- the certificate of a plan by the planner's tables
-abbrev pub claim_by : List Path → List Path → List Bool → List ℕ → Claim
-claim_by kept paths marks table = record {
+abbrev pub claim_by : Bool → List Path → List Path → List Bool → List ℕ → Claim
+claim_by paired kept paths marks table = record {
+  paired = paired;
   weight = slice_index table 0;
   kept = kept;
   paths = paths;

@@ -58,6 +58,7 @@ pub fn plan_keeping(advert: &Advert, weights: &Weights, kept: &Plan) -> Certific
     let mut table = Table::blank();
     put_gains(advert, weights, paths, &marks, &mut table);
     Certificate {
+        paired: advert.is_paired(),
         weight: table.at(0),
         kept: copy_of(kept),
         plan: read_off(advert, weights, paths, &table),

@@ -51,35 +51,49 @@ pub fn put_certificate(buffer: &mut [u8], advert: &Advert, weights: &Weights, ke
     let mut table = Table::blank();
     put_gains(advert, weights, paths, &marks, &mut table);
     let plan = read_off(advert, weights, paths, &table);
-    put_if_room(buffer, kept, &plan, &marks, &table)
+    put_if_room(buffer, advert.is_paired(), kept, &plan, &marks, &table)
 }
 
-fn put_if_room(buffer: &mut [u8], kept: &Plan, plan: &Plan, marks: &[bool], table: &Table) -> usize
+fn put_if_room(
+    buffer: &mut [u8],
+    paired: bool,
+    kept: &Plan,
+    plan: &Plan,
+    marks: &[bool],
+    table: &Table,
+) -> usize
     requires { length marks.now ≡ STATES }
-    ensures readable { IsReadable most_states (claim_by kept.now plan.now marks.now table.now) }
-    ensures len { result ≡ length (text_of (certificate_lines (claim_by kept.now plan.now marks.now table.now))) }
-    ensures put { buffer.new ≡ buffer_with buffer.old (text_of (certificate_lines (claim_by kept.now plan.now marks.now table.now))) }
+    ensures readable { IsReadable most_states (claim_by paired kept.now plan.now marks.now table.now) }
+    ensures len { result ≡ length (text_of (certificate_lines (claim_by paired kept.now plan.now marks.now table.now))) }
+    ensures put { buffer.new ≡ buffer_with buffer.old (text_of (certificate_lines (claim_by paired kept.now plan.now marks.now table.now))) }
     ensures small { result ≤ 74046 }
 {
     if buffer.len() < MOST_TEXT {
         let mut nothing = [0; 0];
-        let len = put_text(&mut nothing, kept, plan, marks, table);
+        let len = put_text(&mut nothing, paired, kept, plan, marks, table);
         if buffer.len() < len {
             return len;
         }
     }
-    put_text(buffer, kept, plan, marks, table)
+    put_text(buffer, paired, kept, plan, marks, table)
 }
 
 // Puts the text at the front of a buffer; if this has no room for it, nobody is to look at the buffer again.
-fn put_text(buffer: &mut [u8], kept: &Plan, plan: &Plan, marks: &[bool], table: &Table) -> usize
+fn put_text(
+    buffer: &mut [u8],
+    paired: bool,
+    kept: &Plan,
+    plan: &Plan,
+    marks: &[bool],
+    table: &Table,
+) -> usize
     requires { length marks.now ≡ STATES }
-    ensures readable { IsReadable most_states (claim_by kept.now plan.now marks.now table.now) }
-    ensures put { Puts (text_of (certificate_lines (claim_by kept.now plan.now marks.now table.now))) buffer.old 0 buffer.new result }
+    ensures readable { IsReadable most_states (claim_by paired kept.now plan.now marks.now table.now) }
+    ensures put { Puts (text_of (certificate_lines (claim_by paired kept.now plan.now marks.now table.now))) buffer.old 0 buffer.new result }
     ensures small { result ≤ 74046 }
 {
     let mut len = 0;
-    let head = head_of(table.at(0), kept, plan);
+    let head = head_of(paired, table.at(0), kept, plan);
     put(buffer, &mut len, head.as_slice());
     put_entries(buffer, &mut len, marks, table);
     put(buffer, &mut len, &end_line());

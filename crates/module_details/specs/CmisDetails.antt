@@ -5,8 +5,13 @@ use Rattle.code_names.specs.declared.table.Table.TheVariants as tables
 use Rattle.field_tables.specs.declared.field.Field.TheVariants as fields
 use Rattle.field_tables.specs.declared.field.TextField.TheVariants as texts
 use Rattle.report_entries.specs.declared.printed_unit.PrintedUnit.TheVariants as units
+use Rattle.module_details.specs.declared.item.Case.{Case}
 use Rattle.module_details.specs.declared.item.Case.TheVariants.{Outside, Within}
 use Rattle.module_details.specs.Rows.{Row, Amount, Celsius, ConfigStatus, Either, FirstLane, Level, Milliwatts, ModuleState, Named, Number, Oui, PathState, Percent, Revision, Steps, StepsIfAny, Temperature, TenthsIfAny, Text, Version, Word, Yes, always, if_paged, of_lanes, of_value, unless}
+
+-- a module of CMIS 3, of which it isn't sure what these bytes mean
+abbrev is_cmis_3 : Case
+is_cmis_3 = Within fields.CRevision 1 0x30 0x3F
 
 -- what it is
 unfoldable pub identity_rows : List Row
@@ -32,13 +37,13 @@ identity_rows =
     ∷ unless (Outside fields.CTechnology 1 10 15 ∷ []) (of_value 2 (always (codes "attenuation-at-7000-mhz") (StepsIfAny fields.CAttenuation 1000 units.Decibel)))
     ∷ unless (Outside fields.CTechnology 1 10 15 ∷ []) (of_value 3 (always (codes "attenuation-at-12900-mhz") (StepsIfAny fields.CAttenuation 1000 units.Decibel)))
     ∷ unless (Outside fields.CTechnology 1 10 15 ∷ []) (of_value 4 (always (codes "attenuation-at-25800-mhz") (StepsIfAny fields.CAttenuation 1000 units.Decibel)))
-    ∷ always (codes "firmware") (Version fields.CActiveFirmware)
+    ∷ unless (is_cmis_3 ∷ []) (always (codes "firmware") (Version fields.CActiveFirmware))
     ∷ []
 
 -- what it is like
 unfoldable pub characteristics_rows : List Row
 characteristics_rows =
-    if_paged (always (codes "inactive-firmware") (Version fields.CInactiveFirmware))
+    unless (is_cmis_3 ∷ []) (if_paged (always (codes "inactive-firmware") (Version fields.CInactiveFirmware)))
     ∷ if_paged (always (codes "hardware") (Version fields.CHardware))
     ∷ unless (Outside fields.CLengthSmfMultiplier 1 0 1 ∷ []) (if_paged (always (codes "length-smf") (TenthsIfAny fields.CLengthSmf fields.CLengthSmfMultiplier units.Kilometre)))
     ∷ if_paged (always (codes "length-om5") (StepsIfAny fields.CLengths 2000 units.Metre))
@@ -52,12 +57,12 @@ characteristics_rows =
     ∷ if_paged (always (codes "rx-power-type") (Either fields.CRxPowerIsAverage (codes "average") (codes "OMA")))
     ∷ unless (Within fields.CTempRange 1 0 0 ∷ []) (if_paged (always (codes "case-temperature-max") (Celsius fields.CTempRange)))
     ∷ unless (Within fields.CTempRange 1 0 0 ∷ []) (if_paged (of_value 2 (always (codes "case-temperature-min") (Celsius fields.CTempRange))))
-    ∷ if_paged (always (codes "max-duration-module-pwr-up") (Named tables.Durations fields.CMaxDurationModulePwrUp))
-    ∷ if_paged (always (codes "max-duration-module-pwr-dn") (Named tables.Durations fields.CMaxDurationModulePwrDn))
+    ∷ unless (is_cmis_3 ∷ []) (if_paged (always (codes "max-duration-module-pwr-up") (Named tables.Durations fields.CMaxDurationModulePwrUp)))
+    ∷ unless (is_cmis_3 ∷ []) (if_paged (always (codes "max-duration-module-pwr-dn") (Named tables.Durations fields.CMaxDurationModulePwrDn)))
     ∷ if_paged (always (codes "max-duration-dp-init") (Named tables.Durations fields.CMaxDurationDPInit))
     ∷ if_paged (always (codes "max-duration-dp-deinit") (Named tables.Durations fields.CMaxDurationDPDeinit))
-    ∷ if_paged (always (codes "max-duration-dp-tx-turn-on") (Named tables.Durations fields.CMaxDurationDPTxTurnOn))
-    ∷ if_paged (always (codes "max-duration-dp-tx-turn-off") (Named tables.Durations fields.CMaxDurationDPTxTurnOff))
+    ∷ unless (is_cmis_3 ∷ []) (if_paged (always (codes "max-duration-dp-tx-turn-on") (Named tables.Durations fields.CMaxDurationDPTxTurnOn)))
+    ∷ unless (is_cmis_3 ∷ []) (if_paged (always (codes "max-duration-dp-tx-turn-off") (Named tables.Durations fields.CMaxDurationDPTxTurnOff)))
     ∷ []
 
 -- which controls and flags it has
@@ -94,7 +99,7 @@ controls_rows =
 unfoldable pub status_rows : List Row
 status_rows =
     always (codes "state") (ModuleState fields.CModuleState)
-    ∷ unless (Outside fields.CModuleState 1 5 5 ∷ []) (always (codes "fault-cause") (Named tables.ModuleFaults fields.CFaultCause))
+    ∷ unless (Outside fields.CModuleState 1 5 5 ∷ is_cmis_3 ∷ []) (always (codes "fault-cause") (Named tables.ModuleFaults fields.CFaultCause))
     ∷ always (codes "low-power-allow-hw") (Yes fields.CLowPwrAllowHW)
     ∷ always (codes "low-power-request-sw") (Yes fields.CLowPwrRequestSW)
     ∷ always (codes "software-reset") (Yes fields.CSoftwareReset)
@@ -114,8 +119,8 @@ lanes_rows =
     ∷ if_paged (of_lanes 8 (always (codes "config-status") (ConfigStatus fields.CConfigStatus)))
     ∷ if_paged (of_lanes 8 (always (codes "application") (Number fields.CActiveAppSel 0)))
     ∷ if_paged (of_lanes 8 (always (codes "path-from") (FirstLane fields.CActiveAppSel fields.CActivePathId)))
-    ∷ if_paged (of_lanes 8 (always (codes "tx-output") (Yes fields.CTxOutputStatus)))
-    ∷ if_paged (of_lanes 8 (always (codes "rx-output") (Yes fields.CRxOutputStatus)))
+    ∷ unless (is_cmis_3 ∷ []) (if_paged (of_lanes 8 (always (codes "tx-output") (Yes fields.CTxOutputStatus))))
+    ∷ unless (is_cmis_3 ∷ []) (if_paged (of_lanes 8 (always (codes "rx-output") (Yes fields.CRxOutputStatus))))
     ∷ unless (Within fields.CTxPowerMonitor 1 0 0 ∷ []) (if_paged (of_lanes 8 (always (codes "tx-power") (Level fields.CTxPower))))
     ∷ unless (Within fields.CTxPowerMonitor 1 0 0 ∷ []) (if_paged (of_lanes 8 (always (codes "tx-power-mw") (Milliwatts fields.CTxPower))))
     ∷ unless (Within fields.CTxBiasMonitor 1 0 0 ∷ Within fields.CBiasMultiplier 1 3 3 ∷ []) (if_paged (of_lanes 8 (always (codes "tx-bias") (Amount fields.CTxBias (Some fields.CBiasMultiplier)))))

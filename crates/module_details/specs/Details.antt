@@ -1,14 +1,16 @@
--- What the rows of details say of a module's memory. (docs/formats.md, "details"; this project's own)
+-- What the rows of details say of a module's memory. (docs/formats.md, "details"; SFF-8024, "Identifier Values"; this project's
+-- own)
 use Rattle.std.specs.Prelude.{ℕ, ◌+◌, ◌-◌, ◌*◌, ◌==◌, ◌&&◌, ◌||◌, not, nat_le, nat_lt, int_le, int_lt, if◌then◌else◌, Bool, true, false, ℤ, pos, ◌*ℤ◌, ◌-ℤ◌, unsigned_abs, List, [], ◌∷◌, Option, Some, None, option_map}
 use Rattle.std.specs.List.{flat_map, list_any, range_with_len}
 use Rattle.code_names.specs.Names.{name_in}
 use Rattle.code_names.specs.Rows.{text_of}
 use Rattle.code_names.specs.declared.table.Table.{Table}
 use Rattle.field_tables.specs.declared.field.Field.{Field}
+use Rattle.field_tables.specs.declared.field.Field.TheVariants.{CIdentifier}
 use Rattle.field_tables.specs.declared.units.Unit.TheVariants as steps
 use Rattle.field_tables.specs.FieldRows.{row_of}
 use Rattle.field_tables.specs.Readings as readings
-use Rattle.field_tables.specs.Readings.{all_numbers, bit_at, number_at, reading_at}
+use Rattle.field_tables.specs.Readings.{all_numbers, bit_at, number, number_at, reading_at}
 use Rattle.field_tables.specs.Units.{floor_div, millis_of}
 use Rattle.module_decoding.specs.Amounts.{amount_at, length_in, unit_of}
 use Rattle.module_decoding.specs.PaddedTexts.{trimmed}
@@ -151,8 +153,20 @@ unfoldable pub fact_entries : List ℕ → Place → Option Fact → List Entry
 fact_entries name place None = []
 fact_entries name place (Some f) = entry name (fact place f) ∷ []
 
-abbrev pub lane_entries : Memory → List ℕ → Item → ℕ → List Entry
-lane_entries memory name item lane = fact_entries name (Lane lane) (fact_at memory item lane)
+-- how many lanes a module with this identifier has at most: SFP has one, DSFP and SFP-DD have two, QSFP has four
+abbrev pub most_lanes : ℕ → ℕ
+most_lanes identifier =
+    if identifier == 0x20 then 1
+    else if identifier == 0x1B || identifier == 0x1F then 2
+    else if identifier == 0x1E then 4
+    else 8
+
+abbrev pub has_lane : Memory → ℕ → Bool
+has_lane memory lane = nat_le lane (most_lanes (number memory CIdentifier))
+
+-- of a lane that the module has
+unfoldable pub lane_entries : Memory → List ℕ → Item → ℕ → List Entry
+lane_entries memory name item lane = if has_lane memory lane then fact_entries name (Lane lane) (fact_at memory item lane) else []
 
 -- of these values
 abbrev pub values_entries : Memory → List ℕ → Item → Values → List Entry

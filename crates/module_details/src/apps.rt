@@ -7,9 +7,10 @@ ghost use Rattle.module_details.specs.AppDetails as spec;
 ghost use Rattle.module_details.specs.AppDetails.{app_entries, app_entry, apps_entries, host_entry, interface_entries, lane_entries, medium_entry, start_entries};
 
 use crate::facts::named;
-use applications::{Advert, App};
-use code_names::{Name, Table};
+use applications::{App, apps_in, page_refusal};
+use code_names::{Table, media_interface_name};
 use field_tables::{Field, number};
+use module_decoding::is_flat;
 use paged_memory::Image;
 use report_entries::{Entry, Fact, Place, Said, say};
 use std::alloc::AllocError;
@@ -19,28 +20,34 @@ use std::alloc::AllocError;
 pub fn say_apps(entries: &mut Vec<Entry>, image: &Image) -> Result<(), AllocError>
     ensures { OnOk result (said_in entries.new ≡ said_in entries.old ++ apps_entries image.now) }
 {
-    match Advert::of(image) {
-        Ok(advert) => say_each(entries, number(image, Field::CMediaType), advert.apps()),
-        Err(_) => Ok(()),
+    let flat = is_flat(image);
+    if !flat && page_refusal(image).is_some() {
+        return Ok(());
     }
+    let media = number(image, Field::CMediaType);
+    let apps = apps_in(image);
+    say_each(entries, flat, media, apps.as_slice())
 }
 
-fn say_each(entries: &mut Vec<Entry>, media: u8, apps: &[App]) -> Result<(), AllocError>
-    ensures { OnOk result (said_in entries.new ≡ said_in entries.old ++ flat_map (app_entries media) apps.now) }
+fn say_each(entries: &mut Vec<Entry>, flat: bool, media: u8, apps: &[App]) -> Result<(), AllocError>
+    ensures { OnOk result (said_in entries.new ≡ said_in entries.old ++ flat_map (app_entries flat media) apps.now) }
 {
     for app in apps {
-        say_app(entries, media, app)?;
+        say_app(entries, flat, media, app)?;
     }
     Ok(())
 }
 
 #[tactic(auto, unfolding(crate::specs::AppDetails::app_entries))]
-fn say_app(entries: &mut Vec<Entry>, media: u8, app: &App) -> Result<(), AllocError>
-    ensures { OnOk result (said_in entries.new ≡ said_in entries.old ++ app_entries media app.now) }
+fn say_app(entries: &mut Vec<Entry>, flat: bool, media: u8, app: &App) -> Result<(), AllocError>
+    ensures { OnOk result (said_in entries.new ≡ said_in entries.old ++ app_entries flat media app.now) }
 {
+    if flat && app.number > 8 {
+        return Ok(());
+    }
     say_interfaces(entries, media, app)?;
     say_lanes(entries, app)?;
-    say_starts(entries, app)
+    say_starts(entries, flat, app)
 }
 
 #[tactic(auto, unfolding(crate::specs::AppDetails::interface_entries))]
@@ -63,8 +70,7 @@ fn say_host(entries: &mut Vec<Entry>, app: &App) -> Result<(), AllocError>
 fn say_medium(entries: &mut Vec<Entry>, media: u8, app: &App) -> Result<(), AllocError>
     ensures { OnOk result (said_in entries.new ≡ said_in entries.old ++ medium_entry media app.now ∷ []) }
 {
-    let medium = named_by(media_table(media), app.media_id);
-    say_of(entries, "media-interface", app, medium)
+    say_of(entries, "media-interface", app, medium(media, app.media_id))
 }
 
 #[tactic(auto, unfolding(crate::specs::AppDetails::lane_entries))]
@@ -86,10 +92,13 @@ fn say_lanes(entries: &mut Vec<Entry>, app: &App) -> Result<(), AllocError>
 }
 
 #[tactic(auto, unfolding(crate::specs::AppDetails::start_entries))]
-fn say_starts(entries: &mut Vec<Entry>, app: &App) -> Result<(), AllocError>
-    ensures { OnOk result (said_in entries.new ≡ said_in entries.old ++ start_entries app.now) }
+fn say_starts(entries: &mut Vec<Entry>, flat: bool, app: &App) -> Result<(), AllocError>
+    ensures { OnOk result (said_in entries.new ≡ said_in entries.old ++ start_entries flat app.now) }
 {
     say_of(entries, "host-starts", app, Fact::LaneSet(app.host_starts))?;
+    if flat {
+        return Ok(());
+    }
     say_of(
         entries,
         "media-starts",
@@ -111,26 +120,8 @@ fn say_of(
     say(entries, name, Said::Fact(Place::App(app.number), fact))
 }
 
-// The table of a media type's media interfaces.
-fn media_table(media: u8) -> Option<Table>
-    ensures { result ≡ spec.media_table media }
+fn medium(media: u8, code: u8) -> Fact
+    ensures { fact_of result ≡ spec.medium media code }
 {
-    match media {
-        1 => Some(Table::MultiModeMedia),
-        2 => Some(Table::SingleModeMedia),
-        3 => Some(Table::PassiveCopper),
-        4 => Some(Table::ActiveCables),
-        5 => Some(Table::BaseTMedia),
-        _ => None,
-    }
-}
-
-#[tactic(auto, unfolding(crate::specs::AppDetails::named_by))]
-fn named_by(table: Option<Table>, code: u8) -> Fact
-    ensures { fact_of result ≡ spec.named_by table code }
-{
-    match table {
-        None => Fact::Named(code, Name::Unlisted.text()),
-        Some(table) => named(table, code),
-    }
+    Fact::Named(code, media_interface_name(media, code).text())
 }

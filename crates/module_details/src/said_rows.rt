@@ -10,7 +10,7 @@ ghost use Rattle.module_details.specs.RowTables.{item_in, row_in, rows_in};
 
 use crate::facts::fact_at;
 use crate::item::{Case, Item, Line, Values};
-use field_tables::{bit_at, number_at};
+use field_tables::{Field, bit_at, number, number_at};
 use paged_memory::Image;
 use report_entries::{Entry, Fact, Place, Said, say};
 use std::alloc::AllocError;
@@ -80,9 +80,46 @@ fn say_lanes(
 {
     for before in 0..count {
         let lane = before + 1;
-        say_fact(entries, name, Place::Lane(lane), fact_at(image, item, lane))?;
+        say_lane(entries, image, name, item, lane)?;
     }
     Ok(())
+}
+
+// Adds what is said of a lane, if the module has it.
+#[tactic(auto, unfolding(crate::specs::Details::lane_entries))]
+fn say_lane(
+    entries: &mut Vec<Entry>,
+    image: &Image,
+    name: &'static str,
+    item: &Item<&'static str>,
+    lane: u8,
+) -> Result<(), AllocError>
+    requires { IsTrue (item_fits (item_in item.now) lane) }
+    ensures { OnOk result (said_in entries.new
+        ≡ said_in entries.old ++ lane_entries image.now name.now (item_in item.now) lane) }
+{
+    if !has_lane(image, lane) {
+        return Ok(());
+    }
+    say_fact(entries, name, Place::Lane(lane), fact_at(image, item, lane))
+}
+
+fn has_lane(image: &Image, lane: u8) -> bool
+    ensures { result ≡ spec.has_lane image.now lane }
+{
+    lane <= most_lanes(number(image, Field::CIdentifier))
+}
+
+// How many lanes a module with this identifier has at most.
+fn most_lanes(identifier: u8) -> u8
+    ensures { result ≡ spec.most_lanes identifier }
+{
+    match identifier {
+        0x20 => 1,
+        0x1B | 0x1F => 2,
+        0x1E => 4,
+        _ => 8,
+    }
 }
 
 #[tactic(auto, unfolding(crate::specs::Details::fact_entries))]

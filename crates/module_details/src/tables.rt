@@ -32,6 +32,7 @@ macro_rules! is_paged {
 }
 
 macro_rules! case {
+    (Cmis3) => { Case::Within(Field::CRevision, 1, 0x30, 0x3F) };
     (LacksSince $field:ident $index:literal $since:ident $first:literal) => { Case::LacksSince(Field::$field, $index, Field::$since, $first) };
     ($kind:ident $field:ident $($number:literal)*) => { Case::$kind(Field::$field, $($number),*) };
 }

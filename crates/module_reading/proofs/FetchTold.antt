@@ -27,6 +27,7 @@ use Rattle.paged_memory.specs.KnownPages.{Tells, is_awaited, missing_page, selec
 use Rattle.paged_memory.specs.PageAddressing.{EachStep, History}
 use Rattle.paged_memory.proofs.KeyLaws.{keys_total}
 use Rattle.paged_memory.proofs.KnownPageLaws.{after_work, step_of, tells_next, tells_nothing}
+use Rattle.control_sets.specs.OutcomeAnswers.{most_steps}
 use Rattle.module_reading.specs.declared.reading.ReadingNext.TheVariants.{Do, Complete, GiveUp}
 use Rattle.module_reading.specs.declared.reading.Reading.{Reading}
 use Rattle.module_reading.specs.declared.region.Region.{Region}
@@ -101,7 +102,7 @@ all_untouched addressing history (region ∷ regions) all others = (untouched_ye
 
 -- ---- the lower half is read
 
-module _ (reading : Reading) (history : History) (begins : IsBeginning reading history) (more : reading.steps < 4096) where
+module _ (reading : Reading) (history : History) (begins : IsBeginning reading history) (more : reading.steps < most_steps) where
   refused : IsAt (reader.counted reading) (step_of (Fetch A0 0 128) Refused ∷ history)
   refused = inl (record {
     image = begins.image;
@@ -215,7 +216,7 @@ same_some : (region other : Region) → Some region ≡ Some other → region �
 same_some region other e = cc
 
 -- with a half in hand
-told_for : (reading : Reading) (history : History) (region : Region) (reply : Reply) → IsAt reading history → reader.in_hand reading ≡ Some region → reading.steps < 4096 → Answers (reader.wanted_for reading region) reply →
+told_for : (reading : Reading) (history : History) (region : Region) (reply : Reply) → IsAt reading history → reader.in_hand reading ≡ Some region → reading.steps < most_steps → Answers (reader.wanted_for reading region) reply →
     IsAt (reader.after_for (reader.counted reading) region reply) (step_of (reader.wanted_for reading region) reply ∷ history)
 told_for reading history region reply (inl begins) hand more =
     let is = same_some (Lower A0) region (sym (begin_hand reading history begins) ∙ hand) in
@@ -227,8 +228,8 @@ told_for reading history region reply (inr (inl (earlier, first, later, way))) h
     (turn earlier first later reading history way more reply)
 told_for reading history region reply (inr (inr done)) hand more = absurd (some_not_none (sym hand ∙ done_hand reading history done))
 
-pub asks_for : (reading : Reading) (region : Region) (op : Op) (few : Bool) → nat_lt reading.steps 4096 ≡ few → (if few then Do (reader.wanted_for reading region) else GiveUp) ≡ Do op →
-    (reading.steps < 4096) × (op ≡ reader.wanted_for reading region)
+pub asks_for : (reading : Reading) (region : Region) (op : Op) (few : Bool) → nat_lt reading.steps most_steps ≡ few → (if few then Do (reader.wanted_for reading region) else GiveUp) ≡ Do op →
+    (reading.steps < most_steps) × (op ≡ reader.wanted_for reading region)
 asks_for reading region op true e asks = (ltb-true _ _ e, (let same = asks in cc))
 asks_for reading region op false e asks = absurd (let same = asks in cc)
 
@@ -236,7 +237,7 @@ told_by : (reading : Reading) (history : History) (op : Op) (reply : Reply) → 
     IsAt (reader.after_in found reading reply) (step_of op reply ∷ history)
 told_by reading history op reply at None hand asks answers = absurd (let same = asks in cc)
 told_by reading history op reply at (Some region) hand asks answers =
-    let parts = asks_for reading region op (nat_lt reading.steps 4096) refl asks in
+    let parts = asks_for reading region op (nat_lt reading.steps most_steps) refl asks in
     subst (λ (op : Op). IsAt (reader.after_for (reader.counted reading) region reply) (step_of op reply ∷ history)) (sym parts.1)
     (told_for reading history region reply at hand parts.0 (subst (λ (op : Op). Answers op reply) parts.1 answers))
 
@@ -259,7 +260,7 @@ done_at reading history (inr (inr done)) none = done
 -- what it keeps of the steps
 pub record Counts (reading : Reading) (history : History) : Type 0 where
   pub count : length history ≡ reading.steps
-  pub few : reading.steps ≤ 4096
+  pub few : reading.steps ≤ most_steps
   pub brief : EachStep (λ step before. IsUnfinished before) history
   pub room : map.len reading.image ≤ reading.settled
 
@@ -289,7 +290,7 @@ is_reading reading history at = let kept = counts reading history at in record {
 
 complete_by : (reading : Reading) (history : History) → IsAt reading history → (found : Option Region) → reader.in_hand reading ≡ found → reader.next_for reading found ≡ Complete → IsImageOf history reading.image
 complete_by reading history at None none asks = done_gives reading history (done_at reading history at none)
-complete_by reading history at (Some region) hand asks = absurd (by (nat_lt reading.steps 4096) asks) where
+complete_by reading history at (Some region) hand asks = absurd (by (nat_lt reading.steps most_steps) asks) where
   by : (few : Bool) → (if few then Do (reader.wanted_for reading region) else GiveUp) ≡ Complete → ⊥
   by true e = cc
   by false e = cc
@@ -297,29 +298,29 @@ complete_by reading history at (Some region) hand asks = absurd (by (nat_lt read
 pub complete : (reading : Reading) (history : History) → IsAt reading history → reader.next reading ≡ Complete → IsImageOf history reading.image
 complete reading history at asks = complete_by reading history at (reader.in_hand reading) refl asks
 
-all_made : (reading : Reading) (region : Region) (few : Bool) → nat_lt reading.steps 4096 ≡ few → (if few then Do (reader.wanted_for reading region) else GiveUp) ≡ GiveUp → 4096 ≤ reading.steps
+all_made : (reading : Reading) (region : Region) (few : Bool) → nat_lt reading.steps most_steps ≡ few → (if few then Do (reader.wanted_for reading region) else GiveUp) ≡ GiveUp → most_steps ≤ reading.steps
 all_made reading region true e asks = absurd (let same = asks in cc)
-all_made reading region false e asks = ltb-false reading.steps 4096 e
+all_made reading region false e asks = ltb-false reading.steps most_steps e
 
 gives_up_by : (reading : Reading) (history : History) → IsAt reading history → (found : Option Region) → reader.in_hand reading ≡ found → reader.next_for reading found ≡ GiveUp → IsGivenUp history
 gives_up_by reading history at None hand asks = absurd (let same = asks in cc)
 gives_up_by reading history at (Some region) hand asks =
     let kept = counts reading history at in
-    let all = all_made reading region (nat_lt reading.steps 4096) refl asks in
+    let all = all_made reading region (nat_lt reading.steps most_steps) refl asks in
     (omega (arith, kept.count, kept.few, all), unfinished_at reading history region at hand)
 
 pub gives_up : (reading : Reading) (history : History) → IsAt reading history → reader.next reading ≡ GiveUp → IsGivenUp history
 gives_up reading history at asks = gives_up_by reading history at (reader.in_hand reading) refl asks
 
-asking_by : (reading : Reading) (history : History) (op : Op) → IsAt reading history → (found : Option Region) → reader.in_hand reading ≡ found → reader.next_for reading found ≡ Do op → (length history < 4096) × IsUnfinished history
+asking_by : (reading : Reading) (history : History) (op : Op) → IsAt reading history → (found : Option Region) → reader.in_hand reading ≡ found → reader.next_for reading found ≡ Do op → (length history < most_steps) × IsUnfinished history
 asking_by reading history op at None hand asks = absurd (let same = asks in cc)
 asking_by reading history op at (Some region) hand asks =
     let kept = counts reading history at in
-    let parts = asks_for reading region op (nat_lt reading.steps 4096) refl asks in
+    let parts = asks_for reading region op (nat_lt reading.steps most_steps) refl asks in
     (omega (arith, kept.count, parts.0), unfinished_at reading history region at hand)
 
 -- as long as an operation is asked for
-pub asking : (reading : Reading) (history : History) (op : Op) → IsAt reading history → reader.next reading ≡ Do op → (length history < 4096) × IsUnfinished history
+pub asking : (reading : Reading) (history : History) (op : Op) → IsAt reading history → reader.next reading ≡ Do op → (length history < most_steps) × IsUnfinished history
 asking reading history op at asks = asking_by reading history op at (reader.in_hand reading) refl asks
 
 fewer_by : (reading : Reading) (region : Region) (reply : Reply) (awaited missing : Bool) →
@@ -332,14 +333,14 @@ fewer_by reading region (Bytes bytes) false false = refl
 fewer_by reading region Done false false = refl
 fewer_by reading region Refused false false = refl
 
-fewer_in : (reading : Reading) (op : Op) (reply : Reply) (found : Option Region) → reader.next_for reading found ≡ Do op → 4096 - (reader.after_in found reading reply).steps < 4096 - reading.steps
+fewer_in : (reading : Reading) (op : Op) (reply : Reply) (found : Option Region) → reader.next_for reading found ≡ Do op → most_steps - (reader.after_in found reading reply).steps < most_steps - reading.steps
 fewer_in reading op reply None asks = absurd (let same = asks in cc)
 fewer_in reading op reply (Some region) asks =
-    let parts = asks_for reading region op (nat_lt reading.steps 4096) refl asks in
+    let parts = asks_for reading region op (nat_lt reading.steps most_steps) refl asks in
     omega (arith, parts.0, fewer_by reading region reply (is_awaited reading.selected) (is_some (missing_page reading.selected (page_of region))))
 
 -- fewer steps are left
-pub fewer : (reading : Reading) (op : Op) (reply : Reply) → reader.next reading ≡ Do op → 4096 - (reader.after reading reply).steps < 4096 - reading.steps
+pub fewer : (reading : Reading) (op : Op) (reply : Reply) → reader.next reading ≡ Do op → most_steps - (reader.after reading reply).steps < most_steps - reading.steps
 fewer reading op reply asks = fewer_in reading op reply (reader.in_hand reading) asks
 
 -- there is room for one half more

@@ -15,6 +15,7 @@ use Rattle.bus_model.specs.declared.operation.Reply.TheVariants.{Bytes, Done, Re
 use Rattle.bus_model.specs.declared.operation.Step.{Step}
 use Rattle.bus_model.specs.Operations.{Answers}
 use Rattle.bus_model.specs.SameOperation.{same_op}
+use Rattle.control_sets.specs.OutcomeAnswers.{most_steps}
 use Rattle.control_sets.specs.OutcomeSteps.{Gives}
 use Rattle.paged_memory.specs.declared.key.Key.{Key}
 use Rattle.paged_memory.specs.declared.page_addressing.PageAddressing.{PageAddressing}
@@ -111,7 +112,7 @@ goes_on earlier (hand ∷ later) reading history has untouched closed = inr (inl
   },
 ))
 
-module _ (earlier : List Region) (hand : Region) (later : List Region) (reading : Reading) (history : History) (way : IsUnderWay earlier hand later reading history) (more : reading.steps < 4096) where
+module _ (earlier : List Region) (hand : Region) (later : List Region) (reading : Reading) (history : History) (way : IsUnderWay earlier hand later reading history) (more : reading.steps < most_steps) where
   abbrev addressing : PageAddressing
   addressing = addressing_of reading.image
 

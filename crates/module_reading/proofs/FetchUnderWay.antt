@@ -15,6 +15,7 @@ use Rattle.paged_memory.specs.Images.{Memory}
 use Rattle.paged_memory.specs.Keys.{lower_key}
 use Rattle.paged_memory.specs.KnownPages.{Tells, is_awaited}
 use Rattle.paged_memory.specs.PageAddressing.{EachStep, History}
+use Rattle.control_sets.specs.OutcomeAnswers.{most_steps}
 use Rattle.module_reading.specs.declared.reading.Reading.{Reading}
 use Rattle.module_reading.specs.declared.region.Region.{Region}
 use Rattle.module_reading.specs.declared.region.Region.TheVariants.{Lower, FirstPage, Page}
@@ -42,7 +43,7 @@ pub record HasSettled (earlier later : List Region) (reading : Reading) (history
   pub lower_first : earlier ≡ Lower A0 ∷ drop 1 earlier
   pub place : reading.settled ≡ length earlier
   pub count : length history ≡ reading.steps
-  pub few : reading.steps ≤ 4096
+  pub few : reading.steps ≤ most_steps
   pub room : map.len reading.image ≤ length earlier
   pub told : Tells (addressing_of reading.image) reading.selected history
   pub brief : EachStep (λ step before. IsUnfinished before) history
@@ -66,7 +67,7 @@ pub record IsBeginning (reading : Reading) (history : History) : Type 0 where
   pub place : reading.settled ≡ 0
   pub selected : reading.selected ≡ Unknown
   pub count : length history ≡ reading.steps
-  pub few : reading.steps ≤ 4096
+  pub few : reading.steps ≤ most_steps
   pub brief : EachStep (λ step before. IsUnfinished before) history
   pub refused : AllByRecursion IsRefusal history
 

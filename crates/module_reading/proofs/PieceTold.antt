@@ -15,6 +15,7 @@ use Rattle.paged_memory.specs.declared.page_addressing.PageAddressing.{PageAddre
 use Rattle.paged_memory.specs.declared.page_addressing.PageAddressing.TheVariants.{BankAndPage, PageAlone}
 use Rattle.paged_memory.specs.KnownPages.{is_awaited, missing_page, selecting_first}
 use Rattle.paged_memory.specs.PageAddressing.{History, read_selection}
+use Rattle.control_sets.specs.OutcomeAnswers.{most_steps}
 use Rattle.module_reading.specs.declared.pieces.PieceReading.{PieceReading}
 use Rattle.module_reading.specs.declared.reading.ReadingNext.{ReadingNext}
 use Rattle.module_reading.specs.declared.reading.ReadingNext.TheVariants.{Do, Complete, GiveUp}
@@ -47,7 +48,7 @@ refused_by reading region false (Some page) e = absurd (no_selection (addressing
 asked_by : (reading : Reading) (op : Op) (found : Option Region) → whole.in_hand reading ≡ found → whole.next_for reading found ≡ Do op → piece.is_half op ≡ true → whole.after_in found reading Refused ≡ whole.counted reading
 asked_by reading op None hand asks half = absurd (let same = asks in cc)
 asked_by reading op (Some region) hand asks half =
-    let parts = asks_for reading region op (nat_lt reading.steps 4096) refl asks in
+    let parts = asks_for reading region op (nat_lt reading.steps most_steps) refl asks in
     refused_by reading region (is_awaited reading.selected) (missing_page reading.selected (page_of region)) (ap piece.is_half (sym parts.1) ∙ half)
 
 refused_counts : (reading : Reading) (op : Op) → whole.next reading ≡ Do op → piece.is_half op ≡ true → whole.after reading Refused ≡ whole.counted reading
@@ -56,8 +57,8 @@ refused_counts reading op asks half = asked_by reading op (whole.in_hand reading
 again_by : (reading : Reading) (op other : Op) (found : Option Region) → whole.next_for reading found ≡ Do op → whole.next_for (whole.counted reading) found ≡ Do other → other ≡ op
 again_by reading op other None asks later = absurd (let same = asks in cc)
 again_by reading op other (Some region) asks later =
-    let now = asks_for reading region op (nat_lt reading.steps 4096) refl asks in
-    let afterwards = asks_for (whole.counted reading) region other (nat_lt (reading.steps + 1) 4096) refl later in
+    let now = asks_for reading region op (nat_lt reading.steps most_steps) refl asks in
+    let afterwards = asks_for (whole.counted reading) region other (nat_lt (reading.steps + 1) most_steps) refl later in
     afterwards.1 ∙ sym now.1
 
 again : (reading : Reading) (op other : Op) → whole.next reading ≡ Do op → piece.is_half op ≡ true → whole.next (whole.after reading Refused) ≡ Do other → other ≡ op

@@ -14,7 +14,7 @@ use Rattle.paged_memory.specs.declared.family.Family.TheVariants.{Cmis, Sff8636,
 use Rattle.paged_memory.specs.declared.key.Half.TheVariants as half
 use Rattle.paged_memory.specs.declared.key.Key.{Key}
 use Rattle.paged_memory.specs.declared.page_addressing.PageAddressing.TheVariants.{BankAndPage}
-use Rattle.paged_memory.specs.Families.{family_by}
+use Rattle.paged_memory.specs.Families.{managed_by}
 use Rattle.paged_memory.specs.Images.{Memory}
 use Rattle.paged_memory.specs.KeyOrder.{key_cmp}
 use Rattle.paged_memory.specs.Keys.{lower_key}
@@ -95,7 +95,7 @@ choose false xs ys P p q = q
 
 -- what holds of each list of halves
 by_lists : (P : List Region → Type 0) → P flat_regions → P (cmis_regions false) → P (qsfp_regions false) → P (sfp_regions true) → P (sfp_regions false) → (memory : Memory) → P (regions_of memory)
-by_lists P flat cmis qsfp sfp other memory = by (family_by (identifier memory)) where
+by_lists P flat cmis qsfp sfp other memory = by (managed_by (identifier memory)) where
   by : (family : Option Family) → P (regions_in family memory)
   by (Some Cmis) = choose (is_flat memory) _ _ P flat cmis
   by (Some Sff8636) = choose (bit memory QFlatMemory) _ _ P flat qsfp
@@ -120,7 +120,7 @@ pub record AsksSame (memory other : Memory) : Type 0 where
   pub changed : number memory SAddressChange ≡ number other SAddressChange
 
 pub same_regions : (memory other : Memory) → AsksSame memory other → regions_of memory ≡ regions_of other
-same_regions memory other asks = ap (λ (id : ℕ). regions_in (family_by id) memory) asks.identifier ∙ same_in (family_by (identifier other)) where
+same_regions memory other asks = ap (λ (id : ℕ). regions_in (managed_by id) memory) asks.identifier ∙ same_in (managed_by (identifier other)) where
   same_in : (family : Option Family) → regions_in family memory ≡ regions_in family other
   same_in (Some Cmis) = λ i. cmis_regions (asks.flat i == 1)
   same_in (Some Sff8636) = λ i. qsfp_regions (asks.qsfp_flat i == 1)
@@ -128,7 +128,7 @@ same_regions memory other asks = ap (λ (id : ℕ). regions_in (family_by id) me
   same_in None = refl
 
 pub same_paging : (memory other : Memory) → AsksSame memory other → addressing_of memory ≡ addressing_of other
-same_paging memory other asks = ap (λ (id : ℕ). addressing_in (family_by id)) asks.identifier
+same_paging memory other asks = ap (λ (id : ℕ). addressing_in (managed_by id)) asks.identifier
 
 same_number : (memory other : Memory) (field : Field) → map.get memory (field_key field) ≡ map.get other (field_key field) → number memory field ≡ number other field
 unfolding reading_at
@@ -149,12 +149,12 @@ unfolding reading_at
 number_of_nothing field =
     ap (λ (half : Option (List ℕ)). unsigned_abs (unwrap_or (option_map (λ bytes. value_in bytes field 1) half) (pos 0))) (map.get-empty key_cmp (field_key field))
 
-no_family : family_by 0 ≡ None
-unfolding family_by
+no_family : managed_by 0 ≡ None
+unfolding managed_by
 no_family = refl
 
-family_of_nothing : family_by (identifier map.empty) ≡ None
-family_of_nothing = ap family_by (number_of_nothing CIdentifier) ∙ no_family
+family_of_nothing : managed_by (identifier map.empty) ≡ None
+family_of_nothing = ap managed_by (number_of_nothing CIdentifier) ∙ no_family
 
 pub asked_of_nothing : regions_of map.empty ≡ Lower A0 ∷ []
 asked_of_nothing = ap (λ (family : Option Family). regions_in family map.empty) family_of_nothing

@@ -10,7 +10,7 @@ use Rattle.paged_memory.specs.declared.family.Family.TheVariants.{Cmis, Sff8636,
 use Rattle.paged_memory.specs.declared.key.Key.{Key}
 use Rattle.paged_memory.specs.declared.page_addressing.PageAddressing.{PageAddressing}
 use Rattle.paged_memory.specs.declared.page_addressing.PageAddressing.TheVariants.{BankAndPage, PageAlone}
-use Rattle.paged_memory.specs.Families.{family_by}
+use Rattle.paged_memory.specs.Families.{managed_by}
 use Rattle.paged_memory.specs.Images.{Memory}
 use Rattle.paged_memory.specs.Keys.{lower_key, upper_key}
 use Rattle.field_tables.specs.declared.field.Field.TheVariants.{CFlatMemory, CIdentifier, QFlatMemory, SAddressChange, SDiagPresent}
@@ -73,7 +73,7 @@ regions_in None memory = Lower A0 ∷ []
 
 -- of a module whose lower half of A0 is in memory; that half alone if it isn't, or if its identifier is none that is read
 abbrev pub regions_of : Memory → List Region
-regions_of memory = regions_in (family_by (identifier memory)) memory
+regions_of memory = regions_in (managed_by (identifier memory)) memory
 
 -- how the pages of a module of this family are selected
 abbrev pub addressing_in : Option Family → PageAddressing
@@ -83,4 +83,4 @@ addressing_in (Some Sff8472) = BankAndPage
 addressing_in None = BankAndPage
 
 abbrev pub addressing_of : Memory → PageAddressing
-addressing_of memory = addressing_in (family_by (identifier memory))
+addressing_of memory = addressing_in (managed_by (identifier memory))

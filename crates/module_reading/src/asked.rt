@@ -12,7 +12,7 @@ const LOWER: Region = Region::Lower(Dev::A0);
 pub fn region(image: &Image, index: usize) -> Option<Region>
     ensures { result ≡ slice_get (spec.regions_of image.now) index }
 {
-    match Family::of(number(image, Field::CIdentifier)) {
+    match Family::managing(number(image, Field::CIdentifier)) {
         Some(Family::Cmis) => cmis_region(number(image, Field::CFlatMemory) == 1, index),
         Some(Family::Sff8636) => qsfp_region(bit(image, Field::QFlatMemory), index),
         Some(Family::Sff8472) => sfp_region(has_diagnostics(image), index),
@@ -75,7 +75,7 @@ fn has_diagnostics(image: &Image) -> bool
 pub fn addressing(image: &Image) -> PageAddressing
     ensures { result ≡ spec.addressing_of image.now }
 {
-    match Family::of(number(image, Field::CIdentifier)) {
+    match Family::managing(number(image, Field::CIdentifier)) {
         Some(Family::Sff8636) => PageAddressing::PageAlone,
         Some(Family::Cmis | Family::Sff8472) | None => PageAddressing::BankAndPage,
     }

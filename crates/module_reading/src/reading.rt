@@ -1,7 +1,7 @@
 // A module's memory while it is read: which operation comes next, and what a reply makes of it.
 ghost use Rattle.std.specs.Prelude.{◌≡◌, ◌<◌, length};
 ghost use Rattle.std.specs.FinMap as map;
-ghost use Rattle.bus_model.specs.Operations.{Answers, IsWellShaped};
+ghost use Rattle.bus_model.specs.Operations.{IsWellShaped};
 ghost use Rattle.paged_memory.specs.declared.image.TheConstants.{MAX_PAGES};
 ghost use Rattle.module_reading.specs.ImageReading as spec;
 

@@ -1,5 +1,6 @@
 -- What the library for C tells by numbers. (include/dovecounter.h; docs/faults.md, "Sentences"; this project's own)
-use Rattle.std.specs.Prelude.{ℕ, ◌==◌, if◌then◌else◌, List, [], ◌∷◌, length, Option, Some, find, option_map, option_and_then, codes}
+use Rattle.std.specs.Prelude.{ℕ, ◌==◌, Bool, if◌then◌else◌, is_some, List, [], ◌∷◌, length, Option, Some, find, option_map, option_and_then, codes}
+use Rattle.std.specs.List.{list_all}
 use Rattle.notices.specs.declared.numbers.Numbered.{Numbered}
 use Rattle.notices.specs.Sentences.{row_by_code}
 
@@ -83,6 +84,7 @@ reasons =
     ∷ stands_for 7 (codes "VR7")
     ∷ stands_for 8 (codes "VR8")
     ∷ stands_for 9 (codes "VR9")
+    ∷ stands_for 10 (codes "VR10")
     ∷ []
 
 -- the sentence of the fault, or the row's own text
@@ -92,3 +94,7 @@ said_of row = if length row.code == 0 then Some row.text else option_map (λ sen
 -- the text of a number
 abbrev pub text_by : List Says → ℕ → Option (List ℕ)
 text_by rows number = option_and_then said_of (find (λ row. row.number == number) rows)
+
+-- each has a text
+abbrev pub are_all_said : List Says → Bool
+are_all_said rows = list_all (λ row. is_some (said_of row)) rows

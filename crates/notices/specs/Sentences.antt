@@ -64,6 +64,7 @@ sentences =
     ∷ record { code = codes "VR7"; text = codes "the potential of the state without decided and used lanes is not the weight, so the certificate does not show that this plan is best" }
     ∷ record { code = codes "VR8"; text = codes "the kept path is not allowed on this module, or shares a lane with an earlier kept one: compare it with what 'apps' prints" }
     ∷ record { code = codes "VR9"; text = codes "the kept path is not in the plan: add a line 'path' with the same three numbers, or have a certificate made that does not keep it" }
+    ∷ record { code = codes "VR10"; text = codes "the certificate is for a module that pairs first lanes and is judged for one that does not, or the other way round: say 'paired' when it is made and when it is judged, or neither time" }
     ∷ record { code = codes "KP1"; text = codes "the line is no 'keep APP HOST MEDIA': write single spaces and three decimal numbers up to 255 without leading zeros" }
     ∷ record { code = codes "KP2"; text = codes "a ninth kept path stands there, and eight lanes have at most eight" }
     ∷ record { code = codes "KP3"; text = codes "the path is not allowed on this module, or shares a lane with an earlier one: compare it with what 'apps' prints" }

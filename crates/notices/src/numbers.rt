@@ -1,7 +1,7 @@
 //! What the library for C tells by numbers: its statuses, the faults of procedures and the reasons against certificates.
 ghost use Rattle.std.specs.Prelude.{◌≡◌, ◌==◌, List, ℕ, map, find, option_map, option_copied};
 ghost use Rattle.std.specs.Borrow.{Bor};
-ghost use Rattle.notices.specs.Numbers.{Says, numbered_of, procedure_faults, reasons, said_of, statuses, text_by};
+ghost use Rattle.notices.specs.Numbers.{numbered_of, procedure_faults, reasons, said_of, statuses, text_by};
 
 use crate::table::sentence_by_code;
 
@@ -97,6 +97,7 @@ pub fn reasons() -> &'static [Numbered]
         7 "VR7" "";
         8 "VR8" "";
         9 "VR9" "";
+        10 "VR10" "";
     }
 }
 

@@ -73,6 +73,7 @@ pub fn sentences() -> &'static [Sentence]
         "VR7" "the potential of the state without decided and used lanes is not the weight, so the certificate does not show that this plan is best";
         "VR8" "the kept path is not allowed on this module, or shares a lane with an earlier kept one: compare it with what 'apps' prints";
         "VR9" "the kept path is not in the plan: add a line 'path' with the same three numbers, or have a certificate made that does not keep it";
+        "VR10" "the certificate is for a module that pairs first lanes and is judged for one that does not, or the other way round: say 'paired' when it is made and when it is judged, or neither time";
         "KP1" "the line is no 'keep APP HOST MEDIA': write single spaces and three decimal numbers up to 255 without leading zeros";
         "KP2" "a ninth kept path stands there, and eight lanes have at most eight";
         "KP3" "the path is not allowed on this module, or shares a lane with an earlier one: compare it with what 'apps' prints";

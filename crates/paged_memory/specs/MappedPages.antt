@@ -10,7 +10,7 @@ use Rattle.paged_memory.specs.declared.key.Key.{Key}
 use Rattle.paged_memory.specs.declared.mapped_page.MappedPage.{MappedPage}
 use Rattle.paged_memory.specs.declared.page_addressing.PageAddressing.{PageAddressing}
 use Rattle.paged_memory.specs.declared.page_addressing.PageAddressing.TheVariants.{BankAndPage, PageAlone}
-use Rattle.paged_memory.specs.Families.{family_by}
+use Rattle.paged_memory.specs.Families.{managed_by}
 use Rattle.paged_memory.specs.Keys.{lower_key, upper_key}
 use Rattle.paged_memory.specs.Images.{Memory, byte_at}
 
@@ -22,7 +22,7 @@ selecting_in (Some Sff8472) = None
 selecting_in None = Some BankAndPage
 
 abbrev pub selecting_by : ℕ → Option PageAddressing
-selecting_by identifier = selecting_in (family_by identifier)
+selecting_by identifier = selecting_in (managed_by identifier)
 
 -- on a device of a module, whose identifier is byte 0 of its lower half
 abbrev pub selecting_on : Memory → Dev → Option PageAddressing

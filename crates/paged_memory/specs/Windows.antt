@@ -1,6 +1,6 @@
 -- A module whose memory never changes: an image, of which a selection says what is shown. (docs/bus.md, "Page selection";
 -- this project's own)
-use Rattle.std.specs.Prelude.{Some, ℕ, Bool, true, false, List, map, Option, unwrap_or, option_map, is_some, if◌then◌else◌, slice_index, IsTrue, ◌≡◌}
+use Rattle.std.specs.Prelude.{ℕ, Bool, true, false, List, map, Option, unwrap_or, option_map, is_some, if◌then◌else◌, slice_index, IsTrue, ◌≡◌}
 use Rattle.std.specs.List.{range_with_len}
 use Rattle.std.specs.FinMap as finmap
 use Rattle.bus_model.specs.declared.device.Dev.{Dev}

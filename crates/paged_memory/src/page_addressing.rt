@@ -36,7 +36,7 @@ impl PageAddressing {
     fn by(identifier: u8) -> Option<PageAddressing>
         ensures { result ≡ selecting_by identifier }
     {
-        match Family::of(identifier) {
+        match Family::managing(identifier) {
             Some(Family::Cmis) | None => Some(PageAddressing::BankAndPage),
             Some(Family::Sff8636) => Some(PageAddressing::PageAlone),
             Some(Family::Sff8472) => None,

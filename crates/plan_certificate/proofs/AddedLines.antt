@@ -1,5 +1,5 @@
 -- One more path or state in what has been read of a certificate's text.
-use Rattle.std.proofs.Common.{◌≡◌, ◌≢◌, ◌≤◌, ◌<◌, ◌-◌, ℕ, zero, suc, List, [], ◌∷◌, ◌++◌, length, get_or, map, refl, sym, ap, subst, ◌∙◌, inl, inr, append_assoc, arith}
+use Rattle.std.proofs.Common.{◌≡◌, ◌≢◌, ◌≤◌, ◌<◌, ◌-◌, ℕ, zero, suc, Bool, List, [], ◌∷◌, ◌++◌, length, get_or, map, refl, sym, ap, subst, ◌∙◌, inl, inr, append_assoc, arith}
 use Rattle.std.specs.List.{All, AllPairs, AllByRecursion}
 use Rattle.std.proofs.lemmas.List.{append-nil, length-append, map-append, get_or_append_left}
 use Rattle.std.proofs.lemmas.List.Quantifiers.{all_pairs_push}
@@ -20,17 +20,17 @@ use Rattle.plan_certificate.proofs.NextLines.{Next, behind_weight}
 use Rattle.plan_certificate.proofs.Drafts.{begins_so_far, line_in}
 
 abbrev pub with_keep : Claim → Path → Claim
-with_keep certificate path = record { weight = certificate.weight; kept = certificate.kept ++ path ∷ []; paths = certificate.paths; entries = certificate.entries }
+with_keep certificate path = record { paired = certificate.paired; weight = certificate.weight; kept = certificate.kept ++ path ∷ []; paths = certificate.paths; entries = certificate.entries }
 
 abbrev pub with_path : Claim → Path → Claim
-with_path certificate path = record { weight = certificate.weight; kept = certificate.kept; paths = certificate.paths ++ path ∷ []; entries = certificate.entries }
+with_path certificate path = record { paired = certificate.paired; weight = certificate.weight; kept = certificate.kept; paths = certificate.paths ++ path ∷ []; entries = certificate.entries }
 
 abbrev pub with_state : Claim → Entry → Claim
-with_state certificate entry = record { weight = certificate.weight; kept = certificate.kept; paths = certificate.paths; entries = certificate.entries ++ entry ∷ [] }
+with_state certificate entry = record { paired = certificate.paired; weight = certificate.weight; kept = certificate.kept; paths = certificate.paths; entries = certificate.entries ++ entry ∷ [] }
 
 -- the header and the weight, and then these lines
 abbrev behind_head : Claim → List Line → List Line
-behind_head certificate lines = header_of certificate.kept ∷ Weight certificate.weight ∷ lines
+behind_head certificate lines = header_of certificate.paired certificate.kept ∷ Weight certificate.weight ∷ lines
 
 path_lines : (certificate : Claim) (path : Path) → certificate.entries ≡ [] → lines_before_end (with_path certificate path) ≡ lines_before_end certificate ++ PathLine path ∷ []
 path_lines certificate path none =
@@ -54,20 +54,20 @@ pub kept_lines : (certificate : Claim) → certificate.paths ≡ [] → certific
 kept_lines certificate no_paths no_entries =
     rw (no_paths, no_entries) (ap (behind_head certificate) (append-nil (map KeepLine certificate.kept ++ []) ∙ append-nil (map KeepLine certificate.kept)))
 
-pub some_header : (kept : List Path) → kept ≢ [] → header_of kept ≡ KeptHeader
-some_header [] some = absurd (some refl)
-some_header (path ∷ kept) some = refl
+pub some_header : (paired : Bool) (kept : List Path) → kept ≢ [] → header_of paired kept ≡ KeptHeader paired
+some_header paired [] some = absurd (some refl)
+some_header paired (path ∷ kept) some = refl
 
-pub longer_header : (kept : List Path) (path : Path) → header_of (kept ++ path ∷ []) ≡ KeptHeader
-longer_header [] path = refl
-longer_header (first ∷ kept) path = refl
+pub longer_header : (paired : Bool) (kept : List Path) (path : Path) → header_of paired (kept ++ path ∷ []) ≡ KeptHeader paired
+longer_header paired [] path = refl
+longer_header paired (first ∷ kept) path = refl
 
 -- a kept path more
 pub keep_lines : (certificate : Claim) (path : Path) → certificate.paths ≡ [] → certificate.entries ≡ []
-    → lines_before_end (with_keep certificate path) ≡ (KeptHeader ∷ Weight certificate.weight ∷ map KeepLine certificate.kept) ++ KeepLine path ∷ []
+    → lines_before_end (with_keep certificate path) ≡ (KeptHeader certificate.paired ∷ Weight certificate.weight ∷ map KeepLine certificate.kept) ++ KeepLine path ∷ []
 keep_lines certificate path no_paths no_entries =
     kept_lines (with_keep certificate path) no_paths no_entries
-    ∙ (λ i. longer_header certificate.kept path i ∷ Weight certificate.weight ∷ map-append KeepLine certificate.kept (path ∷ []) i)
+    ∙ (λ i. longer_header certificate.paired certificate.kept path i ∷ Weight certificate.weight ∷ map-append KeepLine certificate.kept (path ∷ []) i)
 
 put_between : {A : Type 0} (P : A → Type 0) (xs ys : List A) (y : A) → P y → AllByRecursion P (xs ++ ys) → AllByRecursion P ((xs ++ y ∷ []) ++ ys)
 put_between P [] ys y p h = (p, h)
@@ -155,15 +155,15 @@ module _ (states : ℕ) (certificate : Claim) (path : Path) (fits : IsPathInRang
   ranges_keep ranges =
       let old = subst (λ l. AllByRecursion IsLineInRange (l ++ End ∷ [])) (kept_lines certificate no_paths no_entries) ranges in
       subst (λ l. AllByRecursion IsLineInRange (l ++ End ∷ [])) (sym (kept_lines (with_keep certificate path) no_paths no_entries))
-      (header_in_range (certificate.kept ++ path ∷ []), (old.1.0, keep_in_range certificate.kept path fits old.1.1))
+      (header_in_range certificate.paired (certificate.kept ++ path ∷ []), (old.1.0, keep_in_range certificate.kept path fits old.1.1))
 
   ordered_keep : IsInRangeAndOrder certificate → IsInRangeAndOrder (with_keep certificate path)
   ordered_keep ordered = record { in_range = ranges_keep ordered.in_range; states = ordered.states }
 
   pub ninth_kept : certificate.kept ≢ [] → IsInRangeAndOrder certificate → length certificate.kept ≡ 8 → GoesOn IsInRangeAndOrder certificate (KeepLine path) × ¬ (GoesOn (IsReadable states) certificate (KeepLine path))
   ninth_kept some ordered full =
-      let same : lines_before_end certificate ≡ KeptHeader ∷ Weight certificate.weight ∷ map KeepLine certificate.kept =
-      kept_lines certificate no_paths no_entries ∙ ap (λ line. line ∷ Weight certificate.weight ∷ map KeepLine certificate.kept) (some_header certificate.kept some) in (
+      let same : lines_before_end certificate ≡ KeptHeader certificate.paired ∷ Weight certificate.weight ∷ map KeepLine certificate.kept =
+      kept_lines certificate no_paths no_entries ∙ ap (λ line. line ∷ Weight certificate.weight ∷ map KeepLine certificate.kept) (some_header certificate.paired certificate.kept some) in (
         begins_more IsInRangeAndOrder certificate (with_keep certificate path) (KeepLine path) (keep_lines certificate path no_paths no_entries ∙ ap (λ l. l ++ KeepLine path ∷ []) (sym same)) (ordered_keep ordered),
         λ goes.
             let next = found (IsReadable states) (λ other h. h.ordered.in_range) certificate (KeepLine path) ordered.in_range fits goes in
@@ -192,14 +192,14 @@ module _ (states : ℕ) (stage : Stage) (certificate : Claim) (path : Path) (may
   ]
 
   -- and these are the lines so far
-  lines_with_kept : lines_so_far stage certificate ≡ KeptHeader ∷ Weight certificate.weight ∷ map KeepLine certificate.kept
+  lines_with_kept : lines_so_far stage certificate ≡ KeptHeader certificate.paired ∷ Weight certificate.weight ∷ map KeepLine certificate.kept
   lines_with_kept = elim (may) [
     | inl first ↦
         let lists = subst (λ (s : Stage). IsAt s certificate) first draft.lists in
-        ap (λ (s : Stage). lines_so_far s certificate) first ∙ ap (λ (kept : List Path). KeptHeader ∷ Weight certificate.weight ∷ map KeepLine kept) (sym lists.kept)
+        ap (λ (s : Stage). lines_so_far s certificate) first ∙ ap (λ (kept : List Path). KeptHeader certificate.paired ∷ Weight certificate.weight ∷ map KeepLine kept) (sym lists.kept)
     | inr later ↦
         ap (λ (s : Stage). lines_so_far s certificate) later.0 ∙ kept_lines certificate later.1.paths later.1.entries
-        ∙ ap (λ line. line ∷ Weight certificate.weight ∷ map KeepLine certificate.kept) (some_header certificate.kept later.1.kept)
+        ∙ ap (λ line. line ∷ Weight certificate.weight ∷ map KeepLine certificate.kept) (some_header certificate.paired certificate.kept later.1.kept)
   ]
 
   pub keep_added : (new : Claim) → new ≡ with_keep certificate path → lines_before_end new ≡ lines_so_far stage certificate ++ KeepLine path ∷ []

@@ -33,9 +33,9 @@ rest_of Ended certificate = []
 -- a certificate whose text begins with the lines so far
 abbrev pub whole : Stage → Claim → Claim
 whole Start certificate = certificate
-whole Headed certificate = record { weight = certificate.weight; kept = []; paths = []; entries = [] }
-whole KeptHeaded certificate = record { weight = certificate.weight; kept = some_path ∷ []; paths = []; entries = [] }
-whole KeptWeighed certificate = record { weight = certificate.weight; kept = some_path ∷ []; paths = []; entries = [] }
+whole Headed certificate = record { paired = certificate.paired; weight = certificate.weight; kept = []; paths = []; entries = [] }
+whole KeptHeaded certificate = record { paired = certificate.paired; weight = certificate.weight; kept = some_path ∷ []; paths = []; entries = [] }
+whole KeptWeighed certificate = record { paired = certificate.paired; weight = certificate.weight; kept = some_path ∷ []; paths = []; entries = [] }
 whole Weighed certificate = certificate
 whole Ended certificate = certificate
 

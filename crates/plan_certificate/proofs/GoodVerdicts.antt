@@ -1,5 +1,6 @@
 -- Where a certificate has no flaw, it is good, and the other way round.
 use Rattle.std.proofs.Common.{◌≡◌, ◌↔◌, ◌==◌, ℕ, ◌+◌, ◌*◌, ◌<◌, Bool, true, false, not, List, [], ◌∷◌, ◌++◌, Option, Some, None, nat_lt, refl, sym, ap, ◌∙◌, arith}
+use Rattle.std.specs.Bool.{beq}
 use Rattle.std.specs.List.{All, AllByRecursion, Contains, find, enumerate_from}
 use Rattle.std.specs.Option.{is_none, option_map, unwrap_or}
 use Rattle.std.proofs.lemmas.List.Elements.{All-contains, All-contains_itself, All-from_recursion, recursion_from_All}
@@ -20,7 +21,7 @@ use Rattle.plan_certificate.specs.declared.verdict.Reason.TheVariants.{WeightWro
 use Rattle.plan_certificate.specs.Plans.{plan_weight}
 use Rattle.plan_certificate.specs.States.{start, state_place, decisions_from}
 use Rattle.plan_certificate.specs.Certificates.{Claim, HasStates, IsBound, IsCovered, IsGood, state_of, entry_place}
-use Rattle.plan_certificate.specs.Verdicts.{Flaws, PossibleFlaw, all_flaws, bound_flaws, entries_flaws, entry_flaws, flaw, judged, kept_flaws, missing_flaws, paths_flaws, plan_flaws, potential_of, decision_flaws, verdict}
+use Rattle.plan_certificate.specs.Verdicts.{Flaws, PossibleFlaw, all_flaws, bound_flaws, entries_flaws, entry_flaws, flaw, judged, kept_flaws, missing_flaws, pairing_flaw, paths_flaws, plan_flaws, potential_of, decision_flaws, verdict}
 use Rattle.plan_certificate.proofs.ByteLanes.{IsByte, lanes_of_byte, start_is_byte, each_end_is_byte}
 use Rattle.plan_certificate.proofs.Lists.{each_pair, found, map_each}
 use Rattle.plan_certificate.proofs.Lookups.{is_there, found_there}
@@ -172,6 +173,12 @@ bounded advert weights kept entries weight states =
           first.1 (ap is_none found, middle.1 (covered.1 is.closed, last.1 (ap (is_other weight) found ∙ ap not (eq-eqb weight weight refl), refl))),
     )
 
+like_each_other : (paired other : Bool) → (not (beq paired other) ≡ false) ↔ (paired ≡ other)
+like_each_other true true = (λ none. refl, λ same. refl)
+like_each_other true false = (λ none. absurd cc, λ same. absurd cc)
+like_each_other false true = (λ none. absurd cc, λ same. absurd cc)
+like_each_other false false = (λ none. refl, λ same. refl)
+
 pub no_flaw_is_good : (advert : Advertised) (weights : HostWeights) (c : Claim) → HasStates c.entries → NoFlaw (all_flaws advert weights c) ↔ IsGood advert weights c
 no_flaw_is_good advert weights c states =
     let right : ℕ = plan_weight advert weights c.paths in
@@ -179,6 +186,9 @@ no_flaw_is_good advert weights c states =
     let weighed : PossibleFlaw = (not (c.weight == right), flaw WeightWrong 0) in
     let missing = missing_flaws c.kept c.paths in
     let plan = plan_flaws advert c.paths in
+    let others = paths_flaws advert c.kept c.paths ++ weighed ∷ bounds in
+    let outer = flaw_first (pairing_flaw advert c.paired) others in
+    let is_like = like_each_other c.paired advert.paired in
     let all = neither_flaw (paths_flaws advert c.kept c.paths) (weighed ∷ bounds) in
     let zeroth = neither_flaw (kept_flaws advert c.kept) (plan ++ missing) in
     let first = neither_flaw plan missing in
@@ -188,12 +198,14 @@ no_flaw_is_good advert weights c states =
     let is_held = none_missing c.kept c.paths in
     let is_bounded = bounded advert weights c.kept c.entries c.weight states in (
       λ none.
-          let whole = all.0 none in
+          let like = outer.0 none in
+          let whole = all.0 like.1 in
           let begins = zeroth.0 whole.0 in
           let parts = first.0 begins.1 in
           let rest = second.0 whole.1 in
           let bound = is_bounded.0 rest.1 in
           record {
+            paired = is_like.0 like.0;
             kept = is_kept.0 begins.0;
             admissible = is_plan.0 parts.0;
             keeps = is_held.0 parts.1;
@@ -203,7 +215,8 @@ no_flaw_is_good advert weights c states =
           },
       λ good.
           let weighs = second.1 (ap not (eq-eqb c.weight right good.weighs), is_bounded.1 (record { closed = good.closed; begun = good.begun })) in
-          all.1 (zeroth.1 (is_kept.1 good.kept, first.1 (is_plan.1 good.admissible, is_held.1 good.keeps)), weighs),
+          let whole = all.1 (zeroth.1 (is_kept.1 good.kept, first.1 (is_plan.1 good.admissible, is_held.1 good.keeps)), weighs) in
+          outer.1 (is_like.1 good.paired, whole),
     )
 
 judged_good : (found : Option Flaw) → (judged found ≡ Good) ↔ (found ≡ None)

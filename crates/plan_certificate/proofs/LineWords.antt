@@ -1,5 +1,5 @@
 -- Lines of a certificate's text and their words.
-use Rattle.std.proofs.Common.{◌≡◌, ◌≢◌, ℕ, zero, suc, ◌<◌, ◌≤◌, ◌^◌, Bool, true, not, eqb, cond, List, [], ◌∷◌, length, get_or, Option, Some, None, Result, Ok, Err, MatchOption, codes, refl, sym, ap, ◌∙◌, arith}
+use Rattle.std.proofs.Common.{◌≡◌, ◌≢◌, ℕ, zero, suc, ◌<◌, ◌≤◌, ◌^◌, Bool, true, false, not, eqb, cond, List, [], ◌∷◌, length, get_or, Option, Some, None, Result, Ok, Err, MatchOption, codes, refl, sym, ap, ◌∙◌, arith}
 use Rattle.std.specs.List.{AllByRecursion, list_all, AllPass}
 use Rattle.std.specs.Fmt.{decimal}
 use Rattle.std.specs.Str.Parse.{digits_value}
@@ -21,15 +21,17 @@ use Rattle.plan_certificate.specs.declared.line.Line.{Line}
 use Rattle.plan_certificate.specs.declared.line.Line.TheVariants.{Header, KeptHeader, Weight, KeepLine, PathLine, StateLine, End}
 use Rattle.plan_certificate.specs.CertificateText.{header_of, line_words, line_text, IsLineInRange}
 
-pub header_in_range : (kept : List Path) → IsLineInRange (header_of kept)
-header_in_range [] = tt
-header_in_range (path ∷ kept) = tt
+pub header_in_range : (paired : Bool) (kept : List Path) → IsLineInRange (header_of paired kept)
+header_in_range paired [] = tt
+header_in_range paired (path ∷ kept) = tt
 
 -- a test that the bytes of such lines pass, but for the spaces
 record Passes (p : ℕ → Bool) : Type 0 where
   certificate : list_all p (codes "certificate") ≡ true
   one : list_all p (codes "1") ≡ true
   two : list_all p (codes "2") ≡ true
+  three : list_all p (codes "3") ≡ true
+  four : list_all p (codes "4") ≡ true
   weight : list_all p (codes "weight") ≡ true
   keep : list_all p (codes "keep") ≡ true
   path : list_all p (codes "path") ≡ true
@@ -53,8 +55,10 @@ module _ (p : ℕ → Bool) (passes : Passes p) where
 
   words_pass : (line : Line) → IsLineInRange line → AllByRecursion (AllPass p) (line_words line)
   unfolding line_words
-  words_pass Header h = (name_passes (codes "certificate") passes.certificate, (name_passes (codes "1") passes.one, tt))
-  words_pass KeptHeader h = (name_passes (codes "certificate") passes.certificate, (name_passes (codes "2") passes.two, tt))
+  words_pass (Header false) h = (name_passes (codes "certificate") passes.certificate, (name_passes (codes "1") passes.one, tt))
+  words_pass (Header true) h = (name_passes (codes "certificate") passes.certificate, (name_passes (codes "3") passes.three, tt))
+  words_pass (KeptHeader false) h = (name_passes (codes "certificate") passes.certificate, (name_passes (codes "2") passes.two, tt))
+  words_pass (KeptHeader true) h = (name_passes (codes "certificate") passes.certificate, (name_passes (codes "4") passes.four, tt))
   words_pass (Weight weight) h = (name_passes (codes "weight") passes.weight, (decimal_passes weight h, tt))
   words_pass (KeepLine path) h = (
     name_passes (codes "keep") passes.keep,
@@ -71,15 +75,17 @@ module _ (p : ℕ → Bool) (passes : Passes p) where
   words_pass End h = (name_passes (codes "end") passes.end, tt)
 
 no_spaces : Passes (λ byte. not (is_space byte))
-no_spaces = record { certificate = refl; one = refl; two = refl; weight = refl; keep = refl; path = refl; state = refl; end = refl; decimals = λ byte low high. grind (arith, nat_tests); hexadecimals = refl }
+no_spaces = record { certificate = refl; one = refl; two = refl; three = refl; four = refl; weight = refl; keep = refl; path = refl; state = refl; end = refl; decimals = λ byte low high. grind (arith, nat_tests); hexadecimals = refl }
 
 no_line_ends : Passes (λ byte. not (is_lf byte))
-no_line_ends = record { certificate = refl; one = refl; two = refl; weight = refl; keep = refl; path = refl; state = refl; end = refl; decimals = λ byte low high. grind (arith, nat_tests); hexadecimals = refl }
+no_line_ends = record { certificate = refl; one = refl; two = refl; three = refl; four = refl; weight = refl; keep = refl; path = refl; state = refl; end = refl; decimals = λ byte low high. grind (arith, nat_tests); hexadecimals = refl }
 
 pub words_of-line_text : (line : Line) → IsLineInRange line → words_of (line_text line) ≡ line_words line
 unfolding line_words
-words_of-line_text Header h = words_of-spaced _ _ (words_pass _ no_spaces Header h)
-words_of-line_text KeptHeader h = words_of-spaced _ _ (words_pass _ no_spaces KeptHeader h)
+words_of-line_text (Header false) h = words_of-spaced _ _ (words_pass _ no_spaces (Header false) h)
+words_of-line_text (Header true) h = words_of-spaced _ _ (words_pass _ no_spaces (Header true) h)
+words_of-line_text (KeptHeader false) h = words_of-spaced _ _ (words_pass _ no_spaces (KeptHeader false) h)
+words_of-line_text (KeptHeader true) h = words_of-spaced _ _ (words_pass _ no_spaces (KeptHeader true) h)
 words_of-line_text (Weight weight) h = words_of-spaced _ _ (words_pass _ no_spaces (Weight weight) h)
 words_of-line_text (KeepLine path) h = words_of-spaced _ _ (words_pass _ no_spaces (KeepLine path) h)
 words_of-line_text (PathLine path) h = words_of-spaced _ _ (words_pass _ no_spaces (PathLine path) h)
@@ -91,8 +97,10 @@ line_has_no_lf line h = spaced_passes (λ byte. not (is_lf byte)) refl (line_wor
 
 pub word_count : (line : Line) → length (line_words line) ≤ 4
 unfolding line_words
-word_count Header = omega arith
-word_count KeptHeader = omega arith
+word_count (Header false) = omega arith
+word_count (Header true) = omega arith
+word_count (KeptHeader false) = omega arith
+word_count (KeptHeader true) = omega arith
 word_count (Weight weight) = omega arith
 word_count (KeepLine path) = omega arith
 word_count (PathLine path) = omega arith
@@ -118,10 +126,14 @@ byte_back byte fits = ap byte_in (decode_of-encode_lower (byte ∷ []) (one_byte
 number_back : (n : ℕ) → n < 2 ^ 64 → digits_value 10 (decimal n) ≡ n
 number_back n fits = (decimal_is_IsNumeral n fits).1
 
+-- the header of the version that is a digit with this code
+abbrev header_with : ℕ → Line
+header_with digit = cond (eqb digit 49) (Header false) (cond (eqb digit 50) (KeptHeader false) (cond (eqb digit 51) (Header true) (KeptHeader true)))
+
 -- the line of these words, by the first byte of the first of them
 abbrev line_with : ℕ → List ℕ → List ℕ → List ℕ → Line
 line_with letter first second third =
-    cond (eqb letter 99) (cond (eqb (get_or first 0 0) 50) KeptHeader Header)
+    cond (eqb letter 99) (header_with (get_or first 0 0))
     (cond (eqb letter 107) (KeepLine (record { app = digits_value 10 first; host = digits_value 10 second; media = digits_value 10 third }))
     (cond (eqb letter 119) (Weight (digits_value 10 first))
     (cond (eqb letter 112) (PathLine (record { app = digits_value 10 first; host = digits_value 10 second; media = digits_value 10 third }))
@@ -132,8 +144,10 @@ line_back words = line_with (get_or (get_or words 0 []) 0 0) (get_or words 1 [])
 
 back : (line : Line) → IsLineInRange line → line_back (line_words line) ≡ line
 unfolding line_words
-back Header h = refl
-back KeptHeader h = refl
+back (Header false) h = refl
+back (Header true) h = refl
+back (KeptHeader false) h = refl
+back (KeptHeader true) h = refl
 back (Weight weight) h = ap Weight (number_back weight h)
 back (KeepLine path) h =
     let app = number_back path.app (omega (arith, h.app)) in

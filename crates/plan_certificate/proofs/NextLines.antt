@@ -1,5 +1,5 @@
 -- Which line comes next in a certificate's text.
-use Rattle.std.proofs.Common.{◌≡◌, ◌≢◌, ℕ, List, [], ◌∷◌, ◌++◌, map, refl, sym, ap, subst, ◌∙◌, ◌⊎◌, inl, inr, append_assoc}
+use Rattle.std.proofs.Common.{◌≡◌, ◌≢◌, ℕ, Bool, List, [], ◌∷◌, ◌++◌, map, refl, sym, ap, subst, ◌∙◌, ◌⊎◌, inl, inr, append_assoc}
 use Rattle.std.specs.List.{AllByRecursion}
 use Rattle.plan_certificate.specs.declared.path.Path.{Path}
 use Rattle.plan_certificate.specs.declared.certificate.Entry.{Entry}
@@ -91,17 +91,17 @@ behind_weight certificate other line after e =
     after_kept certificate.kept other.kept certificate.paths other.paths certificate.entries other.entries line after
     (sym (regrouped other.kept other.paths other.entries (End ∷ [])) ∙ lists ∙ regrouped certificate.kept certificate.paths certificate.entries (line ∷ after))
 
-same_header : (certificate other : Claim) (line : Line) (after : List Line) → lines_in other ≡ lines_before_end certificate ++ line ∷ after → header_of other.kept ≡ header_of certificate.kept
+same_header : (certificate other : Claim) (line : Line) (after : List Line) → lines_in other ≡ lines_before_end certificate ++ line ∷ after → header_of other.paired other.kept ≡ header_of certificate.paired certificate.kept
 same_header certificate other line after e = cc
 
 -- headers tell whether anything is kept
-some_kept : (kept others more : List Path) (path : Path) → header_of others ≡ header_of kept → others ≡ kept ++ path ∷ more → kept ≢ []
-some_kept [] others more path same is none = absurd (let other : KeptHeader ≡ Header = ap header_of (sym is) ∙ same in cc)
-some_kept (first ∷ kept) others more path same is none = cc
+some_kept : (paired also : Bool) (kept others more : List Path) (path : Path) → header_of also others ≡ header_of paired kept → others ≡ kept ++ path ∷ more → kept ≢ []
+some_kept paired also [] others more path same is none = absurd (let other : KeptHeader also ≡ Header paired = ap (header_of also) (sym is) ∙ same in cc)
+some_kept paired also (first ∷ kept) others more path same is none = cc
 
-may_come : (certificate other : Claim) (line : Line) (after : List Line) → header_of other.kept ≡ header_of certificate.kept → Next certificate other line after → MayCome Weighed certificate line
+may_come : (certificate other : Claim) (line : Line) (after : List Line) → header_of other.paired other.kept ≡ header_of certificate.paired certificate.kept → Next certificate other line after → MayCome Weighed certificate line
 may_come certificate other line after same (inl next) =
-    subst (MayCome Weighed certificate) (sym next.2) (inr (refl, record { kept = some_kept certificate.kept other.kept next.1 next.0 same next.5; paths = next.3; entries = next.4 }))
+    subst (MayCome Weighed certificate) (sym next.2) (inr (refl, record { kept = some_kept certificate.paired other.paired certificate.kept other.kept next.1 next.0 same next.5; paths = next.3; entries = next.4 }))
 may_come certificate other line after same (inr (inl next)) = subst (MayCome Weighed certificate) (sym next.2) (refl, next.3)
 may_come certificate other line after same (inr (inr (inl next))) = subst (MayCome Weighed certificate) (sym next.2) refl
 may_come certificate other line after same (inr (inr (inr end))) = subst (MayCome Weighed certificate) (sym end.0) refl
@@ -113,22 +113,22 @@ nothing_left certificate other line after (inr (inr (inl next))) = cc
 nothing_left certificate other line after (inr (inr (inr end))) = cc
 
 -- the first line of a text
-first_line : (kept : List Path) (certificate : Claim) (line : Line) → header_of kept ≡ line → MayCome Start certificate line
-first_line [] certificate line is = subst (MayCome Start certificate) is refl
-first_line (path ∷ kept) certificate line is = subst (MayCome Start certificate) is refl
+first_line : (paired : Bool) (kept : List Path) (certificate : Claim) (line : Line) → header_of paired kept ≡ line → MayCome Start certificate line
+first_line paired [] certificate line is = subst (MayCome Start certificate) is refl
+first_line paired (path ∷ kept) certificate line is = subst (MayCome Start certificate) is refl
 
 -- the line behind the weight, where paths are kept
-first_keep : (kept : List Path) (tail : List Line) (certificate : Claim) (line : Line) (after : List Line) → header_of kept ≡ KeptHeader → map KeepLine kept ++ tail ≡ line ∷ after → MayCome KeptWeighed certificate line
-first_keep [] tail certificate line after same e = absurd cc
-first_keep (path ∷ kept) tail certificate line after same e =
+first_keep : (paired also : Bool) (kept : List Path) (tail : List Line) (certificate : Claim) (line : Line) (after : List Line) → header_of also kept ≡ KeptHeader paired → map KeepLine kept ++ tail ≡ line ∷ after → MayCome KeptWeighed certificate line
+first_keep paired also [] tail certificate line after same e = absurd cc
+first_keep paired also (path ∷ kept) tail certificate line after same e =
     let is : KeepLine path ≡ line = cc in
     subst (MayCome KeptWeighed certificate) is (inl refl)
 
 -- a line that comes next is one that may
 pub comes_in_turn : (stage : Stage) (certificate other : Claim) (line : Line) (after : List Line) → lines_in other ≡ lines_so_far stage certificate ++ line ∷ after → MayCome stage certificate line
 comes_in_turn Start certificate other line after e =
-    let is : header_of other.kept ≡ line = cc in
-    first_line other.kept certificate line is
+    let is : header_of other.paired other.kept ≡ line = cc in
+    first_line other.paired other.kept certificate line is
 comes_in_turn Headed certificate other line after e =
     let is : Weight other.weight ≡ line = cc in
     subst (MayCome Headed certificate) is (inl refl)
@@ -136,9 +136,9 @@ comes_in_turn KeptHeaded certificate other line after e =
     let is : Weight other.weight ≡ line = cc in
     subst (MayCome KeptHeaded certificate) is (inr refl)
 comes_in_turn KeptWeighed certificate other line after e =
-    let same : header_of other.kept ≡ KeptHeader = cc in
+    let same : header_of other.paired other.kept ≡ KeptHeader certificate.paired = cc in
     let lists : map KeepLine other.kept ++ map PathLine other.paths ++ map StateLine other.entries ++ End ∷ [] ≡ line ∷ after = cc in
-    first_keep other.kept (map PathLine other.paths ++ (map StateLine other.entries ++ End ∷ [])) certificate line after same (sym (regrouped other.kept other.paths other.entries (End ∷ [])) ∙ lists)
+    first_keep certificate.paired other.paired other.kept (map PathLine other.paths ++ (map StateLine other.entries ++ End ∷ [])) certificate line after same (sym (regrouped other.kept other.paths other.entries (End ∷ [])) ∙ lists)
 comes_in_turn Weighed certificate other line after e = may_come certificate other line after (same_header certificate other line after e) (behind_weight certificate other line after e)
 comes_in_turn Ended certificate other line after e =
     let behind_end = append_assoc (lines_before_end certificate) (End ∷ []) (line ∷ after) in

@@ -1,14 +1,14 @@
 -- Whole texts of certificates, and texts that lack their end.
-use Rattle.std.proofs.Common.{◌≡◌, ◌≢◌, List, [], ◌∷◌, ◌++◌, map, refl, sym, ap, ◌∙◌, append_assoc}
+use Rattle.std.proofs.Common.{◌≡◌, ◌≢◌, Bool, false, List, [], ◌∷◌, ◌++◌, map, refl, sym, ap, ◌∙◌, append_assoc}
 use Rattle.std.specs.List.{AllByRecursion}
 use Rattle.plan_certificate.specs.declared.path.Path.{Path}
 use Rattle.plan_certificate.specs.declared.certificate.Entry.{Entry}
 use Rattle.plan_certificate.specs.declared.line.Line.{Line}
-use Rattle.plan_certificate.specs.declared.line.Line.TheVariants.{KeepLine, PathLine, StateLine, End}
+use Rattle.plan_certificate.specs.declared.line.Line.TheVariants.{Header, KeptHeader, KeepLine, PathLine, StateLine, End}
 use Rattle.plan_certificate.specs.declared.stage.Stage.{Stage}
 use Rattle.plan_certificate.specs.declared.stage.Stage.TheVariants.{Start, Headed, KeptHeaded, KeptWeighed, Weighed, Ended}
 use Rattle.plan_certificate.specs.Certificates.{Claim}
-use Rattle.plan_certificate.specs.CertificateText.{line_text, certificate_lines, lines_in, IsLineInRange, IsInRange}
+use Rattle.plan_certificate.specs.CertificateText.{header_of, line_text, certificate_lines, lines_in, IsLineInRange, IsInRange}
 use Rattle.plan_certificate.specs.CertificateDrafts.{lines_before_end, lines_so_far}
 use Rattle.plan_certificate.proofs.LineWords.{same_line}
 use Rattle.plan_certificate.proofs.NextLines.{behind_weight, nothing_left, regrouped}
@@ -42,6 +42,15 @@ entries_in [] = []
 entries_in (StateLine entry ∷ lines) = entry ∷ entries_in lines
 entries_in (line ∷ lines) = entries_in lines
 
+abbrev paired_in : Line → Bool
+paired_in (Header paired) = paired
+paired_in (KeptHeader paired) = paired
+paired_in line = false
+
+paired_back : (paired : Bool) (kept : List Path) → paired_in (header_of paired kept) ≡ paired
+paired_back paired [] = refl
+paired_back paired (path ∷ kept) = refl
+
 -- the lists of a certificate, one after another
 abbrev lists_of : List Path → List Path → List Entry → List Line
 lists_of kept paths entries = map KeepLine kept ++ (map PathLine paths ++ (map StateLine entries ++ End ∷ []))
@@ -66,13 +75,15 @@ entries_back (path ∷ kept) paths entries = entries_back kept paths entries
 
 same_parts : (a b : Claim) → lines_in a ≡ lines_in b → a ≡ b
 same_parts a b e =
+    let headers : header_of a.paired a.kept ≡ header_of b.paired b.kept = cc in
+    let paired = sym (paired_back a.paired a.kept) ∙ ap paired_in headers ∙ paired_back b.paired b.kept in
     let weights : a.weight ≡ b.weight = cc in
     let lists : map KeepLine a.kept ++ map PathLine a.paths ++ map StateLine a.entries ++ End ∷ [] ≡ map KeepLine b.kept ++ map PathLine b.paths ++ map StateLine b.entries ++ End ∷ [] = cc in
     let whole = sym (regrouped a.kept a.paths a.entries (End ∷ [])) ∙ lists ∙ regrouped b.kept b.paths b.entries (End ∷ []) in
     let kept = sym (kept_back a.kept a.paths a.entries) ∙ ap kept_in whole ∙ kept_back b.kept b.paths b.entries in
     let paths = sym (paths_back a.kept a.paths a.entries) ∙ ap paths_in whole ∙ paths_back b.kept b.paths b.entries in
     let entries = sym (entries_back a.kept a.paths a.entries) ∙ ap entries_in whole ∙ entries_back b.kept b.paths b.entries in
-    λ i. record { weight = weights i; kept = kept i; paths = paths i; entries = entries i }
+    λ i. record { paired = paired i; weight = weights i; kept = kept i; paths = paths i; entries = entries i }
 
 pub same_certificate : (a b : Claim) → IsInRange a → IsInRange b → certificate_lines a ≡ certificate_lines b → a ≡ b
 same_certificate a b ra rb e = same_parts a b (same_lines (lines_in a) (lines_in b) ra rb e)

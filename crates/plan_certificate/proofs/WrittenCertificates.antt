@@ -1,5 +1,5 @@
 -- The lines of a certificate's written text.
-use Rattle.std.proofs.Common.{◌≡◌, ℕ, ◌<◌, ◌≤◌, ◌^◌, List, [], ◌∷◌, ◌++◌, length, map, refl, sym, ap, ◌∙◌, append_assoc}
+use Rattle.std.proofs.Common.{◌≡◌, ℕ, ◌<◌, ◌≤◌, ◌^◌, Bool, List, [], ◌∷◌, ◌++◌, length, map, refl, sym, ap, ◌∙◌, append_assoc}
 use Rattle.std.specs.List.{AllByRecursion}
 use Rattle.std.proofs.lemmas.List.{append-nil, map-append}
 use Rattle.std.proofs.lemmas.List.Concat.{flat_map-append}
@@ -33,7 +33,7 @@ pub is_readable : (states : ℕ) (certificate : Claim) → certificate.weight < 
     → HasStates certificate.entries → length certificate.kept ≤ 8 → length certificate.paths ≤ 8 → length certificate.entries ≤ states → IsReadable states certificate
 is_readable states certificate weight kept paths entries rising few_kept few_paths few_states = record {
   ordered = record {
-    in_range = (header_in_range certificate.kept, (weight, lists_in_range certificate.kept certificate.paths certificate.entries kept paths entries));
+    in_range = (header_in_range certificate.paired certificate.kept, (weight, lists_in_range certificate.kept certificate.paths certificate.entries kept paths entries));
     states = rising;
   };
   few_kept = few_kept;
@@ -53,10 +53,10 @@ lines_more : (xs ys : List Line) → text_in (xs ++ ys) ≡ text_in xs ++ text_i
 lines_more xs ys = ap text_of (map-append line_text xs ys) ∙ text_more (map line_text xs) (map line_text ys)
 
 -- the lines before the entries
-pub head_text : (weight : ℕ) (kept paths : List Path) (first second third last : List ℕ) → first ≡ line_text (header_of kept) ++ 10 ∷ [] → second ≡ first ++ (line_text (Weight weight) ++ 10 ∷ [])
-    → third ≡ second ++ text_of (map line_text (map KeepLine kept)) → last ≡ third ++ text_of (map line_text (map PathLine paths)) → last ≡ text_in (head_lines weight kept paths)
-head_text weight kept paths first second third last header weigh keeps runs =
-    let head = line_text (header_of kept) ++ 10 ∷ [] in
+pub head_text : (paired : Bool) (weight : ℕ) (kept paths : List Path) (first second third last : List ℕ) → first ≡ line_text (header_of paired kept) ++ 10 ∷ [] → second ≡ first ++ (line_text (Weight weight) ++ 10 ∷ [])
+    → third ≡ second ++ text_of (map line_text (map KeepLine kept)) → last ≡ third ++ text_of (map line_text (map PathLine paths)) → last ≡ text_in (head_lines paired weight kept paths)
+head_text paired weight kept paths first second third last header weigh keeps runs =
+    let head = line_text (header_of paired kept) ++ 10 ∷ [] in
     let weight_text = line_text (Weight weight) ++ 10 ∷ [] in
     let kept_text = text_in (map KeepLine kept) in
     let path_text = text_in (map PathLine paths) in
@@ -65,10 +65,10 @@ head_text weight kept paths first second third last header weigh keeps runs =
     parts ∙ grouped ∙ ap (λ l. head ++ (weight_text ++ l)) (sym (lines_more (map KeepLine kept) (map PathLine paths)))
 
 -- and the entries, and the end
-pub whole_text : (certificate : Claim) (head text last : List ℕ) → head ≡ text_in (head_lines certificate.weight certificate.kept certificate.paths)
+pub whole_text : (certificate : Claim) (head text last : List ℕ) → head ≡ text_in (head_lines certificate.paired certificate.weight certificate.kept certificate.paths)
     → text ≡ head ++ text_in (map StateLine certificate.entries) → last ≡ text ++ (line_text End ++ 10 ∷ []) → last ≡ text_of (certificate_lines certificate)
 whole_text certificate head text last is states end =
-    let lines = head_lines certificate.weight certificate.kept certificate.paths in
+    let lines = head_lines certificate.paired certificate.weight certificate.kept certificate.paths in
     let entries = map StateLine certificate.entries in
     let parts : last ≡ (text_in lines ++ text_in entries) ++ (line_text End ++ 10 ∷ []) = rw (end, states, is) refl in
     parts

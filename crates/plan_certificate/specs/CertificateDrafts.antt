@@ -10,15 +10,15 @@ use Rattle.plan_certificate.specs.CertificateText.{header_of, line_text, lines_i
 -- the lines of a certificate up to its last state
 abbrev pub lines_before_end : Claim → List Line
 lines_before_end certificate =
-    header_of certificate.kept
+    header_of certificate.paired certificate.kept
     ∷ Weight certificate.weight
     ∷ map KeepLine certificate.kept ++ map PathLine certificate.paths ++ map StateLine certificate.entries
 
 abbrev pub lines_so_far : Stage → Claim → List Line
 lines_so_far Start certificate = []
-lines_so_far Headed certificate = Header ∷ []
-lines_so_far KeptHeaded certificate = KeptHeader ∷ []
-lines_so_far KeptWeighed certificate = KeptHeader ∷ Weight certificate.weight ∷ []
+lines_so_far Headed certificate = Header certificate.paired ∷ []
+lines_so_far KeptHeaded certificate = KeptHeader certificate.paired ∷ []
+lines_so_far KeptWeighed certificate = KeptHeader certificate.paired ∷ Weight certificate.weight ∷ []
 lines_so_far Weighed certificate = lines_before_end certificate
 lines_so_far Ended certificate = lines_in certificate
 
@@ -52,8 +52,8 @@ pub record HasKeptAlone (certificate : Claim) : Type 0 where
 
 -- this line may come next, whatever the order of states and the room
 abbrev pub MayCome : Stage → Claim → Line → Type 0
-MayCome stage certificate Header = stage ≡ Start
-MayCome stage certificate KeptHeader = stage ≡ Start
+MayCome stage certificate (Header paired) = stage ≡ Start
+MayCome stage certificate (KeptHeader paired) = stage ≡ Start
 MayCome stage certificate (Weight weight) = (stage ≡ Headed) ⊎ (stage ≡ KeptHeaded)
 MayCome stage certificate (KeepLine path) = (stage ≡ KeptWeighed) ⊎ ((stage ≡ Weighed) × HasKeptAlone certificate)
 MayCome stage certificate (PathLine path) = (stage ≡ Weighed) × (certificate.entries ≡ [])

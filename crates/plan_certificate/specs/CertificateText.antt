@@ -1,7 +1,7 @@
 -- The text of a certificate: a header, the weight, the kept paths and the paths in their order, the entries by rising
--- states, and `end`. The header says version 2 if paths are kept, else version 1. (docs/formats.md, "Certificate"; this
--- project's own)
-use Rattle.std.specs.Prelude.{◌≡◌, ℕ, ◌<◌, ◌≤◌, ◌^◌, List, [], ◌∷◌, ◌++◌, length, map, codes}
+-- states, and `end`. The header says version 2 if paths are kept, else version 1; if it is for a module that pairs first
+-- lanes, 4 and 3. (docs/formats.md, "Certificate"; this project's own)
+use Rattle.std.specs.Prelude.{◌≡◌, ℕ, ◌<◌, ◌≤◌, ◌^◌, Bool, true, false, List, [], ◌∷◌, ◌++◌, length, map, codes}
 use Rattle.std.specs.List.{AllByRecursion}
 use Rattle.std.specs.Fmt.{decimal}
 use Rattle.hex.specs.Hex.{encode_lower}
@@ -23,8 +23,10 @@ abbrev pub state_values : Entry → List (List ℕ)
 state_values entry = decimal entry.boundary ∷ encode_lower (entry.used ∷ []) ∷ decimal entry.potential ∷ []
 
 unfoldable pub line_words : Line → List (List ℕ)
-line_words Header = codes "certificate" ∷ codes "1" ∷ []
-line_words KeptHeader = codes "certificate" ∷ codes "2" ∷ []
+line_words (Header false) = codes "certificate" ∷ codes "1" ∷ []
+line_words (KeptHeader false) = codes "certificate" ∷ codes "2" ∷ []
+line_words (Header true) = codes "certificate" ∷ codes "3" ∷ []
+line_words (KeptHeader true) = codes "certificate" ∷ codes "4" ∷ []
 line_words (Weight weight) = codes "weight" ∷ decimal weight ∷ []
 line_words (KeepLine path) = codes "keep" ∷ path_values path
 line_words (PathLine path) = codes "path" ∷ path_values path
@@ -48,26 +50,26 @@ pub record IsEntryInRange (entry : Entry) : Type 0 where
 
 -- the numbers of a line are in their ranges
 abbrev pub IsLineInRange : Line → Type 0
-IsLineInRange Header = Unit {0}
-IsLineInRange KeptHeader = Unit {0}
+IsLineInRange (Header paired) = Unit {0}
+IsLineInRange (KeptHeader paired) = Unit {0}
 IsLineInRange (Weight weight) = weight < 2 ^ 64
 IsLineInRange (KeepLine path) = IsPathInRange path
 IsLineInRange (PathLine path) = IsPathInRange path
 IsLineInRange (StateLine entry) = IsEntryInRange entry
 IsLineInRange End = Unit {0}
 
--- the first line of a certificate that keeps these paths
-abbrev pub header_of : List Path → Line
-header_of [] = Header
-header_of (path ∷ paths) = KeptHeader
+-- the first line of a certificate for a module that pairs first lanes or does not, which keeps these paths
+abbrev pub header_of : Bool → List Path → Line
+header_of paired [] = Header paired
+header_of paired (path ∷ paths) = KeptHeader paired
 
 -- the lines before the entries
-abbrev pub head_lines : ℕ → List Path → List Path → List Line
-head_lines weight kept paths = header_of kept ∷ Weight weight ∷ map KeepLine kept ++ map PathLine paths
+abbrev pub head_lines : Bool → ℕ → List Path → List Path → List Line
+head_lines paired weight kept paths = header_of paired kept ∷ Weight weight ∷ map KeepLine kept ++ map PathLine paths
 
 -- the text of these lines, whose numbers are in their ranges, of as many paths as a plan has at most
-pub record IsHead (weight : ℕ) (kept paths : List Path) (text : List ℕ) : Type 0 where
-  pub written : text ≡ text_of (map line_text (head_lines weight kept paths))
+pub record IsHead (paired : Bool) (weight : ℕ) (kept paths : List Path) (text : List ℕ) : Type 0 where
+  pub written : text ≡ text_of (map line_text (head_lines paired weight kept paths))
   pub small : weight < 2 ^ 64
   pub kept_in_range : AllByRecursion IsPathInRange kept
   pub paths_in_range : AllByRecursion IsPathInRange paths
@@ -77,7 +79,7 @@ pub record IsHead (weight : ℕ) (kept paths : List Path) (text : List ℕ) : Ty
 -- the lines of a certificate
 abbrev pub lines_in : Claim → List Line
 lines_in certificate =
-    header_of certificate.kept
+    header_of certificate.paired certificate.kept
     ∷ Weight certificate.weight
     ∷ map KeepLine certificate.kept ++ map PathLine certificate.paths ++ map StateLine certificate.entries ++ End ∷ []
 

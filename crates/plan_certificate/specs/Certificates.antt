@@ -1,6 +1,6 @@
--- Certificates: a plan, what it keeps, and a bound, for each state, on what can still be gained from it. (docs/planning.md,
--- "Certificates"; this project's own)
-use Rattle.std.specs.Prelude.{◌≡◌, ℕ, ◌+◌, ◌*◌, ◌<◌, ◌≤◌, List, All, AllPairs, Contains}
+-- Certificates: a plan, what it keeps, and a bound, for each state, on what can still be gained from it, on modules that pair
+-- first lanes or on those that do not. (docs/planning.md, "Certificates"; this project's own)
+use Rattle.std.specs.Prelude.{◌≡◌, ℕ, ◌+◌, ◌*◌, ◌<◌, ◌≤◌, Bool, List, All, AllPairs, Contains}
 use Rattle.field_tables.specs.LaneSets.{lanes_in}
 use Rattle.applications.specs.Advertised.{Advertised}
 use Rattle.applications.specs.Weights.{HostWeights}
@@ -13,6 +13,8 @@ use Rattle.plan_certificate.specs.States.{start, decisions_from}
 
 -- what a certificate says, be it right or not
 pub record Claim : Type 0 where
+  -- it is for a module that pairs first lanes
+  pub paired : Bool
   pub weight : ℕ
   pub kept : List Path
   pub paths : List Path
@@ -41,6 +43,7 @@ IsCovered entries potential decision = (later : ℕ) × IsBound entries decision
 
 -- the certificate is right for these Applications and weights
 pub record IsGood (advert : Advertised) (weights : HostWeights) (certificate : Claim) : Type 0 where
+  pub paired : certificate.paired ≡ advert.paired
   pub kept : IsAdmissible advert certificate.kept
   pub admissible : IsAdmissible advert certificate.paths
   pub keeps : Keeps certificate.kept certificate.paths

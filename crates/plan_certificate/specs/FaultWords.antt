@@ -7,7 +7,7 @@ use Rattle.plan_certificate.specs.declared.fault.CertificateFault.TheVariants.{B
 use Rattle.plan_certificate.specs.declared.fault.KeptFault.{KeptFault}
 use Rattle.plan_certificate.specs.declared.fault.KeptFault.TheVariants as kept
 use Rattle.plan_certificate.specs.declared.verdict.Reason.{Reason}
-use Rattle.plan_certificate.specs.declared.verdict.Reason.TheVariants.{KeptNotAdmissible, PathNotAllowed, LaneTwice, KeptMissing, WeightWrong, NoStart, NotClosed, TooLow, StartNotWeight}
+use Rattle.plan_certificate.specs.declared.verdict.Reason.TheVariants.{KeptNotAdmissible, PathNotAllowed, LaneTwice, KeptMissing, WeightWrong, NoStart, NotClosed, TooLow, StartNotWeight, PairingDiffers}
 
 abbrev pub certificate_fault_words : CertificateFault → List (List ℕ)
 certificate_fault_words (BadLine line) = codes "CT1" ∷ decimal line ∷ []
@@ -30,3 +30,4 @@ reason_words TooLow = codes "VR6" ∷ []
 reason_words StartNotWeight = codes "VR7" ∷ []
 reason_words KeptNotAdmissible = codes "VR8" ∷ []
 reason_words KeptMissing = codes "VR9" ∷ []
+reason_words PairingDiffers = codes "VR10" ∷ []

@@ -1,6 +1,7 @@
 -- How a certificate is judged: its flaws in order, of which the first counts. (docs/planning.md, "The checker"; this
 -- project's own)
 use Rattle.std.specs.Prelude.{ℕ, ◌+◌, ◌-◌, ◌==◌, Bool, not, nat_lt, List, [], ◌∷◌, ◌++◌, Option, Some, None, map, take, find, flat_map}
+use Rattle.std.specs.Bool.{beq}
 use Rattle.std.specs.List.{enumerate_from}
 use Rattle.std.specs.Option.{option_map, unwrap_or, is_none}
 use Rattle.field_tables.specs.FirstFault.{first_fault}
@@ -14,7 +15,7 @@ use Rattle.plan_certificate.specs.declared.verdict.Verdict.{Verdict}
 use Rattle.plan_certificate.specs.declared.verdict.Verdict.TheVariants.{Good, Bad}
 use Rattle.plan_certificate.specs.declared.verdict.Flaw.{Flaw}
 use Rattle.plan_certificate.specs.declared.verdict.Reason.{Reason}
-use Rattle.plan_certificate.specs.declared.verdict.Reason.TheVariants.{KeptNotAdmissible, PathNotAllowed, LaneTwice, KeptMissing, WeightWrong, NoStart, NotClosed, TooLow, StartNotWeight}
+use Rattle.plan_certificate.specs.declared.verdict.Reason.TheVariants.{KeptNotAdmissible, PathNotAllowed, LaneTwice, KeptMissing, WeightWrong, NoStart, NotClosed, TooLow, StartNotWeight, PairingDiffers}
 use Rattle.plan_certificate.specs.Paths.{is_allowed}
 use Rattle.plan_certificate.specs.Plans.{plan_weight}
 use Rattle.plan_certificate.specs.KeptPaths.{is_among, is_apart_from, may_join}
@@ -30,6 +31,10 @@ Flaws = List PossibleFlaw
 
 abbrev pub flaw : Reason → ℕ → Flaw
 flaw reason number = record { reason = reason; number = number }
+
+-- it is for modules that pair first lanes, and this one does not, or the other way round
+abbrev pub pairing_flaw : Advertised → Bool → PossibleFlaw
+pairing_flaw advert paired = (not (beq paired advert.paired), flaw PairingDiffers 0)
 
 -- a kept path that isn't allowed, or takes a lane of a kept path before it; kept paths count from 1
 abbrev pub kept_flaw : Advertised → List Path → ℕ × Path → PossibleFlaw
@@ -101,7 +106,8 @@ bound_flaws advert weights kept entries weight =
 
 abbrev pub all_flaws : Advertised → HostWeights → Claim → Flaws
 all_flaws advert weights certificate =
-    paths_flaws advert certificate.kept certificate.paths
+    pairing_flaw advert certificate.paired
+    ∷ paths_flaws advert certificate.kept certificate.paths
     ++ (not (certificate.weight == plan_weight advert weights certificate.paths), flaw WeightWrong 0)
     ∷ bound_flaws advert weights certificate.kept certificate.entries certificate.weight
 

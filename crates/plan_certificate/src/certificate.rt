@@ -46,6 +46,8 @@ impl Entry {
 /// `check` says whether they do.
 #[derive(Debug, Drop)]
 pub struct Certificate<const STATES: usize> {
+    /// It is for a module that pairs first lanes.
+    pub paired: bool,
     pub weight: u64,
     /// Paths that a plan has to hold, in any order.
     pub kept: Plan,
@@ -59,7 +61,7 @@ impl<const STATES: usize> Model for Certificate<STATES> {
 
     ghost Value = { Claim };
 
-    ghost view = { λ certificate. record { weight = certificate.weight; kept = certificate.kept; paths = certificate.plan; entries = certificate.entries } };
+    ghost view = { λ certificate. record { paired = certificate.paired; weight = certificate.weight; kept = certificate.kept; paths = certificate.plan; entries = certificate.entries } };
 
     ghost invariant = { λ certificate. HasStates certificate.entries };
 }

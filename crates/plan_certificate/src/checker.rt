@@ -27,6 +27,7 @@ pub fn check<const STATES: usize>(
     match flaw(
         advert,
         weights,
+        certificate.paired,
         certificate.weight,
         &certificate.kept,
         &certificate.plan,
@@ -40,13 +41,20 @@ pub fn check<const STATES: usize>(
 fn flaw<const ROOM: usize>(
     advert: &Advert,
     weights: &Weights,
+    paired: bool,
     weight: u64,
     kept: &Plan,
     plan: &Plan,
     entries: &Entries<ROOM>,
 ) -> Option<Flaw>
-    ensures { result ≡ first_fault (spec.all_flaws advert.now weights.now (record { weight = weight; kept = kept.now; paths = plan.now; entries = entries.now })) }
+    ensures { result ≡ first_fault (spec.all_flaws advert.now weights.now (record { paired = paired; weight = weight; kept = kept.now; paths = plan.now; entries = entries.now })) }
 {
+    if paired != advert.is_paired() {
+        return Some(Flaw {
+            reason: Reason::PairingDiffers,
+            number: 0,
+        });
+    }
     let (kept, paths) = (kept.paths.as_slice(), plan.paths.as_slice());
     if let Some(flaw) = paths_flaw(advert, kept, paths) {
         return Some(flaw);

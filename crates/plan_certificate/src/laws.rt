@@ -4,9 +4,10 @@ ghost use Rattle.text_lines.specs.Lines.{lines_of, text_of};
 ghost use Rattle.plan_certificate.specs.declared.fault.CertificateFault.{CertificateFault};
 ghost use Rattle.plan_certificate.specs.declared.fault.KeptFault.{KeptFault};
 ghost use Rattle.plan_certificate.specs.declared.path.Path.{Path};
-ghost use Rattle.applications.specs.Advertised.{Advertised, with_pairing};
+ghost use Rattle.applications.specs.Advertised.{Advertised, with_counts_by_id, with_pairing};
+ghost use Rattle.applications.specs.Weights.{HostWeights};
 ghost use Rattle.plan_certificate.specs.Paths.{is_allowed};
-ghost use Rattle.plan_certificate.specs.Plans.{IsAdmissible};
+ghost use Rattle.plan_certificate.specs.Plans.{IsAdmissible, plan_weight};
 ghost use Rattle.plan_certificate.specs.Certificates.{Claim};
 ghost use Rattle.plan_certificate.specs.CertificateText.{certificate_lines, IsReadable, IsTextOf};
 ghost use Rattle.plan_certificate.specs.CertificateFaults.{IsAnswer};
@@ -42,4 +43,13 @@ pub fn paired_lanes_are_told()
 pub fn paired_plans_are_admissible()
     ensures { (advert : Advertised) (paths : List Path) → IsAdmissible (with_pairing true advert) paths →
         IsAdmissible (with_pairing false advert) paths }
+{}
+
+/// A plan that is admissible by the lane counts of a module's descriptors is admissible, and weighs the same, if the interface IDs
+/// imply the counts that are 0. So no best plan weighs less then.
+pub fn plans_stay_admissible_with_counts_by_id()
+    ensures admissible { (media_type : ℕ) (advert : Advertised) (paths : List Path) → IsAdmissible advert paths →
+        IsAdmissible (with_counts_by_id media_type advert) paths }
+    ensures weight { (media_type : ℕ) (advert : Advertised) (weights : HostWeights) (paths : List Path) →
+        plan_weight (with_counts_by_id media_type advert) weights paths ≡ plan_weight advert weights paths }
 {}

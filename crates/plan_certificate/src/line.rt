@@ -1,5 +1,5 @@
 // The lines of a certificate's text.
-ghost use Rattle.std.specs.Prelude.{◌≡◌, ◌≢◌, ◌<◌, ◌≤◌, ℕ, List, [], ◌∷◌, Some, map, MatchOption};
+ghost use Rattle.std.specs.Prelude.{◌≡◌, ◌≢◌, ◌<◌, ◌≤◌, ℕ, List, [], ◌∷◌, Some, codes, map, MatchOption};
 ghost use Rattle.std.specs.Fmt.{decimal};
 ghost use Rattle.plan_certificate.specs.declared.path.Path.{Path};
 ghost use Rattle.plan_certificate.specs.declared.certificate.Entry.{Entry};
@@ -14,10 +14,10 @@ use text_lines::{read_decimal, read_hex_byte, split_words};
 /// A line of a certificate's text.
 #[derive(Clone, Copy)]
 pub enum Line {
-    /// Of version 1: nothing is kept.
-    Header,
-    /// Of version 2: kept paths follow the weight.
-    KeptHeader,
+    /// Nothing is kept: version 1, or 3 if the certificate is for a module that pairs first lanes.
+    Header(bool),
+    /// Kept paths follow the weight: version 2, or likewise 4.
+    KeptHeader(bool),
     Weight(u64),
     KeepLine(Path),
     PathLine(Path),
@@ -71,13 +71,7 @@ fn read_head(name: &[u8], value: &[u8]) -> Option<Line>
         (λ line. IsLineInRange line × (name.now ∷ value.now ∷ [] ≡ line_words line)) }
 {
     if name == b"certificate".as_slice() {
-        return if value == b"1".as_slice() {
-            Some(Line::Header)
-        } else if value == b"2".as_slice() {
-            Some(Line::KeptHeader)
-        } else {
-            None
-        };
+        return read_version(value);
     }
     if name != b"weight".as_slice() {
         return None;
@@ -85,6 +79,24 @@ fn read_head(name: &[u8], value: &[u8]) -> Option<Line>
     match read_decimal(value, u64::MAX) {
         Some(weight) => Some(Line::Weight(weight)),
         None => None,
+    }
+}
+
+#[tactic(auto, unfolding(crate::specs::CertificateText::line_words))]
+fn read_version(value: &[u8]) -> Option<Line>
+    ensures { MatchOption result ((line : Line) → IsLineInRange line → codes "certificate" ∷ value.now ∷ [] ≢ line_words line)
+        (λ line. IsLineInRange line × (codes "certificate" ∷ value.now ∷ [] ≡ line_words line)) }
+{
+    if value == b"1".as_slice() {
+        Some(Line::Header(false))
+    } else if value == b"2".as_slice() {
+        Some(Line::KeptHeader(false))
+    } else if value == b"3".as_slice() {
+        Some(Line::Header(true))
+    } else if value == b"4".as_slice() {
+        Some(Line::KeptHeader(true))
+    } else {
+        None
     }
 }
 

@@ -21,6 +21,8 @@ pub enum Reason {
     KeptNotAdmissible,
     /// A kept path that isn't in the plan.
     KeptMissing,
+    /// The certificate is for modules that pair first lanes, and this one does not, or the other way round.
+    PairingDiffers,
 }
 
 impl ToWords for Reason {
@@ -41,6 +43,7 @@ impl ToWords for Reason {
             Reason::StartNotWeight => "VR7",
             Reason::KeptNotAdmissible => "VR8",
             Reason::KeptMissing => "VR9",
+            Reason::PairingDiffers => "VR10",
         })
     }
 }

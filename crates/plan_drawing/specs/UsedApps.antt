@@ -1,35 +1,15 @@
--- The Applications that a plan uses, with the names of their interfaces. (SFF-8024, section 4; OIF-CMIS-05.0, chapter 8 "Module
--- Management Memory Map", "Media Type Encodings", which table names media interfaces; the lines are this project's own)
-use Rattle.std.specs.Prelude.{ℕ, ◌==◌, Bool, if◌then◌else◌, List, [], ◌∷◌, ◌++◌, Option, Some, None, codes, filter, map}
+-- The Applications that a plan uses, with the names of their interfaces. (SFF-8024, section 4; the lines are this
+-- project's own)
+use Rattle.std.specs.Prelude.{ℕ, ◌==◌, Bool, List, [], ◌∷◌, ◌++◌, codes, filter, map}
 use Rattle.std.specs.List.{list_any}
 use Rattle.std.specs.Fmt.{decimal}
 use Rattle.hex.specs.Hex.{encode_lower}
 use Rattle.applications.specs.declared.app.App.{App}
 use Rattle.plan_certificate.specs.declared.path.Path.{Path}
-use Rattle.code_names.specs.declared.table.Table.{Table}
-use Rattle.code_names.specs.declared.table.Table.TheVariants.{HostInterfaces, MultiModeMedia, SingleModeMedia, PassiveCopper, ActiveCables, BaseTMedia}
+use Rattle.code_names.specs.declared.table.Table.TheVariants.{HostInterfaces}
+use Rattle.code_names.specs.MediaInterfaces.{media_interface_name}
 use Rattle.code_names.specs.Names.{name_in}
 use Rattle.code_names.specs.Rows.{Said, named, reserved, vendor_specific, not_listed, text_of}
-
--- the table of a module's media interfaces, by its MediaType
-abbrev pub media_table : ℕ → Option Table
-media_table media_type =
-    if media_type == 1
-    then Some MultiModeMedia
-    else if media_type == 2
-    then Some SingleModeMedia
-    else if media_type == 3
-    then Some PassiveCopper
-    else if media_type == 4
-    then Some ActiveCables
-    else if media_type == 5
-    then Some BaseTMedia
-    else None
-
--- without a table no code is listed
-abbrev pub said_in : Option Table → ℕ → Said
-said_in (Some table) code = name_in table code
-said_in None code = not_listed
 
 -- a code, and why it has no name
 unfoldable pub unnamed_text : Said → ℕ → List ℕ
@@ -49,7 +29,7 @@ app_line media_type app =
     ++ codes ": "
     ++ interface_text (name_in HostInterfaces app.host_id) app.host_id
     ++ codes " to "
-    ++ interface_text (said_in (media_table media_type) app.media_id) app.media_id
+    ++ interface_text (media_interface_name media_type app.media_id) app.media_id
 
 -- some path is of the Application
 abbrev pub is_used : List Path → App → Bool

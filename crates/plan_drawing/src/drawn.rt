@@ -1,5 +1,5 @@
 // The drawing of the plan that is given.
-ghost use Rattle.std.specs.Prelude.{◌≡◌, ◌++◌, ◌∷◌, [], IfOk, OnOk};
+ghost use Rattle.std.specs.Prelude.{◌≡◌, ◌++◌, IfOk, OnOk};
 ghost use Rattle.text_lines.specs.Lines.{text_of};
 ghost use Rattle.plan_certificate.specs.Plans.{AreAllowed, IsAdmissible};
 ghost use Rattle.lane_planner.specs.Tables.{IsTable};

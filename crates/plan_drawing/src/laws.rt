@@ -1,11 +1,11 @@
 //! What the sums of a drawing say.
-ghost use Rattle.std.specs.Prelude.{◌-◌, ◌+◌, ℕ, List};
+ghost use Rattle.std.specs.Prelude.{ℕ, List};
 ghost use Rattle.std.specs.List.{AllByRecursion};
 ghost use Rattle.applications.specs.Advertised.{Advertised};
 ghost use Rattle.applications.specs.Weights.{HostWeights};
 ghost use Rattle.plan_certificate.specs.declared.path.Path.{Path};
 ghost use Rattle.plan_certificate.specs.Plans.{IsAdmissible, IsBest};
-ghost use Rattle.lane_planner.specs.Tables.{HasGains, gain_at};
+ghost use Rattle.lane_planner.specs.Tables.{HasGains};
 ghost use Rattle.plan_drawing.specs.Alternatives.{AreLess};
 ghost use Rattle.plan_drawing.specs.Walks.{states_of};
 

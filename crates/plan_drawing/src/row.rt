@@ -4,6 +4,7 @@ ghost use Rattle.hex.specs.Hex.{encode_lower};
 ghost use Rattle.plan_drawing.specs.Picture.{cell, cells, edge, inside, row_line, trimmed};
 
 use arrayvec::ArrayVec;
+use control_sets::ControlSet;
 use std::alloc::{AllocError, Global};
 use text_lines::HexByte;
 
@@ -22,7 +23,7 @@ pub enum Row {
 #[derive(Drop)]
 pub struct RowContents {
     pub labels: ArrayVec<[u8; 7], 8>,
-    pub control: [u8; 8],
+    pub control: ControlSet,
 }
 
 /// Adds a row of the lanes that these paths take, 0 for none.

@@ -2,10 +2,10 @@
 ghost use Rattle.std.specs.Prelude.{◌≡◌, ◌++◌, ◌∷◌, [], OnOk};
 ghost use Rattle.code_names.specs.Rows.{meaning_of};
 ghost use Rattle.text_lines.specs.Lines.{text_of};
-ghost use Rattle.plan_drawing.specs.UsedApps.{app_line, app_lines, interface_text, is_used, media_table, said_in, unnamed_text};
+ghost use Rattle.plan_drawing.specs.UsedApps.{app_line, app_lines, interface_text, is_used, unnamed_text};
 
 use applications::{Advert, App};
-use code_names::{Name, Table, name_of};
+use code_names::{Name, Table, media_interface_name, name_of};
 use itoa::Buffer;
 use plan_certificate::Path;
 use std::alloc::AllocError;
@@ -48,31 +48,13 @@ fn push_app(out: &mut Vec<u8>, media_type: u8, app: &App) -> Result<(), AllocErr
         app.host_id,
     )?;
     out.extend_from_slice(b" to ")?;
-    push_interface(out, media_name(media_type, app.media_id), app.media_id)?;
+    push_interface(
+        out,
+        media_interface_name(media_type, app.media_id),
+        app.media_id,
+    )?;
     out.push(b'\n')?;
     Ok(())
-}
-
-fn media_name(media_type: u8, code: u8) -> Name
-    ensures { meaning_of result ≡ said_in (media_table media_type) code }
-{
-    match media_table(media_type) {
-        Some(table) => name_of(table, code),
-        None => Name::Unlisted,
-    }
-}
-
-fn media_table(media_type: u8) -> Option<Table>
-    ensures { result ≡ media_table media_type }
-{
-    match media_type {
-        1 => Some(Table::MultiModeMedia),
-        2 => Some(Table::SingleModeMedia),
-        3 => Some(Table::PassiveCopper),
-        4 => Some(Table::ActiveCables),
-        5 => Some(Table::BaseTMedia),
-        _ => None,
-    }
 }
 
 fn push_interface(out: &mut Vec<u8>, name: Name, code: u8) -> Result<(), AllocError>

@@ -6,8 +6,8 @@ ghost use Rattle.applications.specs.Weights.{HostWeights};
 ghost use Rattle.plan_certificate.specs.Paths.{is_allowed};
 ghost use Rattle.plan_certificate.specs.Plans.{AreAllowed};
 ghost use Rattle.plan_certificate.specs.States.{path_decision};
-ghost use Rattle.lane_planner.specs.Tables.{IsTable, gain_at};
-ghost use Rattle.plan_drawing.specs.Choices.{choices_in, ranked};
+ghost use Rattle.lane_planner.specs.Tables.{IsTable};
+ghost use Rattle.plan_drawing.specs.Choices.{choices_in};
 ghost use Rattle.plan_drawing.specs.Walks.{begins_at, next_state};
 ghost use Rattle.plan_drawing.specs.Why.{choice_line, is_taken, lane_line, name_of, note_of, state_lines, told_on, why_lines};
 

@@ -5,7 +5,6 @@ ghost use Rattle.report_entries.specs.Entries.{entry_of, said_of};
 ghost use Rattle.report_entries.specs.AppText.{app_line};
 ghost use Rattle.report_entries.specs.EntryText.{lane_line, in_thousandths, lane_lines, lane_state_line, lane_state_lines, report_text, said_lines};
 ghost use Rattle.report_entries.specs.Flags.{flag_lines};
-ghost use Rattle.report_entries.specs.PrintedUnits.{unit_name};
 
 use crate::entry::{Entry, LaneState, Said};
 use crate::fact_text::push_fact;

@@ -1,7 +1,7 @@
 // Facts as text.
 ghost use Rattle.std.specs.Prelude.{◌≡◌, ◌++◌, ◌∷◌, [], OnOk};
 ghost use Rattle.report_entries.specs.Facts.{fact_of};
-ghost use Rattle.report_entries.specs.FactText.{fact_line, in_unit, level_text, milliwatts_text};
+ghost use Rattle.report_entries.specs.FactText.{fact_line};
 
 use crate::fact::{Fact, Place};
 use crate::report_text::ReportText;

@@ -1,5 +1,5 @@
 // One object of JSON, from its first member to its last line.
-ghost use Rattle.std.specs.Prelude.{◌≡◌, ◌++◌, ◌∷◌, ◌≤◌, List, Some, IfOk, OnOk};
+ghost use Rattle.std.specs.Prelude.{◌≡◌, ◌∷◌, ◌≤◌, List, Some, IfOk};
 ghost use Rattle.json.specs.Json.{document, max_depth};
 ghost use Rattle.json.specs.Layout.{pretty};
 ghost use Rattle.json.specs.Token.{begin_object};

@@ -1,4 +1,8 @@
 // A text of JSON, which grows token by token. A clause sees its tokens.
+ghost use Rattle.std.specs.Prelude.{◌≡◌, ◌<◌, ◌++◌, OnOk};
+ghost use Rattle.std.specs.String.{string_bytes};
+ghost use Rattle.report_entries.specs.EntryJson.{key_byte, place_key, snake};
+
 use crate::fact::Place;
 use crate::shown::{Thousandths, shown_byte};
 use json::{Pretty, Token, is_number};
@@ -189,10 +193,6 @@ impl JsonWriter {
         text.into_inner()
     }
 }
-
-ghost use Rattle.std.specs.Prelude.{◌≡◌, ◌<◌, ◌++◌, OnOk};
-ghost use Rattle.std.specs.String.{string_bytes};
-ghost use Rattle.report_entries.specs.EntryJson.{key_byte, place_key, snake};
 
 #[tactic(auto, unfolding(crate::specs::EntryJson::snake))]
 fn push_snake(text: &mut String, name: &str) -> Result<(), AllocError>

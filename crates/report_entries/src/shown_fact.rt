@@ -1,7 +1,7 @@
 // How facts are shown in reports.
 ghost use Rattle.std.specs.Prelude.{◌≡◌, Some};
 ghost use Rattle.report_entries.specs.Facts.{key_text, texts_of};
-ghost use Rattle.report_entries.specs.FactText.{four_digits, in_unit, level_text, milliwatts_text, named_text, spaced_names, version_text, yes_word};
+ghost use Rattle.report_entries.specs.FactText.{four_digits, level_text, milliwatts_text, named_text, spaced_names, version_text, yes_word};
 
 use crate::fact::Place;
 use crate::shown::Code;

@@ -20,7 +20,7 @@ use Rattle.paged_memory.specs.declared.family.Family.{Family}
 use Rattle.paged_memory.specs.declared.family.Family.TheVariants.{Cmis, Sff8636, Sff8472}
 use Rattle.paged_memory.specs.declared.page_addressing.PageAddressing.{PageAddressing}
 use Rattle.paged_memory.specs.declared.page_addressing.PageAddressing.TheVariants.{BankAndPage, PageAlone}
-use Rattle.paged_memory.specs.Families.{family_by, is_family}
+use Rattle.paged_memory.specs.Families.{is_family, managed_by}
 use Rattle.paged_memory.specs.Images.{Memory}
 use Rattle.paged_memory.specs.ImageText.{IsImage}
 use Rattle.paged_memory.specs.Keys.{lower_key, upper_key}
@@ -242,11 +242,11 @@ module _ (memory copy : Memory) (state : State) (history : History) (image : IsI
   selects_all by FirstPage = tt
   selects_all by (Page page) = by
 
-  same_selecting : Agree copy memory (lower_key A0) → is_absent memory (lower_key A0) ≡ false → asks_pages (family_by (identifier copy)) ≡ true → selecting_on memory A0 ≡ selecting_of (addressing_of copy)
+  same_selecting : Agree copy memory (lower_key A0) → is_absent memory (lower_key A0) ≡ false → asks_pages (managed_by (identifier copy)) ≡ true → selecting_on memory A0 ≡ selecting_of (addressing_of copy)
   same_selecting low there paged =
       let (half, has) = half_of (map.get memory (lower_key A0)) there in
       let id : identifier copy ≡ slice_index half 0 = same_number copy memory CIdentifier low refl refl ∙ identifier_is memory half image has in
-      selecting_is memory half has ∙ ap selecting_by (sym id) ∙ selecting_right (family_by (identifier copy)) paged
+      selecting_is memory half has ∙ ap selecting_by (sym id) ∙ selecting_right (managed_by (identifier copy)) paged
 
   halves_agree : IsImageOf history copy → HalvesAgree copy memory
   halves_agree is =
@@ -256,11 +256,11 @@ module _ (memory copy : Memory) (state : State) (history : History) (image : IsI
       let present : is_absent copy (lower_key A0) ≡ false = ap not (present_by (map.get copy (lower_key A0)) ⊥ (λ bytes. IsRead (addressing_of copy) (Lower A0) bytes history) first (λ none. none)) in
       let there : is_absent memory (lower_key A0) ≡ false = sym (same_absent copy memory (lower_key A0) low) ∙ present in
       let all : AllByRecursion (λ region. Agree copy memory (key_of region)) (regions_of copy) =
-      elim (cases_Bool (asks_pages (family_by (identifier copy)))) [
+      elim (cases_Bool (asks_pages (managed_by (identifier copy)))) [
         | inl paged ↦ agree_all (regions_of copy) (selects_all (same_selecting low there paged)) each
         | inr other ↦
-            let regions = lowers_alone (family_by (identifier copy)) copy other in
-            let diagnosed = is_family Sff8472 (family_by (identifier copy)) && has_diagnostics copy in
+            let regions = lowers_alone (managed_by (identifier copy)) copy other in
+            let diagnosed = is_family Sff8472 (managed_by (identifier copy)) && has_diagnostics copy in
             subst (AllByRecursion (λ region. Agree copy memory (key_of region))) (sym regions) (agree_lowers diagnosed (subst (AllByRecursion (IsSettled history copy)) regions each))
       ] in
       record { agree = all; present = present }

@@ -155,11 +155,13 @@ outcome_fault_depth (code ∷ values) sentence = fault_depth (code ∷ values) s
 outcome_depth : (o : Outcome) → members_depth (members_of (outcome_members o)) ≤ 8
 unfolding outcome_members
 outcome_depth o =
+    let woken = taken_members (codes "woken_steps") o.woken in
     let provisioned = taken_members (codes "provisioned_steps") o.provisioned in
     let activated = taken_members (codes "activated_steps") o.activated in
     let active = active_members o.active in
     let further = deep activated active 8 (taken_depth (codes "activated_steps") o.activated) (active_depth o.active) in
-    deep provisioned (activated ++ active) 8 (taken_depth (codes "provisioned_steps") o.provisioned) further
+    let made = deep provisioned (activated ++ active) 8 (taken_depth (codes "provisioned_steps") o.provisioned) further in
+    deep woken (provisioned ++ (activated ++ active)) 8 (taken_depth (codes "woken_steps") o.woken) made
 
 pub procedure_depth : (traced : Bool) (steps : List Step) (o : Outcome) (fault : List (List ℕ)) (sentence : List ℕ) → members_depth (members_of (operations_members traced steps ++ (outcome_members o ++ outcome_fault_members fault sentence))) ≤ 8
 procedure_depth traced steps o fault sentence =

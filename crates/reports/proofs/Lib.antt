@@ -2,6 +2,7 @@ pub mod FetchedHalves
 pub mod SameFamilies
 pub mod SameInventories
 pub mod SameApps
+mod SameDetailApps
 mod SameDetailRows
 mod SameDetails
 pub mod SameMonitors

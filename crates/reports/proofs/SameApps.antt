@@ -22,14 +22,14 @@ use Rattle.field_tables.proofs.SameRefusals.{same_refusal}
 use Rattle.field_tables.proofs.SameValues.{Agree, is_selection, same_number, same_reading_at}
 use Rattle.applications.specs.Advertised.{advertised_by}
 use Rattle.applications.specs.Descriptors.{app_at, apps_of, described, is_listed}
-use Rattle.applications.specs.Refusals.{advert_fault, module_reasons, page_reasons}
+use Rattle.applications.specs.Refusals.{advert_fault, module_reasons, page_fault, page_reasons}
 use Rattle.applications.specs.declared.fault.AdvertFault.{AdvertFault}
 use Rattle.reports.specs.Apps.{apps_entries, apps_fault}
 use Rattle.reports.specs.declared.fault.ReportFault.TheVariants.{Advert}
 use Rattle.module_decoding.specs.CmisPages.{is_flat}
 use Rattle.module_decoding.specs.ModuleFamilies.{identifier}
 use Rattle.reports.specs.SameReports.{IsSame}
-use Rattle.reports.proofs.SameFamilies.{CmisAgree, FamilyAgrees, none_applies, none_mapped}
+use Rattle.reports.proofs.SameFamilies.{CmisAgree, FamilyAgrees, is_managed, none_applies, none_mapped}
 
 -- a field of so many numbers in this half
 abbrev IsOfHalf : Field → Key → ℕ → Type 0
@@ -93,7 +93,7 @@ module _ (a b : Memory) (agree : CmisAgree a b) (second : Agree a b (upper_key A
       let later = same_apps_from (first + 1) count (omega (arith, from)) (omega (arith, to)) in
       λ i. here i ∷ later i
 
-  same_apps_of : apps_of a ≡ apps_of b
+  pub same_apps_of : apps_of a ≡ apps_of b
   unfolding apps_of
   same_apps_of = ap (take_while is_listed) (same_apps_from 1 15 (omega arith) (omega arith))
 
@@ -101,6 +101,9 @@ module _ (a b : Memory) (agree : CmisAgree a b) (second : Agree a b (upper_key A
   same_advertised =
       let unsupported = same_number a b fields.CUnsupportedMedia agree.first refl refl in
       λ i. record { apps = same_apps_of i; unsupported = lanes_in (unsupported i); paired = false }
+
+pub same_page_fault : (a b : Memory) → Agree a b (upper_key A0 0 0x00) → Agree a b (upper_key A0 0 0x01) → page_fault a ≡ page_fault b
+same_page_fault a b zeroth second = same_refusal a b page_reasons refl (zeroth, λ there. (second, λ both. (zeroth, λ right. (second, λ rights. tt))))
 
 pub same_advert_fault : (a b : Memory) → FamilyAgrees a b → advert_fault a ≡ advert_fault b
 unfolding advert_fault
@@ -117,7 +120,7 @@ same_advert_fault a b agrees =
             λ lanes. (
               low,
               λ paged.
-                  let agree = agrees.cmis (is_cmis (family_by (identifier a)) (not-false (is_of Cmis (identifier a)) cmis)) in
+                  let agree = agrees.cmis (is_managed (identifier a) Cmis (is_cmis (family_by (identifier a)) (not-false (is_of Cmis (identifier a)) cmis))) in
                   let second = (agree.paged paged).0 in
                   (agree.first, λ zeroth. (second, λ first. (agree.first, λ right. (second, λ both. tt)))),
             ),
@@ -131,6 +134,6 @@ same_apps a b agrees = record {
   fault = ap (option_map (λ (fault : AdvertFault). Advert fault)) (same_advert_fault a b agrees);
   said = λ e.
       let paged = is_paged a (none_mapped (λ (fault : AdvertFault). Advert fault) (advert_fault a) e) in
-      let agree = agrees.cmis paged.cmis in
+      let agree = agrees.cmis (is_managed (identifier a) Cmis paged.cmis) in
       ap apps_entries (same_advertised a b agree (agree.paged paged.paged).0);
 }

@@ -1,7 +1,7 @@
 -- Memories that agree in halves have the same of each row of details that reads of these halves alone, which a test of rows tells.
-use Rattle.std.proofs.Common.{◌≡◌, inl, inr, ℕ, zero, suc, ◌≤◌, ◌∙◌, sym, ◌+◌, ◌-◌, ◌*◌, ◌^◌, ◌==◌, ◌&&◌, ◌||◌, Bool, true, false, List, [], ◌∷◌, ◌++◌, map, Option, Some, None, refl, ap, if◌then◌else◌, nat_le, arith}
+use Rattle.std.proofs.Common.{◌≡◌, inl, inr, ℕ, zero, suc, ◌≤◌, ◌∙◌, sym, ◌+◌, ◌-◌, ◌*◌, ◌^◌, ◌==◌, ◌&&◌, ◌||◌, Bool, true, false, List, [], ◌∷◌, ◌++◌, Option, Some, None, refl, ap, if◌then◌else◌, nat_le, arith}
 use Rattle.std.proofs.lemmas.Bool.{and_parts, not-true, or_cases, true≢false, leb-true}
-use Rattle.std.specs.Prelude.{ℤ, pos, ◌*ℤ◌, not, nat_lt, unsigned_abs, is_none, is_some}
+use Rattle.std.specs.Prelude.{ℤ, pos, not, nat_lt, unsigned_abs, is_none, is_some}
 use Rattle.std.specs.List.{AllByRecursion, flat_map, list_all, list_any, range_with_len}
 use Rattle.paged_memory.specs.declared.key.Key.{Key}
 use Rattle.paged_memory.specs.Images.{Memory}
@@ -12,7 +12,7 @@ use Rattle.external_calibration.specs.Refusals.{refusal_by}
 use Rattle.external_calibration.specs.declared.constants.Constants.{Constants}
 use Rattle.external_calibration.specs.declared.monitor.Monitor.{Monitor}
 use Rattle.field_tables.specs.declared.field.Field.{Field}
-use Rattle.field_tables.specs.declared.field.Field.TheVariants.{QMaxPower, QPowerClass, QPowerClass8, QPowerClassHigh, SExternal, SOffsets, SRxPowerCoefficients, SSlopes}
+use Rattle.field_tables.specs.declared.field.Field.TheVariants.{CIdentifier, QMaxPower, QPowerClass, QPowerClass8, QPowerClassHigh, SExternal, SOffsets, SRxPowerCoefficients, SSlopes}
 use Rattle.field_tables.specs.FieldRows.{row_of}
 use Rattle.field_tables.specs.FieldValues.{field_key}
 use Rattle.field_tables.specs.Readings as readings
@@ -24,7 +24,7 @@ use Rattle.module_details.specs.declared.item.Case.{Case}
 use Rattle.module_details.specs.declared.item.Case.TheVariants.{Within, Outside, Neither, LacksSince}
 use Rattle.module_details.specs.declared.item.Values.{Values}
 use Rattle.module_details.specs.declared.item.Values.TheVariants.{One, Lanes}
-use Rattle.module_details.specs.Details.{amount_fact, applies, bit_rate, bit_rate_fact, celsius_fact, fact_at, fact_entries, first_lane_fact, if_any, is_positive, is_within, lane_entries, level_fact, milliwatts_fact, name_if_set, name_of, named_fact, names_fact, names_of, names_up_to, pair, pair_fact, percent_fact, row_entries, rows_entries, steps_fact, temperature_fact, text_fact, values_entries}
+use Rattle.module_details.specs.Details.{amount_fact, applies, bit_rate, bit_rate_fact, celsius_fact, fact_at, fact_entries, first_lane_fact, if_any, is_positive, is_within, lane_entries, level_fact, milliwatts_fact, most_lanes, name_if_set, name_of, named_fact, names_fact, names_of, pair, pair_fact, percent_fact, row_entries, rows_entries, steps_fact, temperature_fact, text_fact, values_entries}
 use Rattle.module_details.specs.Measured as measured
 use Rattle.module_details.specs.Measured.{calibrated, calibrates, measured_fact, measured_power}
 use Rattle.module_details.specs.PowerClasses.{class_power, power_class, power_of}
@@ -89,7 +89,7 @@ item_in keys ClassPower i = value_in keys QMaxPower 1 && (value_in keys QPowerCl
 
 abbrev values_in : List Key → Item → Values → Bool
 values_in keys item (One i) = item_in keys item i
-values_in keys item (Lanes n) = list_all (item_in keys item) (range_with_len 1 n)
+values_in keys item (Lanes n) = list_all (item_in keys item) (range_with_len 1 n) && value_in keys CIdentifier 1
 
 abbrev case_in : List Key → Case → Bool
 case_in keys (Within field i low high) = value_in keys field i
@@ -296,18 +296,27 @@ module _ (a b : Memory) (keys : List Key) (all : AllByRecursion (λ key. Agree a
   fact_same PowerClass i e = ap (λ (n : ℕ). Some (facts.number n)) (class_same e)
   fact_same ClassPower i e = ap (λ (n : ℕ). Some (facts.amount (pos n) units.Watt)) (power_same e)
 
-  lanes_same : (name : List ℕ) (item : Item) (lanes : List ℕ) → list_all (item_in keys item) lanes ≡ true → flat_map (lane_entries a name item) lanes ≡ flat_map (lane_entries b name item) lanes
-  lanes_same name item [] e = refl
-  lanes_same name item (lane ∷ lanes) e =
+  lane_same : (name : List ℕ) (item : Item) (lane : ℕ) → item_in keys item lane ≡ true → value_in keys CIdentifier 1 ≡ true → lane_entries a name item lane ≡ lane_entries b name item lane
+  unfolding lane_entries
+  lane_same name item lane e id =
+      let identifier = number_same CIdentifier 1 id in
+      let here = fact_same item lane e in
+      λ i. if nat_le lane (most_lanes (identifier i)) then fact_entries name (Lane lane) (here i) else []
+
+  lanes_same : (name : List ℕ) (item : Item) (lanes : List ℕ) → list_all (item_in keys item) lanes ≡ true → value_in keys CIdentifier 1 ≡ true
+      → flat_map (lane_entries a name item) lanes ≡ flat_map (lane_entries b name item) lanes
+  lanes_same name item [] e id = refl
+  lanes_same name item (lane ∷ lanes) e id =
       let parts = and_parts (item_in keys item lane) (list_all (item_in keys item) lanes) e in
-      let here = fact_same item lane parts.0 in
-      let later = lanes_same name item lanes parts.1 in
-      ap (λ (f : Option Fact). fact_entries name (Lane lane) f ++ flat_map (lane_entries a name item) lanes) here
-      ∙ ap (λ (rest : List Entry). lane_entries b name item lane ++ rest) later
+      let here = lane_same name item lane parts.0 id in
+      let later = lanes_same name item lanes parts.1 id in
+      λ i. here i ++ later i
 
   values_same : (name : List ℕ) (item : Item) (values : Values) → values_in keys item values ≡ true → values_entries a name item values ≡ values_entries b name item values
   values_same name item (One i) e = ap (λ (f : Option Fact). fact_entries name Module f) (fact_same item i e)
-  values_same name item (Lanes n) e = lanes_same name item (range_with_len 1 n) e
+  values_same name item (Lanes n) e =
+      let parts = and_parts (list_all (item_in keys item) (range_with_len 1 n)) (value_in keys CIdentifier 1) e in
+      lanes_same name item (range_with_len 1 n) parts.0 parts.1
 
   applies_same : (case : Case) → case_in keys case ≡ true → applies a case ≡ applies b case
   applies_same (Within field i low high) e = ap (λ (n : ℕ). is_within low high n) (number_same field i e)

@@ -1,37 +1,32 @@
 -- Memories that agree in the halves of their family have the same details.
-use Rattle.std.proofs.Common.{◌≡◌, ◌++◌, ◌∷◌, [], ◌&&◌, ◌==◌, ℕ, Bool, true, false, List, Option, None, Some, refl, sym, ap, ◌∙◌, if◌then◌else◌}
+use Rattle.std.proofs.Common.{◌≡◌, ◌++◌, ◌∷◌, [], ◌&&◌, ◌==◌, ℕ, Bool, true, false, List, Option, None, Some, refl, ap, ◌∙◌, if◌then◌else◌}
 use Rattle.std.proofs.lemmas.Bool.{and_parts, not-false}
-use Rattle.std.specs.Prelude.{is_some, not}
-use Rattle.std.specs.List.{AllByRecursion, flat_map, list_all}
+use Rattle.std.specs.Prelude.{not}
+use Rattle.std.specs.List.{AllByRecursion, list_all}
 use Rattle.std.specs.Option.{option_or}
 use Rattle.bus_model.specs.declared.device.Dev.TheVariants.{A0, A2}
 use Rattle.paged_memory.specs.declared.family.Family.TheVariants.{Cmis, Sff8636, Sff8472}
 use Rattle.paged_memory.specs.declared.key.Key.{Key}
 use Rattle.paged_memory.specs.Images.{Memory}
 use Rattle.paged_memory.specs.Keys.{lower_key, upper_key}
-use Rattle.field_tables.specs.declared.field.Field.TheVariants.{CMediaType, SAddressChange, SDiagPresent}
+use Rattle.field_tables.specs.declared.field.Field.TheVariants.{SAddressChange, SDiagPresent}
 use Rattle.field_tables.specs.Halves.{is_absent}
-use Rattle.field_tables.specs.Readings.{bit, number}
+use Rattle.field_tables.specs.Readings.{bit}
 use Rattle.field_tables.proofs.SameValues.{Agree, same_absent, same_number}
-use Rattle.applications.specs.Advertised.{Advertised, advertised_by}
-use Rattle.applications.specs.Refusals.{advert_fault}
-use Rattle.module_decoding.specs.CmisPages.{absent_page, detail_pages, is_flat}
-use Rattle.module_details.specs.AppDetails.{app_entries, apps_entries}
+use Rattle.module_decoding.specs.CmisPages.{absent_page, is_flat}
 use Rattle.module_details.specs.CmisDetails as cmis
-use Rattle.module_details.specs.Details.{rows_entries}
 use Rattle.module_details.specs.Families.{cmis_entries, lacks_diagnostics, qsfp_entries, sfp_entries, tables_entries}
 use Rattle.module_details.specs.QsfpDetails as qsfp
 use Rattle.module_details.specs.Rows.{Row}
 use Rattle.module_details.specs.SfpDetails as sfp
-use Rattle.report_entries.specs.Entries.{Entry}
 use Rattle.reports.specs.declared.fault.ReportFault.{ReportFault}
 use Rattle.reports.specs.declared.fault.ReportFault.TheVariants.{Absent}
-use Rattle.reports.specs.Details.{absent_diagnostics, details_entries, details_fault, entries_in, fault_in}
+use Rattle.reports.specs.Details.{details_entries, details_fault, entries_in, fault_in}
 use Rattle.reports.specs.Families.{lacks, of_sff}
 use Rattle.reports.specs.SameReports.{IsSame}
-use Rattle.reports.proofs.SameApps.{is_paged, same_advert_fault, same_advertised}
+use Rattle.reports.proofs.SameDetailApps.{same_apps_said}
 use Rattle.reports.proofs.SameDetailRows.{detail_in, details_same}
-use Rattle.reports.proofs.SameFamilies.{CmisAgree, FamilyAgrees, QsfpAgree, SfpAgree, by_family, same_flat, same_if, same_pages}
+use Rattle.reports.proofs.SameFamilies.{CmisAgree, FamilyAgrees, QsfpAgree, SfpAgree, by_detail_family, same_flat, same_pages}
 use Rattle.reports.proofs.SameInventories.{same_qsfp_fault, same_sfp_fault}
 
 -- ---- tables
@@ -55,25 +50,6 @@ tables_by_flat a b tables f g e same = same f refl ∙ ap (λ (flat : Bool). tab
 
 -- ---- of a CMIS module
 
-none_of : {A : Type 0} (found : Option A) → is_some found ≡ false → found ≡ None
-none_of None e = refl
-none_of (Some x) e = absurd cc
-
-abbrev of_apps : Memory → List Entry
-of_apps memory = flat_map (app_entries (number memory CMediaType)) (advertised_by memory).apps
-
-same_apps_said : (a b : Memory) → FamilyAgrees a b → apps_entries a ≡ apps_entries b
-unfolding apps_entries
-same_apps_said a b agrees =
-    same_if (is_some (advert_fault a)) (is_some (advert_fault a)) (is_some (advert_fault b)) [] (of_apps a) (of_apps b) refl
-    (ap is_some (sym (same_advert_fault a b agrees)))
-    (λ none.
-    let paged = is_paged a (none_of (advert_fault a) none) in
-    let agree = agrees.cmis paged.cmis in
-    let media = same_number a b CMediaType agrees.low refl refl in
-    let advert = same_advertised a b agree (agree.paged paged.paged).0 in
-    λ i. flat_map (app_entries (media i)) (advert i).apps)
-
 module _ (a b : Memory) (agree : CmisAgree a b) where
   same_of : (flat : Bool) → is_flat a ≡ flat → tables_entries a flat cmis.tables_of_rows ≡ tables_entries b flat cmis.tables_of_rows
   unfolding cmis.identity_rows cmis.characteristics_rows cmis.controls_rows cmis.status_rows cmis.lanes_rows
@@ -85,9 +61,9 @@ module _ (a b : Memory) (agree : CmisAgree a b) where
   same_tables : tables_entries a (is_flat a) cmis.tables_of_rows ≡ tables_entries b (is_flat b) cmis.tables_of_rows
   same_tables = tables_by_flat a b cmis.tables_of_rows (is_flat a) (is_flat b) (same_flat a b agree.low) same_of
 
-  same_said : FamilyAgrees a b → cmis_entries a ≡ cmis_entries b
+  same_said : cmis_entries a ≡ cmis_entries b
   unfolding cmis_entries
-  same_said agrees = let rows = same_tables in let apps = same_apps_said a b agrees in λ i. rows i ++ apps i
+  same_said = let rows = same_tables in let apps = same_apps_said a b agree in λ i. rows i ++ apps i
 
   same_absent_page : (flat : Bool) → is_flat a ≡ flat → lacks (absent_page (if flat then 0x00 ∷ [] else 0x00 ∷ 0x01 ∷ 0x11 ∷ []) a) ≡ lacks (absent_page (if flat then 0x00 ∷ [] else 0x00 ∷ 0x01 ∷ 0x11 ∷ []) b)
   same_absent_page true is = same_pages a b (0x00 ∷ []) (agree.first, tt)
@@ -98,8 +74,8 @@ module _ (a b : Memory) (agree : CmisAgree a b) where
       same_absent_page (is_flat a) refl
       ∙ ap (λ (flat : Bool). lacks (absent_page (if flat then 0x00 ∷ [] else 0x00 ∷ 0x01 ∷ 0x11 ∷ []) b)) (same_flat a b agree.low)
 
-  same_cmis : FamilyAgrees a b → IsSame (fault_in Cmis) (entries_in Cmis) a b
-  same_cmis agrees = record { fault = same_cmis_fault; said = λ none. same_said agrees }
+  same_cmis : IsSame (fault_in Cmis) (entries_in Cmis) a b
+  same_cmis = record { fault = same_cmis_fault; said = λ none. same_said }
 
 -- ---- of a module of SFF-8636
 
@@ -148,4 +124,4 @@ module _ (a b : Memory) (agree : SfpAgree a b) where
 
 pub same_details : (a b : Memory) → FamilyAgrees a b → IsSame details_fault details_entries a b
 unfolding details_fault details_entries
-same_details a b agrees = by_family fault_in entries_in a b agrees (λ agree. same_cmis a b agree agrees) (same_qsfp a b) (same_sfp a b)
+same_details a b agrees = by_detail_family fault_in entries_in a b agrees (same_cmis a b) (same_qsfp a b) (same_sfp a b)

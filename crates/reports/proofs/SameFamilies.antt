@@ -1,13 +1,13 @@
 -- Memories that agree in the halves that are read of a module are of the same family, and are refused for the same reasons.
 use Rattle.std.proofs.Common.{◌≡◌, inl, inr, ℕ, ◌==◌, ◌&&◌, Bool, true, false, List, [], ◌∷◌, Option, Some, None, refl, sym, ap, ◌∙◌, if◌then◌else◌}
 use Rattle.std.proofs.lemmas.Bool.{cases_Bool, not-false}
-use Rattle.std.specs.Prelude.{is_some, not, option_map, unwrap_or}
+use Rattle.std.specs.Prelude.{is_some, not, option_map}
 use Rattle.std.specs.List.{AllByRecursion}
 use Rattle.std.specs.Option.{option_or}
 use Rattle.bus_model.specs.declared.device.Dev.TheVariants.{A0, A2}
 use Rattle.paged_memory.specs.declared.family.Family.{Family}
 use Rattle.paged_memory.specs.declared.family.Family.TheVariants.{Cmis, Sff8636, Sff8472}
-use Rattle.paged_memory.specs.Families.{family_by, is_of}
+use Rattle.paged_memory.specs.Families.{family_by, is_family, is_other_cmis, managed_by}
 use Rattle.paged_memory.specs.Images.{Memory}
 use Rattle.paged_memory.specs.Keys.{lower_key, upper_key}
 use Rattle.paged_memory.specs.declared.key.Key.{Key}
@@ -20,12 +20,12 @@ use Rattle.field_tables.proofs.SameValues.{Agree, same_absent, same_number}
 use Rattle.applications.specs.Refusals.{is_read_revision}
 use Rattle.reports.specs.declared.fault.ReportFault.{ReportFault}
 use Rattle.reports.specs.declared.fault.ReportFault.TheVariants.{Sff}
-use Rattle.reports.specs.Families.{lacks, module_fault, of_sff, unread}
+use Rattle.reports.specs.Families.{detail_fault, lacks, module_fault, of_sff, unread}
 use Rattle.module_decoding.specs.declared.module_family.ModuleFault.{ModuleFault}
 use Rattle.module_decoding.specs.declared.module_family.ModuleFault.TheVariants.{Absent, Unknown, Revision}
 use Rattle.module_decoding.specs.CmisPages.{absent_page, is_flat, unless_flat}
 use Rattle.module_decoding.specs.ModuleFamilies as families
-use Rattle.module_decoding.specs.ModuleFamilies.{family_of, identifier}
+use Rattle.module_decoding.specs.ModuleFamilies.{detail_family_of, family_of, identifier, known}
 use Rattle.module_reading.specs.Regions.{has_diagnostics}
 use Rattle.reports.specs.SameReports.{IsSame}
 
@@ -81,9 +81,17 @@ pub record SfpAgree (a b : Memory) : Type 0 where
 -- the halves agree that are asked for of a module by its family
 pub record FamilyAgrees (a b : Memory) : Type 0 where
   pub low : Agree a b (lower_key A0)
-  pub cmis : family_by (identifier a) ≡ Some Cmis → CmisAgree a b
-  pub qsfp : family_by (identifier a) ≡ Some Sff8636 → QsfpAgree a b
-  pub sfp : family_by (identifier a) ≡ Some Sff8472 → SfpAgree a b
+  pub cmis : managed_by (identifier a) ≡ Some Cmis → CmisAgree a b
+  pub qsfp : managed_by (identifier a) ≡ Some Sff8636 → QsfpAgree a b
+  pub sfp : managed_by (identifier a) ≡ Some Sff8472 → SfpAgree a b
+
+-- a family that all reports may speak of is the one that manages the module
+pub is_managed : (id : ℕ) (family : Family) → family_by id ≡ Some family → managed_by id ≡ Some family
+unfolding family_by
+is_managed id family e = by (is_other_cmis id) e where
+  by : (other : Bool) → (if other then None else managed_by id) ≡ Some family → managed_by id ≡ Some family
+  by true none = absurd cc
+  by false is = is
 
 -- ---- by the lower half
 
@@ -103,21 +111,33 @@ module _ (a b : Memory) (low : Agree a b (lower_key A0)) where
   pub same_lower : is_absent a (lower_key A0) ≡ is_absent b (lower_key A0)
   same_lower = same_absent a b (lower_key A0) low
 
-  same_unread : families.module_fault a ≡ families.module_fault b
-  unfolding families.module_fault
-  same_unread = λ i. first_fault (
+  same_fault : (f g : Option Family) (x y : Bool) → f ≡ g → x ≡ y → families.fault_in f x a ≡ families.fault_in g y b
+  unfolding families.fault_in
+  same_fault f g x y same both = λ i. first_fault (
       (same_lower i, Absent (lower_key A0))
-      ∷ (not (is_some (family_by (same_identifier i))), Unknown (same_identifier i))
-      ∷ (is_of Cmis (same_identifier i) && not (is_read_revision (same_revision i)), Revision (same_revision i))
+      ∷ (not (is_some (same i)), Unknown (same_identifier i))
+      ∷ (is_family Cmis (same i) && not (both i), Revision (same_revision i))
       ∷ [])
 
   pub same_module_fault : module_fault a ≡ module_fault b
-  unfolding module_fault
-  same_module_fault = ap (option_map (λ (fault : ModuleFault). unread fault)) same_unread
+  unfolding module_fault families.module_fault
+  same_module_fault =
+      ap (option_map (λ (fault : ModuleFault). unread fault))
+      (same_fault (family_by (identifier a)) (family_by (identifier b)) (is_read_revision (number a CRevision)) (is_read_revision (number b CRevision)) (ap family_by same_identifier) (ap is_read_revision same_revision))
+
+  pub same_detail_fault : detail_fault a ≡ detail_fault b
+  unfolding detail_fault families.detail_fault
+  same_detail_fault =
+      ap (option_map (λ (fault : ModuleFault). unread fault))
+      (same_fault (managed_by (identifier a)) (managed_by (identifier b)) (families.is_detail_revision (number a CRevision)) (families.is_detail_revision (number b CRevision)) (ap managed_by same_identifier) (ap families.is_detail_revision same_revision))
 
   pub same_family : family_of a ≡ family_of b
   unfolding family_of
-  same_family = λ i. unwrap_or (family_by (same_identifier i)) Cmis
+  same_family = λ i. known (family_by (same_identifier i))
+
+  pub same_detail_family : detail_family_of a ≡ detail_family_of b
+  unfolding detail_family_of
+  same_detail_family = λ i. known (managed_by (same_identifier i))
 
 -- ---- pages
 
@@ -149,32 +169,52 @@ same_unless_flat a b pages same agree =
 
 -- ---- by family
 
--- where no module fault applies the family is known
-is_known : (a : Memory) → module_fault a ≡ None → is_some (family_by (identifier a)) ≡ true
-unfolding module_fault families.module_fault
-is_known a none =
-    not-false (is_some (family_by (identifier a))) (none_applies (families.module_faults a) (none_mapped (λ (fault : ModuleFault). unread fault) (families.module_fault a) none)).1.0
+-- where no fault applies a family was found
+is_known : (a : Memory) (family : Option Family) (is_read : Bool) → option_map (λ (fault : ModuleFault). unread fault) (families.fault_in family is_read a) ≡ None → is_some family ≡ true
+unfolding families.fault_in
+is_known a family is_read none =
+    not-false (is_some family) (none_applies (families.faults_in family is_read a) (none_mapped (λ (fault : ModuleFault). unread fault) (families.fault_in family is_read a) none)).1.0
 
--- what holds in each family holds in the module's
-in_family : (P : Family → Type 0) (a b : Memory) → FamilyAgrees a b → (CmisAgree a b → P Cmis) → (QsfpAgree a b → P Sff8636) → (SfpAgree a b → P Sff8472) → is_some (family_by (identifier a)) ≡ true → P (family_of a)
-unfolding family_of
-in_family P a b agrees cmis qsfp sfp known = by (family_by (identifier a)) refl known where
-  by : (family : Option Family) → family_by (identifier a) ≡ family → is_some family ≡ true → P (unwrap_or family Cmis)
-  by (Some Cmis) is known = cmis (agrees.cmis is)
-  by (Some Sff8636) is known = qsfp (agrees.qsfp is)
-  by (Some Sff8472) is known = sfp (agrees.sfp is)
-  by None is known = absurd cc
+-- what holds in each family holds in the one that was found
+in_family : (P : Family → Type 0) (a b : Memory) → FamilyAgrees a b → (CmisAgree a b → P Cmis) → (QsfpAgree a b → P Sff8636) → (SfpAgree a b → P Sff8472)
+    → (found : Option Family) → ((family : Family) → found ≡ Some family → managed_by (identifier a) ≡ Some family) → is_some found ≡ true → P (known found)
+in_family P a b agrees cmis qsfp sfp (Some Cmis) managed some = cmis (agrees.cmis (managed Cmis refl))
+in_family P a b agrees cmis qsfp sfp (Some Sff8636) managed some = qsfp (agrees.qsfp (managed Sff8636 refl))
+in_family P a b agrees cmis qsfp sfp (Some Sff8472) managed some = sfp (agrees.sfp (managed Sff8472 refl))
+in_family P a b agrees cmis qsfp sfp None managed some = absurd cc
+
+-- a report that is the same in the family that was found is the same
+in_found : {A : Type 0} (fault : Memory → Option ReportFault) (found : Memory → Family) (fault_in : Family → Memory → Option ReportFault) (said_in : Family → Memory → A) (a b : Memory)
+    → fault a ≡ fault b → found a ≡ found b → (fault a ≡ None → IsSame (fault_in (found a)) (said_in (found a)) a b)
+    → IsSame (λ m. option_or (fault m) (fault_in (found m) m)) (λ m. said_in (found m) m) a b
+in_found {A} fault found fault_in said_in a b same_fault same_found same = record {
+  fault = same_later (fault a) (fault b) (fault_in (found a) a) (fault_in (found b) b) same_fault
+      (λ none. (same none).fault ∙ ap (λ (family : Family). fault_in family b) same_found);
+  said = λ e.
+      let none = none_before (fault a) (fault_in (found a) a) e in
+      (same none.0).said none.1 ∙ ap (λ (family : Family). said_in family b) same_found;
+}
 
 -- a report that is the same in each family is the same
 pub by_family : {A : Type 0} (fault_in : Family → Memory → Option ReportFault) (said_in : Family → Memory → A) (a b : Memory) → FamilyAgrees a b →
     (CmisAgree a b → IsSame (fault_in Cmis) (said_in Cmis) a b) → (QsfpAgree a b → IsSame (fault_in Sff8636) (said_in Sff8636) a b) → (SfpAgree a b → IsSame (fault_in Sff8472) (said_in Sff8472) a b) →
     IsSame (λ m. option_or (module_fault m) (fault_in (family_of m) m)) (λ m. said_in (family_of m) m) a b
-by_family {A} fault_in said_in a b agrees cmis qsfp sfp = record {
-  fault = same_later (module_fault a) (module_fault b) (fault_in (family_of a) a) (fault_in (family_of b) b) (same_module_fault a b agrees.low)
-      (λ none. (same none).fault ∙ ap (λ (family : Family). fault_in family b) (same_family a b agrees.low));
-  said = λ e.
-      let none = none_before (module_fault a) (fault_in (family_of a) a) e in
-      (same none.0).said none.1 ∙ ap (λ (family : Family). said_in family b) (same_family a b agrees.low);
-} where
-  same : module_fault a ≡ None → IsSame (fault_in (family_of a)) (said_in (family_of a)) a b
-  same none = in_family (λ (family : Family). IsSame (fault_in family) (said_in family) a b) a b agrees cmis qsfp sfp (is_known a none)
+unfolding module_fault families.module_fault family_of
+by_family {A} fault_in said_in a b agrees cmis qsfp sfp =
+    in_found module_fault family_of fault_in said_in a b (same_module_fault a b agrees.low) (same_family a b agrees.low) same where
+      same : module_fault a ≡ None → IsSame (fault_in (family_of a)) (said_in (family_of a)) a b
+      same none =
+          let found = family_by (identifier a) in
+          in_family (λ (family : Family). IsSame (fault_in family) (said_in family) a b) a b agrees cmis qsfp sfp found (is_managed (identifier a)) (is_known a found (is_read_revision (number a CRevision)) none)
+
+-- so are details
+pub by_detail_family : {A : Type 0} (fault_in : Family → Memory → Option ReportFault) (said_in : Family → Memory → A) (a b : Memory) → FamilyAgrees a b →
+    (CmisAgree a b → IsSame (fault_in Cmis) (said_in Cmis) a b) → (QsfpAgree a b → IsSame (fault_in Sff8636) (said_in Sff8636) a b) → (SfpAgree a b → IsSame (fault_in Sff8472) (said_in Sff8472) a b) →
+    IsSame (λ m. option_or (detail_fault m) (fault_in (detail_family_of m) m)) (λ m. said_in (detail_family_of m) m) a b
+unfolding detail_fault families.detail_fault detail_family_of
+by_detail_family {A} fault_in said_in a b agrees cmis qsfp sfp =
+    in_found detail_fault detail_family_of fault_in said_in a b (same_detail_fault a b agrees.low) (same_detail_family a b agrees.low) same where
+      same : detail_fault a ≡ None → IsSame (fault_in (detail_family_of a)) (said_in (detail_family_of a)) a b
+      same none =
+          let found = managed_by (identifier a) in
+          in_family (λ (family : Family). IsSame (fault_in family) (said_in family) a b) a b agrees cmis qsfp sfp found (λ family is. is) (is_known a found (families.is_detail_revision (number a CRevision)) none)

@@ -1,5 +1,5 @@
 -- The keys of what rows say are some of those that the rows have, in their order; these are distinct, by a computed test.
-use Rattle.std.proofs.Common.{◌≡◌, ◌⊎◌, inl, inr, ℕ, Bool, true, false, not, ◌&&◌, ◌||◌, List, [], ◌∷◌, ◌++◌, Option, None, Some, map, refl, sym, ap, subst, if◌then◌else◌, codes, ◌<◌, nat_lt, ◌+◌, decimal}
+use Rattle.std.proofs.Common.{◌≡◌, ◌⊎◌, inl, inr, ℕ, Bool, true, false, not, ◌&&◌, List, [], ◌∷◌, ◌++◌, Option, None, Some, map, refl, sym, ap, subst, if◌then◌else◌, codes, ◌<◌, nat_lt, ◌+◌}
 use Rattle.std.proofs.lemmas.Bool.{and_parts, ltb-true, not-true}
 use Rattle.std.proofs.lemmas.Fmt.{decimal_digit}
 use Rattle.std.specs.Prelude.{⊤}
@@ -16,7 +16,7 @@ use Rattle.report_entries.specs.declared.fact.Place.TheVariants.{Module, Lane}
 use Rattle.module_details.specs.declared.item.Values.{Values}
 use Rattle.module_details.specs.declared.item.Values.TheVariants.{One, Lanes}
 use Rattle.module_details.specs.CmisDetails as cmis
-use Rattle.module_details.specs.Details.{fact_at, fact_entries, is_left_out, lane_entries, row_entries, rows_entries, values_entries}
+use Rattle.module_details.specs.Details.{fact_at, fact_entries, has_lane, is_left_out, lane_entries, row_entries, rows_entries, values_entries}
 use Rattle.module_details.specs.Families.{tables_entries}
 use Rattle.module_details.specs.QsfpDetails as qsfp
 use Rattle.module_details.specs.Rows.{Item, Row}
@@ -116,9 +116,16 @@ unfolding fact_entries entry
 fact_part name place None = tt
 fact_part name place (Some f) = inl (refl, tt)
 
+if_part : (has : Bool) (entries : List Entry) (ks : List (List ℕ)) → Part (keys_of entries) ks → Part (keys_of (if has then entries else [])) ks
+if_part true entries ks p = p
+if_part false entries ks p = tt
+
 lane_part : (memory : Memory) (name : List ℕ) (item : Item) (lane : ℕ) → lane < 10 → Part (keys_of (lane_entries memory name item lane)) (lane_key name lane ∷ [])
+unfolding lane_entries
 lane_part memory name item lane small =
-    subst (λ (key : List ℕ). Part (keys_of (lane_entries memory name item lane)) (key ∷ [])) (lane_key_text name lane small) (fact_part name (Lane lane) (fact_at memory item lane))
+    let said = fact_entries name (Lane lane) (fact_at memory item lane) in
+    if_part (has_lane memory lane) said (lane_key name lane ∷ [])
+    (subst (λ (key : List ℕ). Part (keys_of said) (key ∷ [])) (lane_key_text name lane small) (fact_part name (Lane lane) (fact_at memory item lane)))
 
 lanes_part : (memory : Memory) (name : List ℕ) (item : Item) (lanes : List ℕ) → list_all (λ (lane : ℕ). nat_lt lane 10) lanes ≡ true
     → Part (keys_of (flat_map (lane_entries memory name item) lanes)) (map (lane_key name) lanes)

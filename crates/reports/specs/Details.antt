@@ -8,7 +8,7 @@ use Rattle.paged_memory.specs.Images.{Memory}
 use Rattle.paged_memory.specs.Keys.{lower_key}
 use Rattle.field_tables.specs.Halves.{is_absent}
 use Rattle.module_decoding.specs.CmisPages.{absent_page, detail_pages}
-use Rattle.module_decoding.specs.ModuleFamilies.{family_of}
+use Rattle.module_decoding.specs.ModuleFamilies.{detail_family_of}
 use Rattle.module_details.specs.Families.{cmis_entries, lacks_diagnostics, qsfp_entries, sfp_entries}
 use Rattle.sff8636_map.specs.Refusals as sff8636_refusals
 use Rattle.sff8472_map.specs.Refusals as sff8472_refusals
@@ -16,7 +16,7 @@ use Rattle.report_entries.specs.Entries.{Entry}
 use Rattle.report_entries.specs.EntryText.{entries_lines}
 use Rattle.reports.specs.declared.fault.ReportFault.{ReportFault}
 use Rattle.reports.specs.declared.fault.ReportFault.TheVariants.{Absent}
-use Rattle.reports.specs.Families.{lacks, module_fault, of_sff}
+use Rattle.reports.specs.Families.{detail_fault, lacks, of_sff}
 
 -- device A2 has diagnostics that are not there
 abbrev pub absent_diagnostics : Memory → Option ReportFault
@@ -35,10 +35,10 @@ entries_in Sff8636 memory = qsfp_entries memory
 entries_in Sff8472 memory = sfp_entries memory
 
 unfoldable pub details_fault : Memory → Option ReportFault
-details_fault memory = option_or (module_fault memory) (fault_in (family_of memory) memory)
+details_fault memory = option_or (detail_fault memory) (fault_in (detail_family_of memory) memory)
 
 unfoldable pub details_entries : Memory → List Entry
-details_entries memory = entries_in (family_of memory) memory
+details_entries memory = entries_in (detail_family_of memory) memory
 
 unfoldable pub details_lines : Memory → List (List ℕ)
 details_lines memory = entries_lines (details_entries memory)

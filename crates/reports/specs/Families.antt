@@ -18,6 +18,10 @@ unread (unread_module.Revision revision) = Revision revision
 unfoldable pub module_fault : Memory → Option ReportFault
 module_fault memory = option_map (λ fault. unread fault) (families.module_fault memory)
 
+-- not even details
+unfoldable pub detail_fault : Memory → Option ReportFault
+detail_fault memory = option_map (λ fault. unread fault) (families.detail_fault memory)
+
 -- a page of a CMIS module is needed that is not there
 abbrev pub lacks : Option Key → Option ReportFault
 lacks page = option_map (λ key. Absent key) page

@@ -1,4 +1,4 @@
--- The JSON of what provisioning and activation came to: the operations, if they are shown, the steps of each call that
+-- The JSON of what waking up, provisioning and activation came to: the operations, if they are shown, the steps of each call that
 -- succeeded, the active control bytes, and a fault. (docs/formats.md, "JSON"; this project's own)
 use Rattle.std.specs.Prelude.{ℕ, Bool, true, false, List, [], ◌∷◌, ◌++◌, codes, map, Option, Some, None}
 use Rattle.json.specs.Json.{Json}
@@ -62,8 +62,9 @@ active_members (Some bytes) = numbers_members (codes "active_bytes") bytes
 
 unfoldable pub outcome_members : Outcome → List Member
 outcome_members o =
-    taken_members (codes "provisioned_steps") o.provisioned
-    ++ (taken_members (codes "activated_steps") o.activated ++ active_members o.active)
+    taken_members (codes "woken_steps") o.woken
+    ++ (taken_members (codes "provisioned_steps") o.provisioned
+    ++ (taken_members (codes "activated_steps") o.activated ++ active_members o.active))
 
 -- a fault, by its words, if there is one
 abbrev pub outcome_fault_members : List (List ℕ) → List ℕ → List Member

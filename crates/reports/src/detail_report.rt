@@ -4,7 +4,7 @@ ghost use Rattle.reports.specs.Details as spec;
 ghost use Rattle.reports.specs.Details.{details_entries, details_fault, details_lines};
 ghost use Rattle.paged_memory.specs.declared.family.Family.TheVariants as families;
 
-use crate::family::family_of;
+use crate::family::detail_family_of;
 use crate::fault::ReportFault;
 use bus_model::Dev;
 use module_decoding::absent_detail_page;
@@ -33,7 +33,7 @@ pub fn details_json(alloc: Global, image: &Image) -> Result<Vec<u8>, ReportFault
 fn details_entries(alloc: Global, image: &Image) -> Result<Vec<Entry>, ReportFault>
     ensures { Says (details_fault image.now) (details_entries image.now) result }
 {
-    match family_of(image)? {
+    match detail_family_of(image)? {
         Family::Cmis => of_cmis(alloc, image),
         Family::Sff8636 => of_sff8636(alloc, image),
         Family::Sff8472 => of_sff8472(alloc, image),

@@ -5,13 +5,10 @@ ghost use Rattle.report_entries.specs.EntryJson.{IsJsonText};
 ghost use Rattle.reports.specs.FaultJson.{code_members, fault_json, fault_members, names_half, reason_json, reason_members, sentence_members, value_json, values_from, values_json, values_members};
 ghost use Rattle.report_entries.specs.JsonTrees.{all_member_tokens, all_tokens};
 
-use arrayvec::ArrayVec;
 use report_entries::json_document::{begin, end};
 use report_entries::{JsonWriter, TextIn};
 use std::alloc::{AllocError, Global};
-
-/// A word of a fault, as it is spelled.
-pub type Word = ArrayVec<u8, 20>;
+use text_lines::Word;
 
 /// The code of a fault, its values, and what a person is told of it, as JSON. The code is the first of the words.
 pub fn fault_json(alloc: Global, words: &[Word], sentence: &str) -> Result<Vec<u8>, AllocError>

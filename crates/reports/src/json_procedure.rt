@@ -1,26 +1,30 @@
-// What provisioning and activation came to, as JSON.
+// What waking up, provisioning and activation came to, as JSON.
 ghost use Rattle.std.specs.Prelude.{◌≡◌, ◌++◌, IfOk, OnOk, map};
 ghost use Rattle.json.specs.Tree.{json_tokens};
 ghost use Rattle.report_entries.specs.EntryJson.{IsJsonText, string_members};
 ghost use Rattle.report_entries.specs.JsonTrees.{all_member_tokens, all_tokens};
 ghost use Rattle.reports.specs.ProcedureJson.{active_members, answer_members, kind_members, op_members, operations_members, outcome_fault_members, outcome_members, place_members, procedure_json, reply_members, step_json, steps_json, steps_members, taken_members};
 
-use crate::json_fault::{Word, put_fault};
+use crate::json_fault::put_fault;
 use crate::json_plan::put_bytes;
 use bus_model::{Dev, Op, Reply, Step};
+use control_sets::ControlSet;
 use report_entries::json_document::{begin, end};
 use report_entries::{JsonWriter, put_count, put_shown};
 use std::alloc::{AllocError, Global};
+use text_lines::Word;
 
-/// What provisioning and activation came to.
+/// What waking up, provisioning and activation came to.
 #[derive(Clone, Copy)]
 pub struct Outcome {
-    /// The steps of provisioning, if it succeeded.
+    /// The steps of waking up, if it was made and succeeded.
+    pub woken: Option<u16>,
+    /// The steps of provisioning, if it was made and succeeded.
     pub provisioned: Option<u16>,
     /// The steps of activation, if it was made and succeeded.
     pub activated: Option<u16>,
     /// The active control bytes, host lane 1 first.
-    pub active: Option<[u8; 8]>,
+    pub active: Option<ControlSet>,
 }
 
 /// The steps made on a bus, if they are shown, and what came of them, as JSON. A fault is given by its words, none if there is no
@@ -146,6 +150,7 @@ fn put_answer(out: &mut JsonWriter, word: &str) -> Result<(), AllocError>
 fn put_outcome(out: &mut JsonWriter, outcome: Outcome) -> Result<(), AllocError>
     ensures { OnOk result (out.new ≡ out.old ++ all_member_tokens (outcome_members outcome)) }
 {
+    put_taken(out, "woken_steps", outcome.woken)?;
     put_taken(out, "provisioned_steps", outcome.provisioned)?;
     put_taken(out, "activated_steps", outcome.activated)?;
     put_active(out, outcome.active)
@@ -162,7 +167,7 @@ fn put_taken(out: &mut JsonWriter, key: &str, steps: Option<u16>) -> Result<(), 
     out.number(u64::from(steps))
 }
 
-fn put_active(out: &mut JsonWriter, active: Option<[u8; 8]>) -> Result<(), AllocError>
+fn put_active(out: &mut JsonWriter, active: Option<ControlSet>) -> Result<(), AllocError>
     ensures { OnOk result (out.new ≡ out.old ++ all_member_tokens (active_members active)) }
 {
     match active {

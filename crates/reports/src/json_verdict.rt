@@ -5,13 +5,14 @@ ghost use Rattle.report_entries.specs.EntryJson.{IsJsonText};
 ghost use Rattle.report_entries.specs.JsonTrees.{all_member_tokens};
 ghost use Rattle.reports.specs.VerdictJson.{bad_json, boolean_members, first_members, good_json, good_members, why_members};
 
-use crate::json_fault::{Word, put_reason};
+use crate::json_fault::put_reason;
 use crate::json_plan::put_plan;
 use applications::{Advert, Weights};
 use plan_certificate::Plan;
 use report_entries::JsonWriter;
 use report_entries::json_document::{begin, end};
 use std::alloc::{AllocError, Global};
+use text_lines::Word;
 
 /// That a certificate of this plan is good, and if that is asked for, whether the plan is the first of the best, as JSON.
 pub fn good_json(

@@ -31,7 +31,7 @@ pub use cmis_apps::{apps, apps_json};
 pub use detail_report::{details, details_json};
 pub use fault::ReportFault;
 pub use fetching::fetch_image;
-pub use json_fault::{Word, fault_json};
+pub use json_fault::fault_json;
 pub use json_plan::plan_json;
 pub use json_procedure::{Outcome, procedure_json};
 pub use json_verdict::{bad_json, good_json};

@@ -21,5 +21,6 @@ pub mod ReadBytes
 pub mod ActiveLaw
 pub mod Provisioned
 pub mod Activated
+pub mod ChangedPower
 pub mod DeinitBits
 pub mod ReleasedLanes

@@ -1,4 +1,4 @@
--- What a module's lanes hold after a success of provisioning, and after activation. (docs/module.md, "After provisioning";
+-- What a module's lanes hold after a success of provisioning, and after activation, waking up and going to sleep. (docs/module.md, "After provisioning";
 -- this project's own)
 use Rattle.std.specs.Prelude.{◌≡◌, ℕ, List, None, Ok, length, reverse}
 use Rattle.bus_model.specs.declared.script.Directive.{Directive}
@@ -7,8 +7,10 @@ use Rattle.bus_model.specs.ScriptedBus.{script_rules}
 use Rattle.field_tables.specs.LaneSets.{IsLane, Lanes, every_lane}
 use Rattle.control_sets.specs.OutcomeAnswers.{Answer}
 use Rattle.control_sets.specs.OutcomeOfActivation.{IsActivation}
+use Rattle.control_sets.specs.OutcomeOfPower.{IsPowerChange}
 use Rattle.control_sets.specs.Pages.{History}
 use Rattle.control_sets.specs.OutcomeOfProvisioning.{IsProvisioning}
+use Rattle.control_sets.specs.declared.procedures.power.Power.{Power}
 use Rattle.sim_module.specs.declared.module.SimModule.{SimModule}
 use Rattle.sim_module.specs.Lanes.{active_bytes, lane_at}
 use Rattle.sim_module.specs.Modules.{conduct}
@@ -42,4 +44,12 @@ abbrev pub ActivationLeavesActive : Type 0
 ActivationLeavesActive =
     (old new : Seen (List Directive × SimModule)) (history : History) (control active : List ℕ) (lanes : Lanes) (answer : Answer) → IsAtRest active old.state.1
     → Ran (script_rules conduct) old new (reverse history) → IsActivation control lanes (IsFull new) history answer
+    → IsAtRest active new.state.1
+
+-- whatever a script refuses or cuts: if no apply is in progress, the steps of waking up or of going to sleep leave active what
+-- was, whatever they answer
+abbrev pub PowerLeavesActive : Type 0
+PowerLeavesActive =
+    (old new : Seen (List Directive × SimModule)) (history : History) (power : Power) (active : List ℕ) (answer : Answer) → IsAtRest active old.state.1
+    → Ran (script_rules conduct) old new (reverse history) → IsPowerChange power (IsFull new) history answer
     → IsAtRest active new.state.1

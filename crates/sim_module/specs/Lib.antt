@@ -2,6 +2,7 @@ pub mod Record
 pub mod Registers
 pub mod Lanes
 pub mod Down
+pub mod OwnAdverts
 pub mod Starts
 pub mod Ticks
 pub mod Resting

@@ -14,7 +14,6 @@ use Rattle.field_tables.specs.declared.field.Register.{Register}
 use Rattle.field_tables.specs.declared.field.Register.TheVariants.{CModuleFlags, CGlobalControls, CDPDeinit, CStagedControl, CLaneFlags, CActiveControl}
 use Rattle.field_tables.specs.Registers.{byte_count, first_byte, span_of}
 use Rattle.control_sets.specs.OutcomeOperations.{control_page, status_page}
-use Rattle.applications.specs.Advertised.{advertised_by}
 use Rattle.applications.specs.Refusals.{advert_fault}
 use Rattle.module_states.specs.declared.state.ModuleState.{ModuleState}
 use Rattle.module_states.specs.declared.state.ModuleState.TheVariants.{LowPwr, Ready}
@@ -29,6 +28,7 @@ use Rattle.sim_module.specs.declared.module.SimModule.{SimModule}
 use Rattle.sim_module.specs.Registers.{lane_flag_bytes}
 use Rattle.sim_module.specs.Lanes.{all_lanes}
 use Rattle.sim_module.specs.Down.{asks_low_power}
+use Rattle.sim_module.specs.OwnAdverts.{own_advert}
 
 -- a byte of a register in the module's memory, by its place from the first one
 abbrev pub byte_of_register : Memory → Register → ℕ → ℕ
@@ -52,7 +52,7 @@ start_state control = if asks_low_power control false then LowPwr else Ready
 unfoldable pub start : Memory → Delays → SimModule
 start memory delays = record {
   image = memory;
-  advert = advertised_by memory;
+  advert = own_advert memory;
   delays = delays;
   selection = first_page;
   pin = false;

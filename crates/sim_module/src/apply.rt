@@ -1,4 +1,7 @@
 //! What a store to ApplyDPInit makes of a module.
+ghost use Rattle.std.specs.Prelude.{◌≡◌};
+ghost use Rattle.sim_module.specs.Applies as spec;
+
 use crate::fixed::Fixed;
 use crate::lane::Lane;
 use crate::moving::Moving;
@@ -170,9 +173,6 @@ impl Moving {
         self.lanes = lanes;
     }
 }
-
-ghost use Rattle.std.specs.Prelude.{◌≡◌};
-ghost use Rattle.sim_module.specs.Applies as spec;
 
 // The usable Application of a number.
 fn app_numbered(advert: &Advert, number: u8) -> Option<App>

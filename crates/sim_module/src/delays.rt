@@ -1,3 +1,6 @@
+ghost use Rattle.std.specs.Prelude.{◌≡◌};
+ghost use Rattle.sim_module.specs.Starts as spec;
+
 use datapath_states::PathState;
 use module_states::ModuleState;
 
@@ -66,9 +69,6 @@ impl Delays {
         }
     }
 }
-
-ghost use Rattle.std.specs.Prelude.{◌≡◌};
-ghost use Rattle.sim_module.specs.Starts as spec;
 
 fn is_delay(delay: u16) -> bool
     ensures { result ≡ spec.is_delay delay }

@@ -1,6 +1,9 @@
 //! Which lanes are to be deactivated, or kept so.
+ghost use Rattle.std.specs.Prelude.{◌≡◌};
+ghost use Rattle.sim_module.specs.Down as spec;
+
 use crate::moving::Moving;
-use control_sets::{agree, control_at};
+use control_sets::{ControlSet, agree, control_at};
 use field_tables::{Field, LaneNumber, is_set};
 use module_states::{ModuleState, low_power};
 
@@ -36,7 +39,7 @@ impl Moving {
     }
 
     // Given the active bytes, and whether some lane holds down its path.
-    fn is_path_down(&self, active: &[u8; 8], held: bool, lane: LaneNumber) -> bool
+    fn is_path_down(&self, active: &ControlSet, held: bool, lane: LaneNumber) -> bool
         requires active { active.now ≡ active_bytes (bare self.now) }
         requires held { held ≡ spec.is_held (bare self.now) }
         ensures { result ≡ spec.is_path_down (bare self.now) lane }
@@ -49,7 +52,7 @@ impl Moving {
 
     // Given the same.
     #[tactic(auto, unfolding(crate::specs::Down::is_down))]
-    pub(crate) fn is_down(&self, active: &[u8; 8], held: bool, lane: LaneNumber) -> bool
+    pub(crate) fn is_down(&self, active: &ControlSet, held: bool, lane: LaneNumber) -> bool
         requires active { active.now ≡ active_bytes (bare self.now) }
         requires held { held ≡ spec.is_held (bare self.now) }
         ensures { result ≡ spec.is_down (bare self.now) lane }
@@ -60,9 +63,6 @@ impl Moving {
             || self.has_low_power()
     }
 }
-
-ghost use Rattle.std.specs.Prelude.{◌≡◌};
-ghost use Rattle.sim_module.specs.Down as spec;
 
 /// Whether the byte of global controls, with the pin, asks for low power.
 pub fn asks_low_power(control: u8, pin: bool) -> bool

@@ -1,3 +1,6 @@
+ghost use Rattle.std.specs.Prelude.{◌≡◌};
+ghost use Rattle.sim_module.specs.Ticks as ticks;
+
 use crate::delays::Delays;
 use datapath_states::{ConfigStatus, PathState};
 
@@ -102,9 +105,6 @@ impl Lane {
         }
     }
 }
-
-ghost use Rattle.std.specs.Prelude.{◌≡◌};
-ghost use Rattle.sim_module.specs.Ticks as ticks;
 
 /// A counter after a tick: it goes on, or begins if a state was entered.
 pub fn next_left(stays: bool, left: u16, delay: u16) -> u16

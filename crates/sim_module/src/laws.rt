@@ -9,7 +9,7 @@ ghost use Rattle.control_sets.specs.OutcomeCodes.{IsOf};
 ghost use Rattle.sim_module.specs.declared.delays.Delays.{Delays};
 ghost use Rattle.sim_module.specs.Soundness.{HoldsItsPath, IsAlwaysKept, IsSound, LanesComeUp, LanesStayUp, RunsLeaveSound};
 ghost use Rattle.sim_module.specs.Starts.{active_at_start, start};
-ghost use Rattle.sim_module.specs.ActiveSets.{ActivationLeavesActive, ActiveIsPlanned, ActiveIsPlannedOn, HasNoApply, IsAtRest};
+ghost use Rattle.sim_module.specs.ActiveSets.{ActivationLeavesActive, ActiveIsPlanned, ActiveIsPlannedOn, HasNoApply, IsAtRest, PowerLeavesActive};
 ghost use Rattle.sim_module.specs.KeptPaths.{KeptPathsStayUp, KeptPathsStayUpAgain};
 ghost use Rattle.sim_module.specs.DeinitBits.{BitsFollowSuccess, BitsFollowTheStore, KeptBitsAreClear};
 ghost use Rattle.sim_module.specs.ReleasedLanes.{KeptLanesAreReleased};
@@ -66,6 +66,12 @@ pub fn what_is_provisioned_is_active()
 /// what was, whatever it answers.
 pub fn activation_leaves_what_is_active()
     ensures { ActivationLeavesActive }
+{}
+
+/// Over a scripted bus, whatever the script refuses or cuts short: if no apply is in progress, waking up and going to sleep
+/// leave active what was, whatever they answer.
+pub fn a_change_of_power_leaves_what_is_active()
+    ensures { PowerLeavesActive }
 {}
 
 /// Over a scripted bus whose script sets the pin no more, whatever it refuses or cuts short: if no apply is in progress

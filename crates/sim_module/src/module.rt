@@ -2,6 +2,7 @@ use crate::fixed::Fixed;
 use crate::moving::Moving;
 use crate::saved::SavedModule;
 use applications::Advert;
+use control_sets::ControlSet;
 use datapath_states::PathState;
 use module_states::ModuleState;
 use paged_memory::Image;
@@ -37,7 +38,7 @@ impl SimModule {
     ghost use Rattle.sim_module.specs.SavedModules.{restored, saved};
 
     /// The control bytes of the Active Control Set, lane 1 first.
-    pub fn active(&self) -> [u8; 8]
+    pub fn active(&self) -> ControlSet
         ensures { result ≡ lanes.active_bytes self.now }
     {
         self.moving.active()

@@ -1,7 +1,11 @@
 //! What changes of a module.
+ghost use Rattle.std.specs.Prelude.{◌≡◌, ◌-◌, get_or};
+ghost use Rattle.sim_module.specs.Lanes.{no_lane};
+
 use crate::delays::Delays;
 use crate::lane::Lane;
 use applications::LaneSet;
+use control_sets::ControlSet;
 use datapath_states::PathState;
 use field_tables::LaneNumber;
 use module_states::ModuleState;
@@ -42,14 +46,14 @@ impl Moving {
     ghost use Rattle.sim_module.specs.declared.fixed.Fixed.{Fixed};
 
     /// The control bytes of the Active Control Set, lane 1 first.
-    pub fn active(&self) -> [u8; 8]
+    pub fn active(&self) -> ControlSet
         ensures { result ≡ lanes.active_bytes (bare self.now) }
     {
         array::from_fn(|index| self.lanes[index].active)
     }
 
     // The control bytes of Staged Control Set 0, lane 1 first.
-    pub(crate) fn staged(&self) -> [u8; 8]
+    pub(crate) fn staged(&self) -> ControlSet
         ensures { result ≡ lanes.staged_bytes (bare self.now) }
     {
         array::from_fn(|index| self.lanes[index].staged)
@@ -85,9 +89,6 @@ impl Moving {
         self.pin = on;
     }
 }
-
-ghost use Rattle.std.specs.Prelude.{◌≡◌, ◌-◌, get_or};
-ghost use Rattle.sim_module.specs.Lanes.{no_lane};
 
 /// One of all lanes.
 pub fn lane_in(lanes: &[Lane; 8], lane: LaneNumber) -> Lane

@@ -1,5 +1,5 @@
 //! The places of the registers that a module serves itself, by the table of registers.
-ghost use Rattle.std.specs.Prelude.{◌≡◌, ◌≤◌, ◌+◌, ◌-◌, Bool, if◌then◌else◌, Some, None};
+ghost use Rattle.std.specs.Prelude.{◌≡◌, ◌≤◌, ◌+◌, ◌-◌, if◌then◌else◌, Some, None};
 ghost use Rattle.control_sets.specs.OutcomeOperations as pages;
 ghost use Rattle.field_tables.specs.Registers.{byte_count, first_byte};
 ghost use Rattle.sim_module.specs.Registers as spec;

@@ -1,4 +1,12 @@
 //! A module at the start.
+ghost use Rattle.std.specs.Prelude.{◌≡◌, ◌≤◌, ◌+◌, map};
+ghost use Rattle.std.specs.List.{range_with_len};
+ghost use Rattle.sim_module.specs.Lanes.{all_lanes};
+ghost use Rattle.sim_module.specs.OwnAdverts.{own_advert};
+ghost use Rattle.field_tables.specs.Registers.{first_byte};
+ghost use Rattle.sim_module.specs.Registers.{lane_flag_bytes};
+ghost use Rattle.sim_module.specs.Starts as spec;
+
 use crate::SimModule;
 use crate::delays::Delays;
 use crate::down::asks_low_power;
@@ -6,10 +14,11 @@ use crate::fault::SimFault;
 use crate::fixed::Fixed;
 use crate::lane::Lane;
 use crate::moving::{LANE_FLAGS, Moving};
+use crate::own_adverts::own_advert;
 use crate::registers::{control_page, status_page};
 use applications::{Advert, LaneSet};
 use bus_model::Dev;
-use control_sets::{ControlFault, paths_of};
+use control_sets::{ControlFault, ControlSet, paths_of};
 use datapath_states::{ConfigStatus, PathState};
 use field_tables::{LaneNumber, Register, register};
 use module_states::ModuleState;
@@ -28,7 +37,7 @@ impl SimModule {
         if let Some(key) = absent_half(image) {
             return Err(SimFault::Absent(key));
         }
-        let advert = match Advert::of(image) {
+        let advert = match own_advert(image) {
             Ok(advert) => advert,
             Err(fault) => return Err(SimFault::Advert(fault)),
         };
@@ -41,14 +50,6 @@ impl SimModule {
         Ok(start(image, advert, delays))
     }
 }
-
-ghost use Rattle.std.specs.Prelude.{◌≡◌, ◌≤◌, ◌+◌, map};
-ghost use Rattle.std.specs.List.{range_with_len};
-ghost use Rattle.applications.specs.Advertised.{advertised_by};
-ghost use Rattle.sim_module.specs.Lanes.{all_lanes};
-ghost use Rattle.field_tables.specs.Registers.{first_byte};
-ghost use Rattle.sim_module.specs.Registers.{lane_flag_bytes};
-ghost use Rattle.sim_module.specs.Starts as spec;
 
 // Of the halves that a module needs, the first that an image lacks.
 fn absent_half(image: &Image) -> Option<Key>
@@ -75,7 +76,7 @@ fn byte_of_register(image: &Image, of: Register, index: u8) -> u8
         .unwrap_or(0)
 }
 
-fn active_at_start(image: &Image) -> [u8; 8]
+fn active_at_start(image: &Image) -> ControlSet
     ensures { result ≡ spec.active_at_start image.now }
 {
     array::from_fn(|index| byte_of_register(image, Register::CActiveControl, index as u8))
@@ -126,7 +127,7 @@ fn start_state(control: u8) -> ModuleState
 
 #[tactic(auto, unfolding(crate::specs::Starts::start))]
 fn start(image: &Image, advert: Advert, delays: Delays) -> SimModule
-    requires { advert ≡ advertised_by image.now }
+    requires { advert ≡ own_advert image.now }
     ensures { result ≡ spec.start image.now delays }
 {
     let control = byte_of_register(image, Register::CGlobalControls, 0);

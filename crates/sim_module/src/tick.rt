@@ -1,7 +1,11 @@
 //! What a tick makes of a module.
+ghost use Rattle.std.specs.Prelude.{◌≡◌};
+ghost use Rattle.sim_module.specs.Ticks as spec;
+
 use crate::lane::{Lane, next_left};
 use crate::moving::{Moving, lane_in};
 use applications::LaneSet;
+use control_sets::ControlSet;
 use datapath_states::PathState;
 use field_tables::LaneNumber;
 use module_states::ModuleState;
@@ -35,7 +39,7 @@ impl Moving {
     }
 
     // Given the active bytes, and whether some lane holds down its path.
-    fn next_path_state(&self, active: &[u8; 8], held: bool, lane: LaneNumber) -> PathState
+    fn next_path_state(&self, active: &ControlSet, held: bool, lane: LaneNumber) -> PathState
         requires active { active.now ≡ active_bytes (bare self.now) }
         requires held { held ≡ is_held (bare self.now) }
         ensures { result ≡ spec.next_path_state (bare self.now) lane }
@@ -49,7 +53,7 @@ impl Moving {
     }
 
     #[tactic(auto, unfolding(crate::specs::Ticks::ticked_lane))]
-    fn ticked_lane(&self, active: &[u8; 8], held: bool, lane: LaneNumber) -> Lane
+    fn ticked_lane(&self, active: &ControlSet, held: bool, lane: LaneNumber) -> Lane
         requires active { active.now ≡ active_bytes (bare self.now) }
         requires held { held ≡ is_held (bare self.now) }
         ensures { result ≡ spec.ticked_lane (bare self.now) lane }
@@ -162,9 +166,6 @@ impl Moving {
         self.pass_tick()
     }
 }
-
-ghost use Rattle.std.specs.Prelude.{◌≡◌};
-ghost use Rattle.sim_module.specs.Ticks as spec;
 
 // Whether a path stays in the state until it is told to leave it.
 fn is_steady(state: PathState) -> bool

@@ -41,6 +41,9 @@ const ROWS: &[Row] = rows! {
     0x20 "SFP+ and later with CMIS";
     0x21 "OSFP-XD with CMIS";
     0x22 "OIF-ELSFP with CMIS";
+    0x23 "CDFP (x4 PCIe) with CMIS";
+    0x24 "CDFP (x8 PCIe) with CMIS";
+    0x25 "CDFP (x16 PCIe) with CMIS";
     0x26 to 0x7f Reserved;
     0x80 to 0xff VendorSpecific;
 };

@@ -3,6 +3,7 @@ ghost use Rattle.std.specs.Prelude.{◌≡◌, map, option_copied, option_map};
 ghost use Rattle.command_line.specs.Choice.{commands, entry_named};
 ghost use Rattle.command_line.specs.Entries.{entry_of};
 
+use applications::Conventions;
 use module_metrics::Labels;
 
 /// A report of a module.
@@ -46,27 +47,37 @@ pub enum Choice {
     Plan {
         /// Whether the plan is to keep data paths that the input names.
         keep: bool,
+        /// How what the module advertises is to be read.
+        conventions: Conventions,
     },
     Draw {
         /// Whether the drawing is to be an SVG.
         svg: bool,
-        /// As for `Plan`.
+        /// Both as for `Plan`.
         keep: bool,
+        conventions: Conventions,
     },
     Check {
         /// Whether the plan of the certificate is to be compared with the one that `plan` gives.
         first: bool,
+        /// As for `Plan`.
+        conventions: Conventions,
     },
     Provision {
+        /// Whether the module is to be woken up before.
+        wake: bool,
         /// Whether the plan is to be activated too.
         activate: bool,
-        /// As for `Plan`.
+        /// Both as for `Plan`.
         keep: bool,
+        conventions: Conventions,
     },
     /// The same, with each transaction.
     Trace {
+        wake: bool,
         activate: bool,
         keep: bool,
+        conventions: Conventions,
     },
 }
 
@@ -128,6 +139,14 @@ const JSON: Flag = Flag {
     help: "Print the answer, or the fault, as JSON",
 };
 
+/// Asks for waking the module up.
+const WAKE: Flag = Flag {
+    name: "wake",
+    takes: Takes::Nothing,
+    word: "",
+    help: "Wake the module up before, by clearing its low power requests",
+};
+
 /// Asks for activation.
 const ACTIVATE: Flag = Flag {
     name: "activate",
@@ -142,6 +161,22 @@ const KEEP: Flag = Flag {
     takes: Takes::Nothing,
     word: "",
     help: "Keep data paths: a further part of the input names them, after the weights",
+};
+
+/// Says that the module pairs first lanes.
+const PAIRED: Flag = Flag {
+    name: "paired",
+    takes: Takes::Nothing,
+    word: "",
+    help: "The module joins the nth host start of an Application with its nth media start alone",
+};
+
+/// Says that lane counts of 0 are those that the interface IDs imply.
+const COUNTS_BY_ID: Flag = Flag {
+    name: "counts-by-id",
+    takes: Takes::Nothing,
+    word: "",
+    help: "A lane count of 0 is the one that the interface ID implies, as far as that is known",
 };
 
 /// Asks for an SVG.
@@ -200,11 +235,11 @@ pub fn commands() -> &'static [CommandEntry]
         "flags" Report(Flags) [BUS JSON] "Print the states of the module and its lanes, and the flags that are raised";
         "details" Report(Details) [BUS JSON] "Print all that the module says of itself, with names";
         "metrics" Metrics [BUS LABEL FLAGS] "Print what 'inventory', 'monitors' and 'flags' say, as metrics for Prometheus";
-        "plan" Plan [KEEP JSON] "Print the plan that weighs most for an image and weights, with its certificate";
-        "draw" Draw [SVG KEEP] "Draw the plan, and say for each host lane what else could have been done there";
-        "check" Check [FIRST JSON] "Judge a certificate for an image and weights, and print its plan if it is good";
-        "provision" Provision [ACTIVATE KEEP JSON] "Put the plan into the Active Control Set of a simulated module, over a bus that does as a script says";
-        "trace" Trace [ACTIVATE KEEP JSON] "Do what 'provision' does, and print each transaction";
+        "plan" Plan [KEEP PAIRED COUNTS_BY_ID JSON] "Print the plan that weighs most for an image and weights, with its certificate";
+        "draw" Draw [SVG KEEP PAIRED COUNTS_BY_ID] "Draw the plan, and say for each host lane what else could have been done there";
+        "check" Check [FIRST PAIRED COUNTS_BY_ID JSON] "Judge a certificate for an image and weights, and print its plan if it is good";
+        "provision" Provision [WAKE ACTIVATE KEEP PAIRED COUNTS_BY_ID JSON] "Put the plan into the Active Control Set of a simulated module, over a bus that does as a script says";
+        "trace" Trace [WAKE ACTIVATE KEEP PAIRED COUNTS_BY_ID JSON] "Do what 'provision' does, and print each transaction";
     }
 }
 

@@ -1,4 +1,6 @@
 //! What help says beside the commands and flags: what a command reads, examples, and how it may end.
+ghost use Rattle.std.specs.Prelude.{◌≡◌};
+ghost use Rattle.command_line.specs.Help.{help_of};
 
 use super::commands::{CommandName, ReportName};
 
@@ -47,23 +49,11 @@ macro_rules! end {
 }
 
 /// The end of the command's help.
-pub fn of_command(command: CommandName) -> &'static str {
+pub fn of_command(command: CommandName) -> &'static str
+    ensures { result.now ≡ help_of command }
+{
     match command {
-        CommandName::Report(ReportName::Inventory) => end!([image] []
-            ["inventory < examples/qsfp_dd_400g_dr4.txt" "inventory --bus < examples/qsfp28_100g_sr4.txt"
-                "inventory --json < examples/qsfp_dd_400g_dr4.txt"]),
-        CommandName::Report(ReportName::Apps) => end!([image] []
-            ["apps < examples/osfp_800g_many_apps.txt" "apps --bus < examples/osfp_800g_many_apps.txt"
-                "apps --json < examples/osfp_800g_many_apps.txt"]),
-        CommandName::Report(ReportName::Monitors) => end!([image] []
-            ["monitors < examples/osfp_800g_dr8.txt" "monitors --bus < examples/osfp_800g_dr8.txt"
-                "monitors --json < examples/osfp_800g_dr8.txt"]),
-        CommandName::Report(ReportName::Flags) => end!([image] []
-            ["flags < examples/osfp_800g_overheated.txt" "flags --bus < examples/sfp_10g_lr_dim.txt"
-                "flags --json < examples/sfp_10g_lr_dim.txt"]),
-        CommandName::Report(ReportName::Details) => end!([image] []
-            ["details < examples/qsfp28_100g_sr4.txt" "details --bus < examples/osfp_800g_dr8.txt"
-                "details --json < examples/sfp_10g_lr.txt"]),
+        CommandName::Report(report) => of_report(report),
         CommandName::Metrics => end!([image] []
             ["metrics < examples/osfp_800g_dr8.txt" "metrics --bus --label port=Ethernet0 < examples/qsfp28_100g_sr4.txt"
                 "metrics --flags all < examples/sfp_10g_lr_dim.txt"]),
@@ -84,5 +74,27 @@ pub fn of_command(command: CommandName) -> &'static str {
             ["trace --activate < examples/provision_400g_dr4.txt" "trace --keep < examples/add_800g_dr8.txt"
                 "trace --json < examples/provision_400g_dr4.txt"]
             "3 not provisioned or not activated"),
+    }
+}
+
+fn of_report(report: ReportName) -> &'static str
+    ensures { result.now ≡ help_of (CommandName.Report report) }
+{
+    match report {
+        ReportName::Inventory => end!([image] []
+            ["inventory < examples/qsfp_dd_400g_dr4.txt" "inventory --bus < examples/qsfp28_100g_sr4.txt"
+                "inventory --json < examples/qsfp_dd_400g_dr4.txt"]),
+        ReportName::Apps => end!([image] []
+            ["apps < examples/osfp_800g_many_apps.txt" "apps --bus < examples/osfp_800g_many_apps.txt"
+                "apps --json < examples/osfp_800g_many_apps.txt"]),
+        ReportName::Monitors => end!([image] []
+            ["monitors < examples/osfp_800g_dr8.txt" "monitors --bus < examples/osfp_800g_dr8.txt"
+                "monitors --json < examples/osfp_800g_dr8.txt"]),
+        ReportName::Flags => end!([image] []
+            ["flags < examples/osfp_800g_overheated.txt" "flags --bus < examples/sfp_10g_lr_dim.txt"
+                "flags --json < examples/sfp_10g_lr_dim.txt"]),
+        ReportName::Details => end!([image] []
+            ["details < examples/qsfp28_100g_sr4.txt" "details --bus < examples/osfp_800g_dr8.txt"
+                "details --json < examples/sfp_10g_lr.txt"]),
     }
 }

@@ -23,10 +23,10 @@ impl Choice {
     {
         match self {
             Choice::Report { .. } | Choice::Metrics { .. } => &[Part::Image],
-            Choice::Plan { keep: false } | Choice::Draw { keep: false, .. } => {
+            Choice::Plan { keep: false, .. } | Choice::Draw { keep: false, .. } => {
                 &[Part::Image, Part::Weights]
             }
-            Choice::Plan { keep: true } | Choice::Draw { keep: true, .. } => {
+            Choice::Plan { keep: true, .. } | Choice::Draw { keep: true, .. } => {
                 &[Part::Image, Part::Weights, Part::Kept]
             }
             Choice::Check { .. } => &[Part::Image, Part::Weights, Part::Certificate],

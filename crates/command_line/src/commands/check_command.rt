@@ -1,5 +1,6 @@
 ghost use Rattle.std.specs.Prelude.{◌≡◌, ◌≢◌, ◌++◌, ◌∷◌, [], ℕ, List, IfErr, IfOk, Ok, OnOk};
 ghost use Rattle.applications.specs.WeightFaults.{IsAnswer};
+ghost use Rattle.applications.specs.declared.conventions.Conventions.{Conventions};
 ghost use Rattle.text_lines.specs.Lines.{text_of};
 ghost use Rattle.plan_certificate.specs.Certificates.{IsGood};
 ghost use Rattle.command_line.specs.CheckCommand.{IsCheckAnswer, SaysFirst, TellsGood, first_lines, good_lines, kept_lines};
@@ -10,7 +11,7 @@ use super::planning_inputs::read_advert;
 use crate::command_output::CommandOutput;
 use crate::fault::Fault;
 use crate::remark::Warnings;
-use applications::{Advert, Weights};
+use applications::{Advert, Conventions, Weights};
 use lane_planner::first_best;
 use plan_certificate::{Certificate, STATES, Verdict};
 use reports::{good_json, plan_text};
@@ -22,14 +23,15 @@ pub fn check(
     alloc: Global,
     is_json: bool,
     tells_first: bool,
+    conventions: Conventions,
     image: &[u8],
     weights: &[u8],
     certificate: &[u8],
 ) -> Result<CommandOutput, Fault>
-    ensures answer { IsOwnAnswer (IsCheckAnswer is_json tells_first image.now weights.now certificate.now) (answer_of result) }
+    ensures answer { IsOwnAnswer (IsCheckAnswer is_json tells_first conventions image.now weights.now certificate.now) (answer_of result) }
     ensures read { IfErr result (λ fault. fault ≢ Fault.Io) }
 {
-    let advert = read_advert(image)?;
+    let advert = read_advert(conventions, image)?;
     let weights = Weights::read(alloc, weights)?;
     judged(alloc, is_json, tells_first, &advert, &weights, certificate)
 }
@@ -45,8 +47,8 @@ fn judged(
     weights: &Weights,
     text: &[u8],
 ) -> Result<CommandOutput, Fault>
-    ensures answer { (image listed : List ℕ) → IsAdvertText image advert.now → IsAnswer listed (Ok weights.now)
-        → IsOwnAnswer (IsCheckAnswer is_json tells_first image listed text.now) (answer_of result) }
+    ensures answer { (conventions : Conventions) (image listed : List ℕ) → IsAdvertText conventions image advert.now → IsAnswer listed (Ok weights.now)
+        → IsOwnAnswer (IsCheckAnswer is_json tells_first conventions image listed text.now) (answer_of result) }
     ensures read { IfErr result (λ fault. fault ≢ Fault.Io) }
 {
     let mut read = Certificate::<STATES>::blank();

@@ -5,7 +5,7 @@ ghost use Rattle.command_line.specs.CountedReader.{reading_failed, reads_of, rem
 ghost use Rattle.command_line.specs.Input.{TakesWithinLimit};
 ghost use Rattle.command_line.specs.Limits.{input_limit, read_limit};
 ghost use Rattle.command_line.specs.PartsRead.{text_in};
-ghost use Rattle.command_line.specs.Runs.{IsCommandRun, IsOwnAnswer, SaysReading, answer_of, opening_beside, output_of};
+ghost use Rattle.command_line.specs.Runs.{IsCommandRun, IsOwnAnswer, SaysReading, answer_of, clue_beside, output_of};
 ghost use Rattle.command_line.specs.FaultForms.{output_in};
 
 use super::check_command::check;
@@ -65,7 +65,7 @@ fn read_and_answer<R: Read>(
     ensures answer { IfSome (remaining_of R.remaining reader.old)
         (λ input. IsAnswerOf request.now input (answer_of result.answer)) }
     ensures clue { IfSome (remaining_of R.remaining reader.old)
-        (λ input. result.clue.opening ≡ opening_beside (answer_of result.answer) input) }
+        (λ input. result.clue ≡ clue_beside (answer_of result.answer) input) }
     ensures output { output_in result.form (answer_of result.answer)
         ≡ output_of request.now.json result.clue.opening (answer_of result.answer) }
 {
@@ -89,7 +89,7 @@ fn answered(alloc: Global, request: &Request, input: &[u8]) -> Reply
     ensures answer { IsAnswerOf request.now input.now (answer_of result.answer) }
     ensures read { IfErr result.answer (λ fault. fault ≢ Fault.Io) }
     ensures length { IfErr result.answer (λ fault. fault ≢ Fault.TooLong) }
-    ensures clue { result.clue.opening ≡ opening_beside (answer_of result.answer) input.now }
+    ensures clue { result.clue ≡ clue_beside (answer_of result.answer) input.now }
     ensures output { output_in result.form (answer_of result.answer)
         ≡ output_of request.now.json result.clue.opening (answer_of result.answer) }
 {
@@ -134,23 +134,38 @@ fn answer_to(alloc: Global, request: &Request, texts: &Texts<'_>) -> Result<Comm
     match &request.choice {
         Choice::Report { report: name, bus } => report(alloc, *name, *bus, json, image),
         Choice::Metrics { bus, all, labels } => print_metrics(alloc, *bus, *all, labels, image),
-        Choice::Plan { .. } => plan(alloc, json, image, weights, kept),
-        Choice::Draw { svg, .. } => draw(alloc, *svg, image, weights, kept),
-        Choice::Check { first } => {
+        Choice::Plan { conventions, .. } => plan(alloc, json, *conventions, image, weights, kept),
+        Choice::Draw {
+            svg,
+            conventions,
+            ..
+        } => draw(alloc, *svg, *conventions, image, weights, kept),
+        Choice::Check { first, conventions } => {
             check(
                 alloc,
                 json,
                 *first,
+                *conventions,
                 image,
                 weights,
                 texts.of(Part::Certificate),
             )
         }
-        Choice::Provision { activate, .. } => {
-            provision(alloc, json, false, *activate, image, weights, kept, script)
-        }
-        Choice::Trace { activate, .. } => {
-            provision(alloc, json, true, *activate, image, weights, kept, script)
-        }
+        Choice::Provision {
+            wake,
+            activate,
+            conventions: how,
+            ..
+        } => provision(
+            alloc, json, false, *wake, *activate, *how, image, weights, kept, script,
+        ),
+        Choice::Trace {
+            wake,
+            activate,
+            conventions: how,
+            ..
+        } => provision(
+            alloc, json, true, *wake, *activate, *how, image, weights, kept, script,
+        ),
     }
 }

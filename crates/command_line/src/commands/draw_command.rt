@@ -6,7 +6,7 @@ use super::planning_inputs::{read_kept, read_module};
 use crate::command_output::CommandOutput;
 use crate::fault::Fault;
 use crate::remark::Warnings;
-use applications::Weights;
+use applications::{Conventions, Weights};
 use field_tables::{Field, number};
 use std::alloc::Global;
 
@@ -14,14 +14,15 @@ use std::alloc::Global;
 pub fn draw(
     alloc: Global,
     as_svg: bool,
+    conventions: Conventions,
     image: &[u8],
     weights: &[u8],
     kept: &[u8],
 ) -> Result<CommandOutput, Fault>
-    ensures answer { IsOwnAnswer (IsDrawAnswer as_svg image.now weights.now kept.now) (answer_of result) }
+    ensures answer { IsOwnAnswer (IsDrawAnswer as_svg conventions image.now weights.now kept.now) (answer_of result) }
     ensures read { IfErr result (λ fault. fault ≢ Fault.Io) }
 {
-    let (image, advert) = read_module(image)?;
+    let (image, advert) = read_module(conventions, image)?;
     let weights = Weights::read(alloc, weights)?;
     let kept = read_kept(&advert, kept)?;
     let media_type = number(&image, Field::CMediaType);

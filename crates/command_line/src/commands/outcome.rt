@@ -1,53 +1,70 @@
-// What is told of procedures.
+// How procedures ended, and what is told of that.
 ghost use Rattle.std.specs.Prelude.{◌≡◌, ◌++◌, ◌∷◌, [], OnOk, map, length, ◌≤◌};
-ghost use Rattle.std.specs.Option.{option_map};
 ghost use Rattle.std.specs.Fmt.{decimal};
 ghost use Rattle.text_lines.specs.Lines.{text_of};
 ghost use Rattle.text_lines.specs.Words.{spaced};
-ghost use Rattle.control_sets.specs.Answers.{activated_steps, provisioned_steps};
-ghost use Rattle.command_line.specs.ProvisionCommand.{active_line, activated_line, line_if, outcome_fault, outcome_lines, outcome_of, provisioned_line};
+ghost use Rattle.command_line.specs.ProvisionCommand.{active_line, active_unless, activated_line, fault_of, line_if, outcome_fault, outcome_lines, outcome_of, provisioned_line, steps_of, woken_line};
 
-use super::session::ProcedureResults;
-use control_sets::ProvisionFault;
+use control_sets::{ControlSet, ProvisionFault};
 use reports::Outcome;
 use std::alloc::AllocError;
 use text_lines::{HexByte, PrintedWords, ToWords};
 
-/// What came of procedures: each success, and the active control bytes if there is no fault.
-pub fn outcome_of(ended: &ProcedureResults, active: [u8; 8]) -> Outcome
-    ensures { result ≡ outcome_of (provisioned_steps ended.now.0) (option_map activated_steps ended.now.1) active }
+/// How each procedure ended, if it was made.
+#[derive(Clone, Copy)]
+pub struct ProcedureResults {
+    pub woken: Option<Result<u16, ProvisionFault>>,
+    pub provisioned: Option<Result<u16, ProvisionFault>>,
+    pub activated: Option<Result<u16, ProvisionFault>>,
+}
+
+/// The steps of a procedure that was made and succeeded.
+pub fn steps_of(ended: Option<Result<u16, ProvisionFault>>) -> Option<u16>
+    ensures { result ≡ steps_of ended }
 {
     match ended {
-        (Err(_), _) => outcome_with(None, None, None),
-        (Ok(first), None) => outcome_with(Some(first.steps), None, Some(active)),
-        (Ok(first), Some(Ok(second))) => {
-            outcome_with(Some(first.steps), Some(second.steps), Some(active))
-        }
-        (Ok(first), Some(Err(_))) => outcome_with(Some(first.steps), None, None),
+        Some(Ok(steps)) => Some(steps),
+        Some(Err(_)) | None => None,
     }
 }
 
-fn outcome_with(
-    provisioned: Option<u16>,
-    activated: Option<u16>,
-    active: Option<[u8; 8]>,
-) -> Outcome
-    ensures { result ≡ record { provisioned = provisioned; activated = activated; active = active } }
+/// The fault of one that was made and failed.
+pub fn fault_of(ended: Option<Result<u16, ProvisionFault>>) -> Option<ProvisionFault>
+    ensures { result ≡ fault_of ended }
+{
+    match ended {
+        Some(Err(fault)) => Some(fault),
+        Some(Ok(_)) | None => None,
+    }
+}
+
+/// The fault of the one that failed, after which none is made.
+pub fn outcome_fault(results: ProcedureResults) -> Option<ProvisionFault>
+    ensures { result ≡ outcome_fault results }
+{
+    fault_of(results.woken)
+        .or(fault_of(results.provisioned))
+        .or(fault_of(results.activated))
+}
+
+/// What came of procedures: each success, and the active control bytes if there is no fault.
+pub fn outcome_of(results: ProcedureResults, active: ControlSet) -> Outcome
+    ensures { result ≡ outcome_of results active }
 {
     Outcome {
-        provisioned,
-        activated,
-        active,
+        woken: steps_of(results.woken),
+        provisioned: steps_of(results.provisioned),
+        activated: steps_of(results.activated),
+        active: active_unless(outcome_fault(results), active),
     }
 }
 
-/// The fault of the last that was made, if it has one.
-pub fn fault_of(ended: &ProcedureResults) -> Option<ProvisionFault>
-    ensures { result ≡ outcome_fault (provisioned_steps ended.now.0) (option_map activated_steps ended.now.1) }
+fn active_unless(fault: Option<ProvisionFault>, active: ControlSet) -> Option<ControlSet>
+    ensures { result ≡ active_unless fault active }
 {
-    match ended {
-        (Err(fault), _) | (Ok(_), Some(Err(fault))) => Some(*fault),
-        (Ok(_), _) => None,
+    match fault {
+        None => Some(active),
+        Some(_) => None,
     }
 }
 
@@ -55,10 +72,21 @@ pub fn fault_of(ended: &ProcedureResults) -> Option<ProvisionFault>
 pub fn push_outcome(text: &mut Vec<u8>, outcome: Outcome) -> Result<(), AllocError>
     ensures { OnOk result (text.new.items ≡ text.old.items ++ text_of (outcome_lines outcome)) }
 {
+    push_woken(text, outcome.woken)?;
     push_provisioned(text, outcome.provisioned)?;
     push_activated(text, outcome.activated)?;
     push_active(text, outcome.active)?;
     Ok(())
+}
+
+#[tactic(auto, unfolding(crate::specs::ProvisionCommand::woken_line))]
+fn push_woken(text: &mut Vec<u8>, steps: Option<u16>) -> Result<(), AllocError>
+    ensures { OnOk result (text.new.items ≡ text.old.items ++ text_of (line_if woken_line steps)) }
+{
+    match steps {
+        Some(steps) => push_steps(text, "woken", steps),
+        None => Ok(()),
+    }
 }
 
 #[tactic(auto, unfolding(crate::specs::ProvisionCommand::provisioned_line))]
@@ -91,7 +119,7 @@ fn push_steps(text: &mut Vec<u8>, word: &str, steps: u16) -> Result<(), AllocErr
 }
 
 #[tactic(auto, unfolding(crate::specs::ProvisionCommand::active_line))]
-fn push_active(text: &mut Vec<u8>, active: Option<[u8; 8]>) -> Result<(), AllocError>
+fn push_active(text: &mut Vec<u8>, active: Option<ControlSet>) -> Result<(), AllocError>
     ensures { OnOk result (text.new.items ≡ text.old.items ++ text_of (line_if active_line active)) }
 {
     let Some(active) = active else {
@@ -103,7 +131,7 @@ fn push_active(text: &mut Vec<u8>, active: Option<[u8; 8]>) -> Result<(), AllocE
 
 /// Control bytes, lane 1 first.
 #[derive(Clone, Copy)]
-struct ControlWords([u8; 8]);
+struct ControlWords(ControlSet);
 
 /// In lower-case hexadecimal.
 impl ToWords for ControlWords {

@@ -6,12 +6,13 @@ ghost use Rattle.paged_memory.specs.Images.{most_pages};
 
 use crate::fault::Fault;
 use bus_model::{Script, ScriptBus};
+use control_sets::MAX_STEPS;
 use paged_memory::{Image, MAX_PAGES, Window};
 use reports::fetch_image;
 use std::alloc::Global;
 
 /// The most steps, which are as many as a reading may make.
-const ROOM: usize = 4096;
+const ROOM: usize = MAX_STEPS as usize;
 
 /// The image of this text, or, over a bus, what is read of the module that has it.
 pub fn image_to_report(alloc: Global, text: &[u8], is_over_bus: bool) -> Result<Image, Fault>

@@ -7,7 +7,7 @@ use super::planning_inputs::{read_advert, read_kept};
 use crate::command_output::CommandOutput;
 use crate::fault::Fault;
 use crate::remark::Warnings;
-use applications::{Advert, Weights};
+use applications::{Advert, Conventions, Weights};
 use lane_planner::{certificate_text, first_plan};
 use plan_certificate::Plan;
 use reports::plan_json;
@@ -18,14 +18,15 @@ use text_lines::Lines;
 pub fn plan(
     alloc: Global,
     is_json: bool,
+    conventions: Conventions,
     image: &[u8],
     weights: &[u8],
     kept: &[u8],
 ) -> Result<CommandOutput, Fault>
-    ensures answer { IsOwnAnswer (IsPlanAnswer is_json image.now weights.now kept.now) (answer_of result) }
+    ensures answer { IsOwnAnswer (IsPlanAnswer is_json conventions image.now weights.now kept.now) (answer_of result) }
     ensures read { IfErr result (λ fault. fault ≢ Fault.Io) }
 {
-    let advert = read_advert(image)?;
+    let advert = read_advert(conventions, image)?;
     let weights = Weights::read(alloc, weights)?;
     let kept = read_kept(&advert, kept)?;
     let (text, has_paths) = planned(alloc, is_json, &advert, &weights, &kept)?;

@@ -2,24 +2,24 @@ ghost use Rattle.std.specs.Prelude.{MatchResult};
 ghost use Rattle.command_line.specs.PlanningInputs.{AreKept, AreNotKept, IsAdvertText, IsAdvertRefusal, IsModuleText};
 
 use crate::fault::Fault;
-use applications::Advert;
+use applications::{Advert, Conventions};
 use paged_memory::Image;
 use plan_certificate::{KeptFault, Plan, kept_fault, kept_of};
 
-/// The image of this text, and what its module advertises.
-pub fn read_module(text: &[u8]) -> Result<(Image, Advert), Fault>
-    ensures { MatchResult result (λ read. IsModuleText text.now read.0 read.1) (IsAdvertRefusal text.now) }
+/// The image of this text, and what its module advertises, read by these conventions.
+pub fn read_module(conventions: Conventions, text: &[u8]) -> Result<(Image, Advert), Fault>
+    ensures { MatchResult result (λ read. IsModuleText conventions text.now read.0 read.1) (IsAdvertRefusal text.now) }
 {
     let image = Image::read(text)?;
-    let advert = Advert::of(&image)?;
+    let advert = Advert::under(conventions, &image)?;
     Ok((image, advert))
 }
 
-/// What the module advertises whose image has this text.
-pub fn read_advert(text: &[u8]) -> Result<Advert, Fault>
-    ensures { MatchResult result (IsAdvertText text.now) (IsAdvertRefusal text.now) }
+/// What the module advertises whose image has this text, read by these conventions.
+pub fn read_advert(conventions: Conventions, text: &[u8]) -> Result<Advert, Fault>
+    ensures { MatchResult result (IsAdvertText conventions text.now) (IsAdvertRefusal text.now) }
 {
-    let (_image, advert) = read_module(text)?;
+    let (_image, advert) = read_module(conventions, text)?;
     Ok(advert)
 }
 

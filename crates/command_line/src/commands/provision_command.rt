@@ -4,31 +4,34 @@ ghost use Rattle.command_line.specs.ProvisionCommand.{IsProcedureAnswer, steps_l
 ghost use Rattle.report_entries.specs.EntryJson.{json_text};
 ghost use Rattle.command_line.specs.Runs.{IsOwnAnswer, answer_of};
 
-use super::outcome::{fault_of, outcome_of, push_outcome};
+use super::outcome::{outcome_fault, outcome_of, push_outcome};
 use super::session::{Session, carry_out, set_up};
 use crate::command_output::CommandOutput;
 use crate::fault::Fault;
 use crate::remark::Explained;
 use crate::told_fault::ToldFault;
+use applications::Conventions;
 use bus_model::Step;
 use control_sets::ProvisionFault;
 use reports::{Outcome, procedure_json, trace_text};
 use std::alloc::{AllocError, Global};
 use text_lines::ToWords;
 
-/// How the plan that is given was provisioned, and activated if that is asked for: how many steps were made and the control
-/// bytes that are active, or the fault, after each step, if these are shown.
+/// How the plan that is given was provisioned, after waking the module up and before activation if these are asked for: how many
+/// steps were made and the control bytes that are active, or the fault, after each step, if these are shown.
 pub fn provision(
     alloc: Global,
     is_json: bool,
     is_traced: bool,
+    is_woken: bool,
     is_activated: bool,
+    conventions: Conventions,
     image: &[u8],
     weights: &[u8],
     kept: &[u8],
     script: &[u8],
 ) -> Result<CommandOutput, Fault>
-    ensures answer { IsOwnAnswer (IsProcedureAnswer is_json is_traced is_activated image.now weights.now kept.now script.now)
+    ensures answer { IsOwnAnswer (IsProcedureAnswer is_json is_traced is_woken is_activated conventions image.now weights.now kept.now script.now)
         (answer_of result) }
     ensures read { IfErr result (λ fault. fault ≢ Fault.Io) }
 {
@@ -38,10 +41,10 @@ pub fn provision(
         kept,
         warnings,
         mut bus,
-    } = set_up(alloc, image, weights, kept, script)?;
-    let ended = carry_out(&mut bus, &advert, &plan, &kept, is_activated);
-    let outcome = outcome_of(&ended, bus.device().active());
-    let fault = fault_of(&ended);
+    } = set_up(alloc, conventions, image, weights, kept, script)?;
+    let results = carry_out(&mut bus, &advert, &plan, &kept, is_woken, is_activated);
+    let outcome = outcome_of(results, bus.device().active());
+    let fault = outcome_fault(results);
     Ok(CommandOutput {
         text: output(alloc, is_json, is_traced, bus.steps(), outcome, fault)?,
         fault: told(fault),

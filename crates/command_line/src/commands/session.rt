@@ -1,27 +1,30 @@
 // A simulated module on a scripted bus, with the plan that is given for it.
-ghost use Rattle.std.specs.Prelude.{◌≡◌, ◌≢◌, IfErr, MatchResult};
-ghost use Rattle.std.specs.Option.{option_map};
+ghost use Rattle.std.specs.Prelude.{◌≡◌, ◌≢◌, ◌&&◌, IfErr, MatchResult, is_none, is_some};
 ghost use Rattle.bus_model.specs.ScriptBuses.{seen_at};
 ghost use Rattle.plan_certificate.specs.Plans.{IsAdmissible, Keeps};
 ghost use Rattle.control_sets.specs.Answers.{activated_steps, provisioned_steps};
 ghost use Rattle.sim_module.specs.ActiveSets.{HasNoApply};
 ghost use Rattle.sim_module.specs.Soundness.{IsSound};
-ghost use Rattle.command_line.specs.ProvisionCommand.{CarriesOut, IsSetUpRefusal, delays};
+ghost use Rattle.command_line.specs.ProvisionCommand.{Activates, CarriesOut, IsSetUpRefusal, MakesIf, Provisions, Wakes, delays, fault_of, steps_of};
 ghost use Rattle.command_line.specs.Sessions.{IsSessionOf};
 
+use super::outcome::{ProcedureResults, fault_of, steps_of};
 use super::planning_inputs::{read_kept, read_module};
 use crate::fault::Fault;
 use crate::remark::Warnings;
-use applications::{Advert, Weights};
+use applications::{Advert, Conventions, Weights};
 use bus_model::{Script, ScriptBus};
-use control_sets::{Activated, ProvisionFault, Provisioned, activate, provision_keeping};
+use control_sets::{
+    Activated, MAX_STEPS, Power, ProvisionFault, Provisioned, activate, change_power,
+    provision_keeping,
+};
 use lane_planner::first_plan;
 use plan_certificate::Plan;
 use sim_module::{Delays, SimModule};
 use std::alloc::Global;
 
-/// The most steps.
-const ROOM: usize = 8192;
+/// The most steps: those of waking up, of provisioning and of activation.
+const ROOM: usize = 3 * MAX_STEPS as usize;
 
 /// How many ticks each work of the module takes.
 const DELAY: u16 = 4;
@@ -53,16 +56,17 @@ fn delays() -> Delays
 /// The session of the texts of an image, of weights, of kept paths and of a script.
 pub fn set_up(
     alloc: Global,
+    conventions: Conventions,
     image: &[u8],
     weights: &[u8],
     kept: &[u8],
     script: &[u8],
 ) -> Result<Session, Fault>
-    ensures answer { MatchResult result (IsSessionOf image.now weights.now kept.now script.now)
-        (IsSetUpRefusal image.now weights.now kept.now script.now) }
+    ensures answer { MatchResult result (IsSessionOf conventions image.now weights.now kept.now script.now)
+        (IsSetUpRefusal conventions image.now weights.now kept.now script.now) }
     ensures read { IfErr result (λ fault. fault ≢ Fault.Io) }
 {
-    let (image, advert) = read_module(image)?;
+    let (image, advert) = read_module(conventions, image)?;
     let weights = Weights::read(alloc, weights)?;
     let kept = read_kept(&advert, kept)?;
     let script = Script::read(script)?;
@@ -79,32 +83,106 @@ pub fn set_up(
     })
 }
 
-/// How provisioning ended, and then activation if it was made.
-pub type ProcedureResults = (
-    Result<Provisioned, ProvisionFault>,
-    Option<Result<Activated, ProvisionFault>>,
-);
-
-/// Provisions the plan but for its kept paths, and if that succeeds and activation is asked for, activates it.
+/// Wakes the module up if that is asked for, provisions the plan but for its kept paths, and activates it if that is asked for;
+/// after one that fails none is made.
 pub fn carry_out(
     bus: &mut ScriptBus<SimModule>,
     advert: &Advert,
     plan: &Plan,
     kept: &Plan,
+    is_woken: bool,
     is_activated: bool,
 ) -> ProcedureResults
     requires admissible { IsAdmissible advert.now plan.now }
     requires keeps { Keeps kept.now plan.now }
     requires sound { IsSound bus.old.device }
     requires at_rest { HasNoApply bus.old.device }
-    ensures { CarriesOut is_activated advert.now plan.now kept.now (seen_at bus.old) (seen_at bus.new)
-        (provisioned_steps result.0) (option_map activated_steps result.1) }
+    ensures { CarriesOut is_woken is_activated advert.now plan.now kept.now (seen_at bus.old) (seen_at bus.new) result }
 {
-    let provisioned = provision_keeping(bus, advert, plan, kept);
-    if is_activated && provisioned.is_ok() {
-        let activated = activate(bus, advert, plan);
-        (provisioned, Some(activated))
+    let woken = wake_if(bus, is_woken);
+    let goes_on = has_no_fault(woken);
+    let provisioned = provision_if(bus, advert, plan, kept, goes_on);
+    let comes_up = is_activated_after(provisioned, is_activated);
+    let activated = activate_if(bus, advert, plan, comes_up);
+    ProcedureResults {
+        woken,
+        provisioned,
+        activated,
+    }
+}
+
+// Whether it was not made, or succeeded.
+fn has_no_fault(ended: Option<Result<u16, ProvisionFault>>) -> bool
+    ensures { result ≡ is_none (fault_of ended) }
+{
+    fault_of(ended).is_none()
+}
+
+// Whether activation is asked for, and comes after a success.
+fn is_activated_after(provisioned: Option<Result<u16, ProvisionFault>>, is_wanted: bool) -> bool
+    ensures { result ≡ (is_wanted && is_some (steps_of provisioned)) }
+{
+    is_wanted && steps_of(provisioned).is_some()
+}
+
+fn wake_if(bus: &mut ScriptBus<SimModule>, is_wanted: bool) -> Option<Result<u16, ProvisionFault>>
+    ensures { MakesIf is_wanted Wakes (seen_at bus.old) (seen_at bus.new) result }
+{
+    if is_wanted {
+        Some(change_power(bus, Power::Awake))
     } else {
-        (provisioned, None)
+        None
+    }
+}
+
+fn provision_if(
+    bus: &mut ScriptBus<SimModule>,
+    advert: &Advert,
+    plan: &Plan,
+    kept: &Plan,
+    is_wanted: bool,
+) -> Option<Result<u16, ProvisionFault>>
+    requires admissible { IsAdmissible advert.now plan.now }
+    requires keeps { Keeps kept.now plan.now }
+    ensures { MakesIf is_wanted (Provisions advert.now plan.now kept.now) (seen_at bus.old) (seen_at bus.new) result }
+{
+    if is_wanted {
+        Some(provisioned_steps(provision_keeping(bus, advert, plan, kept)))
+    } else {
+        None
+    }
+}
+
+fn activate_if(
+    bus: &mut ScriptBus<SimModule>,
+    advert: &Advert,
+    plan: &Plan,
+    is_wanted: bool,
+) -> Option<Result<u16, ProvisionFault>>
+    requires { IsAdmissible advert.now plan.now }
+    ensures { MakesIf is_wanted (Activates advert.now plan.now) (seen_at bus.old) (seen_at bus.new) result }
+{
+    if is_wanted {
+        Some(activated_steps(activate(bus, advert, plan)))
+    } else {
+        None
+    }
+}
+
+fn provisioned_steps(ended: Result<Provisioned, ProvisionFault>) -> Result<u16, ProvisionFault>
+    ensures { result ≡ provisioned_steps ended }
+{
+    match ended {
+        Ok(provisioned) => Ok(provisioned.steps),
+        Err(fault) => Err(fault),
+    }
+}
+
+fn activated_steps(ended: Result<Activated, ProvisionFault>) -> Result<u16, ProvisionFault>
+    ensures { result ≡ activated_steps ended }
+{
+    match ended {
+        Ok(activated) => Ok(activated.steps),
+        Err(fault) => Err(fault),
     }
 }

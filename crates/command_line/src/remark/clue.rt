@@ -1,5 +1,5 @@
 ghost use Rattle.std.specs.Prelude.{◌≡◌, None};
-ghost use Rattle.command_line.specs.Runs.{answer_of, opening_beside};
+ghost use Rattle.command_line.specs.Runs.{answer_of, clue_beside};
 ghost use Rattle.command_line.specs.declared.remark.opening.Opening.TheVariants.{Other};
 
 use super::opening::Opening;
@@ -13,7 +13,7 @@ use paged_memory::ImageFault;
 pub struct Clue {
     /// What a text that is no image begins with.
     pub opening: Opening,
-    /// The first line of the weights that has none of the usual forms, counted from 1.
+    /// The first odd line of the weights, counted from 1.
     pub weights_line: Option<usize>,
 }
 
@@ -30,7 +30,7 @@ impl Clue {
 
     /// What the input tells of the fault that is answered to it.
     pub fn of(answer: &Result<CommandOutput, Fault>, input: &[u8]) -> Clue
-        ensures { result.opening ≡ opening_beside (answer_of answer.now) input.now }
+        ensures { result ≡ clue_beside (answer_of answer.now) input.now }
     {
         match answer {
             Err(Fault::Image(ImageFault::BadHeader)) => Clue {

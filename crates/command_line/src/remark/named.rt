@@ -182,6 +182,7 @@ fn of_reason(reason: Reason, number: usize) -> Named
         Reason::StartNotWeight => nowhere("VR7"),
         Reason::KeptNotAdmissible => at("VR8", Place::KeptPath(number)),
         Reason::KeptMissing => at("VR9", Place::KeptPath(number)),
+        Reason::PairingDiffers => nowhere("VR10"),
     }
 }
 

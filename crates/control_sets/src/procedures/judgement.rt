@@ -1,8 +1,9 @@
-ghost use Rattle.std.specs.Prelude.{◌≡◌, ◌<◌, ◌≤◌, length};
+ghost use Rattle.std.specs.Prelude.{◌≡◌, ◌<◌, length};
 ghost use Rattle.bus_model.specs.Operations.{Answers};
 ghost use Rattle.control_sets.specs.Judgements.{HasCount, all_lanes_have, at_lane, differing_lane, is_rejection, is_reserved_state, is_reserved_status, judged, judged_module, judged_states, judged_statuses, judgement, lowest_lane, met_if, unless_rejected};
 ghost use Rattle.control_sets.specs.Tasks.{operation};
 
+use crate::control_set::ControlSet;
 use crate::fault::ProvisionFault;
 use crate::procedures::task::Task;
 use bus_model::Reply;
@@ -150,7 +151,7 @@ fn all_lanes_have(codes: &[u8; 8], lanes: LaneSet, code: u8) -> bool
         || at_lane(codes, *lane) == code)
 }
 
-fn differing_lane(bytes: &[u8], control: &[u8; 8]) -> Option<LaneNumber>
+fn differing_lane(bytes: &[u8], control: &ControlSet) -> Option<LaneNumber>
     requires { length bytes.now ≡ 8 }
     ensures { result ≡ differing_lane bytes.now control.now }
 {

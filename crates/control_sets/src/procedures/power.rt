@@ -8,8 +8,7 @@ ghost use Rattle.control_sets.specs.OutcomeAnswers.{Answer};
 ghost use Rattle.control_sets.specs.OutcomeOfPower.{IsPowerChange};
 ghost use Rattle.control_sets.specs.Pages.{History};
 ghost use Rattle.control_sets.specs.PowerControls.{wanted_controls};
-ghost use Rattle.control_sets.specs.PowerProgress.{IsPowerAt, judged_asleep, judged_awake, judged_power, next_op, operation_at, power_next, stage_after, stage_judged, taken};
-ghost use Rattle.module_states.specs.Codes.{state_at};
+ghost use Rattle.control_sets.specs.PowerProgress.{IsPowerAt, judged_power, next_op, operation_at, power_next, stage_after, stage_judged, taken};
 
 mod runner;
 mod saved;

@@ -4,6 +4,7 @@ ghost use Rattle.control_sets.specs.Tasks.{provisioning, activation};
 
 mod saved;
 
+use crate::control_set::ControlSet;
 use crate::fault::ProvisionFault;
 use crate::procedures::judgement::ReplyJudgement;
 use crate::procedures::next::ProcedureNext;
@@ -18,9 +19,9 @@ pub use saved::SavedProcedure;
 #[derive(Clone, Copy, Debug, PartialEq, Eq)]
 pub enum Work {
     /// The control bytes become active, by taking down and applying these lanes.
-    Provisioning { control: [u8; 8], lanes: LaneSet },
+    Provisioning { control: ControlSet, lanes: LaneSet },
     /// The data paths of these lanes come up, if the control bytes are active.
-    Activation { control: [u8; 8], lanes: LaneSet },
+    Activation { control: ControlSet, lanes: LaneSet },
 }
 
 impl Work {
@@ -38,7 +39,7 @@ impl Work {
     }
 }
 
-fn provisioning(control: [u8; 8], lanes: LaneSet) -> [Task; 8]
+fn provisioning(control: ControlSet, lanes: LaneSet) -> [Task; 8]
     ensures { result ≡ provisioning control lanes }
 {
     [
@@ -53,7 +54,7 @@ fn provisioning(control: [u8; 8], lanes: LaneSet) -> [Task; 8]
     ]
 }
 
-fn activation(control: [u8; 8], lanes: LaneSet) -> [Task; 4]
+fn activation(control: ControlSet, lanes: LaneSet) -> [Task; 4]
     ensures { result ≡ activation control lanes }
 {
     [
@@ -101,14 +102,14 @@ impl Procedure {
 
     /// Makes these control bytes active. The data paths of the lanes are taken down first, and the bytes are applied to
     /// them; statuses of other lanes aren't looked at.
-    pub fn provisioning(control: [u8; 8], lanes: LaneSet) -> Procedure
+    pub fn provisioning(control: ControlSet, lanes: LaneSet) -> Procedure
         ensures { IsAt (provisioning control lanes) [] result }
     {
         Procedure::of(Work::Provisioning { control, lanes })
     }
 
     /// If these control bytes are active, brings up the data paths of the lanes, and takes down those of other lanes.
-    pub fn activation(control: [u8; 8], lanes: LaneSet) -> Procedure
+    pub fn activation(control: ControlSet, lanes: LaneSet) -> Procedure
         ensures { IsAt (activation control lanes) [] result }
     {
         Procedure::of(Work::Activation { control, lanes })

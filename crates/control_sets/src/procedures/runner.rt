@@ -1,4 +1,4 @@
-ghost use Rattle.std.specs.Prelude.{◌≡◌, [], List};
+ghost use Rattle.std.specs.Prelude.{[], List};
 ghost use Rattle.plan_certificate.specs.Plans.{IsAdmissible, Keeps};
 ghost use Rattle.field_tables.specs.LaneSets.{every_lane};
 ghost use Rattle.control_sets.specs.ControlBytes.{control_bytes};

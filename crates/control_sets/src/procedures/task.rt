@@ -3,6 +3,7 @@ ghost use Rattle.bus_model.specs.Operations.{IsWellShaped};
 ghost use Rattle.field_tables.specs.Registers as registers;
 ghost use Rattle.control_sets.specs.RegisterOperations as operations;
 
+use crate::control_set::ControlSet;
 use arrayvec::ArrayVec;
 use bus_model::{MAX_STORE, Op};
 use field_tables::{LaneSet, Register, register};
@@ -18,15 +19,15 @@ pub enum Task {
     /// These lanes are DPDeactivated.
     AwaitDeactivated(LaneSet),
     /// These control bytes are staged.
-    Stage([u8; 8]),
+    Stage(ControlSet),
     /// They read back as staged.
-    CheckStaged([u8; 8]),
+    CheckStaged(ControlSet),
     /// ApplyDPInit is asked for by these bits.
     Apply(u8),
     /// These lanes tell ConfigSuccess.
     AwaitApplied(LaneSet),
     /// These control bytes are active.
-    CheckActive([u8; 8]),
+    CheckActive(ControlSet),
     /// These lanes are DPActivated.
     AwaitActivated(LaneSet),
 }

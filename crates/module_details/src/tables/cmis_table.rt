@@ -32,7 +32,7 @@ const IDENTITY: &[Line] = detail_table! {
     "attenuation-at-7000-mhz": [StepsIfAny CAttenuation 1000 Decibel] (value 2) [Outside CTechnology 1 10 15];
     "attenuation-at-12900-mhz": [StepsIfAny CAttenuation 1000 Decibel] (value 3) [Outside CTechnology 1 10 15];
     "attenuation-at-25800-mhz": [StepsIfAny CAttenuation 1000 Decibel] (value 4) [Outside CTechnology 1 10 15];
-    "firmware": [Version CActiveFirmware];
+    "firmware": [Version CActiveFirmware] [Cmis3];
 };
 
 /// What it is.
@@ -45,7 +45,7 @@ pub fn identity() -> &'static [Line]
 }
 
 const CHARACTERISTICS: &[Line] = detail_table! {
-    "inactive-firmware": [Version CInactiveFirmware] paged;
+    "inactive-firmware": [Version CInactiveFirmware] paged [Cmis3];
     "hardware": [Version CHardware] paged;
     "length-smf": [TenthsIfAny CLengthSmf CLengthSmfMultiplier Kilometre] paged [Outside CLengthSmfMultiplier 1 0 1];
     "length-om5": [StepsIfAny CLengths 2000 Metre] paged;
@@ -59,12 +59,12 @@ const CHARACTERISTICS: &[Line] = detail_table! {
     "rx-power-type": [Either CRxPowerIsAverage "average" "OMA"] paged;
     "case-temperature-max": [Celsius CTempRange] paged [Within CTempRange 1 0 0];
     "case-temperature-min": [Celsius CTempRange] (value 2) paged [Within CTempRange 1 0 0];
-    "max-duration-module-pwr-up": [Named Durations CMaxDurationModulePwrUp] paged;
-    "max-duration-module-pwr-dn": [Named Durations CMaxDurationModulePwrDn] paged;
+    "max-duration-module-pwr-up": [Named Durations CMaxDurationModulePwrUp] paged [Cmis3];
+    "max-duration-module-pwr-dn": [Named Durations CMaxDurationModulePwrDn] paged [Cmis3];
     "max-duration-dp-init": [Named Durations CMaxDurationDPInit] paged;
     "max-duration-dp-deinit": [Named Durations CMaxDurationDPDeinit] paged;
-    "max-duration-dp-tx-turn-on": [Named Durations CMaxDurationDPTxTurnOn] paged;
-    "max-duration-dp-tx-turn-off": [Named Durations CMaxDurationDPTxTurnOff] paged;
+    "max-duration-dp-tx-turn-on": [Named Durations CMaxDurationDPTxTurnOn] paged [Cmis3];
+    "max-duration-dp-tx-turn-off": [Named Durations CMaxDurationDPTxTurnOff] paged [Cmis3];
 };
 
 /// What it is like.
@@ -115,7 +115,7 @@ pub fn controls() -> &'static [Line]
 
 const STATUS: &[Line] = detail_table! {
     "state": [ModuleState CModuleState];
-    "fault-cause": [Named ModuleFaults CFaultCause] [Outside CModuleState 1 5 5];
+    "fault-cause": [Named ModuleFaults CFaultCause] [Outside CModuleState 1 5 5] [Cmis3];
     "low-power-allow-hw": [Yes CLowPwrAllowHW];
     "low-power-request-sw": [Yes CLowPwrRequestSW];
     "software-reset": [Yes CSoftwareReset];
@@ -142,8 +142,8 @@ const LANES: &[Line] = detail_table! {
     "config-status": [ConfigStatus CConfigStatus] (lanes 8) paged;
     "application": [Number CActiveAppSel 0] (lanes 8) paged;
     "path-from": [FirstLane CActiveAppSel CActivePathId] (lanes 8) paged;
-    "tx-output": [Yes CTxOutputStatus] (lanes 8) paged;
-    "rx-output": [Yes CRxOutputStatus] (lanes 8) paged;
+    "tx-output": [Yes CTxOutputStatus] (lanes 8) paged [Cmis3];
+    "rx-output": [Yes CRxOutputStatus] (lanes 8) paged [Cmis3];
     "tx-power": [Level CTxPower] (lanes 8) paged [Within CTxPowerMonitor 1 0 0];
     "tx-power-mw": [Milliwatts CTxPower] (lanes 8) paged [Within CTxPowerMonitor 1 0 0];
     "tx-bias": [Amount CTxBias CBiasMultiplier] (lanes 8) paged [Within CTxBiasMonitor 1 0 0] [Within CBiasMultiplier 1 3 3];

@@ -1,5 +1,5 @@
 // Reading a certificate from its text, one line after another.
-ghost use Rattle.std.specs.Prelude.{◌≡◌, ◌≢◌, ◌↔◌, ◌<◌, ◌≤◌, ◌+◌, ◌++◌, ◌∷◌, [], ℕ, IsTrue, IfOk, IfErr, OnOk, map, length};
+ghost use Rattle.std.specs.Prelude.{◌≡◌, ◌≢◌, ◌↔◌, ◌<◌, ◌≤◌, ◌+◌, ◌++◌, ◌∷◌, [], ℕ, false, IsTrue, IfOk, IfErr, OnOk, map, length};
 ghost use Rattle.std.specs.Bool.{OnTrue, OnFalse};
 ghost use Rattle.std.specs.List.{All};
 ghost use Rattle.text_lines.specs.Lines.{lines_of};
@@ -35,9 +35,10 @@ impl<const STATES: usize> Certificate<STATES> {
 
     /// A certificate that says nothing, to take a text.
     pub fn blank() -> Self
-        ensures { result ≡ record { weight = 0; kept = []; paths = []; entries = [] } }
+        ensures { result ≡ record { paired = false; weight = 0; kept = []; paths = []; entries = [] } }
     {
         Certificate {
+            paired: false,
             weight: 0,
             kept: Plan {
                 paths: ArrayVec::new(),
@@ -51,7 +52,7 @@ impl<const STATES: usize> Certificate<STATES> {
 
     /// Makes a blank certificate that of a text, in its place, if the text has no fault.
     pub fn take(&mut self, text: &[u8]) -> Result<(), CertificateFault>
-        requires { self.old ≡ record { weight = 0; kept = []; paths = []; entries = [] } }
+        requires { self.old ≡ record { paired = false; weight = 0; kept = []; paths = []; entries = [] } }
         ensures ok { OnOk result (IsTextOf STATES (lines_of text.now) self.new) }
         ensures err { IfErr result (IsFirstFault STATES (lines_of text.now)) }
     {
@@ -99,7 +100,7 @@ impl<const STATES: usize> Certificate<STATES> {
         ensures { IsTrue result ↔ MayCome stage self.now line }
     {
         match line {
-            Line::Header | Line::KeptHeader => stage == Stage::Start,
+            Line::Header(_) | Line::KeptHeader(_) => stage == Stage::Start,
             Line::Weight(_) => stage == Stage::Headed || stage == Stage::KeptHeaded,
             Line::KeepLine(_) => {
                 stage == Stage::KeptWeighed || stage == Stage::Weighed && self.has_kept_alone()
@@ -127,8 +128,8 @@ impl<const STATES: usize> Certificate<STATES> {
         ensures fault { IfErr result (IsLineFault STATES (text_so_far stage self.old ++ line_text line ∷ [])) }
     {
         match line {
-            Line::Header => Ok(Stage::Headed),
-            Line::KeptHeader => Ok(Stage::KeptHeaded),
+            Line::Header(paired) => Ok(self.headed(paired, Stage::Headed)),
+            Line::KeptHeader(paired) => Ok(self.headed(paired, Stage::KeptHeaded)),
             Line::Weight(weight) => {
                 self.weight = weight;
                 Ok(weighed(stage))
@@ -157,6 +158,15 @@ impl<const STATES: usize> Certificate<STATES> {
             }
             Line::End => Ok(Stage::Ended),
         }
+    }
+
+    // What a header leads to, which also says whether the certificate is for a module that pairs first lanes.
+    fn headed(&mut self, paired: bool, next: Stage) -> Stage
+        ensures marked { self.new ≡ record self.old { paired = paired } }
+        ensures next { result ≡ next }
+    {
+        self.paired = paired;
+        next
     }
 }
 

@@ -29,7 +29,7 @@ impl<const STATES: usize> Certificate<STATES> {
         ensures readable { OnOk result (IsReadable STATES self.now) }
         ensures read_back { IfOk result (λ text. IsTextOf STATES (lines_of text.items) self.now) }
     {
-        let head = head_of(self.weight, &self.kept, &self.plan);
+        let head = head_of(self.paired, self.weight, &self.kept, &self.plan);
         let mut text = Vec::from_slice(alloc, head.as_slice())?;
         write_entries(&mut text, &self.entries)?;
         text.extend_from_slice(&end_line())?;
@@ -53,28 +53,29 @@ fn write_entries<const STATES: usize>(
 }
 
 /// The lines of a certificate before those of its entries.
-pub fn head_of(weight: u64, kept: &Plan, plan: &Plan) -> ArrayVec<u8, HEAD>
-    ensures { IsHead weight kept.now plan.now result.items }
+pub fn head_of(paired: bool, weight: u64, kept: &Plan, plan: &Plan) -> ArrayVec<u8, HEAD>
+    ensures { IsHead paired weight kept.now plan.now result.items }
 {
     let (kept, paths) = (kept.paths.as_slice(), plan.paths.as_slice());
     let mut head = ArrayVec::new();
-    add(&mut head, header_of(kept));
+    add(&mut head, header_of(paired, kept));
     add_weight(&mut head, weight);
     add_kept(&mut head, kept);
     add_paths(&mut head, paths);
     head
 }
 
-// The first line of a certificate that keeps these paths.
+// The first line of a certificate for a module that pairs first lanes or does not, which keeps these paths.
 #[tactic(auto, unfolding(crate::specs::CertificateText::line_words))]
-fn header_of(kept: &[Path]) -> &'static [u8]
-    ensures line { result.now ≡ line_text (header_of kept.now) ++ 10 ∷ [] }
+fn header_of(paired: bool, kept: &[Path]) -> &'static [u8]
+    ensures line { result.now ≡ line_text (header_of paired kept.now) ++ 10 ∷ [] }
     ensures small { length result.now ≤ 14 }
 {
-    if kept.is_empty() {
-        b"certificate 1\n"
-    } else {
-        b"certificate 2\n"
+    match (paired, kept.is_empty()) {
+        (false, true) => b"certificate 1\n",
+        (false, false) => b"certificate 2\n",
+        (true, true) => b"certificate 3\n",
+        (true, false) => b"certificate 4\n",
     }
 }
 

@@ -46,12 +46,15 @@ fn each_refusal_has_its_code(rt: HostRuntime) -> Result<(), Fail> {
 // Registers have host lanes alone, and yet an Application without media lanes can't be used.
 #[test]
 fn an_application_needs_media_lanes(rt: HostRuntime) -> Result<(), Fail> {
-    for (counts, code) in [(0x20, 0x33), (0x29, 0x33), (0x21, 0xCC), (0x28, 0xCC)] {
-        let changed = with(image()?, Key::lower(Dev::A0), &[(92, counts)])?;
+    // 100GBASE-DR has one media lane; media interface 0 is undefined, so nothing replaces a count of 0.
+    let rows =
+        [(0, 0x20, 0x33), (0, 0x29, 0x33), (0, 0x21, 0xCC), (0, 0x28, 0xCC), (0x14, 0x20, 0xCC)];
+    for (media_id, counts, code) in rows {
+        let changed = with(image()?, Key::lower(Dev::A0), &[(91, media_id), (92, counts)])?;
         let mut module = SimModule::new(&changed, FOURS)?;
         apply(&mut module, &[0x20, 0x20], 0x03);
         let [first, ..] = statuses(&mut module);
-        assert_eq!(rt; first, code, "{counts}");
+        assert_eq!(rt; first, code, "{media_id} {counts}");
     }
     Ok(())
 }

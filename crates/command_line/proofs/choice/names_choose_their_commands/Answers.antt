@@ -8,4 +8,5 @@ unfolding clap_on_literals program commands
 returns c = record {
   taken = λ program_name. refl;
   chosen = λ program_name. refl;
+  json = λ program_name. refl;
 }

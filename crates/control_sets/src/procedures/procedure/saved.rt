@@ -2,6 +2,7 @@ ghost use Rattle.std.specs.Prelude.{◌≡◌, Some};
 ghost use Rattle.control_sets.specs.SavedNumbers.{page_read_back, restored, saved_fault, selected_numbered, work_numbered};
 
 use super::{Procedure, Work};
+use crate::control_set::ControlSet;
 use crate::procedures::page_tracker::PageTracker;
 use crate::procedures::saved_fault::SavedFault;
 use field_tables::LaneSet;
@@ -20,7 +21,7 @@ pub struct SavedProcedure {
     /// Bit i-1 is 1 for lane i.
     pub lanes: u8,
     /// The control bytes of host lanes 1 to 8.
-    pub control: [u8; 8],
+    pub control: ControlSet,
     /// Of the page selection: 0 if nothing is known, 1 if it was stored to, 2 if a page was read back.
     pub selection: u8,
     /// The page that was read back, or 0.
@@ -90,7 +91,7 @@ impl Procedure {
     }
 }
 
-fn numbers_of_work(work: &Work) -> (u8, [u8; 8], u8)
+fn numbers_of_work(work: &Work) -> (u8, ControlSet, u8)
     ensures { work_numbered result.0 result.1 result.2 ≡ Some work.now }
 {
     match work {

@@ -1,8 +1,8 @@
 use Rattle.std.proofs.Common.{◌≡◌, ◌<◌, ◌≤◌, ◌∙◌, ℕ, Bool, cond, List, length, Option, Some, None, Result, Ok, Err, MatchOption, MatchResult, sym, subst, ap, arith, le-ltb, lt-ltb}
-use Rattle.applications.specs.Advertised.{advertised_by}
+use Rattle.applications.specs.declared.conventions.Conventions.{Conventions}
 use Rattle.firmware_api.specs.declared.status.Refusal.{Refusal}
 use Rattle.firmware_api.specs.declared.status.Refusal.TheVariants.{TooSmall}
-use Rattle.firmware_api.specs.Halves.{memory_of}
+use Rattle.firmware_api.specs.Halves.{advert_of, conventions_of}
 use Rattle.firmware_api.specs.Plans.{plan_refusal}
 use Rattle.firmware_api.specs.Statuses.{status_by}
 use Rattle.firmware_api.specs.WrittenCertificates.{IsTextPut}
@@ -20,15 +20,21 @@ told_by short = status_by (cond short (Some TooSmall) None)
 pub returns-then-room-len : goal.returns-then-room-len
 returns-then-room-len c =
     let before : List ℕ = c.args.buffer.now in
-    let Put : ℕ → Type 0 = IsTextPut (advertised_by (memory_of c.args.halves.now)) c.args.weights.now c.args.kept.now before c.put.new.buffer in
-    answered Put _ _ _ (plan_refusal c.args.halves.now c.args.kept.now) c.put.result c.in-Ok.len c.in-Ok.is c.put.ensures (λ put.
+    let made = subst (λ (conventions : Conventions). MatchOption (plan_refusal c.args.halves.now conventions c.args.kept.now)
+    (MatchResult c.put.result (IsTextPut (advert_of c.args.halves.now conventions) c.args.weights.now c.args.kept.now before c.put.new.buffer) (λ _. ⊥))
+    (λ refusal. (c.put.result ≡ Err refusal) × (c.put.new.buffer ≡ before))) c.conventions_of.ensures c.put.ensures in
+    let Put : ℕ → Type 0 = IsTextPut (advert_of c.args.halves.now (conventions_of c.args.paired c.args.counts_by_id)) c.args.weights.now c.args.kept.now before c.put.new.buffer in
+    answered Put _ _ _ (plan_refusal c.args.halves.now (conventions_of c.args.paired c.args.counts_by_id) c.args.kept.now) c.put.result c.in-Ok.len c.in-Ok.is made (λ put.
     let short : length before < length put.text = omega (arith, c.if-room-len.true, put.counted) in
     record { put = put; told = c.status.ensures.status ∙ ap told_by (sym (lt-ltb (length before) (length put.text) short)) })
 
 pub returns-else-room-len : goal.returns-else-room-len
 returns-else-room-len c =
     let before : List ℕ = c.args.buffer.now in
-    let Put : ℕ → Type 0 = IsTextPut (advertised_by (memory_of c.args.halves.now)) c.args.weights.now c.args.kept.now before c.put.new.buffer in
-    answered Put _ _ _ (plan_refusal c.args.halves.now c.args.kept.now) c.put.result c.in-Ok.len c.in-Ok.is c.put.ensures (λ put.
+    let made = subst (λ (conventions : Conventions). MatchOption (plan_refusal c.args.halves.now conventions c.args.kept.now)
+    (MatchResult c.put.result (IsTextPut (advert_of c.args.halves.now conventions) c.args.weights.now c.args.kept.now before c.put.new.buffer) (λ _. ⊥))
+    (λ refusal. (c.put.result ≡ Err refusal) × (c.put.new.buffer ≡ before))) c.conventions_of.ensures c.put.ensures in
+    let Put : ℕ → Type 0 = IsTextPut (advert_of c.args.halves.now (conventions_of c.args.paired c.args.counts_by_id)) c.args.weights.now c.args.kept.now before c.put.new.buffer in
+    answered Put _ _ _ (plan_refusal c.args.halves.now (conventions_of c.args.paired c.args.counts_by_id) c.args.kept.now) c.put.result c.in-Ok.len c.in-Ok.is made (λ put.
     let room : length put.text ≤ length before = omega (arith, c.if-room-len.false, put.counted) in
     record { put = put; told = ap told_by (sym (le-ltb (length before) (length put.text) room)) })

@@ -14,7 +14,7 @@ returns g c =
     let others : List Path = c.first_plan-first.result in
     let ours : c.as_slice.result.now ≡ paths = (let read = c.as_slice.ensures.value in let seen = c.certificate.view_is in cc) in
     let theirs : c.as_slice-2.result.now ≡ others = (let read = c.as_slice-2.ensures.value in let seen = c.first.view_is in cc) in
-    let keeps : c.certificate-inside.inside.0.1.0 ≡ kept = (let within = c.certificate-inside.view_is in let inside : c.certificate-inside.inside.0.1.0 ≡ c.certificate.inside.kept = cc in let seen = c.certificate.view_is in let outside : c.certificate.inside.kept ≡ kept = cc in inside ∙ outside) in
+    let keeps : c.certificate-inside.inside.0.1.1.0 ≡ kept = (let within = c.certificate-inside.view_is in let inside : c.certificate-inside.inside.0.1.1.0 ≡ c.certificate.inside.kept = cc in let seen = c.certificate.view_is in let outside : c.certificate.inside.kept ≡ kept = cc in inside ∙ outside) in
     let given = subst (λ (xs : List Path). IsFirstBest advert weights xs others) keeps c.first_plan-first.ensures.first in
     let Same : List Path → List Path → Type 0 = HaveSamePaths in
     let best = good_is_best advert weights _ c.requires in (

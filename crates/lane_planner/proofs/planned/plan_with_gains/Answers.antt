@@ -36,7 +36,7 @@ returns-clause-certified c =
     let reached = subst (λ (l : List Path). MarksReached advert weights l marks) same c.reached.ensures in
     let has = subst (λ (l : List Path). HasGains advert weights l 0 table) same c.put_gains.ensures in
     let off = subst (λ (l : List Path). IsReadOff advert weights l table paths) same c.read_off.ensures in
-    (claim_by kept paths marks table, certified advert weights kept paths marks table c.requires reached has off, refl)
+    (claim_by advert.paired kept paths marks table, certified advert weights kept paths marks table c.requires reached has off, refl)
 
 pub returns-clause-first : goal.returns-clause-first
 returns-clause-first c =

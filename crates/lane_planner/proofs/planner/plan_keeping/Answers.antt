@@ -43,6 +43,7 @@ returns-clause-good c =
     let off = subst (λ (paths : List Path). IsReadOff advert weights paths table c.read_off.result) same c.read_off.ensures in
     let weight : c.at.result ≡ gain_at table start = c.at.ensures ∙ ap (λ (n : ℕ). get_or table n 0) (sym start_place) in
     record {
+      paired = c.is_paired.ensures;
       kept = subst (IsAdmissible advert) (sym c.copy_of.ensures) c.requires;
       admissible = off.plan.admissible;
       keeps = off.plan.keeps;

@@ -1,8 +1,10 @@
-use Rattle.std.proofs.Common.{◌≡◌, List, sym, subst}
+use Rattle.std.proofs.Common.{◌≡◌, ℕ, Bool, List, length, sym, subst, ap, ◌∙◌}
 use Rattle.text_lines.specs.Lines.{text_of}
 use Rattle.plan_certificate.specs.declared.path.Path.{Path}
 use Rattle.plan_certificate.specs.Plans.{AreAllowed, IsAdmissible}
-use Rattle.plan_certificate.specs.CertificateText.{certificate_lines}
+use Rattle.plan_certificate.specs.CertificateText.{IsReadable, certificate_lines}
+use Rattle.plan_certificate.specs.Limits.{most_states}
+use Rattle.lane_planner.specs.Buffers.{buffer_with}
 use Rattle.lane_planner.specs.CertifiedPlans.{claim_by}
 use Rattle.lane_planner.specs.Marks.{MarksReached}
 use Rattle.lane_planner.specs.Tables.{HasGains, IsReadOff}
@@ -36,5 +38,8 @@ returns-clause-put c =
     let reached = subst (λ (paths : List Path). MarksReached advert weights paths marks) same c.reached.ensures in
     let has = subst (λ (paths : List Path). HasGains advert weights paths 0 table) same c.put_gains.ensures in
     let off = subst (λ (paths : List Path). IsReadOff advert weights paths table plan) same c.read_off-plan.ensures in
-    let text = text_of (certificate_lines (claim_by kept plan marks table)) in
-    (text, plan_text advert weights kept plan marks table c.requires reached has off c.put_if_room.ensures.readable, c.put_if_room.ensures.len, c.put_if_room.ensures.put)
+    let text_for : Bool → List ℕ = λ paired. text_of (certificate_lines (claim_by paired kept plan marks table)) in
+    let readable = subst (λ (paired : Bool). IsReadable most_states (claim_by paired kept plan marks table)) c.is_paired.ensures c.put_if_room.ensures.readable in
+    let len = c.put_if_room.ensures.len ∙ ap (λ (paired : Bool). length (text_for paired)) c.is_paired.ensures in
+    let put = c.put_if_room.ensures.put ∙ ap (λ (paired : Bool). buffer_with c.args.buffer.now (text_for paired)) c.is_paired.ensures in
+    (text_for advert.paired, plan_text advert weights kept plan marks table c.requires reached has off readable, len, put)

@@ -6,4 +6,4 @@ use Rattle.module_details.proofs.apps.say_each.Given as goal
 
 -- the Applications so far
 abbrev pub invariant-loop-app : goal.invariant-loop-app
-invariant-loop-app l = said_in l.entries ≡ said_in l.initial.entries ++ flat_map (app_entries l.media) (take l.app-index l.apps)
+invariant-loop-app l = said_in l.entries ≡ said_in l.initial.entries ++ flat_map (app_entries l.flat l.media) (take l.app-index l.apps)

@@ -11,5 +11,5 @@ loop-before-preserved c =
     let more = flat_map_more (lane_entries c.args.image.now c.args.name.now (item_in c.args.item.now)) c.loop-before.before in
     grind (arith, common_steps)
 
-pub fact_at-requires : goal.fact_at-requires
-fact_at-requires c = of_range (item_fits (item_in c.args.item.now)) c.args.count (c.loop-before.before + 1) c.requires.fits (omega arith) (omega (arith, c.loop-before-test.true))
+pub say_lane-requires : goal.say_lane-requires
+say_lane-requires c = of_range (item_fits (item_in c.args.item.now)) c.args.count (c.loop-before.before + 1) c.requires.fits (omega arith) (omega (arith, c.loop-before-test.true))

@@ -6,6 +6,7 @@ use Rattle.bus_model.specs.declared.operation.Op.{Op}
 use Rattle.bus_model.specs.declared.operation.Reply.{Reply}
 use Rattle.bus_model.specs.Operations.{IsWellShaped}
 use Rattle.bus_model.specs.Runs.{IsFull}
+use Rattle.control_sets.specs.OutcomeAnswers.{most_steps}
 use Rattle.control_sets.specs.Procedures.{MakesHistory}
 use Rattle.control_sets.proofs.CarriedOut.{ran_more}
 use Rattle.paged_memory.proofs.KnownPageLaws.{step_of}
@@ -29,7 +30,7 @@ take-requires-clause-room g c =
 
 pub told-smaller : goal.told-smaller
 told-smaller g c =
-    subst (λ (reading : Reading). 4096 - reading.steps < 4096 - c.told.reading.steps) (sym c.take.ensures)
+    subst (λ (reading : Reading). most_steps - reading.steps < most_steps - c.told.reading.steps) (sym c.take.ensures)
     (fewer c.told.reading c.in-Do.op c.in-Ok.reply (sym c.next.ensures.value ∙ c.in-Do.is))
 
 pub told-preserved : goal.told-preserved

@@ -9,16 +9,16 @@ use Rattle.command_line.specs.declared.fault.Fault.TheVariants.{Certificate}
 use Rattle.command_line.proofs.commands.check_command.judged.Goals as goal
 
 pub returns-in-Err-clause-answer : goal.returns-in-Err-clause-answer
-returns-in-Err-clause-answer c = λ image listed is_advert are_weights.
+returns-in-Err-clause-answer c = λ conventions image listed is_advert are_weights.
     let text = c.args.text.now in
     let first : IsFirstFault most_states (lines_of text) c.in-Err.fault = subst (λ r. IfErr r (IsFirstFault most_states (lines_of text))) c.in-Err.is c.take.ensures.err in
-    let is : IsCheckAnswer c.args.is_json c.args.tells_first image listed text (Err (Certificate c.in-Err.fault)) = ((c.args.advert.now, is_advert), (c.args.weights.now, are_weights), first) in
+    let is : IsCheckAnswer c.args.is_json c.args.tells_first conventions image listed text (Err (Certificate c.in-Err.fault)) = ((c.args.advert.now, is_advert), (c.args.weights.now, are_weights), first) in
     is
 
 pub returns-in_ok-good_output-in-Good-clause-answer : goal.returns-in_ok-good_output-in-Good-clause-answer
-returns-in_ok-good_output-in-Good-clause-answer c = λ image listed is_advert are_weights.
+returns-in_ok-good_output-in-Good-clause-answer c = λ conventions image listed is_advert are_weights.
     let text = c.args.text.now in
-    let good : IsGoodAnswer c.args.is_json c.args.tells_first image listed text c.in_ok-good_output-in-Good.field-0.items = record {
+    let good : IsGoodAnswer c.args.is_json c.args.tells_first conventions image listed text c.in_ok-good_output-in-Good.field-0.items = record {
       judged = record {
         advert = c.args.advert.now;
         weights = c.args.weights.now;
@@ -34,9 +34,9 @@ returns-in_ok-good_output-in-Good-clause-answer c = λ image listed is_advert ar
     good
 
 pub returns-in-Bad-clause-answer : goal.returns-in-Bad-clause-answer
-returns-in-Bad-clause-answer c = λ image listed is_advert are_weights.
+returns-in-Bad-clause-answer c = λ conventions image listed is_advert are_weights.
     let text = c.args.text.now in
-    let bad : IsJudged image listed text (Bad c.in-Bad.reason c.in-Bad.number) = record {
+    let bad : IsJudged conventions image listed text (Bad c.in-Bad.reason c.in-Bad.number) = record {
       advert = c.args.advert.now;
       weights = c.args.weights.now;
       certificate = c.take.new.self;

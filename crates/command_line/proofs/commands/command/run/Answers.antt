@@ -2,6 +2,7 @@ use Rattle.std.proofs.Common.{◌∙◌, rules, ap}
 use Rattle.command_line.specs.CountedReader.{remaining_of}
 use Rattle.command_line.specs.Runs.{answer_of}
 use Rattle.command_line.specs.StoppingWriter.{writing_failed}
+use Rattle.command_line.specs.declared.remark.clue.Clue.{Clue}
 use Rattle.command_line.specs.CountedReader.{reading_failed}
 use Rattle.command_line.proofs.RemarkLemmas.{ending_status, ends_by_failure, if_known_both, said_beside, written_as}
 use Rattle.command_line.proofs.commands.command.run.Goals as goal
@@ -23,7 +24,7 @@ returns g c =
             let taken = c.read_and_answer-answer.ensures.taken in
             (taken.0, record { consumed = taken.1.consumed; within = taken.1.within; at_once = λ more. ap answer_of (taken.1.at_once more) });
         written = rw status (written_as c.args.request.json answer input _ _ _ _ failed c.write_answer-status.result
-            c.read_and_answer-answer.ensures.output clue c.write_answer-status.ensures.written);
+            c.read_and_answer-answer.ensures.output (ap (λ (k : Clue). k.opening) clue) c.write_answer-status.ensures.written);
         remarked = rw c.after.ensures (said_beside failed c.write_answer-status.result input answer _ c.beside-remark.result c.beside-remark.ensures clue);
       }) c.read_and_answer-answer.ensures.answer c.read_and_answer-answer.ensures.clue;
     }

@@ -9,19 +9,19 @@ use Rattle.command_line.proofs.commands.draw_command.draw.Goals as goal
 pub returns-in_err-image-clause-answer : goal.returns-in_err-image-clause-answer
 returns-in_err-image-clause-answer c =
     let p = err_from_is_err_and c.from_residual.result c.from_residual.ensures.1 in
-    rw (p.1, p.2) (advert_refused c.args.as_svg c.args.image.now c.args.weights.now c.args.kept.now c.in_err-image.field-0.0 c.in_err-image.ensures)
+    rw (p.1, p.2) (advert_refused c.args.as_svg c.args.conventions c.args.image.now c.args.weights.now c.args.kept.now c.in_err-image.field-0.0 c.in_err-image.ensures)
 
 pub returns-in_err-weights-clause-answer : goal.returns-in_err-weights-clause-answer
 returns-in_err-weights-clause-answer c =
     let p = err_from_is_err_and c.from_residual-in_err-weights.result c.from_residual-in_err-weights.ensures.1 in
-    let told : IsAdvertText c.args.image.now c.in_ok-image.advert = record { memory = c.in_ok-image.image; is_module = c.in_ok-image.ensures } in
-    rw (p.1, p.2) (weights_refused c.args.as_svg c.args.image.now c.args.weights.now c.args.kept.now c.in_err-weights.field-0.0 (c.in_ok-image.advert, told) c.in_err-weights.ensures.answer)
+    let told : IsAdvertText c.args.conventions c.args.image.now c.in_ok-image.advert = record { memory = c.in_ok-image.image; is_module = c.in_ok-image.ensures } in
+    rw (p.1, p.2) (weights_refused c.args.as_svg c.args.conventions c.args.image.now c.args.weights.now c.args.kept.now c.in_err-weights.field-0.0 (c.in_ok-image.advert, told) c.in_err-weights.ensures.answer)
 
 pub returns-in_err-kept-clause-answer : goal.returns-in_err-kept-clause-answer
 returns-in_err-kept-clause-answer c =
     let p = err_from_is_err_and c.from_residual-in_err-kept.result c.from_residual-in_err-kept.ensures.1 in
-    let told : IsAdvertText c.args.image.now c.in_ok-image.advert = record { memory = c.in_ok-image.image; is_module = c.in_ok-image.ensures } in
-    let refused : IsKeptRefusal c.args.image.now c.args.weights.now c.args.kept.now c.in_err-kept.field-0.0 = record {
+    let told : IsAdvertText c.args.conventions c.args.image.now c.in_ok-image.advert = record { memory = c.in_ok-image.image; is_module = c.in_ok-image.ensures } in
+    let refused : IsKeptRefusal c.args.conventions c.args.image.now c.args.weights.now c.args.kept.now c.in_err-kept.field-0.0 = record {
       advert = c.in_ok-image.advert;
       weights = c.in_ok-weights.weights;
       is_advert = told;
@@ -35,7 +35,7 @@ returns-clause-answer c =
     let drawing = c.in_ok-drawing.drawing in
     let drawn = subst (λ (m : ℕ). IsDrawing c.args.as_svg m c.in_ok-image.advert c.in_ok-weights.weights c.in_ok-kept.kept drawing.text.items drawing.has_paths)
     c.number-media_type.ensures.value c.in_ok-drawing.ensures in
-    let is : IsDrawn c.args.as_svg c.args.image.now c.args.weights.now c.args.kept.now drawing.text.items = record {
+    let is : IsDrawn c.args.as_svg c.args.conventions c.args.image.now c.args.weights.now c.args.kept.now drawing.text.items = record {
       memory = c.in_ok-image.image;
       advert = c.in_ok-image.advert;
       weights = c.in_ok-weights.weights;

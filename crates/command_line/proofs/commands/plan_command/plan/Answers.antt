@@ -6,18 +6,18 @@ use Rattle.command_line.proofs.commands.plan_command.plan.Goals as goal
 pub returns-in_err-advert-clause-answer : goal.returns-in_err-advert-clause-answer
 returns-in_err-advert-clause-answer c =
     let p = err_from_is_err_and c.from_residual.result c.from_residual.ensures.1 in
-    rw (p.1, p.2) (advert_refused c.args.is_json c.args.image.now c.args.weights.now c.args.kept.now c.in_err-advert.field-0.0 c.in_err-advert.ensures)
+    rw (p.1, p.2) (advert_refused c.args.is_json c.args.conventions c.args.image.now c.args.weights.now c.args.kept.now c.in_err-advert.field-0.0 c.in_err-advert.ensures)
 
 pub returns-in_err-weights-clause-answer : goal.returns-in_err-weights-clause-answer
 returns-in_err-weights-clause-answer c =
     let p = err_from_is_err_and c.from_residual-in_err-weights.result c.from_residual-in_err-weights.ensures.1 in
-    rw (p.1, p.2) (weights_refused c.args.is_json c.args.image.now c.args.weights.now c.args.kept.now c.in_err-weights.field-0.0
+    rw (p.1, p.2) (weights_refused c.args.is_json c.args.conventions c.args.image.now c.args.weights.now c.args.kept.now c.in_err-weights.field-0.0
     (c.in_ok-advert.advert, c.in_ok-advert.ensures) c.in_err-weights.ensures.answer)
 
 pub returns-in_err-kept-clause-answer : goal.returns-in_err-kept-clause-answer
 returns-in_err-kept-clause-answer c =
     let p = err_from_is_err_and c.from_residual-in_err-kept.result c.from_residual-in_err-kept.ensures.1 in
-    let refused : IsKeptRefusal c.args.image.now c.args.weights.now c.args.kept.now c.in_err-kept.field-0.0 = record {
+    let refused : IsKeptRefusal c.args.conventions c.args.image.now c.args.weights.now c.args.kept.now c.in_err-kept.field-0.0 = record {
       advert = c.in_ok-advert.advert;
       weights = c.in_ok-weights.weights;
       is_advert = c.in_ok-advert.ensures;
@@ -28,5 +28,5 @@ returns-in_err-kept-clause-answer c =
 
 pub returns-clause-answer : goal.returns-clause-answer
 returns-clause-answer c =
-    plan_told c.args.is_json c.args.image.now c.args.weights.now c.args.kept.now c.in_ok-advert.advert c.in_ok-weights.weights c.in_ok-kept.kept _
+    plan_told c.args.is_json c.args.conventions c.args.image.now c.args.weights.now c.args.kept.now c.in_ok-advert.advert c.in_ok-weights.weights c.in_ok-kept.kept _
     c.in_ok-advert.ensures c.in_ok-weights.ensures.answer c.in_ok-kept.ensures c.in_ok-text.ensures

@@ -1,8 +1,6 @@
 use Rattle.std.proofs.Common.{ap, ◌∙◌}
 use Rattle.std.proofs.lemmas.Result.{err_from_is_err_and}
-use Rattle.std.specs.Option.{option_map}
 use Rattle.bus_model.specs.ScriptBuses.{seen_at}
-use Rattle.control_sets.specs.Answers.{activated_steps, provisioned_steps}
 use Rattle.sim_module.specs.Lanes.{active_bytes}
 use Rattle.command_line.proofs.ProcedureAnswers.{carried, refused_answer, session_at_rest, session_sound, told_as}
 use Rattle.command_line.proofs.commands.provision_command.provision.Goals as goal
@@ -10,24 +8,22 @@ use Rattle.command_line.proofs.commands.provision_command.provision.Goals as goa
 pub returns-in_err-advert-clause-answer : goal.returns-in_err-advert-clause-answer
 returns-in_err-advert-clause-answer c =
     let p = err_from_is_err_and c.from_residual.result c.from_residual.ensures.1 in
-    rw (p.1, p.2) (refused_answer c.args.is_json c.args.is_traced c.args.is_activated c.args.image.now c.args.weights.now c.args.kept.now c.args.script.now
+    rw (p.1, p.2) (refused_answer c.args.is_json c.args.is_traced c.args.is_woken c.args.is_activated c.args.conventions c.args.image.now c.args.weights.now c.args.kept.now c.args.script.now
     c.in_err-advert.field-0.0 c.in_err-advert.ensures.answer)
 
-pub carry_out-ended-requires-clause-sound : goal.carry_out-ended-requires-clause-sound
-carry_out-ended-requires-clause-sound c = session_sound _ _ _ _ c.in_ok-advert.field-0 c.in_ok-advert.ensures.answer
+pub carry_out-results-requires-clause-sound : goal.carry_out-results-requires-clause-sound
+carry_out-results-requires-clause-sound c = session_sound _ _ _ _ _ c.in_ok-advert.field-0 c.in_ok-advert.ensures.answer
 
-pub carry_out-ended-requires-clause-at_rest : goal.carry_out-ended-requires-clause-at_rest
-carry_out-ended-requires-clause-at_rest c = session_at_rest _ _ _ _ c.in_ok-advert.field-0 c.in_ok-advert.ensures.answer
+pub carry_out-results-requires-clause-at_rest : goal.carry_out-results-requires-clause-at_rest
+carry_out-results-requires-clause-at_rest c = session_at_rest _ _ _ _ _ c.in_ok-advert.field-0 c.in_ok-advert.ensures.answer
 
 pub returns-clause-answer : goal.returns-clause-answer
 returns-clause-answer c =
-    let ended = c.carry_out-ended.result in
-    let after = seen_at c.carry_out-ended.new.bus in
-    let provisioned = provisioned_steps ended.0 in
-    let activated = option_map activated_steps ended.1 in
+    let results = c.carry_out-results.result in
+    let after = seen_at c.carry_out-results.new.bus in
     let text = c.in_ok-output.field-0.items in
-    let told = told_as c.args.is_json c.args.is_traced after provisioned activated text c.active.result c.steps.result.now c.outcome_of-outcome.result c.fault_of-fault.result
+    let told = told_as c.args.is_json c.args.is_traced after results text c.active.result c.steps.result.now c.outcome_of-outcome.result c.outcome_fault-fault.result
     c.in_ok-output.ensures c.outcome_of-outcome.ensures c.steps.ensures (c.active.ensures ∙ ap active_bytes c.device.ensures) in
-    carried c.args.image.now c.args.weights.now c.args.kept.now c.args.script.now c.in_ok-advert.field-0 c.in_ok-advert.ensures.answer
-    c.args.is_json c.args.is_traced c.args.is_activated text after provisioned activated c.fault_of-fault.result c.told.result
-    c.carry_out-ended.ensures told c.fault_of-fault.ensures c.told.ensures
+    carried c.args.conventions c.args.image.now c.args.weights.now c.args.kept.now c.args.script.now c.in_ok-advert.field-0 c.in_ok-advert.ensures.answer
+    c.args.is_json c.args.is_traced c.args.is_woken c.args.is_activated text after results c.outcome_fault-fault.result c.told.result
+    c.carry_out-results.ensures told c.outcome_fault-fault.ensures c.told.ensures

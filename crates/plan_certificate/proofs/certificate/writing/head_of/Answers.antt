@@ -8,7 +8,7 @@ returns c =
     let kept = rw (c.as_slice-kept.ensures.value, c.kept.view_is) at c.add_kept.ensures.written in
     let paths = rw (c.as_slice-paths.ensures.value, c.plan.view_is) at c.add_paths.ensures.written in
     record {
-      written = head_text c.args.weight c.args.kept.now c.args.plan.now _ _ _ _ header c.add_weight.ensures.written kept paths;
+      written = head_text c.args.paired c.args.weight c.args.kept.now c.args.plan.now _ _ _ _ header c.add_weight.ensures.written kept paths;
       small = omega arith;
       kept_in_range = rw (c.as_slice-kept.ensures.value, c.kept.view_is) at c.add_kept.ensures.each;
       paths_in_range = rw (c.as_slice-paths.ensures.value, c.plan.view_is) at c.add_paths.ensures.each;

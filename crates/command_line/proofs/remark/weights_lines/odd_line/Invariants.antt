@@ -1,0 +1,13 @@
+use Rattle.std.proofs.Common.{◌+◌, ◌≤◌, length}
+use Rattle.text_lines.specs.Lines.{lines_of}
+use Rattle.command_line.proofs.OddLineLemmas.{ReadTo}
+use Rattle.command_line.proofs.remark.weights_lines.odd_line.Given as goal
+
+abbrev pub invariant-loop-line : goal.invariant-loop-line
+invariant-loop-line l = record {
+  read : ReadTo (lines_of l.text) (lines_of l.rest) l.so_far l.number;
+  bounded : l.number + length l.rest ≤ length l.text;
+}
+
+abbrev pub decreases-loop-line : goal.decreases-loop-line
+decreases-loop-line l = length l.rest

@@ -1,0 +1,5 @@
+pub mod Rows
+pub mod HostInterfaces
+pub mod MultiModeMedia
+pub mod SingleModeMedia
+pub mod LanesById

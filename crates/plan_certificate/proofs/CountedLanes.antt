@@ -1,0 +1,105 @@
+-- What a module can carry by the lane counts of its descriptors, it can carry too if the interface IDs imply the others.
+use Rattle.std.proofs.Common.{◌≡◌, ℕ, ◌+◌, ◌&&◌, Bool, true, false, cond, List, [], ◌∷◌, ◌==◌, Option, Some, None, find, map, option_map, get_or, length, refl, ap, ◌∙◌, nat_le, arith}
+use Rattle.std.specs.Prelude.{sum_by}
+use Rattle.std.specs.Option.{unwrap_or}
+use Rattle.std.proofs.lemmas.Bool.{and_parts}
+use Rattle.std.proofs.lemmas.Bool.Decides.{nat_tests}
+use Rattle.field_tables.specs.LaneSets.{is_disjoint, run_of}
+use Rattle.applications.specs.declared.app.App.{App}
+use Rattle.applications.specs.Advertised.{Advertised, with_counts_by_id}
+use Rattle.applications.specs.CountsById.{count_by, counted}
+use Rattle.applications.specs.Usable.{is_lane_count, is_usable}
+use Rattle.applications.specs.Weights.{HostWeights, weight_at}
+use Rattle.interface_lanes.specs.LanesById.{host_lanes_by_id, media_lanes_by_id}
+use Rattle.plan_certificate.specs.declared.path.Path.{Path}
+use Rattle.plan_certificate.specs.Paths.{app_of, has_number, is_allowed, is_paired, is_run, no_app}
+use Rattle.plan_certificate.specs.Plans.{are_apart, IsAdmissible, plan_weight}
+
+-- ---- Applications
+
+count_stays : (implied : Option ℕ) (count : ℕ) → is_lane_count count ≡ true → count_by implied count ≡ count
+count_stays implied count is = grind (arith, nat_tests)
+
+usable_stays : (media_type : ℕ) (app : App) → is_usable app ≡ true → counted media_type app ≡ app
+usable_stays media_type app usable =
+    let parts = and_parts (is_lane_count app.host_lanes) (is_lane_count app.media_lanes) usable in
+    let host = count_stays (host_lanes_by_id app.host_id) app.host_lanes parts.0 in
+    let media = count_stays (media_lanes_by_id media_type app.media_id) app.media_lanes parts.1 in
+    λ i. record {
+      number = app.number;
+      host_id = app.host_id;
+      media_id = app.media_id;
+      host_lanes = host i;
+      media_lanes = media i;
+      host_starts = app.host_starts;
+      media_starts = app.media_starts;
+    }
+
+found : (media_type : ℕ) (path : Path) (apps : List App) → find (has_number path) (map (counted media_type) apps) ≡ option_map (counted media_type) (find (has_number path) apps)
+found media_type path [] = refl
+found media_type path (app ∷ apps) =
+    elim (has_number path app) as (λ b. cond b (Some (counted media_type app)) (find (has_number path) (map (counted media_type) apps)) ≡ option_map (counted media_type) (cond b (Some app) (find (has_number path) apps))) [ true ↦ refl | false ↦ found media_type path apps ]
+
+stays : (media_type : ℕ) (found : Option App) → is_usable (unwrap_or found no_app) ≡ true → unwrap_or (option_map (counted media_type) found) no_app ≡ unwrap_or found no_app
+stays media_type None usable = refl
+stays media_type (Some app) usable = usable_stays media_type app usable
+
+usable : (advert : Advertised) (path : Path) → is_allowed advert path ≡ true → is_usable (app_of advert path) ≡ true
+unfolding is_allowed
+usable advert path can = grind (arith, nat_tests)
+
+same_app : (media_type : ℕ) (advert : Advertised) (path : Path) → is_allowed advert path ≡ true → app_of (with_counts_by_id media_type advert) path ≡ app_of advert path
+unfolding app_of
+same_app media_type advert path can =
+    ap (λ (o : Option App). unwrap_or o no_app) (found media_type path advert.apps)
+    ∙ stays media_type (find (has_number path) advert.apps) (usable advert path can)
+
+-- ---- plans
+
+abbrev allows : Advertised → Path → App → Bool
+allows advert path app =
+    is_usable app
+    && is_run app.host_starts path.host app.host_lanes
+    && is_run app.media_starts path.media app.media_lanes
+    && is_disjoint (run_of path.media app.media_lanes) advert.unsupported
+    && is_paired advert app path.host path.media
+
+still_allowed : (media_type : ℕ) (advert : Advertised) (path : Path) → is_allowed advert path ≡ true → is_allowed (with_counts_by_id media_type advert) path ≡ true
+unfolding is_allowed
+still_allowed media_type advert path can = ap (allows advert path) (same_app media_type advert path can) ∙ can
+
+abbrev apart_by : Path → Path → App → App → Bool
+apart_by path other app another =
+    is_disjoint (run_of path.host app.host_lanes) (run_of other.host another.host_lanes) && is_disjoint (run_of path.media app.media_lanes) (run_of other.media another.media_lanes)
+
+still_apart : (media_type : ℕ) (advert : Advertised) (path other : Path) → is_allowed advert path ≡ true → is_allowed advert other ≡ true
+    → are_apart advert path other ≡ true → are_apart (with_counts_by_id media_type advert) path other ≡ true
+unfolding are_apart
+still_apart media_type advert path other can may apart =
+    let first = same_app media_type advert path can in
+    let second = same_app media_type advert other may in
+    (λ i. apart_by path other (first i) (second i)) ∙ apart
+
+pub still_admissible : (media_type : ℕ) (advert : Advertised) (paths : List Path) → IsAdmissible advert paths → IsAdmissible (with_counts_by_id media_type advert) paths
+still_admissible media_type advert paths is = record {
+  allowed = λ k d below. still_allowed media_type advert (get_or paths k d) (is.allowed k d below);
+  apart =
+      λ i j d less below.
+      still_apart media_type advert (get_or paths i d) (get_or paths j d) (is.allowed i d (omega (arith, less, below))) (is.allowed j d below) (is.apart i j d less below);
+}
+
+-- ---- weights
+
+same_host_id : (media_type : ℕ) (found : Option App) → (unwrap_or (option_map (counted media_type) found) no_app).host_id ≡ (unwrap_or found no_app).host_id
+same_host_id media_type None = refl
+same_host_id media_type (Some app) = refl
+
+path_weighs : (media_type : ℕ) (advert : Advertised) (weights : HostWeights) (path : Path) →
+    weight_at weights (app_of (with_counts_by_id media_type advert) path).host_id ≡ weight_at weights (app_of advert path).host_id
+unfolding app_of
+path_weighs media_type advert weights path =
+    ap (λ (o : Option App). weight_at weights (unwrap_or o no_app).host_id) (found media_type path advert.apps)
+    ∙ ap (weight_at weights) (same_host_id media_type (find (has_number path) advert.apps))
+
+pub still_weighs : (media_type : ℕ) (advert : Advertised) (weights : HostWeights) (paths : List Path) → plan_weight (with_counts_by_id media_type advert) weights paths ≡ plan_weight advert weights paths
+still_weighs media_type advert weights paths = λ i. sum_by (λ (path : Path). path_weighs media_type advert weights path i) paths
