@@ -10,16 +10,16 @@ from collections import namedtuple
 ROOT = os.path.dirname(os.path.dirname(os.path.abspath(__file__)))
 FOLDERS = ("must-fail", "wrong-bodies")
 
-HEADER = re.compile(r'^( *)(pub |pub\([a-z]+\) )?(?:const |unsafe |extern "C" )*fn (\w+)', re.M)
-IMPL = re.compile(r"^impl(?:<[^{]*?>)? (?:([\w:]+)(?:<[^{]*?>)? for )?(\w+)", re.M)
+HEADER = re.compile(r'^( *)(pub |pub\([a-z]+\) )?(?:const |final |unsafe |extern "C" )*fn (\w+)', re.M)
+IMPL = re.compile(r"^impl(?:<[^{]*?>)? (?:([\w:]+)(?:<[^{]*?>)? for )?(\w+)|^(?:pub )?trait (\w+)", re.M)
 
 # What a function is called in its file (its type, its trait if it is of one, and its name), what makes it public, and its place
 # in the text: where its header begins, and where its body begins and ends.
 Function = namedtuple("Function", "owner trait name public header begin end")
 
 # What an edit makes of its files: of each function that it changes, by file and place among the file's functions, the wrong body.
-# `texts` are the files as it leaves them. It has no bodies if it changes anything else.
-Edit = namedtuple("Edit", "name bodies texts")
+# `texts` are the files as it leaves them. If it changes anything else it has no bodies, and `by` are the functions that have to refuse it.
+Edit = namedtuple("Edit", "name bodies texts by")
 
 
 class BadEdit(Exception):
@@ -32,11 +32,11 @@ def read(path):
 
 
 def owner_at(text, place):
-    """The type, and the trait, of the `impl` that a place is in."""
+    """The type, and the trait, of the `impl` that a place is in; of a trait, its name alone."""
     before = [it for it in IMPL.finditer(text, 0, place)]
     if not before or "\n}\n" in text[before[-1].start():place]:
         return "", ""
-    return before[-1][2], (before[-1][1] or "").rpartition("::")[2]
+    return before[-1][2] or before[-1][3], (before[-1][1] or "").rpartition("::")[2]
 
 
 def body_of(text, header):
@@ -123,16 +123,22 @@ def changed_texts(crate, edit):
 
 def edit_of(crate, path):
     """An edit of a crate, read from its file."""
-    texts = changed_texts(crate, read(path))
-    bodies = {}
-    for file, text in texts.items():
-        changed = changed_bodies(read(f"{crate}/{file}"), text)
-        if changed is None:
-            return Edit(os.path.basename(path), None, texts)
-        bodies.update({(file, place): body for place, body in changed.items()})
-    if not bodies:
-        raise BadEdit("it changes nothing")
-    return Edit(os.path.basename(path), bodies, texts)
+    text, name = read(path), os.path.basename(path)
+    texts, by = changed_texts(crate, text), re.findall(r"^by: (\S+)$", text, re.M)
+    changed = {file: changed_bodies(read(f"{crate}/{file}"), it) for file, it in texts.items()}
+    if None in changed.values():
+        if not by and f"/{FOLDERS[1]}/" in path:
+            raise BadEdit("it changes more than bodies, and has no line 'by:'")
+        return Edit(name, None, texts, by)
+    bodies = {(file, place): body for file, them in changed.items() for place, body in them.items()}
+    if by or not bodies:
+        raise BadEdit("it changes bodies alone, which judge it: no line 'by:' is needed" if by else "it changes nothing")
+    return Edit(name, bodies, texts, [])
+
+
+def sources(crate):
+    """The source files of a crate."""
+    return sorted(os.path.relpath(f"{at}/{it}", crate) for at, _, files in os.walk(f"{crate}/src") for it in files if it.endswith(".rt"))
 
 
 def edit_files(crate, folder):

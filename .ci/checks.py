@@ -1,0 +1,152 @@
+"""Checks of some functions of a crate, in a copy of it, with all its other functions taken by their contracts.
+
+A function is taken by its contract if the proof that it meets it is left open: a file Proof.antt with a hole. What the check then says
+of the functions that it is asked for rests on no other body. It stands over the libraries as `rt ci` built them."""
+import os
+import re
+import shutil
+import subprocess
+from functions import ROOT, crate_names, read
+
+KIT = os.path.dirname(subprocess.run(["rt", "doc"], capture_output=True, text=True, check=True).stdout.strip())
+PARTS = ("src", "specs", "proofs")
+PROOF_FILES = ("Invariants.antt", "Answers.antt", "Proof.antt")
+OPEN_PROOF = """use Rattle.{crate}.proofs.{path}.Statement.{{statement}}
+
+pub {name}_spec : {{M : Type 1}} → statement M
+{name}_spec = ?
+"""
+
+
+class CheckFailed(Exception):
+    """A check that says nothing of any edit, and what it printed."""
+
+
+def below(name):
+    """The repository's crates that one stands on, and those that these stand on, lowest first."""
+    crates = crate_names()
+    wanted = {name}
+    for it in reversed(crates):
+        wanted |= set(crates[it]) if it in wanted else set()
+    return [it for it in crates if it in wanted and it != name]
+
+
+def library(name):
+    return f"{ROOT}/crates/{name}/out/rlib/{name}.rlib"
+
+
+def check_of(name):
+    """The check of a crate as `rt check` makes it, but over libraries that stand elsewhere."""
+    head, used = re.search(rf"^{name}( staticlib)?:(.*)$", read(f"{ROOT}/crates.txt"), re.M).groups()
+    own = crate_names()[name]
+    words = [f"{KIT}/bin/rattle", "check", "--crate-name", name, "src/lib.rt", "-L", f"dependency={KIT}/rlibs"]
+    for it in ["std", *(it for it in used.split() if it not in own)]:
+        words += ["--extern", f"{it}={KIT}/rlibs/{it}.rlib"]
+    for it in own:
+        words += ["--extern", f"{it}={library(it)}"]
+    for it in below(name):
+        words += ["-L", f"dependency={os.path.dirname(library(it))}"]
+    words += ["--crate-type", "staticlib"] if head else []
+    words += ["--antt-project", f"{KIT}/rattle/logic/antt-project.json", "--logic-built", f"{KIT}/logic_built"]
+    return [*words, "--links", f"{name}=", "--incremental", "out/incremental"]
+
+
+def is_newer(path, made):
+    """Whether a file or a folder, or anything in it, was changed after that."""
+    return os.path.getmtime(path) > made or os.path.isdir(path) and any(is_newer(f"{path}/{it}", made) for it in os.listdir(path))
+
+
+def is_built(name):
+    """Whether a library stands as it was built of its sources."""
+    if not os.path.isdir(library(name)):
+        return False
+    made = os.path.getmtime(library(name))
+    return not any(is_newer(f"{ROOT}/crates/{name}/{it}", made) for it in PARTS if os.path.isdir(f"{ROOT}/crates/{name}/{it}"))
+
+
+def build_libraries(names):
+    """Builds the libraries that these crates stand on, unless all stand as they were built."""
+    wanted = [it for it in crate_names() if any(it in below(name) for name in names)]
+    for it in wanted if not all(map(is_built, wanted)) else []:
+        subprocess.run(["rt", "lib"], cwd=f"{ROOT}/crates/{it}", stdout=subprocess.DEVNULL, check=True)
+
+
+def functions_proved(name, said):
+    """The functions of a crate, by their paths, if a check said that all are proved."""
+    told = dict(re.findall(rf"^fn {name}::(\S+): (.*)$", said, re.M))
+    wrong = [path for path, words in told.items() if not words.startswith("proved")]
+    if not told or wrong:
+        raise CheckFailed(f"{name} is not proved: {' '.join(wrong[:5]) or said[-600:]}")
+    return set(told)
+
+
+def proved_by_gate(name, said):
+    """The functions of a crate that `rt ci` proved, from what it printed."""
+    part = re.search(rf"^== {name}\n(.*?)^rt: {name} proved$", said, re.M | re.S)
+    if not part:
+        raise CheckFailed(f"rt ci does not say that {name} is proved")
+    return functions_proved(name, part[1])
+
+
+class Copy:
+    """A copy of a crate in a scratch folder, and its functions by the paths that a check has for them."""
+
+    def __init__(self, name, folder, functions):
+        self.name, self.folder, self.functions, self.checks = name, folder, functions, 0
+        for it in PARTS:
+            if os.path.isdir(f"{ROOT}/crates/{name}/{it}"):
+                shutil.copytree(f"{ROOT}/crates/{name}/{it}", f"{folder}/{it}")
+        os.makedirs(f"{folder}/out")
+        # what stands in a function, such as a closure, is read with it
+        for it in functions:
+            if "fn::" not in it:
+                self.leave_open(it)
+
+    def leave_open(self, function):
+        """Takes a function by its contract."""
+        folder = f"{self.folder}/proofs/{function.replace('::', '/')}"
+        os.makedirs(folder, exist_ok=True)
+        self.remove_proof(folder)
+        with open(f"{folder}/Proof.antt", "w", encoding="utf-8") as file:
+            file.write(OPEN_PROOF.format(crate=self.name, path=function.replace("::", "."), name=function.rpartition("::")[2]))
+
+    def give_proof(self, function):
+        """Has a function proved as the crate proves it."""
+        place = f"proofs/{function.replace('::', '/')}"
+        self.remove_proof(f"{self.folder}/{place}")
+        for it in PROOF_FILES:
+            if os.path.isfile(f"{ROOT}/crates/{self.name}/{place}/{it}"):
+                shutil.copy(f"{ROOT}/crates/{self.name}/{place}/{it}", f"{self.folder}/{place}")
+
+    @staticmethod
+    def remove_proof(folder):
+        for it in PROOF_FILES:
+            if os.path.isfile(f"{folder}/{it}"):
+                os.remove(f"{folder}/{it}")
+
+    def write(self, texts):
+        for path, text in texts.items():
+            with open(f"{self.folder}/{path}", "w", encoding="utf-8") as file:
+                file.write(text)
+
+    def check(self, texts, functions):
+        """What a check says of these functions with these files in the place of the crate's own; None if it does not read them."""
+        for it in functions:
+            self.give_proof(it)
+        own = {path: read(f"{self.folder}/{path}") for path in texts}
+        self.write(texts)
+        words = [*check_of(self.name), "--jobs", "1", "--allow-holes"]
+        for it in sorted(functions):
+            words += ["--only", it]
+        ran = subprocess.run(words, cwd=self.folder, capture_output=True, text=True, check=False)
+        self.write(own)
+        for it in functions:
+            self.leave_open(it)
+        self.checks += 1
+        said = ran.stdout + ran.stderr
+        if re.search(r"^(\./)?(src|specs)/\S+:\d+:\d+: error(\[|: [^`])", said, re.M):
+            return None
+        broken = re.search(r"^\./proofs/\S+/Proof\.antt:\d+:\d+: error.*$", said, re.M)
+        if broken or not re.search(r"^only=\d+ ", said, re.M):
+            raise CheckFailed(broken[0] if broken else said[-1500:])
+        return said
