@@ -47,10 +47,19 @@ fn each_refusal_has_its_code(rt: HostRuntime) -> Result<(), Fail> {
 #[test]
 fn an_application_needs_media_lanes(rt: HostRuntime) -> Result<(), Fail> {
     // 100GBASE-DR has one media lane; media interface 0 is undefined, so nothing replaces a count of 0.
-    let rows =
-        [(0, 0x20, 0x33), (0, 0x29, 0x33), (0, 0x21, 0xCC), (0, 0x28, 0xCC), (0x14, 0x20, 0xCC)];
+    let rows = [
+        (0, 0x20, 0x33),
+        (0, 0x29, 0x33),
+        (0, 0x21, 0xCC),
+        (0, 0x28, 0xCC),
+        (0x14, 0x20, 0xCC),
+    ];
     for (media_id, counts, code) in rows {
-        let changed = with(image()?, Key::lower(Dev::A0), &[(91, media_id), (92, counts)])?;
+        let changed = with(
+            image()?,
+            Key::lower(Dev::A0),
+            &[(91, media_id), (92, counts)],
+        )?;
         let mut module = SimModule::new(&changed, FOURS)?;
         apply(&mut module, &[0x20, 0x20], 0x03);
         let [first, ..] = statuses(&mut module);
