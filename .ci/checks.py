@@ -1,7 +1,7 @@
 """Checks of some functions of a crate, in a copy of it, with all its other functions taken by their contracts.
 
 A function is taken by its contract if the proof that it meets it is left open: a file Proof.antt with a hole. What the check then says
-of the functions that it is asked for rests on no other body. It stands over the libraries as `rt ci` built them."""
+of the functions that it is asked for rests on no other body. It stands over the libraries as `rt ci` or `rt lib` built them."""
 import os
 import re
 import shutil
@@ -31,21 +31,44 @@ def below(name):
     return [it for it in crates if it in wanted and it != name]
 
 
-def library(name):
+def built_library(name):
     return f"{ROOT}/crates/{name}/out/rlib/{name}.rlib"
 
 
-def check_of(name):
-    """The check of a crate as `rt check` makes it, but over libraries that stand elsewhere."""
+class Libraries:
+    """The crates' libraries as they were built, in a folder of their own, since `rt ci` puts others in their place when it ends."""
+
+    def __init__(self, folder):
+        self.folder = folder
+        os.mkdir(folder)
+
+    def path(self, name):
+        return f"{self.folder}/{name}.rlib"
+
+    def keep(self, name):
+        """Keeps a library, by links, if there is one."""
+        if os.path.isdir(built_library(name)) and not os.path.isdir(self.path(name)):
+            shutil.copytree(built_library(name), self.path(name), copy_function=link)
+
+
+def link(file, to):
+    """Makes a link to a file, or a copy if that can't be."""
+    try:
+        os.link(file, to)
+    except OSError:
+        shutil.copy2(file, to)
+
+
+def check_of(name, libraries):
+    """The check of a crate as `rt check` makes it, but over these libraries."""
     head, used = re.search(rf"^{name}( staticlib)?:(.*)$", read(f"{ROOT}/crates.txt"), re.M).groups()
     own = crate_names()[name]
     words = [f"{KIT}/bin/rattle", "check", "--crate-name", name, "src/lib.rt", "-L", f"dependency={KIT}/rlibs"]
     for it in ["std", *(it for it in used.split() if it not in own)]:
         words += ["--extern", f"{it}={KIT}/rlibs/{it}.rlib"]
     for it in own:
-        words += ["--extern", f"{it}={library(it)}"]
-    for it in below(name):
-        words += ["-L", f"dependency={os.path.dirname(library(it))}"]
+        words += ["--extern", f"{it}={libraries.path(it)}"]
+    words += ["-L", f"dependency={libraries.folder}"]
     words += ["--crate-type", "staticlib"] if head else []
     words += ["--antt-project", f"{KIT}/rattle/logic/antt-project.json", "--logic-built", f"{KIT}/logic_built"]
     return [*words, "--links", f"{name}=", "--incremental", "out/incremental"]
@@ -58,9 +81,9 @@ def is_newer(path, made):
 
 def is_built(name):
     """Whether a library stands as it was built of its sources."""
-    if not os.path.isdir(library(name)):
+    if not os.path.isdir(built_library(name)):
         return False
-    made = os.path.getmtime(library(name))
+    made = os.path.getmtime(built_library(name))
     return not any(is_newer(f"{ROOT}/crates/{name}/{it}", made) for it in PARTS if os.path.isdir(f"{ROOT}/crates/{name}/{it}"))
 
 
@@ -80,19 +103,11 @@ def functions_proved(name, said):
     return set(told)
 
 
-def proved_by_gate(name, said):
-    """The functions of a crate that `rt ci` proved, from what it printed."""
-    part = re.search(rf"^== {name}\n(.*?)^rt: {name} proved$", said, re.M | re.S)
-    if not part:
-        raise CheckFailed(f"rt ci does not say that {name} is proved")
-    return functions_proved(name, part[1])
-
-
 class Copy:
     """A copy of a crate in a scratch folder, and its functions by the paths that a check has for them."""
 
-    def __init__(self, name, folder, functions):
-        self.name, self.folder, self.functions, self.checks = name, folder, functions, 0
+    def __init__(self, name, folder, functions, libraries):
+        self.name, self.folder, self.functions, self.libraries, self.checks = name, folder, functions, libraries, 0
         for it in PARTS:
             if os.path.isdir(f"{ROOT}/crates/{name}/{it}"):
                 shutil.copytree(f"{ROOT}/crates/{name}/{it}", f"{folder}/{it}")
@@ -135,7 +150,7 @@ class Copy:
             self.give_proof(it)
         own = {path: read(f"{self.folder}/{path}") for path in texts}
         self.write(texts)
-        words = [*check_of(self.name), "--jobs", "1", "--allow-holes"]
+        words = [*check_of(self.name, self.libraries), "--jobs", "1", "--allow-holes"]
         for it in sorted(functions):
             words += ["--only", it]
         ran = subprocess.run(words, cwd=self.folder, capture_output=True, text=True, check=False)
