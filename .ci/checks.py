@@ -150,18 +150,25 @@ class Copy:
             self.give_proof(it)
         own = {path: read(f"{self.folder}/{path}") for path in texts}
         self.write(texts)
-        words = [*check_of(self.name, self.libraries), "--jobs", "1", "--allow-holes"]
-        for it in sorted(functions):
-            words += ["--only", it]
-        ran = subprocess.run(words, cwd=self.folder, capture_output=True, text=True, check=False)
+        said = self.said(functions)
         self.write(own)
         for it in functions:
             self.leave_open(it)
-        self.checks += 1
-        said = ran.stdout + ran.stderr
         if re.search(r"^(\./)?(src|specs)/\S+:\d+:\d+: error(\[|: [^`])", said, re.M):
             return None
         broken = re.search(r"^\./proofs/\S+/Proof\.antt:\d+:\d+: error.*$", said, re.M)
         if broken or not re.search(r"^only=\d+ ", said, re.M):
             raise CheckFailed(broken[0] if broken else said[-1500:])
         return said
+
+    def said(self, functions):
+        """What a check of these functions prints. One that is killed, most likely for memory, is made once more."""
+        words = [*check_of(self.name, self.libraries), "--jobs", "1", "--allow-holes"]
+        for it in sorted(functions):
+            words += ["--only", it]
+        for _ in range(2):
+            ran = subprocess.run(words, cwd=self.folder, capture_output=True, text=True, check=False)
+            self.checks += 1
+            if ran.returncode >= 0:
+                break
+        return ran.stdout + ran.stderr

@@ -318,7 +318,11 @@ static int is_judged_good(const char *program, char **words, int in, int out, si
     if (has_word(words, "--keep")) drop_last_part();
     replace(size, 0, "---\n", 4);
     replace(size, 0, answer, length);
-    int status = run(program, (char *[]){"cmisctl", "check", "--first", 0}, in, out, &length);
+    char *judge[WORDS] = {"cmisctl", "check", "--first"};
+    int count = 3;
+    for (char **word = words; *word; word++)
+        if (!strcmp(*word, "--paired") || !strcmp(*word, "--counts-by-id")) judge[count++] = *word;
+    int status = run(program, judge, in, out, &length);
     return WIFEXITED(status) && WEXITSTATUS(status) == 0 && begins(answer, "good\n") && lines_with("first yes\n") == 1;
 }
 
