@@ -12,7 +12,7 @@
 #include <sys/wait.h>
 #include <unistd.h>
 
-enum { MOST = 1 << 21, INPUTS = 512, WORDS = 8, STATUSES = 5 };
+enum { MOST = 1 << 21, INPUTS = 1024, WORDS = 8, STATUSES = 5 };
 
 struct input {
     char *words[WORDS], *text;
@@ -252,10 +252,13 @@ static int is_whole_answer(char **words, const char *last) {
                                      {"check", "good\n", "control "},
                                      {"provision", "provisioned ", "active "},
                                      {"trace", "1 fetch A0 3 1 = ", "active "}};
+    /* What provision and trace begin with if they wake the module first. */
+    static const char *woken[] = {"woken ", "1 fetch A0 26 1 = "};
     if (has_word(words, "--svg")) return begins(answer, "<svg ") && begins(last, "</svg>\n");
     for (size_t form = 0; form < sizeof forms / sizeof *forms; form++) {
         if (strcmp(words[1], forms[form][0])) continue;
-        return begins(answer, forms[form][1]) && begins(last, has_word(words, "--first") ? "first " : forms[form][2]);
+        const char *first = has_word(words, "--wake") ? woken[!strcmp(words[1], "trace")] : forms[form][1];
+        return begins(answer, first) && begins(last, has_word(words, "--first") ? "first " : forms[form][2]);
     }
     return 0;
 }
@@ -278,8 +281,11 @@ static int is_well_formed_json(char **words, int status, const char *last) {
 static int is_well_formed_metrics(int status, const char *last) {
     int lines = lines_with(""), comments = lines_with("# HELP dovecounter_") + lines_with("# TYPE dovecounter_");
     int faults = lines_with("dovecounter_fault{");
-    return faults == (status == 1) && (status == 0 || status == 1) && begins(answer, "# HELP dovecounter_") &&
-           begins(last, "dovecounter_") && comments + lines_with("dovecounter_") == lines;
+    /* a metric without samples has its two comments alone */
+    int ended = faults ? begins(last, "dovecounter_fault{")
+                       : begins(last, "dovecounter_") || begins(last, "# TYPE dovecounter_");
+    return faults == (status == 1) && (status == 0 || status == 1) && begins(answer, "# HELP dovecounter_") && ended &&
+           comments + lines_with("dovecounter_") == lines;
 }
 
 /* Whether the answer has the form that its status asks for. */
@@ -291,7 +297,8 @@ static int is_well_formed(char **words, int status, size_t length) {
     const char *last = answer + length - 1;
     while (last > answer && last[-1] != '\n') last--;
     int faults = lines_with("fault "), bad = lines_with("bad ");
-    if (!strcmp(words[1], "metrics")) return is_well_formed_metrics(WEXITSTATUS(status), last);
+    if (!strcmp(words[1], "metrics") && !begins(answer, "fault "))
+        return is_well_formed_metrics(WEXITSTATUS(status), last);
     if (has_word(words, "--json")) return is_well_formed_json(words, WEXITSTATUS(status), last);
     switch (WEXITSTATUS(status)) {
     case 0: return faults == 0 && bad == 0 && is_whole_answer(words, last);
@@ -328,7 +335,7 @@ static int is_judged_good(const char *program, char **words, int in, int out, si
 
 static void take_input(char *said) {
     struct input *it = &inputs[input_count++];
-    char *file = strchr(said, '=');
+    char *file = strrchr(said, '=');
     if (!file || input_count == INPUTS) exit(2);
     *file++ = 0;
     it->name = strdup(said);
