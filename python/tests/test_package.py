@@ -274,12 +274,13 @@ def test_numbers_out_of_range_are_refused_and_not_cut() -> None:
 def test_weights_are_read_from_lines() -> None:
     assert read_weights("# what for\n[host]\n0dh = 101 # DR1\n\n11h=400\n12h = 0") == {0x0D: 101, 0x11: 400}
     assert read_weights(table(WEIGHTS)) == {host_id: weight for host_id, weight in WEIGHTS.items() if weight}
-    for text, place in (
+    refused: tuple[tuple[str | bytes, str], ...] = (
         ("", ""),
         ("0Dh = 1\n[host]\n", "line 1: "),
         (b"[host]\n\n#\xff\n", "line 3: "),
         ("[host]\n0Dh = 1\n0dh = 1\n", "line 3: "),
-    ):
+    )
+    for text, place in refused:
         with pytest.raises(ValueError, match=f"^{place}[a-z]"):
             read_weights(text)
 
