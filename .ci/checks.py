@@ -112,13 +112,19 @@ class Copy:
             if os.path.isdir(f"{ROOT}/crates/{name}/{it}"):
                 shutil.copytree(f"{ROOT}/crates/{name}/{it}", f"{folder}/{it}")
         os.makedirs(f"{folder}/out")
-        # what stands in a function, such as a closure, is read with it
         for it in functions:
-            if "fn::" not in it:
-                self.leave_open(it)
+            self.leave_open(it)
+
+    def has_own_proof(self, function):
+        """Whether a function has a proof of its own; what stands in one, such as a closure, is read with it, and what drops values, or calls
+        itself, is proved with what it calls."""
+        module, _, name = function.replace("::", "/").rpartition("/")
+        return not re.search(r"fn::|\+", function) and not os.path.isdir(f"{self.folder}/proofs/{module}/+{name}")
 
     def leave_open(self, function):
-        """Takes a function by its contract."""
+        """Takes a function by its contract, if it has a proof of its own."""
+        if not self.has_own_proof(function):
+            return
         folder = f"{self.folder}/proofs/{function.replace('::', '/')}"
         os.makedirs(folder, exist_ok=True)
         self.remove_proof(folder)
@@ -127,6 +133,8 @@ class Copy:
 
     def give_proof(self, function):
         """Has a function proved as the crate proves it."""
+        if not self.has_own_proof(function):
+            return
         place = f"proofs/{function.replace('::', '/')}"
         self.remove_proof(f"{self.folder}/{place}")
         for it in PROOF_FILES:
