@@ -10,6 +10,8 @@ from functions import ROOT, crate_names, read
 
 KIT = os.path.dirname(subprocess.run(["rt", "doc"], capture_output=True, text=True, check=True).stdout.strip())
 PARTS = ("src", "specs", "proofs")
+# the checks that are under way
+RUNNING = set()
 PROOF_FILES = ("Invariants.antt", "Answers.antt", "Proof.antt")
 OPEN_PROOF = """use Rattle.{crate}.proofs.{path}.Statement.{{statement}}
 
@@ -175,8 +177,11 @@ class Copy:
         for it in sorted(functions):
             words += ["--only", it]
         for _ in range(2):
-            ran = subprocess.run(words, cwd=self.folder, capture_output=True, text=True, check=False)
+            with subprocess.Popen(words, cwd=self.folder, stdout=subprocess.PIPE, stderr=subprocess.STDOUT, text=True) as ran:
+                RUNNING.add(ran)
+                said = ran.communicate()[0]
+                RUNNING.discard(ran)
             self.checks += 1
             if ran.returncode >= 0:
                 break
-        return ran.stdout + ran.stderr
+        return said
