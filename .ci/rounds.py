@@ -25,8 +25,11 @@ def path_of(functions, path, function):
         return exact if exact in functions else None
     last = f"{function.owner[0].upper()}{function.owner[1:]}{function.trait}::{function.name}"
     exact = "::".join([*modules, last])
-    # a method stands under its type's module, which may be another file's
+    # a method stands under its type's module, which may be another file's, and the types of its trait after that's name, as PageFromU8
     found = [exact] if exact in functions else [it for it in functions if f"::{it}".endswith(f"::{last}")]
+    if not found and function.trait:
+        owner, name = last.split("::")
+        found = [it for it in functions if re.search(rf"(^|::){owner}[A-Z]\w*::{name}$", it)]
     return found[0] if len(found) == 1 else None
 
 
