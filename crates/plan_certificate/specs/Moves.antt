@@ -4,7 +4,7 @@ use Rattle.std.specs.Prelude.{◌≡◌, ℕ, ◌+◌, ◌≤◌, Bool, List, �
 use Rattle.std.specs.FinSet as set
 use Rattle.field_tables.specs.LaneSets.{is_disjoint}
 use Rattle.applications.specs.Advertised.{Advertised}
-use Rattle.applications.specs.Weights.{HostWeights}
+use Rattle.applications.specs.AppWeights.{PathWeights}
 use Rattle.plan_certificate.specs.declared.path.Path.{Path}
 use Rattle.plan_certificate.specs.declared.moves.Move.{Move}
 use Rattle.plan_certificate.specs.declared.state.State.{State}
@@ -13,20 +13,20 @@ use Rattle.plan_certificate.specs.Paths.{app_of, media_lanes, path_weight}
 use Rattle.plan_certificate.specs.KeptPaths.{is_eligible, may_stay_free}
 use Rattle.plan_certificate.specs.States.{free_decisions, paths_at}
 
-abbrev pub move_of : Advertised → HostWeights → Path → Move
+abbrev pub move_of : Advertised → PathWeights → Path → Move
 move_of advert weights path = record {
   path = path;
   host_lanes = (app_of advert path).host_lanes;
   media_lanes = media_lanes advert path;
-  weight = path_weight advert weights path;
+  weight = path_weight weights path;
 }
 
 -- those of the paths that a plan with these kept paths may hold
-unfoldable pub moves_of : Advertised → HostWeights → List Path → List Path → List Move
+unfoldable pub moves_of : Advertised → PathWeights → List Path → List Path → List Move
 moves_of advert weights kept paths = map (move_of advert weights) (filter (is_eligible advert kept) paths)
 
 -- by rising Application and media lane
-abbrev pub moves_at : Advertised → HostWeights → List Path → ℕ → List Move
+abbrev pub moves_at : Advertised → PathWeights → List Path → ℕ → List Move
 moves_at advert weights kept host = moves_of advert weights kept (paths_at advert host)
 
 -- a move is open at a state that uses none of its media lanes
@@ -70,7 +70,7 @@ pub record AreHeaviest (moves heaviest : List Move) : Type 0 where
   pub few : length heaviest ≤ length moves
 
 -- what begins at the host lane after a boundary
-pub record AreMoves (advert : Advertised) (weights : HostWeights) (kept : List Path) (boundary : ℕ) (free : Bool)
+pub record AreMoves (advert : Advertised) (weights : PathWeights) (kept : List Path) (boundary : ℕ) (free : Bool)
     (all heaviest : List Move) : Type 0 where
   pub freed : free ≡ may_stay_free advert kept (boundary + 1)
   pub listed : all ≡ moves_at advert weights kept (boundary + 1)

@@ -4,7 +4,7 @@ use Rattle.std.proofs.Math.Seq.{take-length}
 use Rattle.std.proofs.lemmas.List.Elements.{All-from_recursion}
 use Rattle.applications.specs.declared.app.App.{App}
 use Rattle.applications.specs.Advertised.{Advertised, InOrder}
-use Rattle.applications.specs.Weights.{HostWeights}
+use Rattle.applications.specs.AppWeights.{PathWeights}
 use Rattle.plan_certificate.specs.declared.path.Path.{Path}
 use Rattle.plan_certificate.specs.Paths.{IsLower}
 use Rattle.plan_certificate.specs.States.{paths_of_app}
@@ -40,7 +40,7 @@ loop-app-preserved c =
     }
 
 -- the moves of all Applications
-all_made : (advert : Advertised) (weights : HostWeights) (kept : List Path) (host index : ℕ) (apps : List App) (moves : List Move) → moves ≡ moves_of advert weights kept (flat_map (λ (app : App). paths_of_app host app.number) (take index apps)) → index ≡ length apps → apps ≡ advert.apps → moves ≡ moves_at advert weights kept host
+all_made : (advert : Advertised) (weights : PathWeights) (kept : List Path) (host index : ℕ) (apps : List App) (moves : List Move) → moves ≡ moves_of advert weights kept (flat_map (λ (app : App). paths_of_app host app.number) (take index apps)) → index ≡ length apps → apps ≡ advert.apps → moves ≡ moves_at advert weights kept host
 all_made advert weights kept host index apps moves is end same =
     let Paths : List App → List Move = λ apps. moves_of advert weights kept (flat_map (λ (app : App). paths_of_app host app.number) apps) in
     is ∙ ap Paths (ap (λ (n : ℕ). take n apps) end ∙ take-length apps ∙ same)
