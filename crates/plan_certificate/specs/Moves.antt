@@ -1,6 +1,6 @@
 -- The paths that may begin at a host lane, listed once for all states, and the decisions that they give from a state.
 -- (docs/planning.md, "States and decisions"; this project's own)
-use Rattle.std.specs.Prelude.{◌≡◌, ℕ, ◌+◌, ◌≤◌, Bool, List, ◌++◌, All, Contains, length, map, filter}
+use Rattle.std.specs.Prelude.{◌≡◌, ℕ, ◌+◌, ◌*◌, ◌≤◌, Bool, List, ◌++◌, All, Contains, length, map, filter}
 use Rattle.std.specs.FinSet as set
 use Rattle.field_tables.specs.LaneSets.{is_disjoint}
 use Rattle.applications.specs.Advertised.{Advertised}
@@ -46,10 +46,12 @@ move_decisions state moves = map (move_decision state) (filter (is_open state) m
 abbrev pub decisions_by : Bool → State → List Move → List Decision
 decisions_by free state moves = free_decisions free state ++ move_decisions state moves
 
--- from a state with this boundary a move leads further, and not past the last host lane
+-- from a state with this boundary a move leads further, and not past the last host lane; it weighs at most three weights of 32
+-- bits
 pub record LeadsOn (boundary : ℕ) (move : Move) : Type 0 where
   pub further : 1 ≤ move.host_lanes
   pub within : boundary + move.host_lanes ≤ 8
+  pub light : move.weight ≤ 3 * 4294967295
 
 -- on as many host lanes, and the same media lanes
 pub record HasLanesOf (move other : Move) : Type 0 where

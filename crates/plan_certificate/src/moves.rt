@@ -128,6 +128,7 @@ pub fn put_moves(
     ensures rising { AllPairs (λ one later. IsLower one.path later.path) moves.new.items }
     ensures lead_on { All (LeadsOn (host - 1)) moves.new.items }
 {
+    let _bound = weights.bound();
     moves.clear();
     for app in advert.apps() {
         push_moves(moves, advert, weights, kept, host, app.number);

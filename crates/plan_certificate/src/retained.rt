@@ -39,6 +39,7 @@ impl FollowedMoves {
         requires kept { AreAllowed advert.now kept.now }
         ensures { AreMoves advert.now weights.now kept.now boundary self.new.may_stay_free (moves_at advert.now weights.now kept.now (boundary + 1)) self.new.moves.items }
     {
+        let _bound = weights.bound();
         self.may_stay_free = may_stay_free(advert, kept, boundary + 1);
         put_heaviest_at(&mut self.moves, advert, weights, kept, boundary + 1);
     }

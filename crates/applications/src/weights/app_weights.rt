@@ -27,7 +27,7 @@ impl Model for AppWeights {
 }
 
 impl AppWeights {
-    ghost use Rattle.std.specs.Prelude.{◌≡◌, ◌≤◌, []};
+    ghost use Rattle.std.specs.Prelude.{◌≡◌, ◌≤◌, ℕ, []};
     ghost use Rattle.applications.specs.AppWeights.{app_weights};
     ghost use Rattle.applications.specs.Weights.{weight_at, weights_of_hosts};
 
@@ -58,6 +58,15 @@ impl AppWeights {
             *weight = weight_of_number(advert, by_host, by_media, by_app, number as u8);
         }
         AppWeights { by_number }
+    }
+
+    /// None weighs more, since each is the sum of three weights of 32 bits at most.
+    pub fn bound(&self) -> u64
+        ensures value { result ≡ 12884901885 }
+        ensures bound { (number : ℕ) → weight_at self.now number ≤ result }
+    {
+        let _weights = &self.by_number;
+        3 * u64::from(u32::MAX)
     }
 
     /// What a data path of the Application with this number weighs.
