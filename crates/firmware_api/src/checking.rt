@@ -5,7 +5,7 @@ ghost use Rattle.firmware_api.specs.Statuses.{done};
 
 use crate::half::{HalfBytes, conventions_of, read_advert_under};
 use crate::status::{DONE, Refusal};
-use applications::{Advert, Conventions, Weights};
+use applications::{Advert, AppWeights, Conventions};
 use plan_certificate::{Certificate, Reason, STATES, Verdict, check};
 
 /// What a certificate is worth.
@@ -64,7 +64,7 @@ fn text_judged(advert: &Advert, weights: &[u32; 256], text: &[u8]) -> Result<Jud
     let mut certificate = Certificate::<STATES>::blank();
     match certificate.take(text) {
         Ok(()) => {
-            let verdict = check(advert, &Weights::of_table(weights), &certificate);
+            let verdict = check(advert, &AppWeights::by_host(advert, weights), &certificate);
             Ok(judgement_of(verdict))
         }
         Err(fault) => Err(Refusal::Certificate(fault)),

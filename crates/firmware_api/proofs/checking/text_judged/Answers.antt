@@ -1,6 +1,6 @@
 use Rattle.std.proofs.Common.{Ok, Err, IfErr, OnOk, subst, ap, ◌∙◌, refl}
 use Rattle.text_lines.specs.Lines.{lines_of}
-use Rattle.applications.specs.Weights.{HostWeights}
+use Rattle.applications.specs.AppWeights.{PathWeights}
 use Rattle.plan_certificate.specs.Limits.{most_states}
 use Rattle.plan_certificate.specs.CertificateFaults.{IsFirstFault}
 use Rattle.plan_certificate.specs.CertificateText.{IsTextOf}
@@ -12,7 +12,7 @@ pub returns-in-Ok-clause-judged : goal.returns-in-Ok-clause-judged
 returns-in-Ok-clause-judged c =
     let text = c.args.text.now in
     let is_text = subst (λ r. OnOk r (IsTextOf most_states (lines_of text) c.take.new.self)) c.in-Ok.is c.take.ensures.ok in
-    let weighed = c.check-verdict.ensures.verdict ∙ ap (λ (weights : HostWeights). verdict c.args.advert.now weights c.take.new.self) c.of_table.ensures in
+    let weighed = c.check-verdict.ensures.verdict ∙ ap (λ (weights : PathWeights). verdict c.args.advert.now weights c.take.new.self) c.by_host.ensures in
     (Ok c.take.new.self, is_text, ap Ok (c.judgement_of.ensures ∙ ap judgement_of weighed))
 
 pub returns-in-Err-clause-judged : goal.returns-in-Err-clause-judged
