@@ -34,10 +34,13 @@ impl Warnings {
     pub fn of(advert: &Advert, weights: &Weights, has_paths: bool) -> Warnings
         ensures { result ≡ warnings_of advert.now weights.now has_paths }
     {
+        let unknown_hosts = unknown_in(advert, weights, WeightTable::Host);
+        let unknown_media = unknown_in(advert, weights, WeightTable::Media);
+        let unknown_apps = unknown_in(advert, weights, WeightTable::App);
         Warnings {
-            unknown_hosts: unknown_in(advert, weights, WeightTable::Host),
-            unknown_media: unknown_in(advert, weights, WeightTable::Media),
-            unknown_apps: unknown_in(advert, weights, WeightTable::App),
+            unknown_hosts,
+            unknown_media,
+            unknown_apps,
             has_no_paths: !has_paths,
         }
     }

@@ -1,5 +1,5 @@
 // Which line of weights is none of those that weights usually have. TOML has more: this only points at a line, once they are refused.
-ghost use Rattle.std.specs.Prelude.{◌≡◌, ◌∷◌, List};
+ghost use Rattle.std.specs.Prelude.{◌≡◌, ◌<◌, ◌∷◌, false, length, List, Some, slice_index_or, ℕ};
 ghost use Rattle.std.specs.Char.{is_ascii_digit};
 ghost use Rattle.std.specs.List.{list_all};
 ghost use Rattle.text_lines.specs.Lines.{lines_of};
@@ -114,11 +114,23 @@ impl SoFar {
     fn begin(&mut self, table: WeightTable)
         ensures { (before : List Kind) → Keeps before self.old → Keeps (Header table ∷ before) self.new }
     {
+        self.turn_to(table);
         match table {
             WeightTable::Host => self.has_host = true,
             WeightTable::Media => self.has_media = true,
             WeightTable::App => self.has_app = true,
         }
+    }
+
+    // The lines are in this table now, which lists nothing yet.
+    fn turn_to(&mut self, table: WeightTable)
+        ensures table { self.new.table ≡ Some table }
+        ensures host { self.new.has_host ≡ self.old.has_host }
+        ensures media { self.new.has_media ≡ self.old.has_media }
+        ensures app { self.new.has_app ≡ self.old.has_app }
+        ensures listed { (number : ℕ) → number < 256 → slice_index_or self.new.listed number false ≡ false }
+        ensures room { length self.new.listed ≡ 256 }
+    {
         self.table = Some(table);
         self.listed = [false; 256];
     }
