@@ -33,4 +33,4 @@ pub returns-clause-answer : goal.returns-clause-answer
 returns-clause-answer c =
     plan_told c.args.is_json c.args.conventions c.args.image.now c.args.weights.now c.args.kept.now c.in_ok-advert.advert c.in_ok-weights.weights c.in_ok-kept.kept _
     c.in_ok-advert.ensures c.in_ok-weights.ensures.answer c.in_ok-kept.ensures
-    (subst (λ (weights : PathWeights). TellsPlan c.args.is_json c.in_ok-advert.advert weights c.in_ok-kept.kept _) c.of-weighed.ensures c.in_ok-text.ensures)
+    (subst (λ (weights : PathWeights). TellsPlan c.args.is_json c.in_ok-advert.advert weights c.in_ok-kept.kept c.in_ok-text.text.items) c.of-weighed.ensures c.in_ok-text.ensures)
