@@ -18,9 +18,9 @@ mod weights_lines;
 
 use crate::command_output::CommandOutput;
 use crate::fault::Fault;
+use applications::{WeightTable, WeightsFault};
 pub use clue::Clue;
 use named::Named;
-use applications::{WeightTable, WeightsFault};
 use notices::sentence_by_code;
 pub use opening::Opening;
 use paged_memory::ImageFault;

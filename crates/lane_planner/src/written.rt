@@ -39,7 +39,12 @@ pub fn certificate_text(
 }
 
 /// Puts that text into a buffer that has room for it, and answers how many bytes it has.
-pub fn put_certificate(buffer: &mut [u8], advert: &Advert, weights: &AppWeights, kept: &Plan) -> usize
+pub fn put_certificate(
+    buffer: &mut [u8],
+    advert: &Advert,
+    weights: &AppWeights,
+    kept: &Plan,
+) -> usize
     requires { IsAdmissible advert.now kept.now }
     ensures put { (text : List ℕ) × IsPlanText advert.now weights.now kept.now text
         × (result ≡ length text) × (buffer.new ≡ buffer_with buffer.old text) }
