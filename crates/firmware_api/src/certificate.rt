@@ -71,10 +71,5 @@ fn put_text(advert: &Advert, weights: &[u32; 256], kept: &Plan, buffer: &mut [u8
     requires { IsAdmissible advert.now kept.now }
     ensures { IsTextPut advert.now weights.now kept.now buffer.old buffer.new result }
 {
-    put_certificate(
-        buffer,
-        advert,
-        &AppWeights::by_host(advert, weights),
-        kept,
-    )
+    put_certificate(buffer, advert, &AppWeights::by_host(advert, weights), kept)
 }
