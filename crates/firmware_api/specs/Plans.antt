@@ -56,8 +56,12 @@ lane_plan advert weights kept paths = record {
 }
 
 -- the first of the best plans that hold the kept paths, by rising host lane
-pub record IsPlanned (advert : Advertised) (weights : TableWeights) (kept : List Path) (plan : LanePlan) : Type 0 where
+pub record IsPlannedBy (advert : Advertised) (weights : PathWeights) (kept : List Path) (plan : LanePlan) : Type 0 where
   pub paths : List Path
-  pub is_first : IsFirstBest advert (path_weights advert weights) kept paths
+  pub is_first : IsFirstBest advert weights kept paths
   pub rising : AllPairs (λ path later. path.host < later.host) paths
-  pub plan_is : plan ≡ lane_plan advert (path_weights advert weights) kept paths
+  pub plan_is : plan ≡ lane_plan advert weights kept paths
+
+-- the same by the weights that C hands over
+abbrev pub IsPlanned : Advertised → TableWeights → List Path → LanePlan → Type 0
+IsPlanned advert weights kept plan = IsPlannedBy advert (path_weights advert weights) kept plan
