@@ -1,7 +1,6 @@
 pub mod Listed
 mod CountedApps
 mod DocumentKeys
-mod TableMembers
-mod KeyLemmas
+mod HostMembers
 mod WeightAnswers
 mod SaidLines

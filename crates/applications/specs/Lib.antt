@@ -5,9 +5,7 @@ pub mod Advertised
 pub mod AdvertisedCode
 pub mod Refusals
 pub mod Weights
-pub mod AppWeights
-pub mod WeightKeys
-pub mod WeightTables
+pub mod HostTable
 pub mod WeightLines
 pub mod WeightFaults
 pub mod FaultWords

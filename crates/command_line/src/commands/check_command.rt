@@ -11,7 +11,7 @@ use super::planning_inputs::read_advert;
 use crate::command_output::CommandOutput;
 use crate::fault::Fault;
 use crate::remark::Warnings;
-use applications::{Advert, AppWeights, Conventions, Weights};
+use applications::{Advert, Conventions, Weights};
 use lane_planner::first_best;
 use plan_certificate::{Certificate, STATES, Verdict};
 use reports::{good_json, plan_text};
@@ -51,12 +51,11 @@ fn judged(
         → IsOwnAnswer (IsCheckAnswer is_json tells_first conventions image listed text.now) (answer_of result) }
     ensures read { IfErr result (λ fault. fault ≢ Fault.Io) }
 {
-    let weighed = AppWeights::of(advert, weights);
     let mut read = Certificate::<STATES>::blank();
     match read.take(text) {
-        Ok(()) => match plan_certificate::check(advert, &weighed, &read) {
+        Ok(()) => match plan_certificate::check(advert, weights, &read) {
             Verdict::Good => Ok(CommandOutput {
-                text: good_output(alloc, is_json, tells_first, advert, &weighed, &read)?,
+                text: good_output(alloc, is_json, tells_first, advert, weights, &read)?,
                 fault: None,
                 warnings: Warnings::of(advert, weights, !read.plan.paths.is_empty()),
             }),
@@ -72,7 +71,7 @@ fn good_output(
     is_json: bool,
     tells_first: bool,
     advert: &Advert,
-    weights: &AppWeights,
+    weights: &Weights,
     certificate: &Certificate<STATES>,
 ) -> Result<Vec<u8>, AllocError>
     requires { IsGood advert.now weights.now certificate.now }
@@ -97,7 +96,7 @@ fn good_output(
 fn said_first(
     is_asked: bool,
     advert: &Advert,
-    weights: &AppWeights,
+    weights: &Weights,
     certificate: &Certificate<STATES>,
 ) -> Option<bool>
     requires { IsGood advert.now weights.now certificate.now }
@@ -114,7 +113,7 @@ fn good_text(
     alloc: Global,
     is_first: Option<bool>,
     advert: &Advert,
-    weights: &AppWeights,
+    weights: &Weights,
     certificate: &Certificate<STATES>,
 ) -> Result<Vec<u8>, AllocError>
     requires { IsGood advert.now weights.now certificate.now }
