@@ -1,6 +1,6 @@
 -- Waking a module up, and putting it to sleep, as the numbers of a saved procedure: which numbers are such, and of which.
 -- (docs/firmware.md, "The procedure's numbers"; this project's own)
-use Rattle.std.specs.Prelude.{ℕ, ◌==◌, Option, Some, None, if◌then◌else◌, slice_index}
+use Rattle.std.specs.Prelude.{ℕ, ◌==◌, ◌∷◌, Option, Some, None, if◌then◌else◌, replicate, slice_index}
 use Rattle.control_sets.specs.declared.fault.ProvisionFault.{ProvisionFault}
 use Rattle.control_sets.specs.declared.procedures.procedure.saved.SavedProcedure.{SavedProcedure}
 use Rattle.control_sets.specs.declared.procedures.power.Power.{Power}
@@ -8,7 +8,7 @@ use Rattle.control_sets.specs.declared.procedures.power.Power.TheVariants.{Awake
 use Rattle.control_sets.specs.declared.procedures.power.PowerChange.{PowerChange}
 use Rattle.control_sets.specs.declared.procedures.power.PowerStage.{PowerStage}
 use Rattle.control_sets.specs.declared.procedures.power.PowerStage.TheVariants.{Unread, Found, Stored, Met}
-use Rattle.control_sets.specs.SavedNumbers.{fault_in}
+use Rattle.control_sets.specs.SavedNumbers.{fault_in, saved_fault}
 
 -- the works 3 and 4; 1 and 2 are provisioning and activation
 abbrev pub power_numbered : ℕ → Option Power
@@ -31,3 +31,27 @@ change_of steps power stage fault = None
 unfoldable pub restored_power : SavedProcedure → Option PowerChange
 restored_power saved =
     change_of saved.steps (power_numbered saved.work) (stage_numbered saved.met (slice_index saved.control 0)) (fault_in saved.fault)
+
+abbrev pub number_of_power : Power → ℕ
+number_of_power Awake = 3
+number_of_power Asleep = 4
+
+-- how many things were done, and the byte that was read while it is needed, else 0
+abbrev pub numbers_of_stage : PowerStage → ℕ × ℕ
+numbers_of_stage Unread = (0, 0)
+numbers_of_stage (Found byte) = (1, byte)
+numbers_of_stage Stored = (2, 0)
+numbers_of_stage Met = (3, 0)
+
+-- the numbers that a change of power is saved as; those that stand for nothing in it are 0
+abbrev pub saved_power : PowerChange → SavedProcedure
+saved_power change = record {
+  met = (numbers_of_stage change.stage).0;
+  steps = change.steps;
+  work = number_of_power change.power;
+  lanes = 0;
+  control = (numbers_of_stage change.stage).1 ∷ replicate 7 0;
+  selection = 0;
+  page = 0;
+  fault = saved_fault change.fault;
+}

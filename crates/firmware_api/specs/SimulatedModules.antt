@@ -1,6 +1,6 @@
 -- Simulated modules of which C keeps what changes: which begins, and what each event makes of it. (docs/firmware.md, "A simulated
 -- module"; this project's own)
-use Rattle.std.specs.Prelude.{ℕ, ◌+◌, ◌==◌, ◌&&◌, ◌||◌, nat_le, nat_lt, Bool, true, false, not, List, length, Option, Some, None, Result, Ok, Err, if◌then◌else◌}
+use Rattle.std.specs.Prelude.{◌≡◌, ℕ, ◌+◌, ◌==◌, ◌&&◌, ◌||◌, nat_le, nat_lt, Bool, true, false, not, List, length, Option, Some, None, Result, Ok, Err, if◌then◌else◌}
 use Rattle.std.specs.List.{list_all}
 use Rattle.std.specs.Option.{option_map}
 use Rattle.arrayvec.specs.ArrayVec.{ArrayVec}
@@ -11,10 +11,11 @@ use Rattle.applications.specs.declared.fault.AdvertFault.{AdvertFault}
 use Rattle.sim_module.specs.declared.delays.Delays.{Delays}
 use Rattle.sim_module.specs.declared.fixed.Fixed.{Fixed}
 use Rattle.sim_module.specs.declared.module.SimModule.{SimModule}
+use Rattle.sim_module.specs.declared.moving.Moving.{Moving}
 use Rattle.sim_module.specs.declared.saved.SavedModule.{SavedModule}
 use Rattle.sim_module.specs.OwnAdverts.{own_advert}
 use Rattle.sim_module.specs.Record.{module_of}
-use Rattle.sim_module.specs.SavedModules.{restored}
+use Rattle.sim_module.specs.SavedModules.{restored, saved}
 use Rattle.sim_module.specs.ShownBytes.{fetched}
 use Rattle.sim_module.specs.Starts.{start, start_fault}
 use Rattle.sim_module.specs.Stores.{stored}
@@ -40,6 +41,10 @@ unless_refused (Some refusal) value = Err refusal
 abbrev pub begun : List HalfBytes → Delays → Result SimModule Refusal
 begun halves delays =
     unless_refused (refusal_before (half_refusal halves) (option_map NoStart (start_fault (memory_of halves) delays))) (start (memory_of halves) delays)
+
+-- the numbers are those that a module has when it is saved, for C may read each
+abbrev pub AreSaved : SavedModule → Type 0
+AreSaved numbers = (moving : Moving) × (numbers ≡ saved moving)
 
 -- what never changes of the module that has these halves
 abbrev pub fixed_by : List HalfBytes → Fixed

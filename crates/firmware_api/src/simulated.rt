@@ -25,6 +25,7 @@ pub extern "C" fn dovecounter_module_begin(
 ) -> u32
     ensures status { result ≡ status_in (spec.begun halves.now delays.now) }
     ensures done { IfOk (spec.begun halves.now delays.now) (λ sim. restored simulated.new ≡ Some (moving_of sim)) }
+    ensures numbers { result ≡ done → spec.AreSaved simulated.new }
     ensures refused { result ≢ done → simulated.new ≡ simulated.old }
 {
     match begun(halves, *delays) {
@@ -48,6 +49,7 @@ pub extern "C" fn dovecounter_module_fetch(
     ensures status { result ≡ status_in (spec.fetched_by (spec.held halves.now simulated.old) device offset (length bytes.old)) }
     ensures done { IfOk (spec.fetched_by (spec.held halves.now simulated.old) device offset (length bytes.old))
         (λ answer. (bytes.new ≡ answer.0) × (restored simulated.new ≡ Some (moving_of answer.1))) }
+    ensures numbers { result ≡ done → spec.AreSaved simulated.new }
     ensures refused { result ≢ done → (simulated.new ≡ simulated.old) × (bytes.new ≡ bytes.old) }
 {
     match fetched(halves, simulated, device, offset, bytes.len()) {
@@ -72,6 +74,7 @@ pub extern "C" fn dovecounter_module_store(
     ensures status { result ≡ status_in (spec.stored_by (spec.held halves.now simulated.old) device offset bytes.now) }
     ensures done { IfOk (spec.stored_by (spec.held halves.now simulated.old) device offset bytes.now)
         (λ sim. restored simulated.new ≡ Some (moving_of sim)) }
+    ensures numbers { result ≡ done → spec.AreSaved simulated.new }
     ensures refused { result ≢ done → simulated.new ≡ simulated.old }
 {
     match stored(halves, simulated, device, offset, bytes) {
@@ -88,6 +91,7 @@ pub extern "C" fn dovecounter_module_store(
 pub extern "C" fn dovecounter_module_tick(simulated: &mut SavedModule) -> u32
     ensures status { result ≡ status_by (spec.refusal_in (restored simulated.old)) }
     ensures done { (fixed : Fixed) → spec.module_in fixed simulated.new ≡ option_map ticked (spec.module_in fixed simulated.old) }
+    ensures numbers { result ≡ done → spec.AreSaved simulated.new }
     ensures refused { result ≢ done → simulated.new ≡ simulated.old }
 {
     match Moving::restore(simulated) {
@@ -106,6 +110,7 @@ pub extern "C" fn dovecounter_module_pin(simulated: &mut SavedModule, on: u8) ->
     ensures status { result ≡ status_by (spec.refusal_in (restored simulated.old)) }
     ensures done { (fixed : Fixed) → spec.module_in fixed simulated.new
         ≡ option_map (λ (sim : SimModule). pinned sim (spec.is_on on)) (spec.module_in fixed simulated.old) }
+    ensures numbers { result ≡ done → spec.AreSaved simulated.new }
     ensures refused { result ≢ done → simulated.new ≡ simulated.old }
 {
     match Moving::restore(simulated) {

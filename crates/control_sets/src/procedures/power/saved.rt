@@ -1,6 +1,7 @@
 ghost use Rattle.std.specs.Prelude.{◌≡◌, ℕ, List, None, Some};
 ghost use Rattle.control_sets.specs.SavedNumbers.{restored, work_numbered};
-ghost use Rattle.control_sets.specs.SavedPower.{power_numbered, restored_power, stage_numbered};
+ghost use Rattle.control_sets.specs.SavedPower as spec;
+ghost use Rattle.control_sets.specs.SavedPower.{power_numbered, restored_power, saved_power, stage_numbered};
 
 use super::{Power, PowerChange, PowerStage};
 use crate::procedures::procedure::SavedProcedure;
@@ -9,6 +10,7 @@ use crate::procedures::saved_fault::SavedFault;
 impl PowerChange {
     /// Its numbers, which are those of no `Procedure`.
     pub fn save(&self) -> SavedProcedure
+        ensures numbers { result ≡ saved_power self.now }
         ensures same { restored_power result ≡ Some self.now }
         ensures apart { restored result ≡ None }
     {
@@ -40,6 +42,7 @@ impl PowerChange {
 }
 
 fn number_of_power(power: Power) -> u8
+    ensures value { result ≡ spec.number_of_power power }
     ensures same { power_numbered result ≡ Some power }
     ensures apart { (control : List ℕ) (lanes : ℕ) → work_numbered result control lanes ≡ None }
 {
@@ -60,7 +63,8 @@ fn power_numbered(number: u8) -> Option<Power>
 }
 
 fn numbers_of_stage(stage: PowerStage) -> (usize, u8)
-    ensures { stage_numbered result.0 result.1 ≡ Some stage }
+    ensures value { result ≡ spec.numbers_of_stage stage }
+    ensures same { stage_numbered result.0 result.1 ≡ Some stage }
 {
     match stage {
         PowerStage::Unread => (0, 0),

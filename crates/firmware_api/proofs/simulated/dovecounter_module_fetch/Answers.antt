@@ -14,3 +14,6 @@ returns-in-Ok-clause-done c =
     let is : answer ≡ Ok (bytes, sim) = sym c.fetched.ensures.answer ∙ ap with_items c.in-Ok.is in
     let copied : c.copy_from_slice.new.self ≡ bytes = c.copy_from_slice.ensures.after ∙ c.deref.ensures.0 in
     when_ok answer (bytes, sim) (λ (told : List ℕ × SimModule). (c.copy_from_slice.new.self ≡ told.0) × (restored c.save.result ≡ Some (moving_of told.1))) is (copied, c.save.ensures.back)
+
+pub returns-in-Ok-clause-numbers : goal.returns-in-Ok-clause-numbers
+returns-in-Ok-clause-numbers c = λ done. (moving_of c.in-Ok.after, c.save.ensures.numbers)

@@ -9,3 +9,6 @@ pub returns-in-Ok-clause-done : goal.returns-in-Ok-clause-done
 returns-in-Ok-clause-done c =
     when_ok (stored_by (held c.args.halves.now c.args.simulated.now) c.args.device c.args.offset c.args.bytes.now) c.in-Ok.after (λ sim. restored c.save.result ≡ Some (moving_of sim))
     (sym c.stored.ensures ∙ c.in-Ok.is) c.save.ensures.back
+
+pub returns-in-Ok-clause-numbers : goal.returns-in-Ok-clause-numbers
+returns-in-Ok-clause-numbers c = λ done. (moving_of c.in-Ok.after, c.save.ensures.numbers)

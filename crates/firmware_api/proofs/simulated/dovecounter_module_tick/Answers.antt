@@ -9,3 +9,6 @@ returns-in-Some-clause-done c =
 
 pub returns-in-None-clause-done : goal.returns-in-None-clause-done
 returns-in-None-clause-done c = none_by ticked c.args.simulated.now (sym c.restore.ensures ∙ c.in-None.is)
+
+pub returns-in-Some-clause-numbers : goal.returns-in-Some-clause-numbers
+returns-in-Some-clause-numbers c = λ done. (c.tick.new.self, c.save.ensures.numbers)
