@@ -341,7 +341,8 @@ uint32_t dovecounter_durations(const struct dovecounter_half *halves, size_t hal
    status 91 and 94 *line becomes the number of the faulty line, from 1 on, and on 92 it becomes 0; else it stays.
 
    status   if
-   91       a line is none of these, comes before `[host]`, or is a second `[host]`
+   91       a line is none of these, comes before `[host]`, or is a second `[host]`; so is `[media]` or `[app]`, which cmisctl
+            knows
    94       a line writes the same ID as an earlier one
    92       there is no line `[host]` */
 uint32_t dovecounter_weights(const uint8_t *text, size_t text_length, uint32_t weights[256], size_t *line);
@@ -365,7 +366,8 @@ struct dovecounter_plan {
 
 /* Writes to *plan the best plan for the module with these halves: its paths are allowed, no two share a lane, the
    kept paths are among them, and no such plan weighs more. Of several such plans it is the first, in the order of
-   docs/planning.md. A path weighs what `weights` has at its HostInterfaceID. The kept paths may come in any order.
+   docs/planning.md. A path weighs what `weights` has at its HostInterfaceID; its media interface and its Application weigh
+   nothing here. The kept paths may come in any order.
 
    If `paired` is not 0, the module pairs first lanes: a path that begins at the second of its Application's first
    host lanes takes the second of its first media lanes, and so on. If it is 0, it may take any of them. No register

@@ -4,7 +4,7 @@
 
 struct row {
     struct path path; /* no app: the lane stays free */
-    int weight, total;
+    long long weight, total;
 };
 
 /* The number of the best plan's path that takes a lane; 0 if none does. */
@@ -53,7 +53,7 @@ static void put_row(struct row *rows, int *count, struct row row) {
     rows[at] = row;
 }
 
-static void write_lane(FILE *out, int lane, int below) {
+static void write_lane(FILE *out, int lane, long long below) {
     struct row rows[APPS + 1];
     int count = 0;
     for (int app = 1; app <= of->count; app++) {
@@ -66,14 +66,14 @@ static void write_lane(FILE *out, int lane, int below) {
         if (row.path.app) put_row(rows, &count, row);
     }
     if (most[lane][0][0] >= 0) put_row(rows, &count, (struct row){{0, lane, 0}, 0, most[lane][0][0]});
-    fprintf(out, "host lane %d, %d to gain\n", lane, best.weight - below);
+    fprintf(out, "host lane %d, %lld to gain\n", lane, best.weight - below);
     for (int i = 0; i < count; i++) {
         struct row row = rows[i];
         char name[64] = "left free", note[64];
         if (row.path.app) snprintf(name, sizeof name, "app %d, media lane %d", row.path.app, row.path.media);
         int taken = best.at[lane].app ? row.path.app && same(row.path, best.at[lane]) : !row.path.app;
-        snprintf(note, sizeof note, "%d less", best.weight - row.total);
-        fprintf(out, "  %-24s %6d + %6d = %6d  %s\n", name, row.weight, row.total - below - row.weight,
+        snprintf(note, sizeof note, "%lld less", best.weight - row.total);
+        fprintf(out, "  %-24s %6lld + %6lld = %6lld  %s\n", name, row.weight, row.total - below - row.weight,
                 row.total - below,
                 taken                      ? "taken"
                 : row.total == best.weight ? "as much"
@@ -83,8 +83,8 @@ static void write_lane(FILE *out, int lane, int below) {
 
 static void write_drawing(FILE *out) {
     const char *numbers = "       1       2       3       4       5       6       7       8";
-    int below = 0;
-    fprintf(out, "weight %d\n", best.weight);
+    long long below = 0;
+    fprintf(out, "weight %lld\n", best.weight);
     for (int lane = 1; lane <= LANES; lane++) {
         struct path p = best.at[lane];
         if (p.app)

@@ -1,8 +1,9 @@
-/* first_best RUNS SEED FOLDER [keep] [paired] [counts]: writes, for each number N from 1 to RUNS, the files N, an input of the command plan for a
+/* first_best RUNS SEED FOLDER [keep] [paired] [counts] [tables]: writes, for each number N from 1 to RUNS, the files N, an input of the command plan for a
    module made by chance, N.wanted, the weight and the paths of the plan that is to be given, and N.drawing, what draw is to say
    of it, but for the names of interfaces. With keep, each third plan keeps paths, and its input is one of plan --keep. With paired,
    the modules pair first lanes, as plan --paired takes them. With counts, descriptors leave lane counts at 0 by chance, for plan
-   --counts-by-id: a path takes the lanes of its interface (SFF-8024), and there is none if that has no count, or isn't known.
+   --counts-by-id: a path takes the lanes of its interface (SFF-8024), and there is none if that has no count, or isn't known. With
+   tables, media interfaces and Applications weigh something too, by chance as much as a weight can be, and a path weighs the sum.
 
    A plan is a set of data paths. All plans that the module can carry are gone through, and the first of the best without needless
    paths is what docs/planning.md, "The first best plan", says, and not how the planner finds it. */
@@ -37,7 +38,7 @@ struct path {
 };
 
 struct plan {
-    int weight;
+    long long weight;
     struct path at[LANES + 1]; /* the path that begins at a host lane: no app, none does */
 };
 
@@ -45,6 +46,9 @@ struct module {
     int count, unsupported, paired, media_type;
     struct app apps[APPS + 1];
     int host_codes[4], weights[4]; /* by an Application's host_id */
+    int tables;                    /* whether the weights have tables of media interfaces and of Applications */
+    int media_weights[256], app_weights[APPS + 1];
+    long long unit; /* what a weight of 1 stands for */
     struct plan kept;
 };
 
@@ -98,7 +102,10 @@ static long seen;
 
 static int is_kept(struct path p) { return of->kept.at[p.host].app && same(of->kept.at[p.host], p); }
 
-static int weight_of(struct path p) { return of->weights[of->apps[p.app].host_id]; }
+static long long weight_of(struct path p) {
+    struct app a = of->apps[p.app];
+    return of->unit * ((long long)of->weights[a.host_id] + of->media_weights[a.media_code] + of->app_weights[p.app]);
+}
 
 static int keeps(const struct plan *plan) {
     for (int lane = 1; lane <= LANES; lane++) {
@@ -120,14 +127,14 @@ static void judge(const struct plan *plan) {
 
 /* What the heaviest plan weighs that agrees with the best below a host lane, and begins there the path of an Application and a
    media lane, or (0, 0) leaves the lane free; -1 if none does. */
-static int most[LANES + 1][APPS + 1][LANES + 1];
+static long long most[LANES + 1][APPS + 1][LANES + 1];
 
 static void compare(const struct plan *plan) {
     int free_from = 1;
     if (!keeps(plan)) return;
     for (int lane = 1; lane <= LANES; lane++) {
         struct path p = plan->at[lane], q = best.at[lane];
-        int *most_here = &most[lane][p.app][p.app ? p.media : 0];
+        long long *most_here = &most[lane][p.app][p.app ? p.media : 0];
         if ((p.app || lane >= free_from) && *most_here < plan->weight) *most_here = plan->weight;
         if (p.app ? !q.app || !same(p, q) : q.app) return;
         if (p.app) free_from = lane + of->apps[p.app].host_lanes;
@@ -176,9 +183,23 @@ static void leave_counts(struct module *m) {
     }
 }
 
-static void make(struct module *m, int paired, int counts) {
+/* Weighs media interfaces and Applications too. Three media interfaces are on the module, unless their codes stand already. */
+static void weigh_tables(struct module *m, int counts) {
+    static const int media_codes[] = {0x14, 0x1c, 0x1d};
+    m->tables = 1;
+    if (!chance(3)) m->unit = 1431655765;
+    for (int app = 1; app <= m->count; app++) {
+        if (!counts) m->apps[app].media_code = media_codes[chance(3)];
+        m->media_weights[m->apps[app].media_code] = chance(4);
+    }
+    for (int app = 1; app <= m->count; app++) m->app_weights[app] = chance(3) ? 0 : chance(4);
+    if (!chance(4)) memset(m->weights, 0, sizeof m->weights);
+}
+
+static void make(struct module *m, int paired, int counts, int tables) {
     memset(m, 0, sizeof *m);
     m->paired = paired;
+    m->unit = 1;
     for (int id = 1; id < 4; id++) m->host_codes[id] = id;
     m->count = 1 + chance(APPS);
     m->unsupported = chance(4) ? 0 : chance(256) & chance(256);
@@ -194,6 +215,7 @@ static void make(struct module *m, int paired, int counts) {
         a->counts = a->host_lanes << 4 | a->media_lanes;
     }
     if (counts) leave_counts(m);
+    if (tables) weigh_tables(m, counts);
 }
 
 /* Some paths of the module that share no lane. */
@@ -235,7 +257,15 @@ static void write_image(FILE *out, const struct module *m) {
     write_half(out, "upper A0 00 00", page00);
     write_half(out, "upper A0 00 01", page01);
     fprintf(out, "end\n---\n[host]\n");
-    for (int id = 1; id < 4; id++) fprintf(out, "%02xh = %d\n", (unsigned)m->host_codes[id], m->weights[id]);
+    for (int id = 1; id < 4; id++)
+        fprintf(out, "%02xh = %lld\n", (unsigned)m->host_codes[id], m->unit * m->weights[id]);
+    if (!m->tables) return;
+    fprintf(out, "[app]\n");
+    for (int app = 1; app <= m->count; app++)
+        if (m->app_weights[app]) fprintf(out, "%d = %lld\n", app, m->unit * m->app_weights[app]);
+    fprintf(out, "[media]\n");
+    for (int code = 0; code < 256; code++)
+        if (m->media_weights[code]) fprintf(out, "%02Xh = %lld\n", (unsigned)code, m->unit * m->media_weights[code]);
 }
 
 static void write_paths(FILE *out, const char *word, const struct plan *plan) {
@@ -258,17 +288,18 @@ static FILE *open_at(const char *folder, int number, const char *end) {
 
 int main(int argc, char **argv) {
     if (argc < 4) return 2;
-    int runs = atoi(argv[1]), keeping = 0, paired = 0, counts = 0;
+    int runs = atoi(argv[1]), keeping = 0, paired = 0, counts = 0, tables = 0;
     for (int i = 4; i < argc; i++) {
         keeping |= !strcmp(argv[i], "keep");
         paired |= !strcmp(argv[i], "paired");
         counts |= !strcmp(argv[i], "counts");
+        tables |= !strcmp(argv[i], "tables");
     }
     state = strtoull(argv[2], 0, 10) * 2654435761u + 88172645463325252u;
     for (int number = 1; number <= runs;) {
         struct module m;
         struct plan empty = {0};
-        make(&m, paired, counts);
+        make(&m, paired, counts, tables);
         if (keeping && number % 3 == 0) keep(&m);
         of = &m, found = 0, seen = 0;
         extend(&empty, 1, 0, 0);
@@ -285,7 +316,7 @@ int main(int argc, char **argv) {
             fprintf(in, "---\n");
             write_paths(in, "keep", &m.kept);
         }
-        fprintf(wanted, "weight %d\n", best.weight);
+        fprintf(wanted, "weight %lld\n", best.weight);
         write_paths(wanted, "path", &best);
         if (fclose(in) || fclose(wanted) || fclose(drawing)) return 2;
         number++;

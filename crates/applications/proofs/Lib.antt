@@ -1,6 +1,7 @@
 pub mod Listed
 mod CountedApps
 mod DocumentKeys
-mod HostMembers
+mod TableMembers
+mod KeyLemmas
 mod WeightAnswers
 mod SaidLines

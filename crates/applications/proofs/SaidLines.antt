@@ -1,21 +1,19 @@
 -- Lines of weights: where a byte cuts them, that each says one thing alone, and what a reader keeps of them.
-use Rattle.std.proofs.Common.{◌≡◌, ◌≢◌, ℕ, ◌+◌, ◌^◌, ◌<◌, Bool, true, false, cond, not, ◌==◌, List, [], ◌∷◌, ◌++◌, codes, length, map, Option, Some, None, unwrap_or, arith, refl, sym, subst, ap, inl, inr, ◌∙◌, append_assoc, append-nil, length-append}
-use Rattle.std.proofs.lemmas.Bool.{cases_lt, cond_both, lt-ltb, le-ltb}
+use Rattle.std.proofs.Common.{◌≡◌, ◌≢◌, ℕ, ◌+◌, ◌<◌, Bool, true, false, cond, not, List, [], ◌∷◌, ◌++◌, length, map, Some, None, unwrap_or, arith, refl, sym, subst, ap, inl, inr, ◌∙◌, append_assoc, append-nil, length-append}
+use Rattle.std.proofs.lemmas.Bool.{cases_lt, lt-ltb, le-ltb}
 use Rattle.std.proofs.lemmas.Fmt.{decimal_injective}
-use Rattle.std.proofs.lemmas.List.{ext_get_or, get_or_default, get_or-replicate}
+use Rattle.std.proofs.lemmas.List.{ext_get_or, get_or-replicate}
 use Rattle.std.proofs.lemmas.List.FromFn.{get_or-map-range_with_len, length-map-range_with_len}
 use Rattle.std.proofs.lemmas.List.Sums.{prefix_len-le-length}
 use Rattle.std.proofs.Math.ListN.{length-replicate, replicate}
-use Rattle.std.specs.Fmt.{decimal}
 use Rattle.std.specs.List.{position, position_or_len, range_with_len}
 use Rattle.applications.specs.declared.weights.lines.Draft.{Draft}
 use Rattle.applications.specs.declared.weights.lines.Said.{Said}
 use Rattle.applications.specs.declared.weights.lines.Said.TheVariants.{Nothing, Host, Weight}
 use Rattle.applications.specs.declared.weights.lines.WeightLinesFault.{WeightLinesFault}
 use Rattle.applications.specs.declared.weights.lines.WeightLinesFault.TheVariants.{BadLine, SameIdTwice, NoHost}
-use Rattle.applications.specs.HostTable.{id_of_key}
-use Rattle.applications.specs.Weights.{IsHostWeights}
-use Rattle.applications.specs.WeightLines.{AreWeights, Drafts, IsFirstFault, IsLineFault, Say, Says, SaysIn, Stops, has_host, host_line, key_in, may_follow, trimmed, weight_said}
+use Rattle.applications.specs.WeightKeys.{id_of_key}
+use Rattle.applications.specs.WeightLines.{AreWeights, Drafts, IsFirstFault, IsLineFault, Say, Says, SaysIn, host_line, key_in, may_follow, trimmed, weight_said}
 
 -- what a search finds is the place, or the length
 pub place_is : (p : ℕ → Bool) (xs : List ℕ) → unwrap_or (position p xs) (length xs) ≡ position_or_len p xs
@@ -119,21 +117,6 @@ say_all lines draft number read = subst (Say read.said) (sym (read.lines_are ∙
 
 pub read_no_host : (lines : List (List ℕ)) (draft : Draft) (number : ℕ) → ReadTo lines [] draft number → draft.has_host ≡ false → IsFirstFault lines NoHost
 read_no_host lines draft number read none = (read.said, say_all lines draft number read, sym read.drafts.host ∙ none)
-
-weight_below : (said : List Said) (lines : List (List ℕ)) → Say said lines → (id : ℕ) → weight_said said id < 2 ^ 32
-weight_below [] lines say id = omega arith
-weight_below (Nothing ∷ earlier) lines (before, line, is, says, follows, say) id = weight_below earlier before say id
-weight_below (Host ∷ earlier) lines (before, line, is, says, follows, say) id = weight_below earlier before say id
-weight_below (Weight listed weight ∷ earlier) lines (before, line, is, says, follows, say) id =
-    cond_both (listed == id) weight (weight_said earlier id) (λ (w : ℕ). w < 2 ^ 32) (λ e. says.1.1) (λ e. weight_below earlier before say id)
-
-pub read_are_weights : (lines left : List (List ℕ)) (draft : Draft) (number : ℕ) → ReadTo lines left draft number → IsHostWeights draft.by_host_id
-read_are_weights lines left draft number read = (
-  read.drafts.weights_room,
-  λ id d within.
-      rw (get_or_default draft.by_host_id id d 0 within, read.drafts.weights id (rw read.drafts.weights_room at within))
-      (weight_below read.said read.before read.say id),
-)
 
 pub read_all : (lines : List (List ℕ)) (draft : Draft) (number : ℕ) → ReadTo lines [] draft number → draft.has_host ≡ true → AreWeights lines draft.by_host_id
 read_all lines draft number read host = (

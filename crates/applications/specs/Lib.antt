@@ -5,7 +5,9 @@ pub mod Advertised
 pub mod AdvertisedCode
 pub mod Refusals
 pub mod Weights
-pub mod HostTable
+pub mod AppWeights
+pub mod WeightKeys
+pub mod WeightTables
 pub mod WeightLines
 pub mod WeightFaults
 pub mod FaultWords

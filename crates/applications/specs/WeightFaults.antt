@@ -1,5 +1,5 @@
 -- Why a text lists no weights, and what reading one answers. (docs/formats.md, "Weights"; this project's own)
-use Rattle.std.specs.Prelude.{◌≡◌, ℕ, Bool, true, false, not, List, [], ◌∷◌, ◌++◌, codes, Option, Some, None, is_none, Result, Ok, Err}
+use Rattle.std.specs.Prelude.{◌≡◌, ℕ, Bool, true, false, not, ◌&&◌, ◌||◌, List, [], ◌∷◌, ◌++◌, Option, Some, None, is_none, is_some, Result, Ok, Err}
 use Rattle.std.specs.List.{list_any}
 use Rattle.std.specs.Option.{option_map_or, option_and_then}
 use Rattle.std.specs.Str.{bytes_eq, is_utf8}
@@ -8,52 +8,67 @@ use Rattle.toml.specs.Errors.{IsBlank}
 use Rattle.field_tables.specs.FirstFault.{first_fault}
 use Rattle.applications.specs.declared.weights.fault.WeightsFault.{WeightsFault}
 use Rattle.applications.specs.declared.weights.fault.WeightsFault.TheVariants.{Memory, NotToml, NoHostTable, OtherKey, BadKey, SameKeyTwice, BadWeight}
-use Rattle.applications.specs.Weights.{HostWeights}
-use Rattle.applications.specs.HostTable.{Member, document_of, members_of, host_table, host_members, id_of, id_of_key, is_of, weight_of_value, weights_of}
+use Rattle.applications.specs.declared.weights.table.WeightTable.{WeightTable}
+use Rattle.applications.specs.declared.weights.table.WeightTable.TheVariants.{Host, Media, App}
+use Rattle.applications.specs.WeightKeys.{named_by, table_name}
+use Rattle.applications.specs.Weights.{ListedWeights}
+use Rattle.applications.specs.WeightTables.{Member, document_of, is_of, members_in, members_of, number_of, table_in, value_in, weight_of_value, weights_in}
 
--- the one key of a document
-unfoldable pub is_host : List ℕ → Bool
-is_host key = bytes_eq key (codes "host")
+-- the name of a table of weights
+unfoldable pub names_table : List ℕ → Bool
+names_table key = bytes_eq key (table_name Host) || bytes_eq key (table_name Media) || bytes_eq key (table_name App)
 
 abbrev pub has_other_key : List Member → Bool
-has_other_key members = list_any (λ (member : Member). not (is_host member.0)) members
+has_other_key members = list_any (λ (member : Member). not (names_table member.0)) members
 
--- of a member, if these HostInterfaceIDs are listed before it
-abbrev pub member_faults : (ℕ → Bool) → Member → List (Bool × WeightsFault)
-member_faults is_listed member =
-    (is_none (id_of_key member.0), BadKey)
-    ∷ (is_listed (id_of member), SameKeyTwice (id_of member))
-    ∷ (is_none (weight_of_value member.1), BadWeight (id_of member))
+-- what a document has under a table's name is no table
+abbrev pub is_no_table : WeightTable → Members → Bool
+is_no_table table document = is_some (value_in table document) && is_none (table_in table document)
+
+-- more than the three tables
+abbrev pub has_more : Members → Bool
+has_more document = has_other_key (members_of document) || is_no_table Media document || is_no_table App document
+
+-- of a member of a table, if these are listed before it
+abbrev pub member_faults : WeightTable → (ℕ → Bool) → Member → List (Bool × WeightsFault)
+member_faults table is_listed member =
+    (is_none (named_by table member.0), BadKey table)
+    ∷ (is_listed (number_of table member), SameKeyTwice table (number_of table member))
+    ∷ (is_none (weight_of_value member.1), BadWeight table (number_of table member))
     ∷ []
 
-abbrev pub is_listed : List Member → ℕ → Bool
-is_listed members host_id = list_any (is_of host_id) members
+abbrev pub is_listed : WeightTable → List Member → ℕ → Bool
+is_listed table members number = list_any (is_of table number) members
 
 -- of members that follow these, one after the other
-abbrev pub faults_after : List Member → List Member → List (Bool × WeightsFault)
-faults_after before [] = []
-faults_after before (member ∷ rest) = member_faults (is_listed before) member ++ faults_after (before ++ member ∷ []) rest
+abbrev pub faults_after : WeightTable → List Member → List Member → List (Bool × WeightsFault)
+faults_after table before [] = []
+faults_after table before (member ∷ rest) =
+    member_faults table (is_listed table before) member ++ faults_after table (before ++ member ∷ []) rest
+
+abbrev pub faults_in : WeightTable → Option Members → List (Bool × WeightsFault)
+faults_in table document = faults_after table [] (members_in table document)
 
 abbrev pub weights_faults : Option Members → List (Bool × WeightsFault)
 weights_faults document =
     (is_none document, NotToml)
-    ∷ (is_none (option_and_then host_table document), NoHostTable)
-    ∷ (has_other_key (option_map_or members_of document []), OtherKey)
-    ∷ faults_after [] (host_members document)
+    ∷ (is_none (option_and_then (table_in Host) document), NoHostTable)
+    ∷ (option_map_or has_more document false, OtherKey)
+    ∷ faults_in Host document ++ (faults_in Media document ++ faults_in App document)
 
 unfoldable pub weights_fault : Option Members → Option WeightsFault
 weights_fault document = first_fault (weights_faults document)
 
 -- what reading a text may answer: memory may be wanting, unless the text isn't UTF-8 or has only white space and comments
-abbrev pub IsAnswer : List ℕ → Result HostWeights WeightsFault → Type 0
-IsAnswer text (Ok weights) = (weights_fault (document_of text) ≡ None) × (weights ≡ weights_of (host_members (document_of text)))
+abbrev pub IsAnswer : List ℕ → Result ListedWeights WeightsFault → Type 0
+IsAnswer text (Ok weights) = (weights_fault (document_of text) ≡ None) × (weights ≡ weights_in (document_of text))
 IsAnswer text (Err Memory) = (is_utf8 text ≡ true) × ¬ IsBlank text
 IsAnswer text (Err fault) = weights_fault (document_of text) ≡ Some fault
 
--- whether the keys of `host` were judged
-abbrev pub judges_keys : Result HostWeights WeightsFault → Bool
+-- whether the keys of the tables were judged
+abbrev pub judges_keys : Result ListedWeights WeightsFault → Bool
 judges_keys (Ok weights) = true
-judges_keys (Err BadKey) = true
-judges_keys (Err (SameKeyTwice host_id)) = true
-judges_keys (Err (BadWeight host_id)) = true
+judges_keys (Err (BadKey table)) = true
+judges_keys (Err (SameKeyTwice table number)) = true
+judges_keys (Err (BadWeight table number)) = true
 judges_keys (Err fault) = false

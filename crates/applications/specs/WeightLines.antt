@@ -10,8 +10,8 @@ use Rattle.applications.specs.declared.weights.lines.Said.{Said}
 use Rattle.applications.specs.declared.weights.lines.Said.TheVariants.{Nothing, Host, Weight}
 use Rattle.applications.specs.declared.weights.lines.WeightLinesFault.{WeightLinesFault}
 use Rattle.applications.specs.declared.weights.lines.WeightLinesFault.TheVariants.{BadLine, SameIdTwice, NoHost}
-use Rattle.applications.specs.HostTable.{id_of_key}
-use Rattle.applications.specs.Weights.{HostWeights}
+use Rattle.applications.specs.WeightKeys.{id_of_key}
+use Rattle.applications.specs.Weights.{TableWeights}
 
 -- a tab, or a byte that is no control character
 abbrev pub is_plain_byte : ℕ → Bool
@@ -97,7 +97,7 @@ weight_said (Weight listed weight ∷ before) host_id = if listed == host_id the
 weight_said (said ∷ before) host_id = weight_said before host_id
 
 -- the lines list these weights
-abbrev pub AreWeights : List (List ℕ) → HostWeights → Type 0
+abbrev pub AreWeights : List (List ℕ) → TableWeights → Type 0
 AreWeights lines weights =
     (said : List Said) × Say said lines × (has_host said ≡ true) × (weights ≡ map (weight_said said) (range_with_len 0 256))
 
@@ -123,7 +123,7 @@ IsFirstFault lines NoHost = (said : List Said) × Say said lines × (has_host sa
 IsFirstFault lines fault = Stops lines fault
 
 -- what reading these lines answers
-abbrev pub IsAnswer : List (List ℕ) → Result HostWeights WeightLinesFault → Type 0
+abbrev pub IsAnswer : List (List ℕ) → Result TableWeights WeightLinesFault → Type 0
 IsAnswer lines (Ok weights) = AreWeights lines weights
 IsAnswer lines (Err fault) = IsFirstFault lines fault
 

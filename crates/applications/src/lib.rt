@@ -17,4 +17,6 @@ pub use descriptors::apps_in;
 pub use fault::AdvertFault;
 pub use field_tables::LaneSet;
 pub use refusal::{is_read_revision, page_refusal};
-pub use weights::{WeightLinesFault, Weights, WeightsFault};
+pub use weights::{
+    AppWeights, WeightLinesFault, WeightTable, Weights, WeightsFault, read_weight_lines,
+};

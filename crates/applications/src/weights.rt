@@ -1,42 +1,50 @@
-// How much a host interface is wanted, as a user's text says.
+// How much data paths are wanted, as a user's text says.
+mod app_weights;
 mod document;
 mod fault;
+mod keys;
 mod lines;
 mod members;
+mod table;
 
+pub use app_weights::AppWeights;
 use document::read_document;
 pub use fault::WeightsFault;
-pub use lines::WeightLinesFault;
+pub use lines::{WeightLinesFault, read_weight_lines};
 use std::alloc::Global;
 use std::marker::Model;
+pub use table::WeightTable;
 use toml::table_from_str;
 
-/// A weight for each HostInterfaceID (SFF-8024).
+/// Weights for each HostInterfaceID and each MediaInterfaceID (SFF-8024), and for each number of an Application.
 #[derive(Debug, Drop)]
 pub struct Weights {
     by_host_id: [u32; 256],
+    by_media_id: [u32; 256],
+    by_app: [u32; 256],
 }
 
 impl Model for Weights {
-    ghost use Rattle.applications.specs.Weights.{HostWeights, IsHostWeights};
+    ghost use Rattle.applications.specs.Weights.{AreListedWeights, ListedWeights};
 
-    ghost Value = { HostWeights };
+    ghost Value = { ListedWeights };
 
-    ghost view = { λ weights. weights.by_host_id };
+    ghost view = { λ weights. record { by_host = weights.by_host_id; by_media = weights.by_media_id; by_app = weights.by_app } };
 
-    ghost invariant = { λ weights. IsHostWeights weights.by_host_id };
+    ghost invariant = { λ weights. AreListedWeights (record { by_host = weights.by_host_id; by_media = weights.by_media_id; by_app = weights.by_app }) };
 }
 
 impl Weights {
-    ghost use Rattle.std.specs.Prelude.{◌≡◌, IsTrue, length};
-    ghost use Rattle.applications.specs.Weights.{weight_at};
-    ghost use Rattle.applications.specs.HostTable.{KeysRise, document_of, host_members};
+    ghost use Rattle.std.specs.Prelude.{◌≡◌, IsTrue};
+    ghost use Rattle.applications.specs.Weights.{table_of};
+    ghost use Rattle.applications.specs.WeightTables.{KeysRise, document_of, members_in};
     ghost use Rattle.applications.specs.WeightFaults.{IsAnswer, judges_keys};
+    ghost use Rattle.applications.specs.declared.weights.table.WeightTable.{WeightTable};
 
-    /// The weights that a TOML document lists in its table `host`.
+    /// The weights that a TOML document lists in its tables.
     pub fn read(alloc: Global, text: &[u8]) -> Result<Weights, WeightsFault>
         ensures answer { IsAnswer text.now result }
-        ensures in_byte_order { IsTrue (judges_keys result) → KeysRise (host_members (document_of text.now)) }
+        ensures in_byte_order { IsTrue (judges_keys result) → (table : WeightTable) → KeysRise (members_in table (document_of text.now)) }
     {
         let Ok(text) = std::str::from_utf8(text) else {
             return Err(WeightsFault::NotToml);
@@ -48,27 +56,14 @@ impl Weights {
         }
     }
 
-    /// The weights of the HostInterfaceIDs from 00h on.
-    pub fn of_table(table: &[u32]) -> Weights
-        requires { length table.now ≡ 256 }
-        ensures { result ≡ table.now }
+    /// A table of them, for the numbers from 0 to 255.
+    pub fn table(&self, table: WeightTable) -> &[u32; 256]
+        ensures { result.now ≡ table_of table self.now }
     {
-        let mut by_host_id = [0; 256];
-        by_host_id.copy_from_slice(table);
-        Weights { by_host_id }
-    }
-
-    /// The weights of the HostInterfaceIDs from 00h on.
-    pub fn table(&self) -> [u32; 256]
-        ensures { result ≡ self.now }
-    {
-        self.by_host_id
-    }
-
-    /// The weight of a HostInterfaceID.
-    pub fn of(&self, host_id: u8) -> u32
-        ensures { result ≡ weight_at self.now host_id }
-    {
-        self.by_host_id[usize::from(host_id)]
+        match table {
+            WeightTable::Host => &self.by_host_id,
+            WeightTable::Media => &self.by_media_id,
+            WeightTable::App => &self.by_app,
+        }
     }
 }

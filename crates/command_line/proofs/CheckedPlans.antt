@@ -8,7 +8,8 @@ use Rattle.paged_memory.specs.ImageText.{IsTextOf as IsImageText}
 use Rattle.paged_memory.proofs.OneAnswer.{same_answer as same_image_answer}
 use Rattle.applications.specs.declared.conventions.Conventions.{Conventions}
 use Rattle.applications.specs.Advertised.{Advertised, advertised_under}
-use Rattle.applications.specs.Weights.{HostWeights}
+use Rattle.applications.specs.AppWeights.{PathWeights, app_weights}
+use Rattle.applications.specs.Weights.{ListedWeights}
 use Rattle.applications.specs.WeightFaults.{IsAnswer as IsWeightsAnswer}
 use Rattle.applications.specs.declared.weights.fault.WeightsFault.{WeightsFault}
 use Rattle.applications.specs.declared.weights.fault.WeightsFault.TheVariants as weights
@@ -74,10 +75,10 @@ same_advert conventions text a b p q =
     let memory = same_image text p.memory q.memory p.is_module.is_text q.is_module.is_text in
     p.is_module.advertised ∙ ap (advertised_under conventions) memory ∙ sym q.is_module.advertised
 
-same_weights : (text : List ℕ) (a b : HostWeights) → IsWeightsAnswer text (Ok a) → IsWeightsAnswer text (Ok b) → a ≡ b
+same_weights : (text : List ℕ) (a b : ListedWeights) → IsWeightsAnswer text (Ok a) → IsWeightsAnswer text (Ok b) → a ≡ b
 same_weights text a b p q = p.1 ∙ sym q.1
 
-not_refused : (text : List ℕ) (listed : HostWeights) (f : WeightsFault) → f ≢ weights.Memory
+not_refused : (text : List ℕ) (listed : ListedWeights) (f : WeightsFault) → f ≢ weights.Memory
     → IsWeightsAnswer text (Ok listed) → ¬ (IsWeightsAnswer text (Err f))
 not_refused text listed weights.Memory other p q = other refl
 not_refused text listed f other p q = absurd cc
@@ -95,7 +96,11 @@ abbrev IsPlanTo : Bool → Conventions → List (List ℕ) → Answer → Type 0
 IsPlanTo keep conventions parts = IsAnswerToTexts (Plan keep conventions) false (text_in (parts_read (Plan keep conventions)) parts)
 
 module _ (conventions : Conventions) (image_text weights_text kept_text text : List ℕ) (planned : IsPlanned conventions image_text weights_text kept_text text) where
-  says : (first : Bool) → SaysFirst first planned.given.advert planned.given.weights planned.certificate (first_if first)
+  -- what paths weigh
+  abbrev path_weights : PathWeights
+  path_weights = app_weights planned.given.advert planned.given.weights
+
+  says : (first : Bool) → SaysFirst first planned.given.advert path_weights planned.certificate (first_if first)
   says true = ((λ _. planned.given.is_first), (λ _. refl))
   says false = tt
 
@@ -121,14 +126,17 @@ module _ (conventions : Conventions) (image_text weights_text kept_text text : L
     the_weights : is.weights ≡ planned.given.weights
     the_weights = same_weights weights_text is.weights planned.given.weights is.are_weights planned.given.are_weights
 
+    the_path_weights : app_weights is.advert is.weights ≡ path_weights
+    the_path_weights = (λ i. app_weights (the_advert i) (the_weights i))
+
     the_certificate : is.certificate ≡ planned.certificate
     the_certificate = same_claim text is.certificate planned.certificate is.is_certificate planned.read_again
 
     judged_good : judged ≡ Good
-    judged_good = sym is.is_verdict ∙ (λ i. verdict (the_advert i) (the_weights i) (the_certificate i)) ∙ planned.given.judged_again
+    judged_good = sym is.is_verdict ∙ (λ i. verdict (the_advert i) (the_path_weights i) (the_certificate i)) ∙ planned.given.judged_again
 
   -- the plan is the first of the best, so this is said of it where it is asked for
-  says_so : (first : Bool) (said : Option Bool) → SaysFirst first planned.given.advert planned.given.weights planned.certificate said → said ≡ first_if first
+  says_so : (first : Bool) (said : Option Bool) → SaysFirst first planned.given.advert path_weights planned.certificate said → said ≡ first_if first
   says_so true (Some is_first) same = ap Some (same.1 planned.given.is_first)
   says_so true None never = absurd never
   says_so false None said = refl
@@ -137,12 +145,12 @@ module _ (conventions : Conventions) (image_text weights_text kept_text text : L
   told_good : (json first : Bool) (told : List ℕ) → IsGoodAnswer json first conventions image_text weights_text text told → told ≡ good_text json first planned
   told_good json first told is =
       let advert = the_advert Good is.judged in
-      let listed = the_weights Good is.judged in
+      let weights = the_path_weights Good is.judged in
       let certificate = the_certificate Good is.judged in
-      let said = says_so first is.told.is_first (subst (λ (c : Claim). SaysFirst first planned.given.advert planned.given.weights c is.told.is_first) certificate
-      (subst (λ (w : HostWeights). SaysFirst first planned.given.advert w is.judged.certificate is.told.is_first) listed
-      (subst (λ (a : Advertised). SaysFirst first a is.judged.weights is.judged.certificate is.told.is_first) advert is.told.says_first))) in
-      is.told.told ∙ (λ i. good_output json (said i) (advert i) (listed i) (certificate i))
+      let said = says_so first is.told.is_first (subst (λ (c : Claim). SaysFirst first planned.given.advert path_weights c is.told.is_first) certificate
+      (subst (λ (w : PathWeights). SaysFirst first planned.given.advert w is.judged.certificate is.told.is_first) weights
+      (subst (λ (a : Advertised). SaysFirst first a (app_weights is.judged.advert is.judged.weights) is.judged.certificate is.told.is_first) advert is.told.says_first))) in
+      is.told.told ∙ (λ i. good_output json (said i) (advert i) (weights i) (certificate i))
 
   alone : (json first : Bool) (answer : Answer) → IsCheckAnswer json first conventions image_text weights_text text answer → answer ≡ Ok (good_text json first planned, None)
   alone json first (Ok (told, None)) is = let same = told_good json first told is in λ i. Ok (same i, None)

@@ -12,6 +12,7 @@ use Rattle.applications.specs.declared.fault.AdvertFault.{AdvertFault}
 use Rattle.applications.specs.declared.fault.AdvertFault.TheVariants as advert
 use Rattle.applications.specs.declared.weights.fault.WeightsFault.{WeightsFault}
 use Rattle.applications.specs.declared.weights.fault.WeightsFault.TheVariants as weights
+use Rattle.applications.specs.declared.weights.table.WeightTable.TheVariants as table
 use Rattle.plan_certificate.specs.declared.fault.CertificateFault.{CertificateFault}
 use Rattle.plan_certificate.specs.declared.fault.CertificateFault.TheVariants as certificate
 use Rattle.plan_certificate.specs.declared.fault.KeptFault.{KeptFault}
@@ -86,9 +87,11 @@ unfolding sentences
 of_weights weights.NotToml opening = refl
 of_weights weights.NoHostTable opening = refl
 of_weights weights.OtherKey opening = refl
-of_weights weights.BadKey opening = refl
-of_weights (weights.SameKeyTwice x) opening = refl
-of_weights (weights.BadWeight x) opening = refl
+of_weights (weights.BadKey table.Host) opening = refl
+of_weights (weights.BadKey table.Media) opening = refl
+of_weights (weights.BadKey table.App) opening = refl
+of_weights (weights.SameKeyTwice x y) opening = refl
+of_weights (weights.BadWeight x y) opening = refl
 of_weights weights.Memory opening = refl
 
 of_kept : (f : KeptFault) (opening : Opening) → IsTrue (has_sentence (fault.Kept f) opening)

@@ -4,7 +4,7 @@ use Rattle.std.specs.Prelude.{Vec}
 use Rattle.std.specs.declared.alloc.Global.{Global}
 use Rattle.json.specs.Json.{Json}
 use Rattle.applications.specs.Advertised.{Advertised}
-use Rattle.applications.specs.Weights.{HostWeights}
+use Rattle.applications.specs.AppWeights.{PathWeights}
 use Rattle.plan_certificate.specs.Certificates.{Claim}
 use Rattle.report_entries.specs.EntryJson.{IsJsonText, json_text}
 use Rattle.std.proofs.lemmas.List.Concat.{flat_map-append}
@@ -19,7 +19,7 @@ good_told kept plan first =
     ∙ ap (λ l. l ++ text_of first) (flat_map-append (λ line. line ++ 10 ∷ []) (good_line ∷ kept) plan)
 
 -- of either form
-pub tells_good : {E : Type 0} (json first : Bool) (advert : Advertised) (weights : HostWeights) (certificate : Claim) (is_first : Option Bool) (r : Result (Vec ℕ Global) E)
+pub tells_good : {E : Type 0} (json first : Bool) (advert : Advertised) (weights : PathWeights) (certificate : Claim) (is_first : Option Bool) (r : Result (Vec ℕ Global) E)
     → SaysFirst first advert weights certificate is_first → IfOk r (λ text. text.items ≡ good_output json is_first advert weights certificate)
     → IfOk r (λ text. TellsGood json first advert weights certificate text.items)
 tells_good json first advert weights certificate is_first (Ok text) says told = record { is_first = is_first; says_first = says; told = told }

@@ -5,7 +5,7 @@ use Rattle.std.proofs.lemmas.List.{get_or-replicate}
 use Rattle.std.proofs.lemmas.List.Sums.{prefix_len-le-length}
 use Rattle.std.proofs.Math.ListN.{length-replicate, replicate}
 use Rattle.std.specs.List.{position, position_or_len}
-use Rattle.command_line.specs.OddLines.{Keeps, is_odd, kind_of, odd_line, odd_line_after}
+use Rattle.command_line.specs.OddLines.{Keeps, is_odd, kind_after, odd_line, odd_line_after}
 use Rattle.command_line.specs.declared.remark.weights_lines.Kind.{Kind}
 use Rattle.command_line.specs.declared.remark.weights_lines.SoFar.{SoFar}
 
@@ -19,9 +19,12 @@ place_is p xs =
           ap (λ b. unwrap_or (cond b (Some place) None) (length xs)) (le-ltb _ _ past) ∙ omega (arith, past, prefix_len-le-length (λ x. not (p x)) xs)
     ]
 
-pub keeps_none : (so_far : SoFar) → so_far.has_header ≡ false → so_far.listed ≡ replicate 256 false → Keeps [] so_far
-keeps_none so_far header listed = record {
-  header = header;
+pub keeps_none : (so_far : SoFar) → so_far.table ≡ None → so_far.has_host ≡ false → so_far.has_media ≡ false → so_far.has_app ≡ false → so_far.listed ≡ replicate 256 false → Keeps [] so_far
+keeps_none so_far table host media app listed = record {
+  table = table;
+  host = host;
+  media = media;
+  app = app;
   listed = λ id below. rw listed (get_or-replicate 256 id false false below);
   room = rw listed (length-replicate {A = Bool} 256 false);
 }
@@ -39,17 +42,17 @@ read_none lines so_far keeps = record { before = []; keeps = keeps; counted = re
 module _ (lines left : List (List ℕ)) (line : List ℕ) (so_far : SoFar) (number : ℕ) (read : ReadTo lines (line ∷ left) so_far number) where
   -- by whether the first of those left is odd
   abbrev by : Bool → Option ℕ
-  by odd = if odd then Some (length read.before + 1) else odd_line_after (kind_of line ∷ read.before) left
+  by odd = if odd then Some (length read.before + 1) else odd_line_after (kind_after read.before line ∷ read.before) left
 
-  pub read_more : (new : SoFar) → is_odd read.before (kind_of line) ≡ false → Keeps (kind_of line ∷ read.before) new → ReadTo lines left new (number + 1)
+  pub read_more : (new : SoFar) → is_odd read.before (kind_after read.before line) ≡ false → Keeps (kind_after read.before line ∷ read.before) new → ReadTo lines left new (number + 1)
   read_more new usual keeps = record {
-    before = kind_of line ∷ read.before;
+    before = kind_after read.before line ∷ read.before;
     keeps = keeps;
     counted = let counted = read.counted in omega arith;
     same = read.same ∙ ap by usual;
   }
 
-  pub read_odd : is_odd read.before (kind_of line) ≡ true → Some (number + 1) ≡ odd_line lines
+  pub read_odd : is_odd read.before (kind_after read.before line) ≡ true → Some (number + 1) ≡ odd_line lines
   read_odd odd = ap (λ (n : ℕ). Some (n + 1)) read.counted ∙ sym (read.same ∙ ap by odd)
 
 pub read_all : (lines : List (List ℕ)) (so_far : SoFar) (number : ℕ) → ReadTo lines [] so_far number → None ≡ odd_line lines

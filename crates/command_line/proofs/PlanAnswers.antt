@@ -2,7 +2,8 @@
 use Rattle.std.proofs.Common.{◌≡◌, ◌∙◌, ◌↔◌, ◌<◌, ℕ, Bool, true, false, ap, All, AllPairs, Contains, List, Ok, Err, map, sym, subst}
 use Rattle.applications.specs.declared.conventions.Conventions.{Conventions}
 use Rattle.applications.specs.Advertised.{Advertised}
-use Rattle.applications.specs.Weights.{HostWeights}
+use Rattle.applications.specs.AppWeights.{PathWeights, app_weights}
+use Rattle.applications.specs.Weights.{ListedWeights}
 use Rattle.applications.specs.WeightFaults.{IsAnswer}
 use Rattle.applications.specs.declared.weights.fault.WeightsFault.{WeightsFault}
 use Rattle.applications.specs.declared.weights.fault.WeightsFault.TheVariants as weights
@@ -27,13 +28,13 @@ use Rattle.command_line.specs.declared.fault.Fault.{Fault}
 use Rattle.command_line.specs.declared.fault.Fault.TheVariants as fault
 
 -- a certificate with these kept paths is given for their text
-module _ (conventions : Conventions) (image_text weights_text kept_text : List ℕ) (advert : Advertised) (listed : HostWeights) (kept : List Path) (certificate : Claim) where
+module _ (conventions : Conventions) (image_text weights_text kept_text : List ℕ) (advert : Advertised) (listed : ListedWeights) (kept : List Path) (certificate : Claim) where
   unfoldable pub is_given : certificate.kept ≡ kept → IsAdvertText conventions image_text advert → IsAnswer weights_text (Ok listed) → AreKept advert kept_text kept
-      → IsGood advert listed certificate → IsBest advert listed kept certificate.paths → IsFirstBest advert listed kept certificate.paths
+      → IsGood advert (app_weights advert listed) certificate → IsBest advert (app_weights advert listed) kept certificate.paths → IsFirstBest advert (app_weights advert listed) kept certificate.paths
       → AllPairs (λ path later. path.host < later.host) certificate.paths
-      → All (λ entry. IsGain advert listed kept (state_of entry) entry.potential) certificate.entries
-      → ((state : State) → IsReached advert listed kept state ↔ Contains (map state_of certificate.entries) state)
-      → verdict advert listed certificate ≡ Good → IsGiven conventions image_text weights_text kept_text certificate
+      → All (λ entry. IsGain advert (app_weights advert listed) kept (state_of entry) entry.potential) certificate.entries
+      → ((state : State) → IsReached advert (app_weights advert listed) kept state ↔ Contains (map state_of certificate.entries) state)
+      → verdict advert (app_weights advert listed) certificate ≡ Good → IsGiven conventions image_text weights_text kept_text certificate
   is_given same is_advert are_weights are_kept good best first rising gains states judged = record {
     advert = advert;
     weights = listed;
@@ -41,38 +42,38 @@ module _ (conventions : Conventions) (image_text weights_text kept_text : List �
     are_weights = are_weights;
     are_kept = subst (λ (k : List Path). AreKept advert kept_text k) (sym same) are_kept;
     is_good = good;
-    is_best = subst (λ (k : List Path). IsBest advert listed k certificate.paths) (sym same) best;
-    is_first = subst (λ (k : List Path). IsFirstBest advert listed k certificate.paths) (sym same) first;
+    is_best = subst (λ (k : List Path). IsBest advert (app_weights advert listed) k certificate.paths) (sym same) best;
+    is_first = subst (λ (k : List Path). IsFirstBest advert (app_weights advert listed) k certificate.paths) (sym same) first;
     rising = rising;
-    gains = subst (λ (k : List Path). All (λ entry. IsGain advert listed k (state_of entry) entry.potential) certificate.entries) (sym same) gains;
-    states = subst (λ (k : List Path). (state : State) → IsReached advert listed k state ↔ Contains (map state_of certificate.entries) state) (sym same) states;
+    gains = subst (λ (k : List Path). All (λ entry. IsGain advert (app_weights advert listed) k (state_of entry) entry.potential) certificate.entries) (sym same) gains;
+    states = subst (λ (k : List Path). (state : State) → IsReached advert (app_weights advert listed) k state ↔ Contains (map state_of certificate.entries) state) (sym same) states;
     judged_again = judged;
   }
 
 -- a plan that a certificate has
-abbrev pub HasCertificate : Advertised → HostWeights → List Path → List Path → Type 0
-HasCertificate advert listed kept plan = (certificate : Claim) × IsCertified advert listed kept certificate × (certificate.paths ≡ plan)
+abbrev pub HasCertificate : Advertised → PathWeights → List Path → List Path → Type 0
+HasCertificate advert weights kept plan = (certificate : Claim) × IsCertified advert weights kept certificate × (certificate.paths ≡ plan)
 
-pub certified_admissible : (advert : Advertised) (listed : HostWeights) (kept plan : List Path) → HasCertificate advert listed kept plan → IsAdmissible advert plan
-certified_admissible advert listed kept plan (certificate, certified, same) = subst (λ (paths : List Path). IsAdmissible advert paths) same certified.good.admissible
+pub certified_admissible : (advert : Advertised) (weights : PathWeights) (kept plan : List Path) → HasCertificate advert weights kept plan → IsAdmissible advert plan
+certified_admissible advert weights kept plan (certificate, certified, same) = subst (λ (paths : List Path). IsAdmissible advert paths) same certified.good.admissible
 
-pub tells_json : (json : Bool) (advert : Advertised) (listed : HostWeights) (kept plan : List Path) (text : List ℕ) → json ≡ true → HasCertificate advert listed kept plan
-    → IsJsonText (plan_json advert listed kept plan) text → TellsPlan json advert listed kept text
-tells_json true advert listed kept plan text is (certificate, certified, same) written = record {
+pub tells_json : (json : Bool) (advert : Advertised) (weights : PathWeights) (kept plan : List Path) (text : List ℕ) → json ≡ true → HasCertificate advert weights kept plan
+    → IsJsonText (plan_json advert weights kept plan) text → TellsPlan json advert weights kept text
+tells_json true advert weights kept plan text is (certificate, certified, same) written = record {
   certificate = certificate;
   certified = certified;
-  written = written.spelled ∙ ap (λ (paths : List Path). json_text (plan_json advert listed kept paths)) (sym same);
+  written = written.spelled ∙ ap (λ (paths : List Path). json_text (plan_json advert weights kept paths)) (sym same);
 }
-tells_json false advert listed kept plan text is given written = absurd cc
+tells_json false advert weights kept plan text is given written = absurd cc
 
-pub tells_text : (json : Bool) (advert : Advertised) (listed : HostWeights) (kept : List Path) (text : List ℕ) → json ≡ false
-    → IsPlanText advert listed kept text → TellsPlan json advert listed kept text
-tells_text false advert listed kept text is written = written
-tells_text true advert listed kept text is written = absurd cc
+pub tells_text : (json : Bool) (advert : Advertised) (weights : PathWeights) (kept : List Path) (text : List ℕ) → json ≡ false
+    → IsPlanText advert weights kept text → TellsPlan json advert weights kept text
+tells_text false advert weights kept text is written = written
+tells_text true advert weights kept text is written = absurd cc
 
 -- what is told of a certified plan is told of the one that is given
-pub plan_told : (json : Bool) (conventions : Conventions) (image_text weights_text kept_text : List ℕ) (advert : Advertised) (listed : HostWeights) (kept : List Path) (text : List ℕ)
-    → IsAdvertText conventions image_text advert → IsAnswer weights_text (Ok listed) → AreKept advert kept_text kept → TellsPlan json advert listed kept text
+pub plan_told : (json : Bool) (conventions : Conventions) (image_text weights_text kept_text : List ℕ) (advert : Advertised) (listed : ListedWeights) (kept : List Path) (text : List ℕ)
+    → IsAdvertText conventions image_text advert → IsAnswer weights_text (Ok listed) → AreKept advert kept_text kept → TellsPlan json advert (app_weights advert listed) kept text
     → IsPlannedAs json conventions image_text weights_text kept_text text
 unfolding is_given
 plan_told true conventions image_text weights_text kept_text advert listed kept text is_advert are_weights are_kept told =
@@ -81,7 +82,7 @@ plan_told true conventions image_text weights_text kept_text advert listed kept 
       certificate = told.certificate;
       given = is_given conventions image_text weights_text kept_text advert listed kept told.certificate all.keeps is_advert are_weights are_kept
           all.good all.best all.first all.rising all.gains all.states all.judged;
-      told = told.written ∙ ap (λ (k : List Path). json_text (plan_json advert listed k told.certificate.paths)) (sym all.keeps);
+      told = told.written ∙ ap (λ (k : List Path). json_text (plan_json advert (app_weights advert listed) k told.certificate.paths)) (sym all.keeps);
     }
 plan_told false conventions image_text weights_text kept_text advert listed kept text is_advert are_weights are_kept told =
     let all = told.certified in

@@ -7,7 +7,8 @@ use Rattle.text_lines.specs.Lines.{lines_of, text_of}
 use Rattle.text_lines.specs.Words.{spaced}
 use Rattle.applications.specs.declared.conventions.Conventions.{Conventions}
 use Rattle.applications.specs.Advertised.{Advertised}
-use Rattle.applications.specs.Weights.{HostWeights}
+use Rattle.applications.specs.AppWeights.{PathWeights, app_weights}
+use Rattle.applications.specs.Weights.{ListedWeights}
 use Rattle.applications.specs.WeightFaults.{IsAnswer}
 use Rattle.plan_certificate.specs.Certificates.{Claim}
 use Rattle.plan_certificate.specs.CertificateText.{IsTextOf}
@@ -45,23 +46,23 @@ first_lines None = []
 first_lines (Some is_first) = first_line is_first ∷ []
 
 -- that is said exactly if it is asked for
-abbrev pub SaysFirst : Bool → Advertised → HostWeights → Claim → Option Bool → Type 0
+abbrev pub SaysFirst : Bool → Advertised → PathWeights → Claim → Option Bool → Type 0
 SaysFirst true advert weights certificate (Some is_first) = IsTrue is_first ↔ IsFirstBest advert weights certificate.kept certificate.paths
 SaysFirst false advert weights certificate None = Unit {0}
 SaysFirst asked advert weights certificate said = ⊥
 
 -- how many paths a good certificate keeps, its plan, and whether that is the first
-abbrev pub good_lines : Option Bool → Advertised → HostWeights → Claim → List (List ℕ)
+abbrev pub good_lines : Option Bool → Advertised → PathWeights → Claim → List (List ℕ)
 good_lines is_first advert weights certificate =
     good_line ∷ kept_lines (length certificate.kept) ++ plan_lines advert weights certificate.paths ++ first_lines is_first
 
 -- the same, as JSON or not
-abbrev pub good_output : Bool → Option Bool → Advertised → HostWeights → Claim → List ℕ
+abbrev pub good_output : Bool → Option Bool → Advertised → PathWeights → Claim → List ℕ
 good_output true is_first advert weights certificate = json_text (good_json is_first advert weights certificate.kept certificate.paths)
 good_output false is_first advert weights certificate = text_of (good_lines is_first advert weights certificate)
 
 -- what is told of a good certificate
-pub record TellsGood (json first : Bool) (advert : Advertised) (weights : HostWeights) (certificate : Claim) (text : List ℕ) : Type 0 where
+pub record TellsGood (json first : Bool) (advert : Advertised) (weights : PathWeights) (certificate : Claim) (text : List ℕ) : Type 0 where
   pub is_first : Option Bool
   pub says_first : SaysFirst first advert weights certificate is_first
   pub told : text ≡ good_output json is_first advert weights certificate
@@ -69,18 +70,18 @@ pub record TellsGood (json first : Bool) (advert : Advertised) (weights : HostWe
 -- the texts are those of an image, of weights and of a certificate, of which this is the verdict
 pub record IsJudged (conventions : Conventions) (image_text weights_text certificate_text : List ℕ) (judged : Verdict) : Type 0 where
   pub advert : Advertised
-  pub weights : HostWeights
+  pub weights : ListedWeights
   pub certificate : Claim
   pub is_advert : IsAdvertText conventions image_text advert
   pub are_weights : IsAnswer weights_text (Ok weights)
   pub is_certificate : IsTextOf most_states (lines_of certificate_text) certificate
-  pub is_verdict : verdict advert weights certificate ≡ judged
+  pub is_verdict : verdict advert (app_weights advert weights) certificate ≡ judged
 
 -- the certificate is good, so its plan is best among those that hold the kept paths, and the plan is told
 pub record IsGoodAnswer (json first : Bool) (conventions : Conventions) (image_text weights_text certificate_text text : List ℕ) : Type 0 where
   pub judged : IsJudged conventions image_text weights_text certificate_text Good
-  pub is_best : IsBest judged.advert judged.weights judged.certificate.kept judged.certificate.paths
-  pub told : TellsGood json first judged.advert judged.weights judged.certificate text
+  pub is_best : IsBest judged.advert (app_weights judged.advert judged.weights) judged.certificate.kept judged.certificate.paths
+  pub told : TellsGood json first judged.advert (app_weights judged.advert judged.weights) judged.certificate text
 
 -- the answer to the texts of an image, of weights and of a certificate
 abbrev pub IsCheckAnswer : Bool → Bool → Conventions → List ℕ → List ℕ → List ℕ → Answer → Type 0
@@ -88,6 +89,6 @@ IsCheckAnswer json first conventions image weights certificate (Ok (text, None))
 IsCheckAnswer json first conventions image weights certificate (Ok (text, ended)) = ⊥
 IsCheckAnswer json first conventions image weights certificate (Err (fault.Bad reason number)) = IsJudged conventions image weights certificate (Bad reason number)
 IsCheckAnswer json first conventions image weights certificate (Err (fault.Certificate f)) =
-    Advertises conventions image × ((listed : HostWeights) × IsAnswer weights (Ok listed)) × IsFirstFault most_states (lines_of certificate) f
+    Advertises conventions image × ((listed : ListedWeights) × IsAnswer weights (Ok listed)) × IsFirstFault most_states (lines_of certificate) f
 IsCheckAnswer json first conventions image weights certificate (Err (fault.Weights f)) = Advertises conventions image × IsWeightsRefusal weights f
 IsCheckAnswer json first conventions image weights certificate (Err f) = IsAdvertRefusal image f

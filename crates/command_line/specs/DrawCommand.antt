@@ -6,7 +6,8 @@ use Rattle.field_tables.specs.declared.field.Field.TheVariants.{CMediaType}
 use Rattle.field_tables.specs.Readings.{number}
 use Rattle.applications.specs.declared.conventions.Conventions.{Conventions}
 use Rattle.applications.specs.Advertised.{Advertised}
-use Rattle.applications.specs.Weights.{HostWeights}
+use Rattle.applications.specs.AppWeights.{app_weights}
+use Rattle.applications.specs.Weights.{ListedWeights}
 use Rattle.applications.specs.WeightFaults.{IsAnswer}
 use Rattle.plan_certificate.specs.declared.path.Path.{Path}
 use Rattle.plan_drawing.specs.Drawings.{IsDrawing}
@@ -18,13 +19,13 @@ use Rattle.command_line.specs.Runs.{Answer}
 pub record IsDrawn (as_svg : Bool) (conventions : Conventions) (image_text weights_text kept_text text : List ℕ) : Type 0 where
   pub memory : Memory
   pub advert : Advertised
-  pub weights : HostWeights
+  pub weights : ListedWeights
   pub kept : List Path
   pub has_paths : Bool
   pub is_module : IsModuleText conventions image_text memory advert
   pub are_weights : IsAnswer weights_text (Ok weights)
   pub are_kept : AreKept advert kept_text kept
-  pub drawn : IsDrawing as_svg (number memory CMediaType) advert weights kept text has_paths
+  pub drawn : IsDrawing as_svg (number memory CMediaType) advert (app_weights advert weights) kept text has_paths
 
 -- the answer to the texts of an image, of weights and of kept paths
 abbrev pub IsDrawAnswer : Bool → Conventions → List ℕ → List ℕ → List ℕ → Answer → Type 0

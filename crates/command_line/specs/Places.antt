@@ -13,6 +13,8 @@ use Rattle.field_tables.specs.declared.sff_fault.SffFault.TheVariants as sff
 use Rattle.applications.specs.declared.fault.AdvertFault.{AdvertFault}
 use Rattle.applications.specs.declared.fault.AdvertFault.TheVariants as advert
 use Rattle.applications.specs.declared.weights.fault.WeightsFault.{WeightsFault}
+use Rattle.applications.specs.declared.weights.table.WeightTable.{WeightTable}
+use Rattle.applications.specs.declared.weights.table.WeightTable.TheVariants as table
 use Rattle.applications.specs.declared.weights.fault.WeightsFault.TheVariants as weights
 use Rattle.plan_certificate.specs.declared.fault.CertificateFault.{CertificateFault}
 use Rattle.plan_certificate.specs.declared.fault.CertificateFault.TheVariants as certificate
@@ -29,7 +31,7 @@ use Rattle.reports.specs.declared.fault.ReportFault.TheVariants as report
 use Rattle.command_line.specs.declared.fault.Fault.{Fault}
 use Rattle.command_line.specs.declared.fault.Fault.TheVariants as fault
 use Rattle.command_line.specs.declared.remark.place.Place.{Place}
-use Rattle.command_line.specs.declared.remark.place.Place.TheVariants.{Nowhere, Parts, ImageLine, WeightsLine, KeptLine, CertificateLine, ScriptLine, Half, Page, Identifier, Revision, HostKey, Path, KeptPath, Entry, Lane, LaneStatus, State, Code}
+use Rattle.command_line.specs.declared.remark.place.Place.TheVariants.{Nowhere, Parts, ImageLine, WeightsLine, KeptLine, CertificateLine, ScriptLine, Half, Page, Identifier, Revision, HostKey, MediaKey, AppKey, Path, KeptPath, Entry, Lane, LaneStatus, State, Code}
 
 -- of the words of a fault the first is its code
 abbrev pub first_word : List (List ℕ) → List ℕ
@@ -66,10 +68,16 @@ abbrev pub line_of_weights : Option ℕ → Place
 line_of_weights (Some line) = WeightsLine line
 line_of_weights None = Nowhere
 
+-- the key of a table that names this
+abbrev pub key_of : WeightTable → ℕ → Place
+key_of table.Host number = HostKey number
+key_of table.Media number = MediaKey number
+key_of table.App number = AppKey number
+
 -- a key that the fault names, or else that line
 abbrev pub place_of_weights : WeightsFault → Option ℕ → Place
-place_of_weights (weights.SameKeyTwice host_id) line = HostKey host_id
-place_of_weights (weights.BadWeight host_id) line = HostKey host_id
+place_of_weights (weights.SameKeyTwice table number) line = key_of table number
+place_of_weights (weights.BadWeight table number) line = key_of table number
 place_of_weights weights.Memory line = Nowhere
 place_of_weights _ line = line_of_weights line
 
@@ -145,6 +153,8 @@ place_text (Page page) = codes ", page " ++ byte_text page
 place_text (Identifier identifier) = codes ", identifier " ++ byte_text identifier
 place_text (Revision revision) = codes ", revision " ++ decimal (revision / 16) ++ codes "." ++ decimal (revision % 16)
 place_text (HostKey host_id) = codes ", key " ++ byte_text host_id
+place_text (MediaKey media_id) = codes ", key " ++ byte_text media_id ++ codes " of 'media'"
+place_text (AppKey number) = codes ", key " ++ decimal number ++ codes " of 'app'"
 place_text (Path number) = codes ", path " ++ decimal number
 place_text (KeptPath number) = codes ", kept path " ++ decimal number
 place_text (Entry number) = codes ", entry " ++ decimal number

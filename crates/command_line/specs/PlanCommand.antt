@@ -11,7 +11,7 @@ use Rattle.command_line.specs.GivenPlan.{IsGiven}
 use Rattle.command_line.specs.PlanningInputs.{Advertises, IsAdvertRefusal, IsKeptRefusal, IsWeightsRefusal}
 use Rattle.applications.specs.declared.conventions.Conventions.{Conventions}
 use Rattle.applications.specs.Advertised.{Advertised}
-use Rattle.applications.specs.Weights.{HostWeights}
+use Rattle.applications.specs.AppWeights.{PathWeights, app_weights}
 use Rattle.plan_certificate.specs.declared.path.Path.{Path}
 use Rattle.lane_planner.specs.CertifiedPlans.{IsCertified, IsPlanText}
 use Rattle.command_line.specs.Runs.{Answer}
@@ -27,16 +27,16 @@ pub record IsPlanned (conventions : Conventions) (image_text weights_text kept_t
 pub record IsPlannedJson (conventions : Conventions) (image_text weights_text kept_text text : List ℕ) : Type 0 where
   pub certificate : Claim
   pub given : IsGiven conventions image_text weights_text kept_text certificate
-  pub told : text ≡ json_text (plan_json given.advert given.weights certificate.kept certificate.paths)
+  pub told : text ≡ json_text (plan_json given.advert (app_weights given.advert given.weights) certificate.kept certificate.paths)
 
 -- the same, by what was read of the texts
-pub record IsPlanJson (advert : Advertised) (weights : HostWeights) (kept : List Path) (text : List ℕ) : Type 0 where
+pub record IsPlanJson (advert : Advertised) (weights : PathWeights) (kept : List Path) (text : List ℕ) : Type 0 where
   pub certificate : Claim
   pub certified : IsCertified advert weights kept certificate
   pub written : text ≡ json_text (plan_json advert weights kept certificate.paths)
 
 -- as JSON or not
-abbrev pub TellsPlan : Bool → Advertised → HostWeights → List Path → List ℕ → Type 0
+abbrev pub TellsPlan : Bool → Advertised → PathWeights → List Path → List ℕ → Type 0
 TellsPlan true advert weights kept text = IsPlanJson advert weights kept text
 TellsPlan false advert weights kept text = IsPlanText advert weights kept text
 

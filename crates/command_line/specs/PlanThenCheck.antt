@@ -2,6 +2,7 @@
 -- "check"; this project's own)
 use Rattle.std.specs.Prelude.{◌≡◌, ◌≢◌, ℕ, ◌≤◌, Bool, true, false, List, [], ◌∷◌, ◌++◌, length, codes, Option, Some, None, Ok, Err}
 use Rattle.applications.specs.declared.conventions.Conventions.{Conventions}
+use Rattle.applications.specs.AppWeights.{app_weights}
 use Rattle.command_line.specs.CheckCommand.{good_output}
 use Rattle.command_line.specs.Commands.{IsAnswerOf, in_form}
 use Rattle.command_line.specs.declared.choice.commands.Choice.TheVariants.{Check}
@@ -26,7 +27,7 @@ first_if false = None
 
 -- that it is good, and the plan that was given
 abbrev pub good_text : {conventions : Conventions} {image_text weights_text kept_text text : List ℕ} → Bool → Bool → IsPlanned conventions image_text weights_text kept_text text → List ℕ
-good_text json first planned = good_output json (first_if first) planned.given.advert planned.given.weights planned.certificate
+good_text json first planned = good_output json (first_if first) planned.given.advert (app_weights planned.given.advert planned.given.weights) planned.certificate
 
 -- whatever other flags are given, `check` answers `good` and the plan to this input, as JSON or not, and, if no allocation and no read
 -- is refused, nothing else

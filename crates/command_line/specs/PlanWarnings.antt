@@ -1,27 +1,43 @@
 -- What is odd about a plan that is given: weights that count for nothing, and no data paths. (docs/formats.md, "Standard error";
 -- this project's own)
-use Rattle.std.specs.Prelude.{ℕ, Bool, false, not, ◌==◌, ◌||◌, map}
+use Rattle.std.specs.Prelude.{ℕ, Bool, false, not, ◌==◌, ◌||◌, List, map}
 use Rattle.std.specs.List.{list_any, range_with_len}
 use Rattle.applications.specs.declared.app.App.{App}
 use Rattle.applications.specs.Advertised.{Advertised}
-use Rattle.applications.specs.Weights.{HostWeights, weight_at}
+use Rattle.applications.specs.declared.weights.table.WeightTable.{WeightTable}
+use Rattle.applications.specs.declared.weights.table.WeightTable.TheVariants as table
+use Rattle.applications.specs.Weights.{ListedWeights, table_of, weight_at}
 use Rattle.command_line.specs.declared.remark.warnings.Warnings.{Warnings}
 
--- some Application of the module has this host interface
-abbrev pub has_interface : Advertised → ℕ → Bool
-has_interface advert host_id = list_any (λ (app : App). app.host_id == host_id) advert.apps
+-- a key of the table that names this number names the Application
+abbrev pub is_named : WeightTable → ℕ → App → Bool
+is_named table.Host number app = app.host_id == number
+is_named table.Media number app = app.media_id == number
+is_named table.App number app = app.number == number
 
--- a host interface is unknown if and only if its weight is not 0 and no Application has it
-abbrev pub is_unknown : Advertised → HostWeights → ℕ → Bool
-is_unknown advert weights host_id = not (weight_at weights host_id == 0 || has_interface advert host_id)
+-- some Application of the module is named so
+abbrev pub names_some : Advertised → WeightTable → ℕ → Bool
+names_some advert table number = list_any (is_named table number) advert.apps
+
+-- the number is unknown if and only if its weight is not 0 and no Application is named by it
+abbrev pub is_unknown : Advertised → ListedWeights → WeightTable → ℕ → Bool
+is_unknown advert weights table number = not (weight_at (table_of table weights) number == 0 || names_some advert table number)
+
+abbrev pub unknown_in : Advertised → ListedWeights → WeightTable → List Bool
+unknown_in advert weights table = map (is_unknown advert weights table) (range_with_len 0 256)
 
 -- those of a plan for this module by these weights, which has paths or none
-abbrev pub warnings_of : Advertised → HostWeights → Bool → Warnings
+abbrev pub warnings_of : Advertised → ListedWeights → Bool → Warnings
 warnings_of advert weights has_paths = record {
-  unknown = map (is_unknown advert weights) (range_with_len 0 256);
+  unknown_hosts = unknown_in advert weights table.Host;
+  unknown_media = unknown_in advert weights table.Media;
+  unknown_apps = unknown_in advert weights table.App;
   has_no_paths = not has_paths;
 }
 
+abbrev pub nothing_unknown : List Bool
+nothing_unknown = map (λ number. false) (range_with_len 0 256)
+
 -- none
 abbrev pub no_warnings : Warnings
-no_warnings = record { unknown = map (λ host_id. false) (range_with_len 0 256); has_no_paths = false }
+no_warnings = record { unknown_hosts = nothing_unknown; unknown_media = nothing_unknown; unknown_apps = nothing_unknown; has_no_paths = false }

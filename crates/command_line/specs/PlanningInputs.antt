@@ -11,7 +11,7 @@ use Rattle.applications.specs.Refusals.{advert_fault}
 use Rattle.applications.specs.WeightFaults.{IsAnswer}
 use Rattle.applications.specs.declared.weights.fault.WeightsFault.{WeightsFault}
 use Rattle.applications.specs.declared.weights.fault.WeightsFault.TheVariants as weights
-use Rattle.applications.specs.Weights.{HostWeights}
+use Rattle.applications.specs.Weights.{ListedWeights}
 use Rattle.plan_certificate.specs.KeptText.{IsFirstKeptFault, IsKeptText}
 use Rattle.plan_certificate.specs.Plans.{IsAdmissible}
 use Rattle.plan_certificate.specs.Verdicts.{kept_fault}
@@ -59,7 +59,7 @@ AreNotKept advert text f = IsFirstKeptFault (lines_of text) f
 -- the image and the weights are accepted, and the kept paths are not
 pub record IsKeptRefusal (conventions : Conventions) (image_text weights_text kept_text : List ℕ) (refused : KeptFault) : Type 0 where
   pub advert : Advertised
-  pub weights : HostWeights
+  pub weights : ListedWeights
   pub is_advert : IsAdvertText conventions image_text advert
   pub are_weights : IsAnswer weights_text (Ok weights)
   pub are_not_kept : AreNotKept advert kept_text refused
@@ -67,7 +67,7 @@ pub record IsKeptRefusal (conventions : Conventions) (image_text weights_text ke
 -- the image, the weights and the kept paths are accepted
 pub record ArePlanningInputs (conventions : Conventions) (image_text weights_text kept_text : List ℕ) : Type 0 where
   pub advert : Advertised
-  pub weights : HostWeights
+  pub weights : ListedWeights
   pub kept : List Path
   pub is_advert : IsAdvertText conventions image_text advert
   pub are_weights : IsAnswer weights_text (Ok weights)

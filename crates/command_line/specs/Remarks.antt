@@ -4,6 +4,9 @@ use Rattle.std.specs.Prelude.{ℕ, Bool, not, List, [], ◌∷◌, ◌++◌, ◌
 use Rattle.std.specs.List.{list_any, starts_with}
 use Rattle.std.specs.Option.{option_map_or}
 use Rattle.notices.specs.Sentences.{row_by_code}
+use Rattle.applications.specs.declared.weights.fault.WeightsFault.TheVariants as weights
+use Rattle.applications.specs.declared.weights.table.WeightTable.{WeightTable}
+use Rattle.applications.specs.declared.weights.table.WeightTable.TheVariants as table
 use Rattle.paged_memory.specs.declared.fault.ImageFault.TheVariants as image
 use Rattle.command_line.specs.Faults.{fault_words}
 use Rattle.command_line.specs.OddLines.{odd_line_of_weights}
@@ -67,9 +70,16 @@ clue_for f input = record { opening = opening_for f input; weights_line = odd_li
 abbrev pub sentence_of : List ℕ → List ℕ
 sentence_of code = option_map_or (λ row. row.text) (row_by_code code) []
 
+-- the code of the sentence on a key, by the table that it stands in
+abbrev pub key_sentence : WeightTable → List ℕ
+key_sentence table.Host = codes "WT3"
+key_sentence table.Media = codes "WT3 media"
+key_sentence table.App = codes "WT3 app"
+
 -- the code of a fault's sentence
 abbrev pub sentence_key : Fault → Opening → List ℕ
 sentence_key (fault.Image image.BadHeader) opening = opening_key opening
+sentence_key (fault.Weights (weights.BadKey table)) opening = key_sentence table
 sentence_key f opening = first_word (fault_words f)
 
 -- the line of a fault

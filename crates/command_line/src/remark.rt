@@ -1,6 +1,6 @@
 //! What standard error says beside an answer: why there is none, or what is odd about it.
 ghost use Rattle.std.specs.Prelude.{◌≡◌, None, Some};
-ghost use Rattle.command_line.specs.Remarks.{explained_text, remark_text, sentence_key, sentence_of};
+ghost use Rattle.command_line.specs.Remarks.{explained_text, key_sentence, remark_text, sentence_key, sentence_of};
 ghost use Rattle.command_line.specs.RemarksBeside.{IsRemarkBeside};
 ghost use Rattle.command_line.specs.Faults.{fault_words};
 ghost use Rattle.command_line.specs.Places.{first_word};
@@ -18,6 +18,7 @@ mod weights_lines;
 
 use crate::command_output::CommandOutput;
 use crate::fault::Fault;
+use applications::{WeightTable, WeightsFault};
 pub use clue::Clue;
 use named::Named;
 use notices::sentence_by_code;
@@ -88,14 +89,26 @@ impl Explained {
         Named::of(self.fault, None).code
     }
 
-    /// What is wrong and what to do; of IM1 by the cause.
+    /// What is wrong and what to do; of IM1 by the cause, of WT3 by the table.
     pub fn sentence(self) -> &'static str
         ensures { result.now ≡ sentence_of (sentence_key self.fault self.clue.opening) }
     {
         match self.fault {
             Fault::Image(ImageFault::BadHeader) => sentence(self.clue.opening.key()),
+            Fault::Weights(WeightsFault::BadKey(table)) => sentence(key_sentence(table)),
             _ => sentence(self.code()),
         }
+    }
+}
+
+// The code of the sentence on a key, by its table.
+fn key_sentence(table: WeightTable) -> &'static str
+    ensures { result.now ≡ key_sentence table }
+{
+    match table {
+        WeightTable::Host => "WT3",
+        WeightTable::Media => "WT3 media",
+        WeightTable::App => "WT3 app",
     }
 }
 

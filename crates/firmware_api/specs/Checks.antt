@@ -4,7 +4,8 @@ use Rattle.std.specs.Prelude.{◌≡◌, ℕ, List, MatchOption, Result, Ok, Err
 use Rattle.text_lines.specs.Lines.{lines_of}
 use Rattle.applications.specs.Advertised.{Advertised}
 use Rattle.applications.specs.declared.conventions.Conventions.{Conventions}
-use Rattle.applications.specs.Weights.{HostWeights}
+use Rattle.applications.specs.AppWeights.{PathWeights}
+use Rattle.applications.specs.Weights.{TableWeights}
 use Rattle.plan_certificate.specs.declared.fault.CertificateFault.{CertificateFault}
 use Rattle.plan_certificate.specs.Limits.{most_states}
 use Rattle.plan_certificate.specs.declared.verdict.Verdict.{Verdict}
@@ -21,6 +22,7 @@ use Rattle.firmware_api.specs.declared.half.HalfBytes.{HalfBytes}
 use Rattle.firmware_api.specs.declared.status.Refusal.{Refusal}
 use Rattle.firmware_api.specs.declared.status.Refusal.TheVariants.{Certificate}
 use Rattle.firmware_api.specs.Halves.{advert_of, module_refusal}
+use Rattle.firmware_api.specs.Plans.{path_weights}
 use Rattle.firmware_api.specs.Statuses.{done, status_of}
 
 -- the number in its code
@@ -41,17 +43,21 @@ judgement_of Good = record { reason = 0; number = 0 }
 judgement_of (Bad reason number) = record { reason = reason_number reason; number = number }
 
 -- of the certificate, or its text's first fault
-abbrev pub judgement_by : Advertised → HostWeights → Result Claim CertificateFault → Result Judgement Refusal
+abbrev pub judgement_by : Advertised → PathWeights → Result Claim CertificateFault → Result Judgement Refusal
 judgement_by advert weights (Ok certificate) = Ok (judgement_of (verdict advert weights certificate))
 judgement_by advert weights (Err fault) = Err (Certificate fault)
 
 -- of what the text is read as; a text is read as one result alone
-abbrev pub IsTextJudged : Advertised → HostWeights → List ℕ → Result Judgement Refusal → Type 0
-IsTextJudged advert weights text judged =
+abbrev pub IsTextJudgedBy : Advertised → PathWeights → List ℕ → Result Judgement Refusal → Type 0
+IsTextJudgedBy advert weights text judged =
     (read : Result Claim CertificateFault) × IsAnswer most_states (lines_of text) read × (judged ≡ judgement_by advert weights read)
 
+-- the same by the weights that C hands over
+abbrev pub IsTextJudged : Advertised → TableWeights → List ℕ → Result Judgement Refusal → Type 0
+IsTextJudged advert weights text judged = IsTextJudgedBy advert (path_weights advert weights) text judged
+
 -- refusals of the halves come first
-abbrev pub IsJudged : List HalfBytes → Conventions → HostWeights → List ℕ → Result Judgement Refusal → Type 0
+abbrev pub IsJudged : List HalfBytes → Conventions → TableWeights → List ℕ → Result Judgement Refusal → Type 0
 IsJudged halves conventions weights text judged =
     MatchOption (module_refusal halves) (IsTextJudged (advert_of halves conventions) weights text judged) (λ refusal. judged ≡ Err refusal)
 
@@ -64,12 +70,16 @@ abbrev pub IsTold : (Result Judgement Refusal → Type 0) → ℕ → Judgement 
 IsTold Is status after = (judged : Result Judgement Refusal) × Is judged × Tells status after judged
 
 -- the text is that of a certificate which shows that no plan with its kept paths weighs more than its own
-abbrev pub IsTextShownBest : Advertised → HostWeights → List ℕ → Type 0
-IsTextShownBest advert weights text =
+abbrev pub IsTextShownBestBy : Advertised → PathWeights → List ℕ → Type 0
+IsTextShownBestBy advert weights text =
     (certificate : Claim) × IsTextOf most_states (lines_of text) certificate
     × IsGood advert weights certificate
     × IsBest advert weights certificate.kept certificate.paths
 
+-- the same by the weights that C hands over
+abbrev pub IsTextShownBest : Advertised → TableWeights → List ℕ → Type 0
+IsTextShownBest advert weights text = IsTextShownBestBy advert (path_weights advert weights) text
+
 -- the same for the module whose memory has these halves
-abbrev pub IsShownBest : List HalfBytes → Conventions → HostWeights → List ℕ → Type 0
+abbrev pub IsShownBest : List HalfBytes → Conventions → TableWeights → List ℕ → Type 0
 IsShownBest halves conventions weights text = IsTextShownBest (advert_of halves conventions) weights text

@@ -4,7 +4,8 @@ use Rattle.std.specs.Option.{option_map}
 use Rattle.field_tables.specs.LaneSets.{byte_of}
 use Rattle.applications.specs.Advertised.{Advertised}
 use Rattle.applications.specs.declared.conventions.Conventions.{Conventions}
-use Rattle.applications.specs.Weights.{HostWeights}
+use Rattle.applications.specs.AppWeights.{PathWeights, app_weights}
+use Rattle.applications.specs.Weights.{TableWeights, weights_of_hosts}
 use Rattle.plan_certificate.specs.declared.path.Path.{Path}
 use Rattle.plan_certificate.specs.Limits.{most_paths}
 use Rattle.plan_certificate.specs.Plans.{plan_weight}
@@ -39,10 +40,14 @@ no_path = record { app = 0; host = 0; media = 0 }
 abbrev pub paths_of : List Path → List Path
 paths_of paths = paths ++ replicate (most_paths - length paths) no_path
 
+-- what paths weigh, by the weights of host interfaces that C hands over
+abbrev pub path_weights : Advertised → TableWeights → PathWeights
+path_weights advert weights = app_weights advert (weights_of_hosts weights)
+
 -- these paths, with their weight, the lanes that they take, those that the kept ones leave, and their control bytes
-abbrev pub lane_plan : Advertised → HostWeights → List Path → List Path → LanePlan
+abbrev pub lane_plan : Advertised → PathWeights → List Path → List Path → LanePlan
 lane_plan advert weights kept paths = record {
-  weight = plan_weight advert weights paths;
+  weight = plan_weight weights paths;
   count = length paths;
   lanes = byte_of (plan_lanes advert paths);
   outside = byte_of (lanes_outside advert kept);
@@ -51,8 +56,12 @@ lane_plan advert weights kept paths = record {
 }
 
 -- the first of the best plans that hold the kept paths, by rising host lane
-pub record IsPlanned (advert : Advertised) (weights : HostWeights) (kept : List Path) (plan : LanePlan) : Type 0 where
+pub record IsPlannedBy (advert : Advertised) (weights : PathWeights) (kept : List Path) (plan : LanePlan) : Type 0 where
   pub paths : List Path
   pub is_first : IsFirstBest advert weights kept paths
   pub rising : AllPairs (λ path later. path.host < later.host) paths
   pub plan_is : plan ≡ lane_plan advert weights kept paths
+
+-- the same by the weights that C hands over
+abbrev pub IsPlanned : Advertised → TableWeights → List Path → LanePlan → Type 0
+IsPlanned advert weights kept plan = IsPlannedBy advert (path_weights advert weights) kept plan

@@ -2,7 +2,7 @@
 use Rattle.std.specs.Prelude.{◌≡◌, ℕ, Result, Ok, Err}
 use Rattle.applications.specs.declared.weights.lines.WeightLinesFault.{WeightLinesFault}
 use Rattle.applications.specs.declared.weights.lines.WeightLinesFault.TheVariants.{BadLine, SameIdTwice, NoHost}
-use Rattle.applications.specs.Weights.{HostWeights}
+use Rattle.applications.specs.Weights.{TableWeights}
 use Rattle.firmware_api.specs.declared.status.Refusal.TheVariants.{Weights}
 use Rattle.firmware_api.specs.Statuses.{done, status_of}
 
@@ -13,7 +13,7 @@ line_of (SameIdTwice line) = line
 line_of NoHost = 0
 
 -- the status, the weights before and after, and the line before and after
-abbrev pub IsTold : Result HostWeights WeightLinesFault → ℕ → HostWeights → HostWeights → ℕ → ℕ → Type 0
+abbrev pub IsTold : Result TableWeights WeightLinesFault → ℕ → TableWeights → TableWeights → ℕ → ℕ → Type 0
 IsTold (Ok read) status before after line_before line_after = (status ≡ done) × (after ≡ read) × (line_after ≡ line_before)
 IsTold (Err fault) status before after line_before line_after =
     (status ≡ status_of (Weights fault)) × (after ≡ before) × (line_after ≡ line_of fault)

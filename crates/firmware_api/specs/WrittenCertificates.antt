@@ -2,21 +2,22 @@
 -- (docs/firmware.md, "Certificates"; this project's own)
 use Rattle.std.specs.Prelude.{◌≡◌, ℕ, List, Some, length}
 use Rattle.applications.specs.Advertised.{Advertised}
-use Rattle.applications.specs.Weights.{HostWeights}
+use Rattle.applications.specs.Weights.{TableWeights}
 use Rattle.plan_certificate.specs.declared.path.Path.{Path}
 use Rattle.lane_planner.specs.Buffers.{buffer_with}
 use Rattle.lane_planner.specs.CertifiedPlans.{IsPlanText}
+use Rattle.firmware_api.specs.Plans.{path_weights}
 use Rattle.firmware_api.specs.Statuses.{status_by}
 use Rattle.firmware_api.specs.Texts.{text_refusal}
 
 -- the text of the certificate of the first best plan came into the buffer, or the buffer has no room for it and is as it was
-pub record IsTextPut (advert : Advertised) (weights : HostWeights) (kept : List Path) (before after : List ℕ) (len : ℕ) : Type 0 where
+pub record IsTextPut (advert : Advertised) (weights : TableWeights) (kept : List Path) (before after : List ℕ) (len : ℕ) : Type 0 where
   pub text : List ℕ
-  pub is_text : IsPlanText advert weights kept text
+  pub is_text : IsPlanText advert (path_weights advert weights) kept text
   pub counted : len ≡ length text
   pub buffer : after ≡ buffer_with before text
 
 -- and the status says which
-pub record IsCertificatePut (advert : Advertised) (weights : HostWeights) (kept : List Path) (before : List ℕ) (status : ℕ) (after : List ℕ) (len : ℕ) : Type 0 where
+pub record IsCertificatePut (advert : Advertised) (weights : TableWeights) (kept : List Path) (before : List ℕ) (status : ℕ) (after : List ℕ) (len : ℕ) : Type 0 where
   pub put : IsTextPut advert weights kept before after len
   pub told : status ≡ status_by (text_refusal (Some put.text) (length before))

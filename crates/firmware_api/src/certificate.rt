@@ -8,7 +8,7 @@ ghost use Rattle.firmware_api.specs.WrittenCertificates.{IsCertificatePut, IsTex
 use crate::half::{HalfBytes, conventions_of, read_advert_under};
 use crate::planning::kept_plan;
 use crate::status::{DONE, Refusal};
-use applications::{Advert, Conventions, Weights};
+use applications::{Advert, AppWeights, Conventions};
 use lane_planner::put_certificate;
 use plan_certificate::{Path, Plan};
 
@@ -71,5 +71,5 @@ fn put_text(advert: &Advert, weights: &[u32; 256], kept: &Plan, buffer: &mut [u8
     requires { IsAdmissible advert.now kept.now }
     ensures { IsTextPut advert.now weights.now kept.now buffer.old buffer.new result }
 {
-    put_certificate(buffer, advert, &Weights::of_table(weights), kept)
+    put_certificate(buffer, advert, &AppWeights::by_host(advert, weights), kept)
 }

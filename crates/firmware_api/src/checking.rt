@@ -1,11 +1,11 @@
 ghost use Rattle.std.specs.Prelude.{◌≡◌, ◌≢◌, IfOk};
-ghost use Rattle.firmware_api.specs.Checks.{IsJudged, IsShownBest, IsTextJudged, IsTextShownBest, IsTold, judgement_of, reason_number};
+ghost use Rattle.firmware_api.specs.Checks.{IsJudged, IsShownBest, IsTextJudged, IsTextJudgedBy, IsTextShownBest, IsTextShownBestBy, IsTold, judgement_of, reason_number};
 ghost use Rattle.firmware_api.specs.Halves.{conventions_of};
 ghost use Rattle.firmware_api.specs.Statuses.{done};
 
 use crate::half::{HalfBytes, conventions_of, read_advert_under};
 use crate::status::{DONE, Refusal};
-use applications::{Advert, Conventions, Weights};
+use applications::{Advert, AppWeights, Conventions};
 use plan_certificate::{Certificate, Reason, STATES, Verdict, check};
 
 /// What a certificate is worth.
@@ -61,10 +61,18 @@ fn text_judged(advert: &Advert, weights: &[u32; 256], text: &[u8]) -> Result<Jud
     ensures judged { IsTextJudged advert.now weights.now text.now result }
     ensures best { IfOk result (λ judged. judged.reason ≡ 0 → IsTextShownBest advert.now weights.now text.now) }
 {
+    text_judged_by(advert, &AppWeights::by_host(advert, weights), text)
+}
+
+// The same by what the paths of each Application weigh.
+fn text_judged_by(advert: &Advert, weights: &AppWeights, text: &[u8]) -> Result<Judgement, Refusal>
+    ensures judged { IsTextJudgedBy advert.now weights.now text.now result }
+    ensures best { IfOk result (λ judged. judged.reason ≡ 0 → IsTextShownBestBy advert.now weights.now text.now) }
+{
     let mut certificate = Certificate::<STATES>::blank();
     match certificate.take(text) {
         Ok(()) => {
-            let verdict = check(advert, &Weights::of_table(weights), &certificate);
+            let verdict = check(advert, weights, &certificate);
             Ok(judgement_of(verdict))
         }
         Err(fault) => Err(Refusal::Certificate(fault)),

@@ -1,12 +1,12 @@
 ghost use Rattle.std.specs.Prelude.{◌≡◌, ◌≢◌, IfOk, MatchOption, Ok, Err};
 ghost use Rattle.plan_certificate.specs.Plans.{IsAdmissible};
 ghost use Rattle.firmware_api.specs.Halves.{advert_of, conventions_of};
-ghost use Rattle.firmware_api.specs.Plans.{IsPlanned, kept_refusal, paths_of, plan_refusal};
+ghost use Rattle.firmware_api.specs.Plans.{IsPlanned, IsPlannedBy, kept_refusal, paths_of, plan_refusal};
 ghost use Rattle.firmware_api.specs.Statuses.{done, status_by, status_in};
 
 use crate::half::{HalfBytes, conventions_of, read_advert_under};
 use crate::status::{DONE, Refusal};
-use applications::{Advert, Conventions, Weights};
+use applications::{Advert, AppWeights, Conventions};
 use arrayvec::ArrayVec;
 use control_sets::{ControlSet, bytes_of, lanes_of, lanes_outside};
 use lane_planner::first_plan;
@@ -90,10 +90,17 @@ fn best_plan(advert: &Advert, weights: &[u32; 256], kept: &Plan) -> LanePlan
     requires { IsAdmissible advert.now kept.now }
     ensures { IsPlanned advert.now weights.now kept.now result }
 {
-    let weights = Weights::of_table(weights);
-    let plan = first_plan(advert, &weights, kept);
+    plan_by(advert, &AppWeights::by_host(advert, weights), kept)
+}
+
+// The same by what the paths of each Application weigh.
+fn plan_by(advert: &Advert, weights: &AppWeights, kept: &Plan) -> LanePlan
+    requires { IsAdmissible advert.now kept.now }
+    ensures { IsPlannedBy advert.now weights.now kept.now result }
+{
+    let plan = first_plan(advert, weights, kept);
     LanePlan {
-        weight: weight_of(advert, &weights, &plan),
+        weight: weight_of(weights, &plan),
         count: plan.paths.len() as u8,
         lanes: lanes_of(advert, &plan).byte(),
         outside: lanes_outside(advert, kept).byte(),

@@ -1,12 +1,12 @@
 ghost use Rattle.std.specs.Prelude.{◌≡◌, Result};
 ghost use Rattle.text_lines.specs.Lines.{lines_of};
 ghost use Rattle.applications.specs.declared.weights.lines.WeightLinesFault.{WeightLinesFault};
-ghost use Rattle.applications.specs.Weights.{HostWeights};
+ghost use Rattle.applications.specs.Weights.{TableWeights};
 ghost use Rattle.applications.specs.WeightLines.{IsAnswer};
 ghost use Rattle.firmware_api.specs.ReadWeights.{IsTold, line_of};
 
 use crate::status::{DONE, Refusal};
-use applications::{WeightLinesFault, Weights};
+use applications::{WeightLinesFault, read_weight_lines};
 
 /// Puts into `weights` what the lines of a text say, or into `line` the number of the first faulty one.
 #[unsafe(no_mangle)]
@@ -15,12 +15,12 @@ pub extern "C" fn dovecounter_weights(
     weights: &mut [u32; 256],
     line: &mut usize,
 ) -> u32
-    ensures { (read : Result HostWeights WeightLinesFault) × IsAnswer (lines_of text.now) read
+    ensures { (read : Result TableWeights WeightLinesFault) × IsAnswer (lines_of text.now) read
         × IsTold read result weights.old weights.new line.old line.new }
 {
-    match Weights::read_lines(text) {
+    match read_weight_lines(text) {
         Ok(read) => {
-            *weights = read.table();
+            *weights = read;
             DONE
         }
         Err(fault) => {

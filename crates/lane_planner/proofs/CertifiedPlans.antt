@@ -2,7 +2,7 @@
 use Rattle.std.proofs.Common.{◌≡◌, ℕ, Bool, List, get_or, refl, sym, subst, ap, ◌∙◌, arith}
 use Rattle.text_lines.specs.Lines.{text_of}
 use Rattle.applications.specs.Advertised.{Advertised}
-use Rattle.applications.specs.Weights.{HostWeights}
+use Rattle.applications.specs.AppWeights.{PathWeights}
 use Rattle.plan_certificate.specs.declared.path.Path.{Path}
 use Rattle.plan_certificate.specs.Limits.{most_states}
 use Rattle.plan_certificate.specs.Plans.{IsAdmissible}
@@ -22,7 +22,7 @@ use Rattle.lane_planner.proofs.ReachedStates.{start_reached}
 
 -- ---- the certificate
 
-module _ (advert : Advertised) (weights : HostWeights) (kept paths : List Path) (marks : List Bool) (table : List ℕ) (admissible : IsAdmissible advert kept)
+module _ (advert : Advertised) (weights : PathWeights) (kept paths : List Path) (marks : List Bool) (table : List ℕ) (admissible : IsAdmissible advert kept)
     (reached : MarksReached advert weights kept marks) (has : HasGains advert weights kept 0 table) (off : IsReadOff advert weights kept table paths) where
   pub certified : IsCertified advert weights kept (claim_by advert.paired kept paths marks table)
   certified =
@@ -53,7 +53,7 @@ module _ (advert : Advertised) (weights : HostWeights) (kept paths : List Path) 
 
 -- ---- its text
 
-pub plan_text : (advert : Advertised) (weights : HostWeights) (kept paths : List Path) (marks : List Bool) (table : List ℕ) → IsAdmissible advert kept
+pub plan_text : (advert : Advertised) (weights : PathWeights) (kept paths : List Path) (marks : List Bool) (table : List ℕ) → IsAdmissible advert kept
     → MarksReached advert weights kept marks → HasGains advert weights kept 0 table → IsReadOff advert weights kept table paths → IsReadable most_states (claim_by advert.paired kept paths marks table)
     → IsPlanText advert weights kept (text_of (certificate_lines (claim_by advert.paired kept paths marks table)))
 plan_text advert weights kept paths marks table admissible reached has off readable =

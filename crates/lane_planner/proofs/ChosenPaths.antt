@@ -5,7 +5,7 @@ use Rattle.std.proofs.lemmas.Bool.{and_parts, cases_Bool, eqb-true, eq-eqb}
 use Rattle.std.proofs.lemmas.Bool.Decides.{nat_tests}
 use Rattle.field_tables.specs.LaneSets.{is_disjoint}
 use Rattle.applications.specs.Advertised.{Advertised}
-use Rattle.applications.specs.Weights.{HostWeights}
+use Rattle.applications.specs.AppWeights.{PathWeights}
 use Rattle.plan_certificate.specs.declared.path.Path.{Path}
 use Rattle.plan_certificate.specs.declared.moves.Move.{Move}
 use Rattle.plan_certificate.specs.declared.state.State.{State}
@@ -23,18 +23,18 @@ use Rattle.lane_planner.specs.Tables.{chosen, gain_at, keeps_gain, move_keeps_ga
 use Rattle.lane_planner.proofs.GainLaws.{NoneKeeps}
 use Rattle.lane_planner.proofs.KeptGains.{none_passes}
 
-pub record Keeps (advert : Advertised) (weights : HostWeights) (kept : List Path) (table : List ℕ) (state : State) (path : Path) : Type 0 where
+pub record Keeps (advert : Advertised) (weights : PathWeights) (kept : List Path) (table : List ℕ) (state : State) (path : Path) : Type 0 where
   pub begins : path.host ≡ state.boundary + 1
   pub can : is_eligible advert kept path ≡ true
   pub unused : is_disjoint (media_lanes advert path) state.used ≡ true
-  pub of_use : IsOfUse advert weights kept path
-  pub leaves : path_weight advert weights path + gain_at table (path_decision advert weights state path).end ≡ gain_at table state
+  pub of_use : IsOfUse weights kept path
+  pub leaves : path_weight weights path + gain_at table (path_decision advert weights state path).end ≡ gain_at table state
 
 -- ---- the test of use
 
-use_of_test : (advert : Advertised) (weights : HostWeights) (kept : List Path) (path : Path) → (nat_lt 0 (path_weight advert weights path) || is_among kept path) ≡ true → IsOfUse advert weights kept path
+use_of_test : (advert : Advertised) (weights : PathWeights) (kept : List Path) (path : Path) → (nat_lt 0 (path_weight weights path) || is_among kept path) ≡ true → IsOfUse weights kept path
 use_of_test advert weights kept path test =
-    elim (cases_Bool (nat_lt 0 (path_weight advert weights path))) [
+    elim (cases_Bool (nat_lt 0 (path_weight weights path))) [
       | inl some ↦ inl (grind (arith, nat_tests, some))
       | inr nothing ↦ inr (listed_among kept path (ap (λ (b : Bool). b || is_among kept path) (sym nothing) ∙ test))
     ]
@@ -43,16 +43,16 @@ or_true : (b : Bool) → (b || true) ≡ true
 or_true true = refl
 or_true false = refl
 
-test_of_use : (advert : Advertised) (weights : HostWeights) (kept : List Path) (path : Path) → IsOfUse advert weights kept path → (nat_lt 0 (path_weight advert weights path) || is_among kept path) ≡ true
+test_of_use : (advert : Advertised) (weights : PathWeights) (kept : List Path) (path : Path) → IsOfUse weights kept path → (nat_lt 0 (path_weight weights path) || is_among kept path) ≡ true
 test_of_use advert weights kept path (inl some) =
-    let is : nat_lt 0 (path_weight advert weights path) ≡ true = grind (arith, nat_tests, some) in
+    let is : nat_lt 0 (path_weight weights path) ≡ true = grind (arith, nat_tests, some) in
     ap (λ (b : Bool). b || is_among kept path) is
 test_of_use advert weights kept path (inr held) =
-    ap (λ (b : Bool). nat_lt 0 (path_weight advert weights path) || b) (among_listed kept path held) ∙ or_true (nat_lt 0 (path_weight advert weights path))
+    ap (λ (b : Bool). nat_lt 0 (path_weight weights path) || b) (among_listed kept path held) ∙ or_true (nat_lt 0 (path_weight weights path))
 
 -- ---- what keeps the gain
 
-pub chosen_keeps : (advert : Advertised) (weights : HostWeights) (kept : List Path) (table : List ℕ) (state : State) (path : Path) → chosen advert weights kept table state ≡ Some path → Keeps advert weights kept table state path
+pub chosen_keeps : (advert : Advertised) (weights : PathWeights) (kept : List Path) (table : List ℕ) (state : State) (path : Path) → chosen advert weights kept table state ≡ Some path → Keeps advert weights kept table state path
 unfolding chosen keeps_gain
 chosen_keeps advert weights kept table state path is =
     let host : ℕ = state.boundary + 1 in
@@ -68,7 +68,7 @@ chosen_keeps advert weights kept table state path is =
       leaves = eqb-true _ _ parts.1;
     }
 
-pub none_keeps : (advert : Advertised) (weights : HostWeights) (kept : List Path) (table : List ℕ) (state : State) → chosen advert weights kept table state ≡ None → NoneKeeps advert weights kept (gain_at table) state
+pub none_keeps : (advert : Advertised) (weights : PathWeights) (kept : List Path) (table : List ℕ) (state : State) → chosen advert weights kept table state ≡ None → NoneKeeps advert weights kept (gain_at table) state
 unfolding chosen keeps_gain
 none_keeps advert weights kept table state is path begins can unused worth leaves =
     let host : ℕ = state.boundary + 1 in
@@ -79,14 +79,14 @@ none_keeps advert weights kept table state is path begins can unused worth leave
     absurd (let wrong = sym fails ∙ passes in cc)
 
 -- no path that keeps the gain is lower
-abbrev pub IsLowest : Advertised → HostWeights → List Path → List ℕ → State → Path → Type 0
+abbrev pub IsLowest : Advertised → PathWeights → List Path → List ℕ → State → Path → Type 0
 IsLowest advert weights kept table state path = (other : Path) → Keeps advert weights kept table state other → (path ≡ other) ⊎ IsLower path other
 
 abbrev IsLowerMove : Move → Move → Type 0
 IsLowerMove one later = IsLower one.path later.path
 
 -- the first move of a rising list that keeps the gain
-pub chosen_is_lowest : (advert : Advertised) (weights : HostWeights) (kept : List Path) (table : List ℕ) (state : State) (moves : List Move) (move : Move) → moves ≡ moves_at advert weights kept (state.boundary + 1) → AllPairs IsLowerMove moves → find (move_keeps_gain kept table state) moves ≡ Some move → IsLowest advert weights kept table state move.path
+pub chosen_is_lowest : (advert : Advertised) (weights : PathWeights) (kept : List Path) (table : List ℕ) (state : State) (moves : List Move) (move : Move) → moves ≡ moves_at advert weights kept (state.boundary + 1) → AllPairs IsLowerMove moves → find (move_keeps_gain kept table state) moves ≡ Some move → IsLowest advert weights kept table state move.path
 unfolding moves_of
 chosen_is_lowest advert weights kept table state moves move same rising is other keeps =
     let host : ℕ = state.boundary + 1 in

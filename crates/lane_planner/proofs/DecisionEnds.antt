@@ -4,7 +4,7 @@ use Rattle.std.specs.List.{Contains}
 use Rattle.std.proofs.lemmas.List.Elements.{All-contains, All-from_recursion}
 use Rattle.plan_certificate.specs.declared.path.Path.{Path}
 use Rattle.applications.specs.Advertised.{Advertised}
-use Rattle.applications.specs.Weights.{HostWeights}
+use Rattle.applications.specs.AppWeights.{PathWeights}
 use Rattle.plan_certificate.specs.declared.state.State.{State}
 use Rattle.plan_certificate.specs.declared.state.Decision.{Decision}
 use Rattle.plan_certificate.specs.States.{state_at, state_place, decisions_from}
@@ -22,7 +22,7 @@ pub record EndsLater (state : State) (decision : Decision) : Type 0 where
   pub within : decision.end.boundary ≤ 8
   pub is_byte : IsByte decision.end.used
 
-pub ends_later : (advert : Advertised) (weights : HostWeights) (kept : List Path) (state : State) (decision : Decision) → IsByte state.used → Contains (decisions_from advert weights kept state) decision → EndsLater state decision
+pub ends_later : (advert : Advertised) (weights : PathWeights) (kept : List Path) (state : State) (decision : Decision) → IsByte state.used → Contains (decisions_from advert weights kept state) decision → EndsLater state decision
 ends_later advert weights kept state decision is_byte contains =
     let decisions = decisions_from advert weights kept state in
     let byte = All-contains (λ (s : Decision). IsByte s.end.used) decisions decision (All-from_recursion (λ (s : Decision). IsByte s.end.used) decisions (each_end_is_byte advert weights kept state is_byte)) contains in

@@ -6,7 +6,7 @@ use Rattle.std.proofs.lemmas.Bool.Decides.{nat_tests}
 use Rattle.std.proofs.lemmas.List.Elements.{All-contains, All-from_recursion}
 use Rattle.field_tables.specs.LaneSets.{is_disjoint}
 use Rattle.applications.specs.Advertised.{Advertised}
-use Rattle.applications.specs.Weights.{HostWeights}
+use Rattle.applications.specs.AppWeights.{PathWeights}
 use Rattle.plan_certificate.specs.declared.path.Path.{Path}
 use Rattle.plan_certificate.specs.declared.state.State.{State}
 use Rattle.plan_certificate.specs.declared.state.Decision.{Decision}
@@ -16,7 +16,7 @@ use Rattle.plan_certificate.specs.States.{fits, free_decision, free_decisions, p
 use Rattle.plan_certificate.proofs.Lists.{all_of_append, map_each}
 use Rattle.plan_certificate.proofs.MoveLists.{BeginsAt, each_begins}
 
-pub record OfPath (advert : Advertised) (weights : HostWeights) (kept : List Path) (state : State) (decision : Decision) : Type 0 where
+pub record OfPath (advert : Advertised) (weights : PathWeights) (kept : List Path) (state : State) (decision : Decision) : Type 0 where
   pub path : Path
   pub begins : path.host ≡ state.boundary + 1
   pub can : is_eligible advert kept path ≡ true
@@ -27,13 +27,13 @@ pub record OfPath (advert : Advertised) (weights : HostWeights) (kept : List Pat
 abbrev pub IsFree : Advertised → List Path → State → Decision → Type 0
 IsFree advert kept state decision = (decision ≡ free_decision state) × (may_stay_free advert kept (state.boundary + 1) ≡ true)
 
-pub record IsDecision (advert : Advertised) (weights : HostWeights) (kept : List Path) (state : State) (decision : Decision) : Type 0 where
+pub record IsDecision (advert : Advertised) (weights : PathWeights) (kept : List Path) (state : State) (decision : Decision) : Type 0 where
   pub below : state.boundary < 8
   pub kind : IsFree advert kept state decision ⊎ OfPath advert weights kept state decision
 
 -- ---- the decisions
 
-path_decisions_are : (advert : Advertised) (weights : HostWeights) (kept : List Path) (state : State) (paths : List Path) → AllByRecursion (BeginsAt (state.boundary + 1)) paths → AllByRecursion (OfPath advert weights kept state) (path_decisions advert weights kept state paths)
+path_decisions_are : (advert : Advertised) (weights : PathWeights) (kept : List Path) (state : State) (paths : List Path) → AllByRecursion (BeginsAt (state.boundary + 1)) paths → AllByRecursion (OfPath advert weights kept state) (path_decisions advert weights kept state paths)
 unfolding path_decisions
 path_decisions_are advert weights kept state [] begin = tt
 path_decisions_are advert weights kept state (path ∷ paths) begin =
@@ -46,11 +46,11 @@ path_decisions_are advert weights kept state (path ∷ paths) begin =
       | inr fails ↦ subst Made (sym fails) rest
     ]
 
-free_is_decision : (advert : Advertised) (weights : HostWeights) (kept : List Path) (state : State) (may : Bool) → may_stay_free advert kept (state.boundary + 1) ≡ may → state.boundary < 8 → AllByRecursion (IsDecision advert weights kept state) (free_decisions may state)
+free_is_decision : (advert : Advertised) (weights : PathWeights) (kept : List Path) (state : State) (may : Bool) → may_stay_free advert kept (state.boundary + 1) ≡ may → state.boundary < 8 → AllByRecursion (IsDecision advert weights kept state) (free_decisions may state)
 free_is_decision advert weights kept state true is below = (record { below = below; kind = inl (refl, is) }, tt)
 free_is_decision advert weights kept state false is below = tt
 
-each_is_decision : (advert : Advertised) (weights : HostWeights) (kept : List Path) (state : State) → AllByRecursion (IsDecision advert weights kept state) (decisions_from advert weights kept state)
+each_is_decision : (advert : Advertised) (weights : PathWeights) (kept : List Path) (state : State) → AllByRecursion (IsDecision advert weights kept state) (decisions_from advert weights kept state)
 unfolding decisions_from
 each_is_decision advert weights kept state =
     let may : Bool = may_stay_free advert kept (state.boundary + 1) in
@@ -64,7 +64,7 @@ each_is_decision advert weights kept state =
       | inr fails ↦ subst Made (sym fails) tt
     ]
 
-pub decision_is : (advert : Advertised) (weights : HostWeights) (kept : List Path) (state : State) (decision : Decision) → Contains (decisions_from advert weights kept state) decision → IsDecision advert weights kept state decision
+pub decision_is : (advert : Advertised) (weights : PathWeights) (kept : List Path) (state : State) (decision : Decision) → Contains (decisions_from advert weights kept state) decision → IsDecision advert weights kept state decision
 decision_is advert weights kept state decision contains =
     let decisions = decisions_from advert weights kept state in
     All-contains (IsDecision advert weights kept state) decisions decision (All-from_recursion (IsDecision advert weights kept state) decisions (each_is_decision advert weights kept state)) contains

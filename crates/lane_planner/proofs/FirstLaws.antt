@@ -4,7 +4,7 @@ use Rattle.std.specs.List.{All, Contains}
 use Rattle.std.proofs.lemmas.Bool.{cases_lt}
 use Rattle.std.proofs.lemmas.List.Elements.{All-contains, All-from_recursion}
 use Rattle.applications.specs.Advertised.{Advertised}
-use Rattle.applications.specs.Weights.{HostWeights}
+use Rattle.applications.specs.AppWeights.{PathWeights}
 use Rattle.plan_certificate.specs.declared.path.Path.{Path}
 use Rattle.plan_certificate.specs.Paths.{IsLower}
 use Rattle.plan_certificate.specs.Plans.{IsBest}
@@ -52,7 +52,7 @@ before_of_same paths others more same ahead = record {
   there = ahead.there;
 }
 
-pub one_first : (advert : Advertised) (weights : HostWeights) (kept : List Path) (paths others : List Path) → IsFirstBest advert weights kept paths → IsFirstBest advert weights kept others → HaveSamePaths paths others
+pub one_first : (advert : Advertised) (weights : PathWeights) (kept : List Path) (paths others : List Path) → IsFirstBest advert weights kept paths → IsFirstBest advert weights kept others → HaveSamePaths paths others
 one_first advert weights kept paths others is other =
     elim (is.first others other.candidate) [
       | inl same ↦ same
@@ -63,9 +63,9 @@ one_first advert weights kept paths others is other =
     ]
 
 -- a best plan with the paths of a first one is first
-pub first_of_same : (advert : Advertised) (weights : HostWeights) (kept paths others : List Path) → IsBest advert weights kept paths → HaveSamePaths paths others → IsFirstBest advert weights kept others → IsFirstBest advert weights kept paths
+pub first_of_same : (advert : Advertised) (weights : PathWeights) (kept paths others : List Path) → IsBest advert weights kept paths → HaveSamePaths paths others → IsFirstBest advert weights kept others → IsFirstBest advert weights kept paths
 first_of_same advert weights kept paths others best same is =
-    let Use : Path → Type 0 = IsOfUse advert weights kept in
+    let Use : Path → Type 0 = IsOfUse weights kept in
     record {
       candidate = record {
         best = best;

@@ -4,7 +4,7 @@ use Rattle.std.specs.List.{Contains}
 use Rattle.std.proofs.lemmas.List.Sums.{sum_by-cons}
 use Rattle.field_tables.specs.LaneSets.{Lanes, is_disjoint}
 use Rattle.applications.specs.Advertised.{Advertised}
-use Rattle.applications.specs.Weights.{HostWeights}
+use Rattle.applications.specs.AppWeights.{PathWeights}
 use Rattle.plan_certificate.specs.declared.path.Path.{Path}
 use Rattle.plan_certificate.specs.declared.state.State.{State}
 use Rattle.plan_certificate.specs.declared.state.Decision.{Decision}
@@ -29,7 +29,7 @@ weight decision = decision.weight
 abbrev HasFewer : Lanes → Lanes → Type 0
 HasFewer used fewer = (others : Lanes) → is_disjoint others used ≡ true → is_disjoint others fewer ≡ true
 
-as_much : (advert : Advertised) (weights : HostWeights) (kept : List Path) (decisions : List Decision) (state freer : State) → state.boundary ≡ freer.boundary → HasFewer state.used freer.used → Follow advert weights kept state decisions → CanBeGained advert weights kept freer (decisions_weight decisions)
+as_much : (advert : Advertised) (weights : PathWeights) (kept : List Path) (decisions : List Decision) (state freer : State) → state.boundary ≡ freer.boundary → HasFewer state.used freer.used → Follow advert weights kept state decisions → CanBeGained advert weights kept freer (decisions_weight decisions)
 as_much advert weights kept [] state freer at fewer follow = ([], tt, refl)
 as_much advert weights kept (decision ∷ decisions) state freer at fewer follow =
     let is = decision_is advert weights kept state decision follow.0 in
@@ -56,7 +56,7 @@ as_much advert weights kept (decision ∷ decisions) state freer at fewer follow
 
 -- ---- lanes that stay free, one after another
 
-free_run : (advert : Advertised) (weights : HostWeights) (kept : List Path) (count : ℕ) (state : State) (gain : ℕ) → state.boundary + count ≤ 8 → ((lane : ℕ) → state.boundary < lane → lane ≤ state.boundary + count → may_stay_free advert kept lane ≡ true)
+free_run : (advert : Advertised) (weights : PathWeights) (kept : List Path) (count : ℕ) (state : State) (gain : ℕ) → state.boundary + count ≤ 8 → ((lane : ℕ) → state.boundary < lane → lane ≤ state.boundary + count → may_stay_free advert kept lane ≡ true)
     → CanBeGained advert weights kept (record { boundary = state.boundary + count; used = state.used }) gain → CanBeGained advert weights kept state gain
 free_run advert weights kept zero state gain within free gained =
     let same : state.boundary + zero ≡ state.boundary = omega arith in
@@ -71,7 +71,7 @@ free_run advert weights kept (suc count) state gain within free gained =
 
 -- ---- in place of a path
 
-pub after_path_free : (advert : Advertised) (weights : HostWeights) (kept : List Path) (state : State) (taken : Path) (free : ℕ) → is_eligible advert kept taken ≡ true → is_among kept taken ≡ false → taken.host ≡ state.boundary + 1 → IsGain advert weights kept (free_decision state).end free
+pub after_path_free : (advert : Advertised) (weights : PathWeights) (kept : List Path) (state : State) (taken : Path) (free : ℕ) → is_eligible advert kept taken ≡ true → is_among kept taken ≡ false → taken.host ≡ state.boundary + 1 → IsGain advert weights kept (free_decision state).end free
     → (decisions : List Decision) → Follow advert weights kept (path_decision advert weights state taken).end decisions → decisions_weight decisions ≤ free
 after_path_free advert weights kept state taken free can not_kept begins gain decisions follow =
     let lanes = allowed advert taken (eligible_allowed advert kept taken can) in

@@ -6,7 +6,7 @@ use Rattle.std.proofs.lemmas.List.Elements.{All-contains, All-contains_itself, r
 use Rattle.std.proofs.lemmas.List.Sums.{sum_by-cons}
 use Rattle.field_tables.specs.LaneSets.{is_disjoint}
 use Rattle.applications.specs.Advertised.{Advertised}
-use Rattle.applications.specs.Weights.{HostWeights}
+use Rattle.applications.specs.AppWeights.{PathWeights}
 use Rattle.plan_certificate.specs.declared.path.Path.{Path}
 use Rattle.plan_certificate.specs.declared.state.State.{State}
 use Rattle.plan_certificate.specs.declared.state.Decision.{Decision}
@@ -27,7 +27,7 @@ weight decision = decision.weight
 
 -- ---- limits
 
-pub limit_preserved : (advert : Advertised) (weights : HostWeights) (kept : List Path) → IsPreserved advert weights kept (IsLimit advert weights kept)
+pub limit_preserved : (advert : Advertised) (weights : PathWeights) (kept : List Path) → IsPreserved advert weights kept (IsLimit advert weights kept)
 limit_preserved advert weights kept state potential limit =
     let decisions = decisions_from advert weights kept state in
     map_each (Contains decisions) (LeavesEnough (IsLimit advert weights kept) potential) decisions
@@ -39,12 +39,12 @@ limit_preserved advert weights kept state potential limit =
     (recursion_from_All (Contains decisions) decisions (All-contains_itself decisions))
 
 -- a decision and what can be gained after it is no more than the gain
-pub covers_decision : (advert : Advertised) (weights : HostWeights) (kept : List Path) (state : State) (gain later : ℕ) (decision : Decision) → IsGain advert weights kept state gain → IsGain advert weights kept decision.end later → Contains (decisions_from advert weights kept state) decision → decision.weight + later ≤ gain
+pub covers_decision : (advert : Advertised) (weights : PathWeights) (kept : List Path) (state : State) (gain later : ℕ) (decision : Decision) → IsGain advert weights kept state gain → IsGain advert weights kept decision.end later → Contains (decisions_from advert weights kept state) decision → decision.weight + later ≤ gain
 covers_decision advert weights kept state gain later decision is is_later contains =
     let run = is_later.gained in
     omega (arith, run.2, is.greatest (decision ∷ run.0) (contains, run.1), sum_by-cons weight decision run.0)
 
-limit_of : (advert : Advertised) (weights : HostWeights) (kept : List Path) (state : State) (gain : ℕ) (after : State → ℕ)
+limit_of : (advert : Advertised) (weights : PathWeights) (kept : List Path) (state : State) (gain : ℕ) (after : State → ℕ)
     → All (λ decision. IsGain advert weights kept decision.end (after decision.end)) (decisions_from advert weights kept state)
     → All (λ decision. decision.weight + after decision.end ≤ gain) (decisions_from advert weights kept state) → IsLimit advert weights kept state gain
 limit_of advert weights kept state gain after gains covered [] follow = omega arith
@@ -55,7 +55,7 @@ limit_of advert weights kept state gain after gains covered (decision ∷ decisi
     omega (arith, covers, rest.greatest decisions follow.1, sum_by-cons weight decision decisions)
 
 -- a sum that some decisions reach, and that covers each decision and what can be gained after it, is the gain
-pub gain_from_decisions : (advert : Advertised) (weights : HostWeights) (kept : List Path) (state : State) (gain : ℕ) (after : State → ℕ) → CanBeGained advert weights kept state gain
+pub gain_from_decisions : (advert : Advertised) (weights : PathWeights) (kept : List Path) (state : State) (gain : ℕ) (after : State → ℕ) → CanBeGained advert weights kept state gain
     → All (λ decision. IsGain advert weights kept decision.end (after decision.end)) (decisions_from advert weights kept state)
     → All (λ decision. decision.weight + after decision.end ≤ gain) (decisions_from advert weights kept state) → IsGain advert weights kept state gain
 gain_from_decisions advert weights kept state gain after gained gains covered = record {
@@ -66,17 +66,17 @@ gain_from_decisions advert weights kept state gain after gained gains covered = 
 -- ---- the free lane
 
 -- no path that fits, and weighs something or is kept, leaves the rest of the gain
-abbrev pub NoneKeeps : Advertised → HostWeights → List Path → (State → ℕ) → State → Type 0
+abbrev pub NoneKeeps : Advertised → PathWeights → List Path → (State → ℕ) → State → Type 0
 NoneKeeps advert weights kept after state =
-    (path : Path) → path.host ≡ state.boundary + 1 → is_eligible advert kept path ≡ true → is_disjoint (media_lanes advert path) state.used ≡ true → IsOfUse advert weights kept path
-    → path_weight advert weights path + after (path_decision advert weights state path).end ≡ after state → ⊥
+    (path : Path) → path.host ≡ state.boundary + 1 → is_eligible advert kept path ≡ true → is_disjoint (media_lanes advert path) state.used ≡ true → IsOfUse weights kept path
+    → path_weight weights path + after (path_decision advert weights state path).end ≡ after state → ⊥
 
-abbrev pub GainsAfter : Advertised → HostWeights → List Path → (State → ℕ) → State → Type 0
+abbrev pub GainsAfter : Advertised → PathWeights → List Path → (State → ℕ) → State → Type 0
 GainsAfter advert weights kept after state = (decision : Decision) → Contains (decisions_from advert weights kept state) decision → IsGain advert weights kept decision.end (after decision.end)
 
 -- a path of use whose decision and what follows reach the gain keeps it
-reaching_keeps : (advert : Advertised) (weights : HostWeights) (kept : List Path) (after : State → ℕ) (state : State) → IsGain advert weights kept state (after state) → GainsAfter advert weights kept after state → NoneKeeps advert weights kept after state
-    → (decision : Decision) (decisions : List Decision) → Follow advert weights kept state (decision ∷ decisions) → decisions_weight (decision ∷ decisions) ≡ after state → (taken : OfPath advert weights kept state decision) → IsOfUse advert weights kept taken.path → ⊥
+reaching_keeps : (advert : Advertised) (weights : PathWeights) (kept : List Path) (after : State → ℕ) (state : State) → IsGain advert weights kept state (after state) → GainsAfter advert weights kept after state → NoneKeeps advert weights kept after state
+    → (decision : Decision) (decisions : List Decision) → Follow advert weights kept state (decision ∷ decisions) → decisions_weight (decision ∷ decisions) ≡ after state → (taken : OfPath advert weights kept state decision) → IsOfUse weights kept taken.path → ⊥
 reaching_keeps advert weights kept after state gain gains none decision decisions follow is taken worth =
     let total = sum_by-cons weight decision decisions in
     let rest = gains decision follow.0 in
@@ -86,7 +86,7 @@ reaching_keeps advert weights kept after state gain gains none decision decision
     none taken.path taken.begins taken.can taken.unused worth (omega (arith, is, total, most, covers, ap weight taken.is, ap after same))
 
 -- decisions that reach the gain show that it can be had after a free lane
-had_after_free : (advert : Advertised) (weights : HostWeights) (kept : List Path) (after : State → ℕ) (state : State) → IsGain advert weights kept state (after state) → GainsAfter advert weights kept after state → NoneKeeps advert weights kept after state
+had_after_free : (advert : Advertised) (weights : PathWeights) (kept : List Path) (after : State → ℕ) (state : State) → IsGain advert weights kept state (after state) → GainsAfter advert weights kept after state → NoneKeeps advert weights kept after state
     → Contains (decisions_from advert weights kept state) (free_decision state) → (decisions : List Decision) → Follow advert weights kept state decisions → decisions_weight decisions ≡ after state → after state ≤ after (free_decision state).end
 had_after_free advert weights kept after state gain gains none listed [] follow is = omega (arith, is)
 had_after_free advert weights kept after state gain gains none listed (decision ∷ decisions) follow is =
@@ -97,7 +97,7 @@ had_after_free advert weights kept after state gain gains none listed (decision 
       | inr taken ↦
           let path : Path = taken.path in
           let reaching = reaching_keeps advert weights kept after state gain gains none decision decisions follow is taken in
-          elim (cases_lt 0 (path_weight advert weights path)) [
+          elim (cases_lt 0 (path_weight weights path)) [
             | inl some ↦ absurd (reaching (inl some))
             | inr nothing ↦ elim (cases_Bool (is_among kept path)) [
               | inl among ↦ absurd (reaching (inr (listed_among kept path among)))
@@ -110,7 +110,7 @@ had_after_free advert weights kept after state gain gains none listed (decision 
           ]
     ]
 
-pub free_keeps : (advert : Advertised) (weights : HostWeights) (kept : List Path) (after : State → ℕ) (state : State) → state.boundary < 8 → may_stay_free advert kept (state.boundary + 1) ≡ true → IsGain advert weights kept state (after state) → GainsAfter advert weights kept after state → NoneKeeps advert weights kept after state
+pub free_keeps : (advert : Advertised) (weights : PathWeights) (kept : List Path) (after : State → ℕ) (state : State) → state.boundary < 8 → may_stay_free advert kept (state.boundary + 1) ≡ true → IsGain advert weights kept state (after state) → GainsAfter advert weights kept after state → NoneKeeps advert weights kept after state
     → after (free_decision state).end ≡ after state
 free_keeps advert weights kept after state below may gain gains none =
     let all = decisions_from advert weights kept state in
@@ -122,7 +122,7 @@ free_keeps advert weights kept after state below may gain gains none =
 -- ---- the first host lane of a kept path
 
 -- decisions that reach the gain show that a kept path keeps it, where one begins
-reached_by_kept : (advert : Advertised) (weights : HostWeights) (kept : List Path) (after : State → ℕ) (state : State) (begun : Path) → state.boundary < 8 → IsGain advert weights kept state (after state) → GainsAfter advert weights kept after state → NoneKeeps advert weights kept after state
+reached_by_kept : (advert : Advertised) (weights : PathWeights) (kept : List Path) (after : State → ℕ) (state : State) (begun : Path) → state.boundary < 8 → IsGain advert weights kept state (after state) → GainsAfter advert weights kept after state → NoneKeeps advert weights kept after state
     → Contains kept begun → IsLater advert kept state begun → begun.host ≡ state.boundary + 1 → (decisions : List Decision) → Follow advert weights kept state decisions → decisions_weight decisions ≡ after state → ⊥
 reached_by_kept advert weights kept after state begun below gain gains none held later begins [] follow is =
     let all = decisions_from advert weights kept state in
@@ -142,7 +142,7 @@ reached_by_kept advert weights kept after state begun below gain gains none held
           reaching_keeps advert weights kept after state gain gains none decision decisions follow is taken (inr (takes_lane advert kept taken.path begun lane taken.can held has also))
     ]
 
-pub kept_keeps : (advert : Advertised) (weights : HostWeights) (kept : List Path) (after : State → ℕ) (state : State) (begun : Path) → state.boundary < 8 → IsGain advert weights kept state (after state) → GainsAfter advert weights kept after state → NoneKeeps advert weights kept after state
+pub kept_keeps : (advert : Advertised) (weights : PathWeights) (kept : List Path) (after : State → ℕ) (state : State) (begun : Path) → state.boundary < 8 → IsGain advert weights kept state (after state) → GainsAfter advert weights kept after state → NoneKeeps advert weights kept after state
     → Contains kept begun → IsLater advert kept state begun → begun.host ≡ state.boundary + 1 → ⊥
 kept_keeps advert weights kept after state begun below gain gains none held later begins =
     reached_by_kept advert weights kept after state begun below gain gains none held later begins gain.gained.0 gain.gained.1 gain.gained.2

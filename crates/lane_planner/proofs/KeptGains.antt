@@ -5,7 +5,7 @@ use Rattle.std.proofs.lemmas.Bool.{cases_Bool}
 use Rattle.std.proofs.lemmas.List.Elements.{recursion_from_All}
 use Rattle.field_tables.specs.LaneSets.{is_disjoint}
 use Rattle.applications.specs.Advertised.{Advertised}
-use Rattle.applications.specs.Weights.{HostWeights}
+use Rattle.applications.specs.AppWeights.{PathWeights}
 use Rattle.plan_certificate.specs.declared.moves.Move.{Move}
 use Rattle.plan_certificate.specs.declared.path.Path.{Path}
 use Rattle.plan_certificate.specs.declared.state.State.{State}
@@ -19,14 +19,14 @@ use Rattle.lane_planner.specs.Tables.{chosen, gain_at, keeps_gain, move_keeps_ga
 abbrev path_of : Move → Path
 path_of move = move.path
 
-find_of_moves : (advert : Advertised) (weights : HostWeights) (kept : List Path) (table : List ℕ) (state : State) (paths : List Path) → find (keeps_gain advert weights kept table state) paths ≡ option_map path_of (find (move_keeps_gain kept table state) (moves_of advert weights kept paths))
+find_of_moves : (advert : Advertised) (weights : PathWeights) (kept : List Path) (table : List ℕ) (state : State) (paths : List Path) → find (keeps_gain advert weights kept table state) paths ≡ option_map path_of (find (move_keeps_gain kept table state) (moves_of advert weights kept paths))
 unfolding keeps_gain moves_of
 find_of_moves advert weights kept table state [] = refl
 find_of_moves advert weights kept table state (path ∷ paths) =
     let rest = find_of_moves advert weights kept table state paths in
     let unused : Bool = is_disjoint (media_lanes advert path) state.used in
-    let some : Bool = nat_lt 0 (path_weight advert weights path) || is_among kept path in
-    let leaves : Bool = path_weight advert weights path + gain_at table (path_decision advert weights state path).end == gain_at table state in
+    let some : Bool = nat_lt 0 (path_weight weights path) || is_among kept path in
+    let leaves : Bool = path_weight weights path + gain_at table (path_decision advert weights state path).end == gain_at table state in
     let later : Option Path = find (keeps_gain advert weights kept table state) paths in
     let moves : List Move = map (move_of advert weights) (filter (is_eligible advert kept) paths) in
     let Left : Bool → Option Path = λ b. cond (b && unused && some && leaves) (Some path) later in
@@ -44,16 +44,16 @@ find_of_moves advert weights kept table state (path ∷ paths) =
           ap Left can ∙ middle ∙ ap Right (sym can)
     ]
 
-pub chosen_of_moves : (advert : Advertised) (weights : HostWeights) (kept : List Path) (table : List ℕ) (state : State) → chosen advert weights kept table state ≡ option_map path_of (find (move_keeps_gain kept table state) (moves_at advert weights kept (state.boundary + 1)))
+pub chosen_of_moves : (advert : Advertised) (weights : PathWeights) (kept : List Path) (table : List ℕ) (state : State) → chosen advert weights kept table state ≡ option_map path_of (find (move_keeps_gain kept table state) (moves_at advert weights kept (state.boundary + 1)))
 unfolding chosen
 chosen_of_moves advert weights kept table state = find_of_moves advert weights kept table state (paths_at advert (state.boundary + 1))
 
 -- ---- each move is its path's
 
-abbrev IsOfPath : Advertised → HostWeights → Move → Type 0
+abbrev IsOfPath : Advertised → PathWeights → Move → Type 0
 IsOfPath advert weights move = move ≡ move_of advert weights move.path
 
-each_of_paths : (advert : Advertised) (weights : HostWeights) (kept : List Path) (paths : List Path) → AllByRecursion (IsOfPath advert weights) (moves_of advert weights kept paths)
+each_of_paths : (advert : Advertised) (weights : PathWeights) (kept : List Path) (paths : List Path) → AllByRecursion (IsOfPath advert weights) (moves_of advert weights kept paths)
 unfolding moves_of
 each_of_paths advert weights kept [] = tt
 each_of_paths advert weights kept (path ∷ paths) =
@@ -65,11 +65,11 @@ each_of_paths advert weights kept (path ∷ paths) =
     ]
 
 -- the move that is found: its path is the chosen one, and leads where it leads
-pub record IsChosenMove (advert : Advertised) (weights : HostWeights) (kept : List Path) (table : List ℕ) (state : State) (move : Move) : Type 0 where
+pub record IsChosenMove (advert : Advertised) (weights : PathWeights) (kept : List Path) (table : List ℕ) (state : State) (move : Move) : Type 0 where
   pub path : chosen advert weights kept table state ≡ Some move.path
   pub end : (move_decision state move).end ≡ (path_decision advert weights state move.path).end
 
-pub chosen_move : (advert : Advertised) (weights : HostWeights) (kept : List Path) (table : List ℕ) (state : State) (moves : List Move) (move : Move) → moves ≡ moves_at advert weights kept (state.boundary + 1) → find (move_keeps_gain kept table state) moves ≡ Some move → IsChosenMove advert weights kept table state move
+pub chosen_move : (advert : Advertised) (weights : PathWeights) (kept : List Path) (table : List ℕ) (state : State) (moves : List Move) (move : Move) → moves ≡ moves_at advert weights kept (state.boundary + 1) → find (move_keeps_gain kept table state) moves ≡ Some move → IsChosenMove advert weights kept table state move
 chosen_move advert weights kept table state moves move same is =
     let there = ap (find (move_keeps_gain kept table state)) (sym same) ∙ is in
     let of_path = found (IsOfPath advert weights) (move_keeps_gain kept table state) (moves_at advert weights kept (state.boundary + 1)) move there (each_of_paths advert weights kept (paths_at advert (state.boundary + 1))) in
@@ -78,7 +78,7 @@ chosen_move advert weights kept table state moves move same is =
       end = ap (λ (m : Move). (move_decision state m).end) of_path.0;
     }
 
-pub no_chosen_move : (advert : Advertised) (weights : HostWeights) (kept : List Path) (table : List ℕ) (state : State) (moves : List Move) → moves ≡ moves_at advert weights kept (state.boundary + 1) → find (move_keeps_gain kept table state) moves ≡ None → chosen advert weights kept table state ≡ None
+pub no_chosen_move : (advert : Advertised) (weights : PathWeights) (kept : List Path) (table : List ℕ) (state : State) (moves : List Move) → moves ≡ moves_at advert weights kept (state.boundary + 1) → find (move_keeps_gain kept table state) moves ≡ None → chosen advert weights kept table state ≡ None
 no_chosen_move advert weights kept table state moves same none =
     chosen_of_moves advert weights kept table state ∙ ap (option_map path_of) (ap (find (move_keeps_gain kept table state)) (sym same) ∙ none)
 

@@ -4,7 +4,7 @@ use Rattle.std.specs.List.{All, AllByRecursion, Contains}
 use Rattle.std.proofs.lemmas.Bool.{cases_Bool}
 use Rattle.std.proofs.lemmas.List.Elements.{All-contains, All-from_recursion, Contains-append_left, Contains-push}
 use Rattle.applications.specs.Advertised.{Advertised}
-use Rattle.applications.specs.Weights.{HostWeights}
+use Rattle.applications.specs.AppWeights.{PathWeights}
 use Rattle.plan_certificate.specs.declared.path.Path.{Path}
 use Rattle.plan_certificate.specs.declared.state.State.{State}
 use Rattle.plan_certificate.specs.Paths.{media_lanes, is_allowed}
@@ -57,7 +57,7 @@ taken_after_free advert kept state paths may are =
     ]) (each_contained kept) are
 
 -- where no path keeps the gain, the lane may: a kept path that begins there would
-pub lane_may_stay_free : (advert : Advertised) (weights : HostWeights) (kept : List Path) (table : List ℕ) (state : State) (paths : List Path) → KnowsGains advert weights kept table state → All (IsEarlier advert weights kept state) paths → AreTakenOrLater advert kept state paths → NoneKeeps advert weights kept (gain_at table) state
+pub lane_may_stay_free : (advert : Advertised) (weights : PathWeights) (kept : List Path) (table : List ℕ) (state : State) (paths : List Path) → KnowsGains advert weights kept table state → All (IsEarlier advert weights kept state) paths → AreTakenOrLater advert kept state paths → NoneKeeps advert weights kept (gain_at table) state
     → may_stay_free advert kept (state.boundary + 1) ≡ true
 lane_may_stay_free advert weights kept table state paths gains earlier are none =
     let lane : ℕ = state.boundary + 1 in
@@ -74,7 +74,7 @@ lane_may_stay_free advert weights kept table state paths gains earlier are none 
 
 -- ---- a path is taken
 
-pub taken_after_path : (advert : Advertised) (weights : HostWeights) (kept : List Path) (state : State) (paths : List Path) (path : Path) → IsAdmissible advert kept → IsLater advert kept state path → path.host ≡ state.boundary + 1 → AreTakenOrLater advert kept state paths
+pub taken_after_path : (advert : Advertised) (weights : PathWeights) (kept : List Path) (state : State) (paths : List Path) (path : Path) → IsAdmissible advert kept → IsLater advert kept state path → path.host ≡ state.boundary + 1 → AreTakenOrLater advert kept state paths
     → AreTakenOrLater advert kept (path_decision advert weights state path).end (paths ++ path ∷ [])
 taken_after_path advert weights kept state paths path plan is_later begins are =
     each_pair (Contains kept) (IsTakenOrLater advert kept state paths) (IsTakenOrLater advert kept (path_decision advert weights state path).end (paths ++ path ∷ [])) kept

@@ -7,7 +7,7 @@ use Rattle.std.proofs.lemmas.Bool.{cases_eq}
 use Rattle.std.proofs.lemmas.List.Elements.{Contains-append_left, Contains-push, Contains-push_cases}
 use Rattle.plan_certificate.specs.declared.path.Path.{Path}
 use Rattle.applications.specs.Advertised.{Advertised}
-use Rattle.applications.specs.Weights.{HostWeights}
+use Rattle.applications.specs.AppWeights.{PathWeights}
 use Rattle.plan_certificate.specs.declared.state.State.{State}
 use Rattle.plan_certificate.specs.declared.state.Decision.{Decision}
 use Rattle.plan_certificate.specs.States.{start, state_at, state_place, decisions_from}
@@ -53,7 +53,7 @@ none_marked marks = record {
 }
 
 -- one place further, where its state isn't marked
-pub marks_past : (advert : Advertised) (weights : HostWeights) (kept : List Path) (place : ℕ) (marks : List Bool) → AreMarks advert weights kept place marks → (IsMarked marks place → ⊥) → AreMarks advert weights kept (place + 1) marks
+pub marks_past : (advert : Advertised) (weights : PathWeights) (kept : List Path) (place : ℕ) (marks : List Bool) → AreMarks advert weights kept place marks → (IsMarked marks place → ⊥) → AreMarks advert weights kept (place + 1) marks
 marks_past advert weights kept place marks are not = record {
   all = are.all;
   begun = are.begun;
@@ -66,7 +66,7 @@ marks_past advert weights kept place marks are not = record {
 }
 
 -- and where it is, and the ends of its decisions have been marked
-pub marks_more : (advert : Advertised) (weights : HostWeights) (kept : List Path) (place : ℕ) (marks more : List Bool) → AreMarks advert weights kept place marks → place < 2304 → IsMarked marks place → MarksEnds (decisions_from advert weights kept (state_at place)) marks more → AreMarks advert weights kept (place + 1) more
+pub marks_more : (advert : Advertised) (weights : PathWeights) (kept : List Path) (place : ℕ) (marks more : List Bool) → AreMarks advert weights kept place marks → place < 2304 → IsMarked marks place → MarksEnds (decisions_from advert weights kept (state_at place)) marks more → AreMarks advert weights kept (place + 1) more
 marks_more advert weights kept place marks more are below marked new =
     let late : (decision : Decision) → Contains (decisions_from advert weights kept (state_at place)) decision → place + 1 ≤ state_place decision.end = (λ decision contains.
     place_past place decision.end (ends_later advert weights kept (state_at place) decision (at_is_byte place) contains).past) in
@@ -90,7 +90,7 @@ marks_more advert weights kept place marks more are below marked new =
     }
 
 -- at the end each reached state is marked
-reached_from : (advert : Advertised) (weights : HostWeights) (kept : List Path) (marks : List Bool) → AreMarks advert weights kept 2304 marks → (decisions : List Decision) (from state : State) → IsByte from.used → from.boundary ≤ 8 → IsMarked marks (state_place from) → Leads advert weights kept from decisions state → IsMarked marks (state_place state)
+reached_from : (advert : Advertised) (weights : PathWeights) (kept : List Path) (marks : List Bool) → AreMarks advert weights kept 2304 marks → (decisions : List Decision) (from state : State) → IsByte from.used → from.boundary ≤ 8 → IsMarked marks (state_place from) → Leads advert weights kept from decisions state → IsMarked marks (state_place state)
 reached_from advert weights kept marks are [] from state is_byte within marked leads = subst (λ (s : State). IsMarked marks (state_place s)) leads marked
 reached_from advert weights kept marks are (decision ∷ decisions) from state is_byte within marked leads =
     let ends = ends_later advert weights kept from decision is_byte leads.0 in
@@ -98,6 +98,6 @@ reached_from advert weights kept marks are (decision ∷ decisions) from state i
     let contains = subst (λ (s : State). Contains (decisions_from advert weights kept s) decision) (sym at) leads.0 in
     reached_from advert weights kept marks are decisions decision.end state ends.is_byte ends.within (are.closed (state_place from) (place_below from within) marked decision contains) leads.1
 
-pub all_marked : (advert : Advertised) (weights : HostWeights) (kept : List Path) (marks : List Bool) (state : State) → AreMarks advert weights kept 2304 marks → IsReached advert weights kept state → IsMarked marks (state_place state)
+pub all_marked : (advert : Advertised) (weights : PathWeights) (kept : List Path) (marks : List Bool) (state : State) → AreMarks advert weights kept 2304 marks → IsReached advert weights kept state → IsMarked marks (state_place state)
 all_marked advert weights kept marks state are is =
     reached_from advert weights kept marks are is.0 start state start_is_byte (omega arith) (subst (IsMarked marks) (sym start_place) are.begun) is.1

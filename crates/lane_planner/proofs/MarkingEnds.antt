@@ -5,7 +5,7 @@ use Rattle.std.proofs.Math.ListN.{length-replicate, length-set}
 use Rattle.std.proofs.lemmas.Bool.{cases_eq, cases_lt}
 use Rattle.plan_certificate.specs.declared.path.Path.{Path}
 use Rattle.applications.specs.Advertised.{Advertised}
-use Rattle.applications.specs.Weights.{HostWeights}
+use Rattle.applications.specs.AppWeights.{PathWeights}
 use Rattle.plan_certificate.specs.declared.state.State.{State}
 use Rattle.plan_certificate.specs.States.{start, state_at, state_place}
 use Rattle.plan_certificate.specs.ReachedStates.{IsReached}
@@ -22,10 +22,10 @@ use Rattle.lane_planner.proofs.Marking.{all_marked}
 use Rattle.lane_planner.proofs.Places.{place_of_state_at, start_place, state_of_place}
 use Rattle.lane_planner.proofs.DecisionKinds.{decision_is}
 
-start_reached : (advert : Advertised) (weights : HostWeights) (kept : List Path) → IsReached advert weights kept (state_at 0)
+start_reached : (advert : Advertised) (weights : PathWeights) (kept : List Path) → IsReached advert weights kept (state_at 0)
 start_reached advert weights kept = ([], sym (ap state_at (sym start_place) ∙ state_of_place start start_is_byte))
 
-pub marks_begun : (advert : Advertised) (weights : HostWeights) (kept : List Path) (blank : List Bool) → length blank ≡ 2304 → ((place : ℕ) → IsMarked blank place → ⊥) → AreMarks advert weights kept 0 (set blank 0 true)
+pub marks_begun : (advert : Advertised) (weights : PathWeights) (kept : List Path) (blank : List Bool) → length blank ≡ 2304 → ((place : ℕ) → IsMarked blank place → ⊥) → AreMarks advert weights kept 0 (set blank 0 true)
 marks_begun advert weights kept blank all none = record {
   all = length-set blank 0 true ∙ all;
   begun = get_or-set_same blank 0 true false (omega (arith, all));
@@ -36,7 +36,7 @@ marks_begun advert weights kept blank all none = record {
   closed = λ place low. absurd (omega (arith, low));
 }
 
-marks_closed : (advert : Advertised) (weights : HostWeights) (kept : List Path) (marks : List Bool) → AreMarks advert weights kept 2048 marks → AreMarks advert weights kept 2304 marks
+marks_closed : (advert : Advertised) (weights : PathWeights) (kept : List Path) (marks : List Bool) → AreMarks advert weights kept 2048 marks → AreMarks advert weights kept 2304 marks
 marks_closed advert weights kept marks are = record {
   all = are.all;
   begun = are.begun;
@@ -52,11 +52,11 @@ none_blank zero place marked = absurd (let wrong : false ≡ true = marked in cc
 none_blank (suc n) zero marked = absurd (let wrong : false ≡ true = marked in cc)
 none_blank (suc n) (suc place) marked = none_blank n place marked
 
-pub marks_of_blank : (advert : Advertised) (weights : HostWeights) (kept : List Path) (n : ℕ) → n ≡ 2304 → AreMarks advert weights kept 0 (set (replicate n false) 0 true)
+pub marks_of_blank : (advert : Advertised) (weights : PathWeights) (kept : List Path) (n : ℕ) → n ≡ 2304 → AreMarks advert weights kept 0 (set (replicate n false) 0 true)
 marks_of_blank advert weights kept n is = marks_begun advert weights kept (replicate n false) (length-replicate n false ∙ is) (none_blank n)
 
 -- so exactly the reached states are marked
-pub marks_ended : (advert : Advertised) (weights : HostWeights) (kept : List Path) (marks : List Bool) → AreMarks advert weights kept 2048 marks → MarksReached advert weights kept marks
+pub marks_ended : (advert : Advertised) (weights : PathWeights) (kept : List Path) (marks : List Bool) → AreMarks advert weights kept 2048 marks → MarksReached advert weights kept marks
 marks_ended advert weights kept marks are = record {
   all = are.all;
   reached = λ place below. (

@@ -6,7 +6,7 @@ use Rattle.std.proofs.Common.{get_or}
 use Rattle.std.proofs.lemmas.List.Sums.{sum_by-cons}
 use Rattle.plan_certificate.specs.declared.path.Path.{Path}
 use Rattle.applications.specs.Advertised.{Advertised}
-use Rattle.applications.specs.Weights.{HostWeights}
+use Rattle.applications.specs.AppWeights.{PathWeights}
 use Rattle.plan_certificate.specs.declared.moves.Move.{Move}
 use Rattle.plan_certificate.specs.declared.state.State.{State}
 use Rattle.plan_certificate.specs.declared.state.Decision.{Decision}
@@ -56,7 +56,7 @@ most_kept table decisions decision most are low = record {
 -- ---- over the decisions of the heaviest moves it is the gain
 
 -- what the heaviest moves attain, decisions attain
-attained_by_decisions : (advert : Advertised) (weights : HostWeights) (kept : List Path) (table : List ℕ) (place most : ℕ) (heaviest : List Decision) → HasGains advert weights kept (place + 1) table → IsReached advert weights kept (state_at place)
+attained_by_decisions : (advert : Advertised) (weights : PathWeights) (kept : List Path) (table : List ℕ) (place most : ℕ) (heaviest : List Decision) → HasGains advert weights kept (place + 1) table → IsReached advert weights kept (state_at place)
     → All (Contains (decisions_from advert weights kept (state_at place))) heaviest → IsMost table heaviest most → CanBeGained advert weights kept (state_at place) most
 attained_by_decisions advert weights kept table place most heaviest has is among found =
     elim (found.attained) [
@@ -68,7 +68,7 @@ attained_by_decisions advert weights kept table place most heaviest has is among
           (decision ∷ run.0, (contains, run.1), omega (arith, sum_by-cons (λ (s : Decision). s.weight) decision run.0, run.2, by.2))
     ]
 
-pub gain_is_most : (advert : Advertised) (weights : HostWeights) (kept : List Path) (table : List ℕ) (place most boundary : ℕ) (free : Bool) (all heaviest : List Move) → (state_at place).boundary ≡ boundary → boundary < 8 → HasGains advert weights kept (place + 1) table → IsReached advert weights kept (state_at place)
+pub gain_is_most : (advert : Advertised) (weights : PathWeights) (kept : List Path) (table : List ℕ) (place most boundary : ℕ) (free : Bool) (all heaviest : List Move) → (state_at place).boundary ≡ boundary → boundary < 8 → HasGains advert weights kept (place + 1) table → IsReached advert weights kept (state_at place)
     → AreMoves advert weights kept boundary free all heaviest → IsMost table (decisions_by free (state_at place) heaviest) most → IsGain advert weights kept (state_at place) most
 gain_is_most advert weights kept table place most boundary free all heaviest at below has is are found =
     let state : State = state_at place in

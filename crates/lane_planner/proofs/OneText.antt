@@ -7,7 +7,7 @@ use Rattle.field_tables.specs.LaneSets.{byte_of, lanes_in}
 use Rattle.field_tables.specs.LaneBytes.{byte_of-lanes_in}
 use Rattle.text_lines.specs.Lines.{text_of}
 use Rattle.applications.specs.Advertised.{Advertised}
-use Rattle.applications.specs.Weights.{HostWeights}
+use Rattle.applications.specs.AppWeights.{PathWeights}
 use Rattle.plan_certificate.specs.declared.path.Path.{Path}
 use Rattle.plan_certificate.specs.declared.certificate.Entry.{Entry}
 use Rattle.plan_certificate.specs.declared.state.State.{State}
@@ -80,7 +80,7 @@ module _ {X : Type 0} (rank : X → ℕ) where
 same_lanes : (a b : ℕ) → a < 256 → b < 256 → lanes_in a ≡ lanes_in b → a ≡ b
 same_lanes a b small other same = sym (byte_of-lanes_in a small) ∙ ap byte_of same ∙ byte_of-lanes_in b other
 
-one_gain : (advert : Advertised) (weights : HostWeights) (kept : List Path) (state : State) (gain other : ℕ) → IsGain advert weights kept state gain → IsGain advert weights kept state other → gain ≡ other
+one_gain : (advert : Advertised) (weights : PathWeights) (kept : List Path) (state : State) (gain other : ℕ) → IsGain advert weights kept state gain → IsGain advert weights kept state other → gain ≡ other
 one_gain advert weights kept state gain other is also =
     omega (arith, is.gained.2, also.gained.2, is.greatest also.gained.0 also.gained.1, also.greatest is.gained.0 is.gained.1)
 
@@ -92,7 +92,7 @@ same_entry entry other small also state potential =
 
 -- ---- certificates
 
-module _ (advert : Advertised) (weights : HostWeights) (kept : List Path) where
+module _ (advert : Advertised) (weights : PathWeights) (kept : List Path) where
   entry_in_other : (text other : List ℕ) (is : IsPlanText advert weights kept text) (also : IsPlanText advert weights kept other) (entry : Entry) → Contains is.certificate.entries entry → Contains also.certificate.entries entry
   entry_in_other text other is also entry contains =
       let own : List Entry = is.certificate.entries in
@@ -123,7 +123,7 @@ module _ (advert : Advertised) (weights : HostWeights) (kept : List Path) where
       let entries : is.certificate.entries ≡ also.certificate.entries =
       one_rising entry_place is.certificate.entries also.certificate.entries is.read_back.readable.ordered.states.rising also.read_back.readable.ordered.states.rising
       (λ entry. (entry_in_other text other is also entry, entry_in_other other text also is entry)) in
-      let weight : is.certificate.weight ≡ also.certificate.weight = is.certified.good.weighs ∙ ap (plan_weight advert weights) paths ∙ sym also.certified.good.weighs in
+      let weight : is.certificate.weight ≡ also.certificate.weight = is.certified.good.weighs ∙ ap (plan_weight weights) paths ∙ sym also.certified.good.weighs in
       let keeps : is.certificate.kept ≡ also.certificate.kept = is.certified.keeps ∙ sym also.certified.keeps in
       let paired : is.certificate.paired ≡ also.certificate.paired = is.certified.good.paired ∙ sym also.certified.good.paired in
       λ i. record { paired = paired i; weight = weight i; kept = keeps i; paths = paths i; entries = entries i }

@@ -7,7 +7,7 @@ use Rattle.std.proofs.lemmas.List.Elements.{All-contains, All-map, All-push, All
 use Rattle.std.proofs.lemmas.List.Quantifiers.{all_pairs_push}
 use Rattle.plan_certificate.specs.declared.path.Path.{Path}
 use Rattle.applications.specs.Advertised.{Advertised}
-use Rattle.applications.specs.Weights.{HostWeights}
+use Rattle.applications.specs.AppWeights.{PathWeights}
 use Rattle.plan_certificate.specs.declared.certificate.Entry.{Entry}
 use Rattle.plan_certificate.specs.declared.state.State.{State}
 use Rattle.plan_certificate.specs.declared.state.Decision.{Decision}
@@ -66,7 +66,7 @@ no_entry_more marks table place entries are not = record {
 pub contains_mapped : {X Y : Type 0} (f : X → Y) (xs : List X) (x : X) → Contains xs x → Contains (map f xs) (f x)
 contains_mapped f xs x contains = (contains.0, omega (arith, contains.1, length-map xs f), get_or-map f xs contains.0 x (f x) contains.1 ∙ ap f contains.2)
 
-module _ (advert : Advertised) (weights : HostWeights) (kept : List Path) (marks : List Bool) (table : List ℕ) (entries : List Entry) (reached : MarksReached advert weights kept marks) (has : HasGains advert weights kept 0 table) (are : AreEntries marks table 2304 entries) where
+module _ (advert : Advertised) (weights : PathWeights) (kept : List Path) (marks : List Bool) (table : List ℕ) (entries : List Entry) (reached : MarksReached advert weights kept marks) (has : HasGains advert weights kept 0 table) (are : AreEntries marks table 2304 entries) where
   pub entry_reached : (entry : Entry) → Contains entries entry → IsReached advert weights kept (state_of entry)
   entry_reached entry contains =
       let at = All-contains (IsMarkedEntry marks table) entries entry are.marked contains in

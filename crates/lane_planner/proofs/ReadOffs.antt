@@ -5,7 +5,7 @@ use Rattle.std.proofs.lemmas.List.{length-append}
 use Rattle.std.proofs.lemmas.List.Elements.{All-contains_itself, All-push, recursion_from_All}
 use Rattle.std.proofs.lemmas.List.Quantifiers.{all_pairs_push}
 use Rattle.applications.specs.Advertised.{Advertised}
-use Rattle.applications.specs.Weights.{HostWeights}
+use Rattle.applications.specs.AppWeights.{PathWeights}
 use Rattle.plan_certificate.specs.declared.path.Path.{Path}
 use Rattle.plan_certificate.specs.declared.state.State.{State}
 use Rattle.plan_certificate.specs.Plans.{IsAdmissible, plan_weight}
@@ -25,18 +25,18 @@ use Rattle.lane_planner.proofs.KeptTaken.{AreTakenOrLater, all_taken, lane_may_s
 use Rattle.lane_planner.proofs.LaterPaths.{AreInOrder, IsEarlier, earlier_free, earlier_path, in_order, taken_earlier, weight_more}
 
 -- the paths come before the state, and weigh what its gain leaves of the start's; no other plan of that gain comes before them
-pub record IsSoFar (advert : Advertised) (weights : HostWeights) (kept : List Path) (table : List ℕ) (state : State) (paths : List Path) : Type 0 where
+pub record IsSoFar (advert : Advertised) (weights : PathWeights) (kept : List Path) (table : List ℕ) (state : State) (paths : List Path) : Type 0 where
   pub reached : IsReached advert weights kept state
   pub within : state.boundary ≤ 8
   pub is_byte : IsByte state.used
   pub few : length paths ≤ state.boundary
   pub earlier : All (IsEarlier advert weights kept state) paths
   pub ordered : AllPairs (AreInOrder advert) paths
-  pub weighs : plan_weight advert weights paths + gain_at table state ≡ gain_at table start
+  pub weighs : plan_weight weights paths + gain_at table state ≡ gain_at table start
   pub keeps : AreTakenOrLater advert kept state paths
   pub first : (others : List Path) → IsPlanOf advert weights kept (gain_at table start) others → AgreesOrLater advert weights kept (gain_at table) state paths others
 
-pub begun : (advert : Advertised) (weights : HostWeights) (kept : List Path) (table : List ℕ) → IsAdmissible advert kept → IsSoFar advert weights kept table start []
+pub begun : (advert : Advertised) (weights : PathWeights) (kept : List Path) (table : List ℕ) → IsAdmissible advert kept → IsSoFar advert weights kept table start []
 begun advert weights kept table plan = record {
   reached = start_reached advert weights kept;
   within = omega arith;
@@ -51,13 +51,13 @@ begun advert weights kept table plan = record {
 
 -- ---- the gains from a state
 
-listed_decisions : (advert : Advertised) (weights : HostWeights) (kept : List Path) (state : State) → AllByRecursion (Contains (decisions_from advert weights kept state)) (decisions_from advert weights kept state)
+listed_decisions : (advert : Advertised) (weights : PathWeights) (kept : List Path) (state : State) → AllByRecursion (Contains (decisions_from advert weights kept state)) (decisions_from advert weights kept state)
 listed_decisions advert weights kept state = let all = decisions_from advert weights kept state in recursion_from_All (Contains all) all (All-contains_itself all)
 
-gains_after : (advert : Advertised) (weights : HostWeights) (kept : List Path) (table : List ℕ) (state : State) → HasGains advert weights kept 0 table → IsReached advert weights kept state → GainsAfter advert weights kept (gain_at table) state
+gains_after : (advert : Advertised) (weights : PathWeights) (kept : List Path) (table : List ℕ) (state : State) → HasGains advert weights kept 0 table → IsReached advert weights kept state → GainsAfter advert weights kept (gain_at table) state
 gains_after advert weights kept table state has is decision contains = gain_in advert weights kept 0 table decision.end has (reached_on advert weights kept state decision is contains) (omega arith)
 
-gains_known : (advert : Advertised) (weights : HostWeights) (kept : List Path) (table : List ℕ) (state : State) → HasGains advert weights kept 0 table → IsReached advert weights kept state → state.boundary < 8 → KnowsGains advert weights kept table state
+gains_known : (advert : Advertised) (weights : PathWeights) (kept : List Path) (table : List ℕ) (state : State) → HasGains advert weights kept 0 table → IsReached advert weights kept state → state.boundary < 8 → KnowsGains advert weights kept table state
 gains_known advert weights kept table state has is below = record {
   below = below;
   here = gain_in advert weights kept 0 table state has is (omega arith);
@@ -66,7 +66,7 @@ gains_known advert weights kept table state has is below = record {
 
 -- ---- one decision further
 
-pub free_more : (advert : Advertised) (weights : HostWeights) (kept : List Path) (table : List ℕ) (state : State) (paths : List Path) → HasGains advert weights kept 0 table → IsSoFar advert weights kept table state paths → state.boundary < 8 → chosen advert weights kept table state ≡ None
+pub free_more : (advert : Advertised) (weights : PathWeights) (kept : List Path) (table : List ℕ) (state : State) (paths : List Path) → HasGains advert weights kept 0 table → IsSoFar advert weights kept table state paths → state.boundary < 8 → chosen advert weights kept table state ≡ None
     → IsSoFar advert weights kept table (free_decision state).end paths
 free_more advert weights kept table state paths has is below none =
     let gains = gains_known advert weights kept table state has is.reached below in
@@ -89,10 +89,10 @@ free_more advert weights kept table state paths has is below none =
       ];
     }
 
-is_before : (advert : Advertised) (weights : HostWeights) (kept : List Path) (state : State) (path : Path) → IsEarlier advert weights kept state path → IsBefore state path
+is_before : (advert : Advertised) (weights : PathWeights) (kept : List Path) (state : State) (path : Path) → IsEarlier advert weights kept state path → IsBefore state path
 is_before advert weights kept state path is = let lanes = allowed advert path is.can in omega (arith, is.before, lanes.host_some)
 
-pub path_more : (advert : Advertised) (weights : HostWeights) (kept : List Path) (table : List ℕ) (state : State) (paths : List Path) (path : Path) → IsAdmissible advert kept → HasGains advert weights kept 0 table → IsSoFar advert weights kept table state paths → state.boundary < 8 → chosen advert weights kept table state ≡ Some path → IsLowest advert weights kept table state path
+pub path_more : (advert : Advertised) (weights : PathWeights) (kept : List Path) (table : List ℕ) (state : State) (paths : List Path) (path : Path) → IsAdmissible advert kept → HasGains advert weights kept 0 table → IsSoFar advert weights kept table state paths → state.boundary < 8 → chosen advert weights kept table state ≡ Some path → IsLowest advert weights kept table state path
     → IsSoFar advert weights kept table (path_decision advert weights state path).end (paths ++ path ∷ [])
 path_more advert weights kept table state paths path plan has is below some lowest =
     let gains = gains_known advert weights kept table state has is.reached below in
@@ -123,7 +123,7 @@ path_more advert weights kept table state paths path plan has is below some lowe
 nothing_left : (table : List ℕ) (state : State) → IsTable table → state.boundary ≡ 8 → gain_at table state ≡ 0
 nothing_left table state numbers ended = omega (arith, small_in table state numbers (omega (arith, ended)), ended)
 
-pub read_off : (advert : Advertised) (weights : HostWeights) (kept : List Path) (table : List ℕ) (state : State) (paths : List Path) → HasGains advert weights kept 0 table → IsSoFar advert weights kept table state paths → 8 ≤ state.boundary → IsReadOff advert weights kept table paths
+pub read_off : (advert : Advertised) (weights : PathWeights) (kept : List Path) (table : List ℕ) (state : State) (paths : List Path) → HasGains advert weights kept 0 table → IsSoFar advert weights kept table state paths → 8 ≤ state.boundary → IsReadOff advert weights kept table paths
 read_off advert weights kept table state paths has is ended = record {
   plan = record {
     admissible = record { allowed = λ k d inside. (is.earlier k d inside).can; apart = λ i j d before inside. (is.ordered i j d before inside).apart };

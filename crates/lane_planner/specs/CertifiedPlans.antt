@@ -3,7 +3,7 @@ use Rattle.std.specs.Prelude.{◌≡◌, ◌↔◌, ◌<◌, ℕ, Bool, List, Co
 use Rattle.std.specs.List.{All, AllPairs}
 use Rattle.text_lines.specs.Lines.{lines_of, text_of}
 use Rattle.applications.specs.Advertised.{Advertised}
-use Rattle.applications.specs.Weights.{HostWeights}
+use Rattle.applications.specs.AppWeights.{PathWeights}
 use Rattle.plan_certificate.specs.declared.path.Path.{Path}
 use Rattle.plan_certificate.specs.declared.state.State.{State}
 use Rattle.plan_certificate.specs.declared.verdict.Verdict.TheVariants.{Good}
@@ -18,7 +18,7 @@ use Rattle.lane_planner.specs.Gains.{IsGain}
 use Rattle.lane_planner.specs.Tables.{marked_entries}
 
 -- it is good, for the first best plan that holds the kept paths, by the gains of the states that are reached
-pub record IsCertified (advert : Advertised) (weights : HostWeights) (kept : List Path) (certificate : Claim) : Type 0 where
+pub record IsCertified (advert : Advertised) (weights : PathWeights) (kept : List Path) (certificate : Claim) : Type 0 where
   pub keeps : certificate.kept ≡ kept
   pub good : IsGood advert weights certificate
   pub judged : verdict advert weights certificate ≡ Good
@@ -29,7 +29,7 @@ pub record IsCertified (advert : Advertised) (weights : HostWeights) (kept : Lis
   pub states : (state : State) → IsReached advert weights kept state ↔ Contains (map state_of certificate.entries) state
 
 -- the text of such a certificate, and of no other
-pub record IsPlanText (advert : Advertised) (weights : HostWeights) (kept : List Path) (text : List ℕ) : Type 0 where
+pub record IsPlanText (advert : Advertised) (weights : PathWeights) (kept : List Path) (text : List ℕ) : Type 0 where
   pub certificate : Claim
   pub certified : IsCertified advert weights kept certificate
   pub written : text ≡ text_of (certificate_lines certificate)

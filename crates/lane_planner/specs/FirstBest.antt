@@ -2,7 +2,7 @@
 -- "The first best plan"; this project's own)
 use Rattle.std.specs.Prelude.{◌≡◌, ◌<◌, ◌⊎◌, ◌↔◌, List, All, Contains}
 use Rattle.applications.specs.Advertised.{Advertised}
-use Rattle.applications.specs.Weights.{HostWeights}
+use Rattle.applications.specs.AppWeights.{PathWeights}
 use Rattle.plan_certificate.specs.declared.path.Path.{Path}
 use Rattle.plan_certificate.specs.Paths.{IsLower, path_weight}
 use Rattle.plan_certificate.specs.Plans.{IsBest}
@@ -27,15 +27,15 @@ abbrev pub IsSameOrBefore : List Path → List Path → Type 0
 IsSameOrBefore paths others = HaveSamePaths paths others ⊎ ComesBefore paths others
 
 -- the path weighs something, or is kept
-abbrev pub IsOfUse : Advertised → HostWeights → List Path → Path → Type 0
-IsOfUse advert weights kept path = (0 < path_weight advert weights path) ⊎ Contains kept path
+abbrev pub IsOfUse : PathWeights → List Path → Path → Type 0
+IsOfUse weights kept path = (0 < path_weight weights path) ⊎ Contains kept path
 
 -- a best plan with the kept paths, without others of weight 0
-pub record IsCandidate (advert : Advertised) (weights : HostWeights) (kept paths : List Path) : Type 0 where
+pub record IsCandidate (advert : Advertised) (weights : PathWeights) (kept paths : List Path) : Type 0 where
   pub best : IsBest advert weights kept paths
-  pub of_use : All (IsOfUse advert weights kept) paths
+  pub of_use : All (IsOfUse weights kept) paths
 
 -- it comes before each other one
-pub record IsFirstBest (advert : Advertised) (weights : HostWeights) (kept paths : List Path) : Type 0 where
+pub record IsFirstBest (advert : Advertised) (weights : PathWeights) (kept paths : List Path) : Type 0 where
   pub candidate : IsCandidate advert weights kept paths
   pub first : (others : List Path) → IsCandidate advert weights kept others → IsSameOrBefore paths others

@@ -2,7 +2,7 @@
 -- own)
 use Rattle.std.specs.Prelude.{◌≡◌, ◌↔◌, ℕ, ◌<◌, ◌⊎◌, Bool, true, false, List, length, Contains, slice_index_or}
 use Rattle.applications.specs.Advertised.{Advertised}
-use Rattle.applications.specs.Weights.{HostWeights}
+use Rattle.applications.specs.AppWeights.{PathWeights}
 use Rattle.plan_certificate.specs.declared.path.Path.{Path}
 use Rattle.plan_certificate.specs.declared.state.Decision.{Decision}
 use Rattle.plan_certificate.specs.States.{state_at, state_place, decisions_from}
@@ -13,7 +13,7 @@ abbrev pub IsMarked : List Bool → ℕ → Type 0
 IsMarked marks place = slice_index_or marks place false ≡ true
 
 -- exactly the states that decisions from the start reach are marked
-pub record MarksReached (advert : Advertised) (weights : HostWeights) (kept : List Path) (marks : List Bool) : Type 0 where
+pub record MarksReached (advert : Advertised) (weights : PathWeights) (kept : List Path) (marks : List Bool) : Type 0 where
   pub all : length marks ≡ most_states
   pub reached : (place : ℕ) → place < most_states → IsMarked marks place ↔ IsReached advert weights kept (state_at place)
 
@@ -25,7 +25,7 @@ pub record MarksEnds (decisions : List Decision) (marks more : List Bool) : Type
   pub only : (place : ℕ) → IsMarked more place → IsMarked marks place ⊎ ((decision : Decision) × Contains decisions decision × (state_place decision.end ≡ place))
 
 -- the start is marked, and none that isn't reached; and with each one before a place the ends of its decisions
-pub record AreMarks (advert : Advertised) (weights : HostWeights) (kept : List Path) (upto : ℕ) (marks : List Bool) : Type 0 where
+pub record AreMarks (advert : Advertised) (weights : PathWeights) (kept : List Path) (upto : ℕ) (marks : List Bool) : Type 0 where
   pub all : length marks ≡ most_states
   pub begun : IsMarked marks 0
   pub sound : (place : ℕ) → place < most_states → IsMarked marks place → IsReached advert weights kept (state_at place)

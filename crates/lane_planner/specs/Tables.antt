@@ -3,7 +3,7 @@
 use Rattle.std.specs.Prelude.{◌≡◌, ℕ, Bool, ◌+◌, ◌-◌, ◌*◌, ◌/◌, ◌%◌, ◌<◌, ◌≤◌, ◌==◌, ◌&&◌, ◌||◌, ◌⊎◌, nat_lt, false, List, [], ◌∷◌, ◌++◌, Option, All, AllPairs, Contains, filter, find, length, map, replicate, slice_index, slice_index_or}
 use Rattle.std.specs.List.{range_with_len}
 use Rattle.applications.specs.Advertised.{Advertised}
-use Rattle.applications.specs.Weights.{HostWeights}
+use Rattle.applications.specs.AppWeights.{PathWeights}
 use Rattle.plan_certificate.specs.declared.path.Path.{Path}
 use Rattle.plan_certificate.specs.declared.moves.Move.{Move}
 use Rattle.plan_certificate.specs.declared.state.State.{State}
@@ -36,13 +36,13 @@ pub record AreParts (lows highs : List ℕ) : Type 0 where
   pub low : length lows ≡ 2048
   pub high : length highs ≡ 2048
 
--- a number for each state; each lane that is still to be decided adds at most a weight of 32 bits
+-- a number for each state; each lane that is still to be decided adds at most three weights of 32 bits
 pub record IsTable (table : List ℕ) : Type 0 where
   pub all : length table ≡ most_states
-  pub small : (place : ℕ) → place < most_states → slice_index table place ≤ 4294967295 * (8 - place / 256)
+  pub small : (place : ℕ) → place < most_states → slice_index table place ≤ 12884901885 * (8 - place / 256)
 
 -- the gains of the reached states from a place on
-pub record HasGains (advert : Advertised) (weights : HostWeights) (kept : List Path) (from : ℕ) (table : List ℕ) : Type 0 where
+pub record HasGains (advert : Advertised) (weights : PathWeights) (kept : List Path) (from : ℕ) (table : List ℕ) : Type 0 where
   pub numbers : IsTable table
   pub gains : (place : ℕ) → from ≤ place → place < most_states → IsReached advert weights kept (state_at place) → IsGain advert weights kept (state_at place) (slice_index table place)
 
@@ -58,11 +58,11 @@ abbrev pub entry_at : List ℕ → ℕ → Entry
 entry_at table place = record { boundary = place / 256; used = place % 256; potential = slice_index table place }
 
 -- a path that fits, weighs something or is kept, and after which the state's whole gain can still be had
-unfoldable pub keeps_gain : Advertised → HostWeights → List Path → List ℕ → State → Path → Bool
+unfoldable pub keeps_gain : Advertised → PathWeights → List Path → List ℕ → State → Path → Bool
 keeps_gain advert weights kept table state path =
     fits advert kept state path
-    && (nat_lt 0 (path_weight advert weights path) || is_among kept path)
-    && path_weight advert weights path + gain_at table (path_decision advert weights state path).end == gain_at table state
+    && (nat_lt 0 (path_weight weights path) || is_among kept path)
+    && path_weight weights path + gain_at table (path_decision advert weights state path).end == gain_at table state
 
 -- the same of a path's move
 abbrev pub move_keeps_gain : List Path → List ℕ → State → Move → Bool
@@ -72,18 +72,18 @@ move_keeps_gain kept table state move =
     && move.weight + gain_at table (move_decision state move).end == gain_at table state
 
 -- the first such path, by rising Application and media lane
-unfoldable pub chosen : Advertised → HostWeights → List Path → List ℕ → State → Option Path
+unfoldable pub chosen : Advertised → PathWeights → List Path → List ℕ → State → Option Path
 chosen advert weights kept table state = find (keeps_gain advert weights kept table state) (paths_at advert (state.boundary + 1))
 
 -- a plan of so much weight with the kept paths, without others of weight 0
-pub record IsPlanOf (advert : Advertised) (weights : HostWeights) (kept : List Path) (weight : ℕ) (paths : List Path) : Type 0 where
+pub record IsPlanOf (advert : Advertised) (weights : PathWeights) (kept : List Path) (weight : ℕ) (paths : List Path) : Type 0 where
   pub admissible : IsAdmissible advert paths
   pub keeps : Keeps kept paths
-  pub weighs : plan_weight advert weights paths ≡ weight
-  pub of_use : All (IsOfUse advert weights kept) paths
+  pub weighs : plan_weight weights paths ≡ weight
+  pub of_use : All (IsOfUse weights kept) paths
 
 -- such a plan of the start's whole gain, by rising host lane, that comes before all others
-pub record IsReadOff (advert : Advertised) (weights : HostWeights) (kept : List Path) (table : List ℕ) (paths : List Path) : Type 0 where
+pub record IsReadOff (advert : Advertised) (weights : PathWeights) (kept : List Path) (table : List ℕ) (paths : List Path) : Type 0 where
   pub plan : IsPlanOf advert weights kept (gain_at table start) paths
   pub rising : AllPairs (λ path later. path.host < later.host) paths
   pub first : (others : List Path) → IsPlanOf advert weights kept (gain_at table start) others → IsSameOrBefore paths others

@@ -33,7 +33,7 @@ fn keeps_gain(one: &Move, kept: &[Path], table: &Table, state: &State) -> bool
         return false;
     }
     let rest = table.at(one.decision(state).end.place());
-    u64::from(one.weight) + rest == table.at(state.place())
+    one.weight + rest == table.at(state.place())
 }
 
 fn is_of_use(one: &Move, kept: &[Path]) -> bool

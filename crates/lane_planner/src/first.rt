@@ -3,14 +3,14 @@ ghost use Rattle.plan_certificate.specs.Certificates.{IsGood};
 ghost use Rattle.lane_planner.specs.FirstBest.{HaveSamePaths, IsFirstBest};
 
 use crate::planner::first_plan;
-use applications::{Advert, Weights};
+use applications::{Advert, AppWeights};
 use plan_certificate::{Certificate, Path};
 
 /// Whether the plan of a good certificate has the paths of the one that `first_plan` gives for what it keeps, in whatever
 /// order.
 pub fn first_best<const STATES: usize>(
     advert: &Advert,
-    weights: &Weights,
+    weights: &AppWeights,
     certificate: &Certificate<STATES>,
 ) -> bool
     requires { IsGood advert.now weights.now certificate.now }

@@ -6,13 +6,13 @@ ghost use Rattle.lane_planner.specs.Marks.{MarksReached};
 ghost use Rattle.lane_planner.specs.Tables.{HasGains, IsMost, IsTable};
 
 use crate::table::Table;
-use applications::{Advert, Weights};
+use applications::{Advert, AppWeights};
 use plan_certificate::{FollowedMoves, HOST_LANES, Move, Path, STATES, State};
 
 /// Puts the gains of the marked states into the table, by their places.
 pub fn put_gains(
     advert: &Advert,
-    weights: &Weights,
+    weights: &AppWeights,
     kept: &[Path],
     marks: &[bool],
     table: &mut Table,
@@ -43,7 +43,7 @@ fn most(may_stay_free: bool, moves: &[Move], table: &Table, state: &State) -> u6
     requires open { state.now.boundary < 8 }
     requires lead_on { All (LeadsOn state.now.boundary) moves.now }
     ensures most { IsMost table.now (decisions_by may_stay_free state.now moves.now) result }
-    ensures small { result ≤ 4294967295 * (8 - state.now.boundary) }
+    ensures small { result ≤ 12884901885 * (8 - state.now.boundary) }
 {
     let mut most = 0;
     if may_stay_free {
@@ -52,7 +52,7 @@ fn most(may_stay_free: bool, moves: &[Move], table: &Table, state: &State) -> u6
     }
     for one in moves {
         if one.is_open(state) {
-            let through = u64::from(one.weight) + table.at(one.decision(state).end.place());
+            let through = one.weight + table.at(one.decision(state).end.place());
             if most < through {
                 most = through;
             }

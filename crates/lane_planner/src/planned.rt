@@ -10,7 +10,7 @@ use crate::gains::put_gains;
 use crate::planner::read_off;
 use crate::reached::reached;
 use crate::table::Table;
-use applications::{Advert, Weights};
+use applications::{Advert, AppWeights};
 use plan_certificate::{Plan, STATES};
 
 /// A plan, and what can still be gained from each state that decisions from the start reach.
@@ -21,7 +21,7 @@ pub struct Planned {
 }
 
 /// The plan of `plan_keeping` with all gains, and without its certificate.
-pub fn plan_with_gains(advert: &Advert, weights: &Weights, kept: &Plan) -> Planned
+pub fn plan_with_gains(advert: &Advert, weights: &AppWeights, kept: &Plan) -> Planned
     requires { IsAdmissible advert.now kept.now }
     ensures gains { HasGains advert.now weights.now kept.now 0 result.gains }
     ensures read_off { IsReadOff advert.now weights.now kept.now result.gains result.plan }

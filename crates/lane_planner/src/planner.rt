@@ -16,21 +16,21 @@ use crate::choices::chosen;
 use crate::gains::put_gains;
 use crate::reached::reached;
 use crate::table::Table;
-use applications::{Advert, Weights};
+use applications::{Advert, AppWeights};
 use arrayvec::ArrayVec;
 use plan_certificate::{
     Certificate, Entries, Entry, HOST_LANES, Path, Plan, STATES, State, put_moves,
 };
 
 /// The first plan of those that weigh most, with what can still be gained from each state that decisions from the start reach.
-pub fn plan(advert: &Advert, weights: &Weights) -> Certificate<STATES>
+pub fn plan(advert: &Advert, weights: &AppWeights) -> Certificate<STATES>
     ensures kept { result.kept ≡ [] }
     ensures good { IsGood advert.now weights.now result }
     ensures judged { verdict advert.now weights.now result ≡ verdicts.Good }
     ensures best { IsBest advert.now weights.now [] result.paths }
     ensures first { IsFirstBest advert.now weights.now [] result.paths }
     ensures rising { AllPairs (λ path later. path.host < later.host) result.paths }
-    ensures weighing { All (λ path. 0 < path_weight advert.now weights.now path) result.paths }
+    ensures weighing { All (λ path. 0 < path_weight weights.now path) result.paths }
     ensures gains { All (λ entry. IsGain advert.now weights.now [] (state_of entry) entry.potential) result.entries }
     ensures states { (state : State) → IsReached advert.now weights.now [] state ↔ Contains (map state_of result.entries) state }
 {
@@ -41,7 +41,7 @@ pub fn plan(advert: &Advert, weights: &Weights) -> Certificate<STATES>
 }
 
 /// As `plan`, of the plans that hold the kept paths.
-pub fn plan_keeping(advert: &Advert, weights: &Weights, kept: &Plan) -> Certificate<STATES>
+pub fn plan_keeping(advert: &Advert, weights: &AppWeights, kept: &Plan) -> Certificate<STATES>
     requires { IsAdmissible advert.now kept.now }
     ensures kept { result.kept ≡ kept.now }
     ensures good { IsGood advert.now weights.now result }
@@ -67,7 +67,7 @@ pub fn plan_keeping(advert: &Advert, weights: &Weights, kept: &Plan) -> Certific
 }
 
 /// The plan of `plan_keeping`, without its certificate.
-pub fn first_plan(advert: &Advert, weights: &Weights, kept: &Plan) -> Plan
+pub fn first_plan(advert: &Advert, weights: &AppWeights, kept: &Plan) -> Plan
     requires { IsAdmissible advert.now kept.now }
     ensures certified { (certificate : Claim) × IsCertified advert.now weights.now kept.now certificate × (certificate.paths ≡ result) }
     ensures first { IsFirstBest advert.now weights.now kept.now result }
@@ -82,7 +82,7 @@ pub fn first_plan(advert: &Advert, weights: &Weights, kept: &Plan) -> Plan
 }
 
 /// The plan that the gains lead to, from the start upwards.
-pub fn read_off(advert: &Advert, weights: &Weights, kept: &[Path], table: &Table) -> Plan
+pub fn read_off(advert: &Advert, weights: &AppWeights, kept: &[Path], table: &Table) -> Plan
     requires kept { IsAdmissible advert.now kept.now }
     requires gains { HasGains advert.now weights.now kept.now 0 table.now }
     ensures { IsReadOff advert.now weights.now kept.now table.now result }

@@ -4,11 +4,11 @@ ghost use Rattle.plan_certificate.specs.Plans.{AreAllowed};
 ghost use Rattle.plan_certificate.specs.Moves.{LeadsOn, decisions_by};
 ghost use Rattle.lane_planner.specs.Marks.{MarksEnds, MarksReached};
 
-use applications::{Advert, Weights};
+use applications::{Advert, AppWeights};
 use plan_certificate::{FollowedMoves, HOST_LANES, Move, Path, STATES, State};
 
 /// Marks, by their places, the states that decisions from the start reach.
-pub fn reached(advert: &Advert, weights: &Weights, kept: &[Path], marks: &mut [bool; STATES])
+pub fn reached(advert: &Advert, weights: &AppWeights, kept: &[Path], marks: &mut [bool; STATES])
     requires kept { AreAllowed advert.now kept.now }
     requires blank { marks.old ≡ replicate STATES false }
     ensures { MarksReached advert.now weights.now kept.now marks.new }

@@ -15,7 +15,7 @@ use crate::gains::put_gains;
 use crate::planner::{entry_at, read_off};
 use crate::reached::reached;
 use crate::table::Table;
-use applications::{Advert, Weights};
+use applications::{Advert, AppWeights};
 use plan_certificate::{ENTRY_LINE, HEAD, Plan, STATES, end_line, entry_line, head_of};
 use std::alloc::{AllocError, Global};
 
@@ -26,7 +26,7 @@ const MOST_TEXT: usize = HEAD + ENTRY_LINE * STATES + 4;
 pub fn certificate_text(
     alloc: Global,
     advert: &Advert,
-    weights: &Weights,
+    weights: &AppWeights,
     kept: &Plan,
 ) -> Result<Vec<u8>, AllocError>
     requires { IsAdmissible advert.now kept.now }
@@ -39,7 +39,12 @@ pub fn certificate_text(
 }
 
 /// Puts that text into a buffer that has room for it, and answers how many bytes it has.
-pub fn put_certificate(buffer: &mut [u8], advert: &Advert, weights: &Weights, kept: &Plan) -> usize
+pub fn put_certificate(
+    buffer: &mut [u8],
+    advert: &Advert,
+    weights: &AppWeights,
+    kept: &Plan,
+) -> usize
     requires { IsAdmissible advert.now kept.now }
     ensures put { (text : List ℕ) × IsPlanText advert.now weights.now kept.now text
         × (result ≡ length text) × (buffer.new ≡ buffer_with buffer.old text) }

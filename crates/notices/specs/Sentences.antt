@@ -48,9 +48,11 @@ sentences =
     ∷ record { code = codes "WT1"; text = codes "the weights are no TOML: write the line '[host]', and then lines KEY = NUMBER as '0Dh = 101', comments or empty lines, with each key once" }
     ∷ record { code = codes "WT2"; text = codes "the weights have no table 'host': put the line '[host]' above them" }
     ∷ record { code = codes "WT3"; text = codes "a key is not two hexadecimal digits and 'h': write 0Bh, and not Bh, 0x0B or a name; 'apps' prints the codes that the module knows, after 'host'" }
+    ∷ record { code = codes "WT3 media"; text = codes "a key of 'media' is not two hexadecimal digits and 'h': write 1Ch, and not Ch, 0x1C or a name; 'apps' prints the codes that the module knows, after 'media'" }
+    ∷ record { code = codes "WT3 app"; text = codes "a key of 'app' is no number of an Application, 1 to 15: write 3, and not 03, 3h or a name; 'apps' prints the numbers that the module has, after 'app'" }
     ∷ record { code = codes "WT4"; text = codes "the key stands there twice, in lower case and in upper case: keep one" }
     ∷ record { code = codes "WT5"; text = codes "the weight of this key is no whole number from 0 to 4294967295: write 400, and not 400.0 or '400'" }
-    ∷ record { code = codes "WT6"; text = codes "the weights have more than the table 'host': delete what stands above '[host]', and other tables" }
+    ∷ record { code = codes "WT6"; text = codes "the weights have more than the tables 'host', 'media' and 'app': delete what stands above '[host]', and other tables" }
     ∷ record { code = codes "CT1"; text = codes "the line has none of the forms of a certificate's lines, or one that may not stand there: write single spaces, numbers without leading zeros, and used media lanes as two digits in lower case" }
     ∷ record { code = codes "CT2"; text = codes "the state of the line is not above the one before: put states in rising order, by boundary and then by used media lanes, and each once" }
     ∷ record { code = codes "CT3"; text = codes "there is a ninth path, a ninth kept path or a state too many: eight lanes have at most eight paths" }

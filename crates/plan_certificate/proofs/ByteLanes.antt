@@ -10,7 +10,7 @@ use Rattle.field_tables.specs.LaneSets.{Lanes, lanes_in, byte_of, run_of}
 use Rattle.field_tables.specs.LaneBytes.{byte_of-lanes_in}
 use Rattle.field_tables.proofs.LaneLaws.{lanes_in-or, lanes_in-mask, lanes_in-zero}
 use Rattle.applications.specs.Advertised.{Advertised}
-use Rattle.applications.specs.Weights.{HostWeights}
+use Rattle.applications.specs.AppWeights.{PathWeights}
 use Rattle.plan_certificate.specs.declared.path.Path.{Path}
 use Rattle.plan_certificate.specs.declared.state.State.{State}
 use Rattle.plan_certificate.specs.declared.state.Decision.{Decision}
@@ -46,7 +46,7 @@ start_is_byte = record { byte = 0; below = omega arith; is = sym lanes_in-zero }
 abbrev EndsAtByte : Decision → Type 0
 EndsAtByte decision = IsByte decision.end.used
 
-decisions_end_at_bytes : (advert : Advertised) (weights : HostWeights) (kept : List Path) (state : State) (paths : List Path) → IsByte state.used → AllByRecursion EndsAtByte (path_decisions advert weights kept state paths)
+decisions_end_at_bytes : (advert : Advertised) (weights : PathWeights) (kept : List Path) (state : State) (paths : List Path) → IsByte state.used → AllByRecursion EndsAtByte (path_decisions advert weights kept state paths)
 unfolding path_decisions
 decisions_end_at_bytes advert weights kept state [] is_byte = tt
 decisions_end_at_bytes advert weights kept state (path ∷ paths) is_byte =
@@ -63,7 +63,7 @@ free_ends_at_byte : (may : Bool) (state : State) → IsByte state.used → AllBy
 free_ends_at_byte true state is_byte = (is_byte, tt)
 free_ends_at_byte false state is_byte = tt
 
-pub each_end_is_byte : (advert : Advertised) (weights : HostWeights) (kept : List Path) (state : State) → IsByte state.used → AllByRecursion EndsAtByte (decisions_from advert weights kept state)
+pub each_end_is_byte : (advert : Advertised) (weights : PathWeights) (kept : List Path) (state : State) → IsByte state.used → AllByRecursion EndsAtByte (decisions_from advert weights kept state)
 unfolding decisions_from
 each_end_is_byte advert weights kept state is_byte =
     let may : Bool = may_stay_free advert kept (state.boundary + 1) in

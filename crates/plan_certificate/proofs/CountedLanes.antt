@@ -1,7 +1,7 @@
 -- What a module can carry by the lane counts of its descriptors, it can carry too if the interface IDs imply the others.
-use Rattle.std.proofs.Common.{◌≡◌, ℕ, ◌+◌, ◌&&◌, Bool, true, false, cond, List, [], ◌∷◌, ◌==◌, Option, Some, None, find, map, option_map, get_or, length, refl, ap, ◌∙◌, nat_le, arith}
-use Rattle.std.specs.Prelude.{sum_by}
-use Rattle.std.specs.Option.{unwrap_or}
+use Rattle.std.proofs.Common.{◌≡◌, ℕ, ◌&&◌, Bool, true, false, cond, List, [], ◌∷◌, Option, Some, None, find, map, option_map, get_or, refl, ap, ◌∙◌, arith}
+use Rattle.std.specs.List.{range_with_len}
+use Rattle.std.specs.Option.{option_map_or, unwrap_or}
 use Rattle.std.proofs.lemmas.Bool.{and_parts}
 use Rattle.std.proofs.lemmas.Bool.Decides.{nat_tests}
 use Rattle.field_tables.specs.LaneSets.{is_disjoint, run_of}
@@ -9,7 +9,8 @@ use Rattle.applications.specs.declared.app.App.{App}
 use Rattle.applications.specs.Advertised.{Advertised, with_counts_by_id}
 use Rattle.applications.specs.CountsById.{count_by, counted}
 use Rattle.applications.specs.Usable.{is_lane_count, is_usable}
-use Rattle.applications.specs.Weights.{HostWeights, weight_at}
+use Rattle.applications.specs.AppWeights.{app_weight, app_weights, weight_of_number}
+use Rattle.applications.specs.Weights.{ListedWeights}
 use Rattle.interface_lanes.specs.LanesById.{host_lanes_by_id, media_lanes_by_id}
 use Rattle.plan_certificate.specs.declared.path.Path.{Path}
 use Rattle.plan_certificate.specs.Paths.{app_of, has_number, is_allowed, is_paired, is_run, no_app}
@@ -90,16 +91,17 @@ still_admissible media_type advert paths is = record {
 
 -- ---- weights
 
-same_host_id : (media_type : ℕ) (found : Option App) → (unwrap_or (option_map (counted media_type) found) no_app).host_id ≡ (unwrap_or found no_app).host_id
-same_host_id media_type None = refl
-same_host_id media_type (Some app) = refl
+same_weight : (media_type : ℕ) (weights : ListedWeights) (found : Option App) → option_map_or (app_weight weights) (option_map (counted media_type) found) 0 ≡ option_map_or (app_weight weights) found 0
+same_weight media_type weights None = refl
+same_weight media_type weights (Some app) = refl
 
-path_weighs : (media_type : ℕ) (advert : Advertised) (weights : HostWeights) (path : Path) →
-    weight_at weights (app_of (with_counts_by_id media_type advert) path).host_id ≡ weight_at weights (app_of advert path).host_id
-unfolding app_of
-path_weighs media_type advert weights path =
-    ap (λ (o : Option App). weight_at weights (unwrap_or o no_app).host_id) (found media_type path advert.apps)
-    ∙ ap (weight_at weights) (same_host_id media_type (find (has_number path) advert.apps))
+number_weighs : (media_type : ℕ) (advert : Advertised) (weights : ListedWeights) (number : ℕ) → weight_of_number (with_counts_by_id media_type advert) weights number ≡ weight_of_number advert weights number
+unfolding weight_of_number
+number_weighs media_type advert weights number =
+    let path : Path = record { app = number; host = 0; media = 0 } in
+    ap (λ (o : Option App). option_map_or (app_weight weights) o 0) (found media_type path advert.apps)
+    ∙ same_weight media_type weights (find (has_number path) advert.apps)
 
-pub still_weighs : (media_type : ℕ) (advert : Advertised) (weights : HostWeights) (paths : List Path) → plan_weight (with_counts_by_id media_type advert) weights paths ≡ plan_weight advert weights paths
-still_weighs media_type advert weights paths = λ i. sum_by (λ (path : Path). path_weighs media_type advert weights path i) paths
+pub still_weighs : (media_type : ℕ) (advert : Advertised) (weights : ListedWeights) (paths : List Path) →
+    plan_weight (app_weights (with_counts_by_id media_type advert) weights) paths ≡ plan_weight (app_weights advert weights) paths
+still_weighs media_type advert weights paths = λ i. plan_weight (map (λ number. number_weighs media_type advert weights number i) (range_with_len 0 16)) paths

@@ -10,7 +10,7 @@ use Rattle.field_tables.specs.FirstFault.{first_fault}
 use Rattle.field_tables.specs.LaneSets.{lanes_in, byte_of}
 use Rattle.field_tables.specs.LaneBytes.{byte_of-lanes_in}
 use Rattle.applications.specs.Advertised.{Advertised}
-use Rattle.applications.specs.Weights.{HostWeights}
+use Rattle.applications.specs.AppWeights.{PathWeights}
 use Rattle.plan_certificate.specs.declared.certificate.Entry.{Entry}
 use Rattle.plan_certificate.specs.declared.path.Path.{Path}
 use Rattle.plan_certificate.specs.declared.state.State.{State}
@@ -103,13 +103,13 @@ numbered : {X : Type 0} (P : X → Type 0) (n : ℕ) (xs : List X) → AllByRecu
 numbered P n [] h = tt
 numbered P n (x ∷ xs) h = (h.0, numbered P (n + 1) xs h.1)
 
-abbrev CoveredAt : Advertised → HostWeights → List Path → List Entry → Entry → Type 0
+abbrev CoveredAt : Advertised → PathWeights → List Path → List Entry → Entry → Type 0
 CoveredAt advert weights kept entries entry = All (IsCovered entries entry.potential) (decisions_from advert weights kept (state_of entry))
 
 abbrev Below : Entry → Type 0
 Below entry = entry.used < 256
 
-entry_is_covered : (advert : Advertised) (weights : HostWeights) (kept : List Path) (entries : List Entry) (entry : ℕ × Entry) → HasStates entries → entry.1.used < 256 → NoFlaw (entry_flaws advert weights kept entries entry) → CoveredAt advert weights kept entries entry.1
+entry_is_covered : (advert : Advertised) (weights : PathWeights) (kept : List Path) (entries : List Entry) (entry : ℕ × Entry) → HasStates entries → entry.1.used < 256 → NoFlaw (entry_flaws advert weights kept entries entry) → CoveredAt advert weights kept entries entry.1
 entry_is_covered advert weights kept entries entry states fits none =
     let decisions = decisions_from advert weights kept (state_of entry.1) in
     let ends = each_end_is_byte advert weights kept (state_of entry.1) (record { byte = entry.1.used; below = fits; is = refl }) in
@@ -117,13 +117,13 @@ entry_is_covered advert weights kept entries entry states fits none =
     All-from_recursion (IsCovered entries entry.1.potential) decisions
     (each_pair (λ (decision : Decision). IsByte decision.end.used) (λ (decision : Decision). NoFlaw (decision_flaws entries entry decision)) (IsCovered entries entry.1.potential) decisions (λ decision is_byte no. decision_covered entries entry decision states is_byte no) ends each)
 
-covered_entry : (advert : Advertised) (weights : HostWeights) (kept : List Path) (entries : List Entry) (entry : ℕ × Entry) → HasStates entries → CoveredAt advert weights kept entries entry.1 → NoFlaw (entry_flaws advert weights kept entries entry)
+covered_entry : (advert : Advertised) (weights : PathWeights) (kept : List Path) (entries : List Entry) (entry : ℕ × Entry) → HasStates entries → CoveredAt advert weights kept entries entry.1 → NoFlaw (entry_flaws advert weights kept entries entry)
 covered_entry advert weights kept entries entry states covered =
     let decisions = decisions_from advert weights kept (state_of entry.1) in
     (none_of_each (decision_flaws entries entry) decisions).1
     (map_each (IsCovered entries entry.1.potential) (λ (decision : Decision). NoFlaw (decision_flaws entries entry decision)) decisions (λ decision covers. covered_decision entries entry decision states covers) (recursion_from_All (IsCovered entries entry.1.potential) decisions covered))
 
-entries_covered : (advert : Advertised) (weights : HostWeights) (kept : List Path) (entries : List Entry) → HasStates entries → NoFlaw (entries_flaws advert weights kept entries) ↔ All (CoveredAt advert weights kept entries) entries
+entries_covered : (advert : Advertised) (weights : PathWeights) (kept : List Path) (entries : List Entry) → HasStates entries → NoFlaw (entries_flaws advert weights kept entries) ↔ All (CoveredAt advert weights kept entries) entries
 unfolding entries_flaws
 entries_covered advert weights kept entries states =
     let each = none_of_each (entry_flaws advert weights kept entries) (enumerate_from 1 entries) in
@@ -149,11 +149,11 @@ is_other weight found = not (unwrap_or found 0 == weight)
 abbrev end_flaw : List Entry → ℕ → PossibleFlaw
 end_flaw entries weight = (is_other weight (potential_of entries start), flaw StartNotWeight 0)
 
-record IsBounded (advert : Advertised) (weights : HostWeights) (kept : List Path) (entries : List Entry) (weight : ℕ) : Type 0 where
+record IsBounded (advert : Advertised) (weights : PathWeights) (kept : List Path) (entries : List Entry) (weight : ℕ) : Type 0 where
   closed : All (CoveredAt advert weights kept entries) entries
   begun : IsBound entries start weight
 
-bounded : (advert : Advertised) (weights : HostWeights) (kept : List Path) (entries : List Entry) (weight : ℕ) → HasStates entries → NoFlaw (bound_flaws advert weights kept entries weight) ↔ IsBounded advert weights kept entries weight
+bounded : (advert : Advertised) (weights : PathWeights) (kept : List Path) (entries : List Entry) (weight : ℕ) → HasStates entries → NoFlaw (bound_flaws advert weights kept entries weight) ↔ IsBounded advert weights kept entries weight
 unfolding bound_flaws
 bounded advert weights kept entries weight states =
     let of_entries = entries_flaws advert weights kept entries in
@@ -179,9 +179,9 @@ like_each_other true false = (λ none. absurd cc, λ same. absurd cc)
 like_each_other false true = (λ none. absurd cc, λ same. absurd cc)
 like_each_other false false = (λ none. refl, λ same. refl)
 
-pub no_flaw_is_good : (advert : Advertised) (weights : HostWeights) (c : Claim) → HasStates c.entries → NoFlaw (all_flaws advert weights c) ↔ IsGood advert weights c
+pub no_flaw_is_good : (advert : Advertised) (weights : PathWeights) (c : Claim) → HasStates c.entries → NoFlaw (all_flaws advert weights c) ↔ IsGood advert weights c
 no_flaw_is_good advert weights c states =
-    let right : ℕ = plan_weight advert weights c.paths in
+    let right : ℕ = plan_weight weights c.paths in
     let bounds = bound_flaws advert weights c.kept c.entries c.weight in
     let weighed : PossibleFlaw = (not (c.weight == right), flaw WeightWrong 0) in
     let missing = missing_flaws c.kept c.paths in
@@ -223,7 +223,7 @@ judged_good : (found : Option Flaw) → (judged found ≡ Good) ↔ (found ≡ N
 judged_good None = (λ is. refl, λ is. refl)
 judged_good (Some flaw) = (λ is. absurd cc, λ is. absurd cc)
 
-pub good_verdict : (advert : Advertised) (weights : HostWeights) (c : Claim) → HasStates c.entries → (verdict advert weights c ≡ Good) ↔ IsGood advert weights c
+pub good_verdict : (advert : Advertised) (weights : PathWeights) (c : Claim) → HasStates c.entries → (verdict advert weights c ≡ Good) ↔ IsGood advert weights c
 unfolding verdict
 good_verdict advert weights c states =
     let by_flaw = judged_good (first_fault (all_flaws advert weights c)) in

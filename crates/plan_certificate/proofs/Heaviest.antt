@@ -8,7 +8,7 @@ use Rattle.std.proofs.lemmas.Bool.Decides.{nat_tests}
 use Rattle.field_tables.specs.LaneSets.{is_disjoint}
 use Rattle.applications.specs.declared.app.App.{App}
 use Rattle.applications.specs.Advertised.{Advertised}
-use Rattle.applications.specs.Weights.{HostWeights}
+use Rattle.applications.specs.AppWeights.{PathWeights}
 use Rattle.plan_certificate.specs.declared.path.Path.{Path}
 use Rattle.plan_certificate.specs.declared.state.State.{State}
 use Rattle.plan_certificate.specs.declared.state.Decision.{Decision}
@@ -64,7 +64,7 @@ listed advert P path host begins can each =
     subst P (λ i. record { app = number i; host = sym begins i; media = path.media }) one
 
 -- what holds of each decision from a state holds of the free lane's decision and of each path's that fits
-pub each_decision : (advert : Advertised) (weights : HostWeights) (kept : List Path) (P : Decision → Type 0) (state : State) → state.boundary < 8 → AllByRecursion P (decisions_from advert weights kept state)
+pub each_decision : (advert : Advertised) (weights : PathWeights) (kept : List Path) (P : Decision → Type 0) (state : State) → state.boundary < 8 → AllByRecursion P (decisions_from advert weights kept state)
     → (may_stay_free advert kept (state.boundary + 1) ≡ true → P (free_decision state))
     × ((path : Path) → path.host ≡ state.boundary + 1 → is_eligible advert kept path ≡ true → is_disjoint (media_lanes advert path) state.used ≡ true → P (path_decision advert weights state path))
 unfolding decisions_from path_decisions
@@ -104,7 +104,7 @@ stay_later advert kept state paths each elsewhere =
     each_pair (IsLater advert kept state) (λ path. path.host ≢ state.boundary + 1) (IsLater advert kept (free_decision state).end) paths
     (λ path later other. record { can = later.can; past = omega (arith, later.past, other); unused = later.unused }) each elsewhere
 
-pub after_path : (advert : Advertised) (weights : HostWeights) (kept : List Path) (state : State) (taken path : Path) → IsLater advert kept state taken → taken.host ≡ state.boundary + 1 → IsLater advert kept state path → IsApart advert taken path → IsLater advert kept (path_decision advert weights state taken).end path
+pub after_path : (advert : Advertised) (weights : PathWeights) (kept : List Path) (state : State) (taken path : Path) → IsLater advert kept state taken → taken.host ≡ state.boundary + 1 → IsLater advert kept state path → IsApart advert taken path → IsLater advert kept (path_decision advert weights state taken).end path
 unfolding are_apart
 after_path advert weights kept state taken path is_taken begins later apart =
     let lanes = lanes_later advert kept state path later in
@@ -121,7 +121,7 @@ abbrev pub LeavesEnough : (State → ℕ → Type 0) → ℕ → Decision → Ty
 LeavesEnough Bounds potential decision = (later : ℕ) × Bounds decision.end later × (decision.weight + later ≤ potential)
 
 -- what bounds the gain at a state does so after each decision
-abbrev pub IsPreserved : Advertised → HostWeights → List Path → (State → ℕ → Type 0) → Type 0
+abbrev pub IsPreserved : Advertised → PathWeights → List Path → (State → ℕ → Type 0) → Type 0
 IsPreserved advert weights kept Bounds = (state : State) (potential : ℕ) → Bounds state potential → AllByRecursion (LeavesEnough Bounds potential) (decisions_from advert weights kept state)
 
 -- a kept path is one of those that may still come, or its host lanes are decided
@@ -147,7 +147,7 @@ come_free advert kept state paths come =
       | inr came ↦ inr (omega (arith, came))
     ]) come
 
-pub come_taken : (advert : Advertised) (weights : HostWeights) (weigh : Path → ℕ) (kept : List Path) (state : State) (paths : List Path) → (picked : Picked advert weigh paths (state.boundary + 1)) → AllByRecursion (ComesOrCame advert state paths) kept
+pub come_taken : (advert : Advertised) (weights : PathWeights) (weigh : Path → ℕ) (kept : List Path) (state : State) (paths : List Path) → (picked : Picked advert weigh paths (state.boundary + 1)) → AllByRecursion (ComesOrCame advert state paths) kept
     → AllByRecursion (ComesOrCame advert (path_decision advert weights state picked.path).end picked.rest) kept
 come_taken advert weights weigh kept state paths picked come =
     let End : State = (path_decision advert weights state picked.path).end in
@@ -162,11 +162,11 @@ come_taken advert weights weigh kept state paths picked come =
     ]) come
 
 -- then no paths that may still come, the kept ones among them, weigh more
-pub bounded : (advert : Advertised) (weights : HostWeights) (kept : List Path) (Bounds : State → ℕ → Type 0) → IsPreserved advert weights kept Bounds → (left : ℕ) (state : State) (potential : ℕ) → 8 ≤ state.boundary + left → Bounds state potential
-    → (paths : List Path) → AreApart advert paths → AllByRecursion (IsLater advert kept state) paths → AllByRecursion (ComesOrCame advert state paths) kept → plan_weight advert weights paths ≤ potential
-bounded advert weights kept Bounds is_preserved zero state potential ends bound paths apart each come = omega (arith, none_later advert kept (path_weight advert weights) state paths (omega (arith, ends)) each)
+pub bounded : (advert : Advertised) (weights : PathWeights) (kept : List Path) (Bounds : State → ℕ → Type 0) → IsPreserved advert weights kept Bounds → (left : ℕ) (state : State) (potential : ℕ) → 8 ≤ state.boundary + left → Bounds state potential
+    → (paths : List Path) → AreApart advert paths → AllByRecursion (IsLater advert kept state) paths → AllByRecursion (ComesOrCame advert state paths) kept → plan_weight weights paths ≤ potential
+bounded advert weights kept Bounds is_preserved zero state potential ends bound paths apart each come = omega (arith, none_later advert kept (path_weight weights) state paths (omega (arith, ends)) each)
 bounded advert weights kept Bounds is_preserved (suc left) state potential ends bound paths apart each come =
-    let weigh = path_weight advert weights in
+    let weigh = path_weight weights in
     elim (cases_lt state.boundary 8) [
       | inr ended ↦ omega (arith, none_later advert kept weigh state paths (omega (arith, ended)) each)
       | inl below ↦
@@ -189,7 +189,7 @@ bounded advert weights kept Bounds is_preserved (suc left) state potential ends 
     ]
 
 -- the potentials of a good certificate's entries do
-entries_preserved : (advert : Advertised) (weights : HostWeights) (c : Claim) → IsGood advert weights c → IsPreserved advert weights c.kept (IsBound c.entries)
+entries_preserved : (advert : Advertised) (weights : PathWeights) (c : Claim) → IsGood advert weights c → IsPreserved advert weights c.kept (IsBound c.entries)
 entries_preserved advert weights c good state potential bound =
     let Covered : Decision → Type 0 = IsCovered c.entries potential in
     let at_entry = All-contains (λ (entry : Entry). All (IsCovered c.entries entry.potential) (decisions_from advert weights c.kept (state_of entry))) c.entries bound.0 good.closed bound.1 in
@@ -210,7 +210,7 @@ all_later advert kept others plan keeps =
 pub kept_come : (advert : Advertised) (kept others : List Path) → Keeps kept others → AllByRecursion (ComesOrCame advert start others) kept
 kept_come advert kept others keeps = map_each (Contains others) (ComesOrCame advert start others) kept (λ path held. inl held) keeps
 
-pub good_is_best : (advert : Advertised) (weights : HostWeights) (c : Claim) → IsGood advert weights c → IsBest advert weights c.kept c.paths
+pub good_is_best : (advert : Advertised) (weights : PathWeights) (c : Claim) → IsGood advert weights c → IsBest advert weights c.kept c.paths
 good_is_best advert weights c good = record {
   admissible = good.admissible;
   keeps = good.keeps;

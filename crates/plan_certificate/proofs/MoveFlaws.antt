@@ -5,7 +5,7 @@ use Rattle.std.specs.Option.{is_none, is_some, unwrap_or}
 use Rattle.std.proofs.lemmas.Bool.Decides.{nat_tests}
 use Rattle.field_tables.specs.FirstFault.{first_fault}
 use Rattle.applications.specs.Advertised.{Advertised}
-use Rattle.applications.specs.Weights.{HostWeights}
+use Rattle.applications.specs.AppWeights.{PathWeights}
 use Rattle.plan_certificate.specs.declared.certificate.Entry.{Entry}
 use Rattle.plan_certificate.specs.declared.moves.Move.{Move}
 use Rattle.plan_certificate.specs.declared.path.Path.{Path}
@@ -46,13 +46,13 @@ none_of_heaviest entries entry free state moves heaviest are none =
 
 -- ---- an entry's flaws
 
-pub entry_flaws_are : (advert : Advertised) (weights : HostWeights) (kept : List Path) (entries : List Entry) (number : ℕ) (entry : Entry) (free : Bool) (moves heaviest : List Move) → entry.boundary < 8 → AreMoves advert weights kept entry.boundary free moves heaviest
+pub entry_flaws_are : (advert : Advertised) (weights : PathWeights) (kept : List Path) (entries : List Entry) (number : ℕ) (entry : Entry) (free : Bool) (moves heaviest : List Move) → entry.boundary < 8 → AreMoves advert weights kept entry.boundary free moves heaviest
     → entry_flaws advert weights kept entries (number, entry) ≡ decisions_flaws entries (number, entry) (decisions_by free (state_of entry) moves)
 entry_flaws_are advert weights kept entries number entry free moves heaviest below are =
     let flaws = decisions_flaws entries (number, entry) in
     ap flaws (decisions_are advert weights kept (state_of entry) below) ∙ (λ i. flaws (decisions_by (sym are.freed i) (state_of entry) (sym are.listed i)))
 
-pub ended_has_none : (advert : Advertised) (weights : HostWeights) (kept : List Path) (entries : List Entry) (number : ℕ) (entry : Entry) → 8 ≤ entry.boundary → first_fault (entry_flaws advert weights kept entries (number, entry)) ≡ None
+pub ended_has_none : (advert : Advertised) (weights : PathWeights) (kept : List Path) (entries : List Entry) (number : ℕ) (entry : Entry) → 8 ≤ entry.boundary → first_fault (entry_flaws advert weights kept entries (number, entry)) ≡ None
 ended_has_none advert weights kept entries number entry past = ap (λ (decisions : List Decision). first_fault (decisions_flaws entries (number, entry) decisions)) (no_decisions advert weights kept (state_of entry) past)
 
 pub none_is : (found : Option Flaw) → is_some found ≡ false → found ≡ None

@@ -4,7 +4,7 @@ use Rattle.std.specs.List.{AllByRecursion, AllPairs, flat_map, range_with_len}
 use Rattle.std.proofs.lemmas.List.Kept.{AllPairs-filter}
 use Rattle.applications.specs.declared.app.App.{App}
 use Rattle.applications.specs.Advertised.{Advertised, InOrder}
-use Rattle.applications.specs.Weights.{HostWeights}
+use Rattle.applications.specs.AppWeights.{PathWeights}
 use Rattle.plan_certificate.specs.declared.path.Path.{Path}
 use Rattle.plan_certificate.specs.declared.moves.Move.{Move}
 use Rattle.plan_certificate.specs.Paths.{IsLower}
@@ -69,7 +69,7 @@ are_of_apps host first (app ∷ apps) order =
 abbrev IsLowerMove : Move → Move → Type 0
 IsLowerMove one later = IsLower one.path later.path
 
-pub moves_rise : (advert : Advertised) (weights : HostWeights) (kept : List Path) (host : ℕ) → InOrder advert.apps → AllPairs IsLowerMove (moves_at advert weights kept host)
+pub moves_rise : (advert : Advertised) (weights : PathWeights) (kept : List Path) (host : ℕ) → InOrder advert.apps → AllPairs IsLowerMove (moves_at advert weights kept host)
 unfolding moves_of
 moves_rise advert weights kept host order =
     let paths = paths_at advert host in

@@ -1,15 +1,15 @@
 -- Of paired first lanes one tells the other, and what a module that pairs them can carry, one that does not can carry too.
-use Rattle.std.proofs.Common.{◌≡◌, ℕ, zero, suc, ◌+◌, ◌<◌, ◌≤◌, ◌&&◌, Bool, true, false, cond, List, ◌∷◌, ◌==◌, count_by, get_or, not, ◌||◌, refl, sym, subst, ap, ◌∙◌, inl, inr, nat_lt, arith}
-use Rattle.std.proofs.lemmas.Bool.{and_parts, cases_Bool, cases_lt, eqb-true}
+use Rattle.std.proofs.Common.{◌≡◌, ℕ, zero, suc, ◌+◌, ◌<◌, ◌≤◌, Bool, true, false, cond, List, ◌∷◌, count_by, get_or, sym, ap, ◌∙◌, inl, inr, arith}
+use Rattle.std.proofs.lemmas.Bool.{cases_lt}
 use Rattle.std.proofs.lemmas.Bool.Decides.{nat_tests}
 use Rattle.std.proofs.lemmas.List.Sums.{sum_by-cons}
-use Rattle.std.specs.List.{All, AllPairs, range_with_len}
+use Rattle.std.specs.List.{range_with_len}
 use Rattle.std.specs.FinSet as set
 use Rattle.field_tables.specs.LaneSets.{Lanes}
 use Rattle.applications.specs.declared.app.App.{App}
 use Rattle.applications.specs.Advertised.{Advertised, with_pairing}
 use Rattle.plan_certificate.specs.declared.path.Path.{Path}
-use Rattle.plan_certificate.specs.Paths.{app_of, is_allowed, is_before, is_paired, rank}
+use Rattle.plan_certificate.specs.Paths.{app_of, is_allowed, is_before, rank}
 use Rattle.plan_certificate.specs.Plans.{are_apart, IsAdmissible}
 use Rattle.plan_certificate.proofs.Heaviest.{allowed}
 

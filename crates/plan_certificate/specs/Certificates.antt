@@ -3,7 +3,7 @@
 use Rattle.std.specs.Prelude.{◌≡◌, ℕ, ◌+◌, ◌*◌, ◌<◌, ◌≤◌, Bool, List, All, AllPairs, Contains}
 use Rattle.field_tables.specs.LaneSets.{lanes_in}
 use Rattle.applications.specs.Advertised.{Advertised}
-use Rattle.applications.specs.Weights.{HostWeights}
+use Rattle.applications.specs.AppWeights.{PathWeights}
 use Rattle.plan_certificate.specs.declared.path.Path.{Path}
 use Rattle.plan_certificate.specs.declared.certificate.Entry.{Entry}
 use Rattle.plan_certificate.specs.declared.state.State.{State}
@@ -42,12 +42,12 @@ abbrev pub IsCovered : List Entry → ℕ → Decision → Type 0
 IsCovered entries potential decision = (later : ℕ) × IsBound entries decision.end later × (decision.weight + later ≤ potential)
 
 -- the certificate is right for these Applications and weights
-pub record IsGood (advert : Advertised) (weights : HostWeights) (certificate : Claim) : Type 0 where
+pub record IsGood (advert : Advertised) (weights : PathWeights) (certificate : Claim) : Type 0 where
   pub paired : certificate.paired ≡ advert.paired
   pub kept : IsAdmissible advert certificate.kept
   pub admissible : IsAdmissible advert certificate.paths
   pub keeps : Keeps certificate.kept certificate.paths
-  pub weighs : certificate.weight ≡ plan_weight advert weights certificate.paths
+  pub weighs : certificate.weight ≡ plan_weight weights certificate.paths
   pub closed : All (λ entry. All (IsCovered certificate.entries entry.potential) (decisions_from advert weights certificate.kept (state_of entry)))
       certificate.entries
   pub begun : IsBound certificate.entries start certificate.weight

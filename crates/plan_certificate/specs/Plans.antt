@@ -5,7 +5,7 @@ use Rattle.std.specs.Prelude.{◌≡◌, ℕ, ◌≤◌, Bool, true, ◌&&◌, L
 use Rattle.std.specs.List.{AllByRecursion}
 use Rattle.field_tables.specs.LaneSets.{is_disjoint}
 use Rattle.applications.specs.Advertised.{Advertised}
-use Rattle.applications.specs.Weights.{HostWeights}
+use Rattle.applications.specs.AppWeights.{PathWeights}
 use Rattle.plan_certificate.specs.declared.path.Path.{Path}
 use Rattle.plan_certificate.specs.Paths.{host_lanes, media_lanes, is_allowed, path_weight}
 
@@ -26,12 +26,12 @@ pub record IsAdmissible (advert : Advertised) (paths : List Path) : Type 0 where
 abbrev pub Keeps : List Path → List Path → Type 0
 Keeps kept paths = AllByRecursion (Contains paths) kept
 
-abbrev pub plan_weight : Advertised → HostWeights → List Path → ℕ
-plan_weight advert weights paths = sum_by (path_weight advert weights) paths
+abbrev pub plan_weight : PathWeights → List Path → ℕ
+plan_weight weights paths = sum_by (path_weight weights) paths
 
 -- it holds the kept paths, and no admissible plan that does weighs more
-pub record IsBest (advert : Advertised) (weights : HostWeights) (kept paths : List Path) : Type 0 where
+pub record IsBest (advert : Advertised) (weights : PathWeights) (kept paths : List Path) : Type 0 where
   pub admissible : IsAdmissible advert paths
   pub keeps : Keeps kept paths
   pub heaviest : (others : List Path) → IsAdmissible advert others → Keeps kept others
-      → plan_weight advert weights others ≤ plan_weight advert weights paths
+      → plan_weight weights others ≤ plan_weight weights paths

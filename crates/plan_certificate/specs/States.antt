@@ -5,7 +5,7 @@ use Rattle.std.specs.List.{range_with_len}
 use Rattle.std.specs.FinSet as set
 use Rattle.field_tables.specs.LaneSets.{is_disjoint, lanes_in, byte_of}
 use Rattle.applications.specs.Advertised.{Advertised}
-use Rattle.applications.specs.Weights.{HostWeights}
+use Rattle.applications.specs.AppWeights.{PathWeights}
 use Rattle.plan_certificate.specs.declared.path.Path.{Path}
 use Rattle.plan_certificate.specs.declared.state.State.{State}
 use Rattle.plan_certificate.specs.declared.state.Decision.{Decision}
@@ -32,9 +32,9 @@ abbrev pub free_decisions : Bool → State → List Decision
 free_decisions may state = if may then free_decision state ∷ [] else []
 
 -- a path begins at the next host lane
-abbrev pub path_decision : Advertised → HostWeights → State → Path → Decision
+abbrev pub path_decision : Advertised → PathWeights → State → Path → Decision
 path_decision advert weights state path = record {
-  weight = path_weight advert weights path;
+  weight = path_weight weights path;
   end = record {
     boundary = state.boundary + (app_of advert path).host_lanes;
     used = set.union state.used (media_lanes advert path);
@@ -53,11 +53,11 @@ abbrev pub fits : Advertised → List Path → State → Path → Bool
 fits advert kept state path = is_eligible advert kept path && is_disjoint (media_lanes advert path) state.used
 
 -- the decisions of those of these paths that fit
-unfoldable pub path_decisions : Advertised → HostWeights → List Path → State → List Path → List Decision
+unfoldable pub path_decisions : Advertised → PathWeights → List Path → State → List Path → List Decision
 path_decisions advert weights kept state paths = map (path_decision advert weights state) (filter (fits advert kept state) paths)
 
 -- the free lane's decision, unless the lane is a kept path's, and then those of the paths that fit
-unfoldable pub decisions_from : Advertised → HostWeights → List Path → State → List Decision
+unfoldable pub decisions_from : Advertised → PathWeights → List Path → State → List Decision
 decisions_from advert weights kept state =
     if nat_lt state.boundary 8
     then free_decisions (may_stay_free advert kept (state.boundary + 1)) state

@@ -6,7 +6,7 @@ use Rattle.std.specs.List.{enumerate_from}
 use Rattle.std.specs.Option.{option_map, unwrap_or, is_none}
 use Rattle.field_tables.specs.FirstFault.{first_fault}
 use Rattle.applications.specs.Advertised.{Advertised}
-use Rattle.applications.specs.Weights.{HostWeights}
+use Rattle.applications.specs.AppWeights.{PathWeights}
 use Rattle.plan_certificate.specs.declared.path.Path.{Path}
 use Rattle.plan_certificate.specs.declared.state.State.{State}
 use Rattle.plan_certificate.specs.declared.state.Decision.{Decision}
@@ -90,30 +90,30 @@ decision_flaws entries (number, entry) decision =
 abbrev pub decisions_flaws : List Entry → ℕ × Entry → List Decision → Flaws
 decisions_flaws entries entry decisions = flat_map (decision_flaws entries entry) decisions
 
-abbrev pub entry_flaws : Advertised → HostWeights → List Path → List Entry → ℕ × Entry → Flaws
+abbrev pub entry_flaws : Advertised → PathWeights → List Path → List Entry → ℕ × Entry → Flaws
 entry_flaws advert weights kept entries entry = decisions_flaws entries entry (decisions_from advert weights kept (state_of entry.1))
 
-unfoldable pub entries_flaws : Advertised → HostWeights → List Path → List Entry → Flaws
+unfoldable pub entries_flaws : Advertised → PathWeights → List Path → List Entry → Flaws
 entries_flaws advert weights kept entries = flat_map (entry_flaws advert weights kept entries) (enumerate_from 1 entries)
 
 -- entries that don't bound what can be gained, or not by the weight
-unfoldable pub bound_flaws : Advertised → HostWeights → List Path → List Entry → ℕ → Flaws
+unfoldable pub bound_flaws : Advertised → PathWeights → List Path → List Entry → ℕ → Flaws
 bound_flaws advert weights kept entries weight =
     (is_none (potential_of entries start), flaw NoStart 0)
     ∷ entries_flaws advert weights kept entries
     ++ (not (unwrap_or (potential_of entries start) 0 == weight), flaw StartNotWeight 0)
     ∷ []
 
-abbrev pub all_flaws : Advertised → HostWeights → Claim → Flaws
+abbrev pub all_flaws : Advertised → PathWeights → Claim → Flaws
 all_flaws advert weights certificate =
     pairing_flaw advert certificate.paired
     ∷ paths_flaws advert certificate.kept certificate.paths
-    ++ (not (certificate.weight == plan_weight advert weights certificate.paths), flaw WeightWrong 0)
+    ++ (not (certificate.weight == plan_weight weights certificate.paths), flaw WeightWrong 0)
     ∷ bound_flaws advert weights certificate.kept certificate.entries certificate.weight
 
 abbrev pub judged : Option Flaw → Verdict
 judged None = Good
 judged (Some found) = Bad found.reason found.number
 
-unfoldable pub verdict : Advertised → HostWeights → Claim → Verdict
+unfoldable pub verdict : Advertised → PathWeights → Claim → Verdict
 verdict advert weights certificate = judged (first_fault (all_flaws advert weights certificate))

@@ -12,12 +12,12 @@ use crate::path::Path;
 use crate::plan::{Plan, weight_of};
 use crate::state::{Decision, HOST_LANES, State};
 use crate::verdict::{Flaw, Reason, Verdict};
-use applications::{Advert, Weights};
+use applications::{Advert, AppWeights};
 
 /// Judges a certificate, whoever made it. A bad one says nothing of its plan, which may be best all the same.
 pub fn check<const STATES: usize>(
     advert: &Advert,
-    weights: &Weights,
+    weights: &AppWeights,
     certificate: &Certificate<STATES>,
 ) -> Verdict
     ensures verdict { result ≡ spec.verdict advert.now weights.now certificate.now }
@@ -40,7 +40,7 @@ pub fn check<const STATES: usize>(
 
 fn flaw<const ROOM: usize>(
     advert: &Advert,
-    weights: &Weights,
+    weights: &AppWeights,
     paired: bool,
     weight: u64,
     kept: &Plan,
@@ -59,7 +59,7 @@ fn flaw<const ROOM: usize>(
     if let Some(flaw) = paths_flaw(advert, kept, paths) {
         return Some(flaw);
     }
-    if weight != weight_of(advert, weights, plan) {
+    if weight != weight_of(weights, plan) {
         return Some(Flaw {
             reason: Reason::WeightWrong,
             number: 0,
@@ -71,7 +71,7 @@ fn flaw<const ROOM: usize>(
 // What is wrong with the entries, as bounds on what can be gained.
 fn bound_flaw<const ROOM: usize>(
     advert: &Advert,
-    weights: &Weights,
+    weights: &AppWeights,
     kept: &[Path],
     entries: &Entries<ROOM>,
     weight: u64,
@@ -99,7 +99,7 @@ fn bound_flaw<const ROOM: usize>(
 
 fn entries_flaw<const ROOM: usize>(
     advert: &Advert,
-    weights: &Weights,
+    weights: &AppWeights,
     kept: &[Path],
     entries: &Entries<ROOM>,
 ) -> Option<Flaw>
@@ -127,7 +127,7 @@ fn entries_flaw<const ROOM: usize>(
 // Where the decisions of the heaviest moves have no flaw, none has.
 fn entry_flaw<const ROOM: usize>(
     advert: &Advert,
-    weights: &Weights,
+    weights: &AppWeights,
     kept: &[Path],
     moves: &mut Moves,
     entries: &Entries<ROOM>,

@@ -5,7 +5,8 @@ ghost use Rattle.plan_certificate.specs.declared.fault.CertificateFault.{Certifi
 ghost use Rattle.plan_certificate.specs.declared.fault.KeptFault.{KeptFault};
 ghost use Rattle.plan_certificate.specs.declared.path.Path.{Path};
 ghost use Rattle.applications.specs.Advertised.{Advertised, with_counts_by_id, with_pairing};
-ghost use Rattle.applications.specs.Weights.{HostWeights};
+ghost use Rattle.applications.specs.AppWeights.{app_weights};
+ghost use Rattle.applications.specs.Weights.{ListedWeights};
 ghost use Rattle.plan_certificate.specs.Paths.{is_allowed};
 ghost use Rattle.plan_certificate.specs.Plans.{IsAdmissible, plan_weight};
 ghost use Rattle.plan_certificate.specs.Certificates.{Claim};
@@ -50,6 +51,6 @@ pub fn paired_plans_are_admissible()
 pub fn plans_stay_admissible_with_counts_by_id()
     ensures admissible { (media_type : ℕ) (advert : Advertised) (paths : List Path) → IsAdmissible advert paths →
         IsAdmissible (with_counts_by_id media_type advert) paths }
-    ensures weight { (media_type : ℕ) (advert : Advertised) (weights : HostWeights) (paths : List Path) →
-        plan_weight (with_counts_by_id media_type advert) weights paths ≡ plan_weight advert weights paths }
+    ensures weight { (media_type : ℕ) (advert : Advertised) (weights : ListedWeights) (paths : List Path) →
+        plan_weight (app_weights (with_counts_by_id media_type advert) weights) paths ≡ plan_weight (app_weights advert weights) paths }
 {}

@@ -9,7 +9,7 @@ use crate::kept::{is_eligible_as, may_stay_free};
 use crate::path::Path;
 use crate::retained::put_heaviest;
 use crate::state::{Decision, State};
-use applications::{Advert, Weights};
+use applications::{Advert, AppWeights};
 use arrayvec::ArrayVec;
 use field_tables::LaneSet;
 
@@ -24,7 +24,7 @@ pub struct Move {
     pub host_lanes: u8,
     /// The media lanes that it takes.
     pub media_lanes: LaneSet,
-    pub weight: u32,
+    pub weight: u64,
 }
 
 impl Move {
@@ -75,7 +75,7 @@ impl Moves {
         }
     }
 
-    pub fn at(advert: &Advert, weights: &Weights, kept: &[Path], boundary: u8) -> Self
+    pub fn at(advert: &Advert, weights: &AppWeights, kept: &[Path], boundary: u8) -> Self
         requires open { boundary < 8 }
         requires kept { AreAllowed advert.now kept.now }
         ensures boundary { result.boundary ≡ boundary }
@@ -87,7 +87,7 @@ impl Moves {
     }
 
     /// Turns to the host lane after another boundary.
-    pub fn turn_to(&mut self, advert: &Advert, weights: &Weights, kept: &[Path], boundary: u8)
+    pub fn turn_to(&mut self, advert: &Advert, weights: &AppWeights, kept: &[Path], boundary: u8)
         requires boundary { boundary < 8 }
         requires kept { AreAllowed advert.now kept.now }
         requires moves { AreMoves advert.now weights.now kept.now self.old.boundary self.old.may_stay_free self.old.all.items self.old.heaviest.items }
@@ -101,7 +101,7 @@ impl Moves {
 
     /// Lists the moves at the host lane after a boundary, in the place of others.
     #[inline(never)]
-    pub fn list(&mut self, advert: &Advert, weights: &Weights, kept: &[Path], boundary: u8)
+    pub fn list(&mut self, advert: &Advert, weights: &AppWeights, kept: &[Path], boundary: u8)
         requires boundary { boundary < 8 }
         requires kept { AreAllowed advert.now kept.now }
         ensures boundary { self.new.boundary ≡ boundary }
@@ -119,7 +119,7 @@ impl Moves {
 pub fn put_moves(
     moves: &mut ArrayVec<Move, MAX_MOVES>,
     advert: &Advert,
-    weights: &Weights,
+    weights: &AppWeights,
     kept: &[Path],
     host: u8,
 )
@@ -128,6 +128,7 @@ pub fn put_moves(
     ensures rising { AllPairs (λ one later. IsLower one.path later.path) moves.new.items }
     ensures lead_on { All (LeadsOn (host - 1)) moves.new.items }
 {
+    let _bound = weights.bound();
     moves.clear();
     for app in advert.apps() {
         push_moves(moves, advert, weights, kept, host, app.number);
@@ -138,7 +139,7 @@ pub fn put_moves(
 pub(crate) fn push_moves<const ROOM: usize>(
     moves: &mut ArrayVec<Move, ROOM>,
     advert: &Advert,
-    weights: &Weights,
+    weights: &AppWeights,
     kept: &[Path],
     host: u8,
     app: u8,
@@ -156,7 +157,7 @@ pub(crate) fn push_moves<const ROOM: usize>(
     };
     let application = first.application(advert);
     let begins = first.may_begin(&application);
-    let weight = weights.of(application.host_id);
+    let weight = weights.of_app(app);
     for before in 0..8 {
         let path = Path {
             app,

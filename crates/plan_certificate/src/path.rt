@@ -2,7 +2,7 @@ ghost use Rattle.std.specs.Prelude.{◌≡◌, ◌≤◌, ◌+◌, true};
 ghost use Rattle.plan_certificate.specs.Paths as spec;
 ghost use Rattle.plan_certificate.specs.Plans as plans;
 
-use applications::{Advert, App, Weights};
+use applications::{Advert, App, AppWeights};
 use field_tables::{LaneNumber, LaneSet};
 
 /// A data path: an Application on consecutive host lanes and consecutive media lanes.
@@ -97,11 +97,12 @@ impl Path {
                 .is_disjoint(other.media_lanes(advert))
     }
 
-    /// What the path weighs; if no Application has its number, what HostInterfaceID 00h weighs.
-    pub fn weight(self, advert: &Advert, weights: &Weights) -> u32
-        ensures { result ≡ spec.path_weight advert.now weights.now self }
+    /// What the path weighs.
+    pub fn weight(self, weights: &AppWeights) -> u64
+        ensures weight { result ≡ spec.path_weight weights.now self }
+        ensures small { result ≤ 12884901885 }
     {
-        weights.of(self.application(advert).host_id)
+        weights.of_app(self.app)
     }
 }
 

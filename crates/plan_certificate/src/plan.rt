@@ -1,6 +1,6 @@
 use crate::flaws::{kept_flaw, plan_flaw};
 use crate::path::Path;
-use applications::{Advert, Weights};
+use applications::{Advert, AppWeights};
 use arrayvec::ArrayVec;
 use std::marker::Model;
 
@@ -45,13 +45,12 @@ pub fn kept_fault(advert: &Advert, kept: &Plan) -> Option<u8>
 }
 
 /// What a plan weighs.
-pub fn weight_of(advert: &Advert, weights: &Weights, plan: &Plan) -> u64
-    requires { IsAdmissible advert.now plan.now }
-    ensures { result ≡ plan_weight advert.now weights.now plan.now }
+pub fn weight_of(weights: &AppWeights, plan: &Plan) -> u64
+    ensures { result ≡ plan_weight weights.now plan.now }
 {
     let mut weight = 0;
     for path in plan.paths.as_slice() {
-        weight += u64::from(path.weight(advert, weights));
+        weight += path.weight(weights);
     }
     weight
 }

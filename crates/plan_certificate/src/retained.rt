@@ -8,7 +8,7 @@ ghost use Rattle.plan_certificate.specs.Moves.{AreHeaviest, AreMoves, HasLanesOf
 use crate::kept::may_stay_free;
 use crate::moves::{MAX_MOVES, Move, push_moves};
 use crate::path::Path;
-use applications::{Advert, Weights};
+use applications::{Advert, AppWeights};
 use arrayvec::ArrayVec;
 
 /// What a plan needs of the host lane after a boundary. There is no room for moves that others outweigh, for firmware has
@@ -34,11 +34,12 @@ impl FollowedMoves {
 
     /// Lists those at the host lane after a boundary, in the place of others.
     #[inline(never)]
-    pub fn list(&mut self, advert: &Advert, weights: &Weights, kept: &[Path], boundary: u8)
+    pub fn list(&mut self, advert: &Advert, weights: &AppWeights, kept: &[Path], boundary: u8)
         requires boundary { boundary < 8 }
         requires kept { AreAllowed advert.now kept.now }
         ensures { AreMoves advert.now weights.now kept.now boundary self.new.may_stay_free (moves_at advert.now weights.now kept.now (boundary + 1)) self.new.moves.items }
     {
+        let _bound = weights.bound();
         self.may_stay_free = may_stay_free(advert, kept, boundary + 1);
         put_heaviest_at(&mut self.moves, advert, weights, kept, boundary + 1);
     }
@@ -48,7 +49,7 @@ impl FollowedMoves {
 fn put_heaviest_at(
     heaviest: &mut ArrayVec<Move, MAX_MOVES>,
     advert: &Advert,
-    weights: &Weights,
+    weights: &AppWeights,
     kept: &[Path],
     host: u8,
 )

@@ -22,7 +22,7 @@ pub struct State {
 #[derive(Clone, Copy, Debug, PartialEq, Eq, Default)]
 pub struct Decision {
     /// What the decision weighs.
-    pub weight: u32,
+    pub weight: u64,
     /// The state that it leads to.
     pub end: State,
 }

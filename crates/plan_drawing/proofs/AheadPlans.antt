@@ -3,7 +3,7 @@ use Rattle.std.proofs.Common.{◌≡◌, ◌≢◌, ℕ, ◌+◌, ◌≤◌, ◌
 use Rattle.std.specs.List.{All, AllByRecursion, Contains}
 use Rattle.std.proofs.lemmas.List.Elements.{All-contains, All-from_recursion, Contains-append_left, Contains-push}
 use Rattle.applications.specs.Advertised.{Advertised}
-use Rattle.applications.specs.Weights.{HostWeights}
+use Rattle.applications.specs.AppWeights.{PathWeights}
 use Rattle.plan_certificate.specs.declared.path.Path.{Path}
 use Rattle.plan_certificate.specs.declared.state.State.{State}
 use Rattle.plan_certificate.specs.Paths.{is_allowed, path_weight}
@@ -20,16 +20,16 @@ use Rattle.lane_planner.proofs.LaterPaths.{weight_more}
 use Rattle.plan_drawing.proofs.GrownPlans.{Stands}
 
 -- its paths are those that were taken, and others that may still come
-pub record Ahead (advert : Advertised) (weights : HostWeights) (kept : List Path) (state : State) (taken others : List Path) : Type 0 where
+pub record Ahead (advert : Advertised) (weights : PathWeights) (kept : List Path) (state : State) (taken others : List Path) : Type 0 where
   pub rest : List Path
   pub split : (path : Path) → Contains others path → Contains taken path ⊎ Contains rest path
   pub inside : AllByRecursion (Contains others) rest
   pub later : AllByRecursion (IsLater advert kept state) rest
   pub apart : AreApart advert rest
   pub come : AllByRecursion (ComesOrCame advert state rest) kept
-  pub weighs : plan_weight advert weights others ≡ plan_weight advert weights taken + plan_weight advert weights rest
+  pub weighs : plan_weight weights others ≡ plan_weight weights taken + plan_weight weights rest
 
-pub ahead_at_start : (advert : Advertised) (weights : HostWeights) (kept others : List Path) → IsAdmissible advert others → Keeps kept others → Ahead advert weights kept start [] others
+pub ahead_at_start : (advert : Advertised) (weights : PathWeights) (kept others : List Path) → IsAdmissible advert others → Keeps kept others → Ahead advert weights kept start [] others
 ahead_at_start advert weights kept others plan keeps = record {
   rest = others;
   split = λ path held. inr held;
@@ -41,14 +41,14 @@ ahead_at_start advert weights kept others plan keeps = record {
 }
 
 -- what it weighs at most
-pub ahead_bounded : (advert : Advertised) (weights : HostWeights) (kept : List Path) (state : State) (taken others : List Path) (gain : ℕ) → IsLimit advert weights kept state gain → Ahead advert weights kept state taken others → plan_weight advert weights others ≤ plan_weight advert weights taken + gain
+pub ahead_bounded : (advert : Advertised) (weights : PathWeights) (kept : List Path) (state : State) (taken others : List Path) (gain : ℕ) → IsLimit advert weights kept state gain → Ahead advert weights kept state taken others → plan_weight weights others ≤ plan_weight weights taken + gain
 ahead_bounded advert weights kept state taken others gain limit is =
     let most = bounded advert weights kept (IsLimit advert weights kept) (limit_preserved advert weights kept) 8 state gain (omega arith) limit is.rest is.apart is.later is.come in
     omega (arith, most, is.weighs)
 
 -- ---- none of its paths begins at the next host lane
 
-pub ahead_free : (advert : Advertised) (weights : HostWeights) (kept : List Path) (state : State) (taken others : List Path) → Ahead advert weights kept state taken others → ((path : Path) → Contains others path → path.host ≢ state.boundary + 1) → Ahead advert weights kept (free_decision state).end taken others
+pub ahead_free : (advert : Advertised) (weights : PathWeights) (kept : List Path) (state : State) (taken others : List Path) → Ahead advert weights kept state taken others → ((path : Path) → Contains others path → path.host ≢ state.boundary + 1) → Ahead advert weights kept (free_decision state).end taken others
 ahead_free advert weights kept state taken others is elsewhere =
     let Elsewhere : Path → Type 0 = λ path. path.host ≢ state.boundary + 1 in
     let away = map_each (Contains others) Elsewhere is.rest elsewhere is.inside in
@@ -88,7 +88,7 @@ picked_or_left advert weigh rest host picked other held =
     let each = picked.back Left (inl refl, map_each (Contains picked.rest) Left picked.rest (λ path in_rest. inr in_rest) (each_contained picked.rest)) in
     All-contains Left rest other (All-from_recursion Left rest each) held
 
-took : (advert : Advertised) (weights : HostWeights) (kept : List Path) (state : State) (taken others : List Path) (is : Ahead advert weights kept state taken others) (picked : Picked advert (path_weight advert weights) is.rest (state.boundary + 1))
+took : (advert : Advertised) (weights : PathWeights) (kept : List Path) (state : State) (taken others : List Path) (is : Ahead advert weights kept state taken others) (picked : Picked advert (path_weight weights) is.rest (state.boundary + 1))
     → Ahead advert weights kept (path_decision advert weights state picked.path).end (taken ++ picked.path ∷ []) others
 took advert weights kept state taken others is picked =
     let path : Path = picked.path in
@@ -99,7 +99,7 @@ took advert weights kept state taken others is picked =
       rest = picked.rest;
       split = λ other held. elim (is.split other held) [
         | inl so_far ↦ inl (Contains-append_left taken (path ∷ []) other so_far)
-        | inr left ↦ elim (picked_or_left advert (path_weight advert weights) is.rest (state.boundary + 1) picked other left) [
+        | inr left ↦ elim (picked_or_left advert (path_weight weights) is.rest (state.boundary + 1) picked other left) [
           | inl this ↦ inl (subst (Contains (taken ++ path ∷ [])) (sym this) (Contains-push taken path))
           | inr after ↦ inr after
         ]
@@ -108,14 +108,14 @@ took advert weights kept state taken others is picked =
       later = each_pair (IsLater advert kept state) (IsApart advert path) (IsLater advert kept End) picked.rest
           (λ other is_later apart. after_path advert weights kept state path other parts.0 picked.begins is_later apart) parts.1 picked.path_apart;
       apart = picked.rest_apart;
-      come = come_taken advert weights (path_weight advert weights) kept state is.rest picked is.come;
+      come = come_taken advert weights (path_weight weights) kept state is.rest picked is.come;
       weighs = omega (arith, is.weighs, picked.weighs, weight_more advert weights taken path);
     }
 
-pub ahead_path : (advert : Advertised) (weights : HostWeights) (kept : List Path) (state : State) (taken others : List Path) (path : Path) → IsAdmissible advert others → All (Stands advert state) taken → Ahead advert weights kept state taken others → Contains others path → path.host ≡ state.boundary + 1
+pub ahead_path : (advert : Advertised) (weights : PathWeights) (kept : List Path) (state : State) (taken others : List Path) (path : Path) → IsAdmissible advert others → All (Stands advert state) taken → Ahead advert weights kept state taken others → Contains others path → path.host ≡ state.boundary + 1
     → Ahead advert weights kept (path_decision advert weights state path).end (taken ++ path ∷ []) others
 ahead_path advert weights kept state taken others path plan stand is held begins =
-    elim (pick advert (path_weight advert weights) is.rest (state.boundary + 1) is.apart) [
+    elim (pick advert (path_weight weights) is.rest (state.boundary + 1) is.apart) [
       | inl picked ↦
           let inside = (picked.each (Contains others) is.inside).0 in
           let same = same_at_host advert others path picked.path plan held inside (picked.begins ∙ sym begins) in

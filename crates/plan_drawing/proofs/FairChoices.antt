@@ -5,7 +5,7 @@ use Rattle.std.proofs.lemmas.Bool.{and_parts, cases_Bool}
 use Rattle.field_tables.specs.LaneSets.{is_disjoint}
 use Rattle.applications.specs.declared.app.App.{App}
 use Rattle.applications.specs.Advertised.{Advertised}
-use Rattle.applications.specs.Weights.{HostWeights}
+use Rattle.applications.specs.AppWeights.{PathWeights}
 use Rattle.plan_certificate.specs.declared.path.Path.{Path}
 use Rattle.plan_certificate.specs.declared.state.State.{State}
 use Rattle.plan_certificate.specs.Paths.{media_lanes, path_weight}
@@ -17,23 +17,23 @@ use Rattle.plan_drawing.specs.declared.choice.Choice.{Choice}
 use Rattle.plan_drawing.specs.Choices.{app_choices, best_of_app, choices_in, first_smaller, free_if_may, greatest, is_greatest, is_worth, listed, path_choice, placed, ranked, ranked_with}
 
 -- by the path of a choice, and its sum
-pub record OfPath (advert : Advertised) (weights : HostWeights) (kept : List Path) (table : List ℕ) (state : State) (path : Path) (sum : ℕ) : Type 0 where
+pub record OfPath (advert : Advertised) (weights : PathWeights) (kept : List Path) (table : List ℕ) (state : State) (path : Path) (sum : ℕ) : Type 0 where
   pub begins : path.host ≡ state.boundary + 1
   pub can : is_eligible advert kept path ≡ true
   pub unused : is_disjoint (media_lanes advert path) state.used ≡ true
-  pub summed : sum ≡ path_weight advert weights path + gain_at table (path_decision advert weights state path).end
+  pub summed : sum ≡ path_weight weights path + gain_at table (path_decision advert weights state path).end
 
-abbrev pub FairBy : Advertised → HostWeights → List Path → List ℕ → State → Option Path → ℕ → Type 0
+abbrev pub FairBy : Advertised → PathWeights → List Path → List ℕ → State → Option Path → ℕ → Type 0
 FairBy advert weights kept table state (Some path) sum = OfPath advert weights kept table state path sum
 FairBy advert weights kept table state None sum =
     (may_stay_free advert kept (state.boundary + 1) ≡ true) × (sum ≡ gain_at table (free_decision state).end)
 
-abbrev pub IsFair : Advertised → HostWeights → List Path → List ℕ → State → Choice → Type 0
+abbrev pub IsFair : Advertised → PathWeights → List Path → List ℕ → State → Choice → Type 0
 IsFair advert weights kept table state choice = FairBy advert weights kept table state choice.path choice.sum
 
 -- ---- of an Application
 
-fair_paths : (advert : Advertised) (weights : HostWeights) (kept : List Path) (table : List ℕ) (state : State) (paths : List Path) → AllByRecursion (λ path. path.host ≡ state.boundary + 1) paths
+fair_paths : (advert : Advertised) (weights : PathWeights) (kept : List Path) (table : List ℕ) (state : State) (paths : List Path) → AllByRecursion (λ path. path.host ≡ state.boundary + 1) paths
     → AllByRecursion (IsFair advert weights kept table state) (map (path_choice advert weights table state) (filter (is_worth advert weights kept state) paths))
 fair_paths advert weights kept table state [] begin = tt
 fair_paths advert weights kept table state (path ∷ paths) begin =
@@ -49,21 +49,21 @@ fair_paths advert weights kept table state (path ∷ paths) begin =
       | inr fails ↦ subst Made (sym fails) rest
     ]
 
-fair_of_app : (advert : Advertised) (weights : HostWeights) (kept : List Path) (table : List ℕ) (state : State) (app : App) → AllByRecursion (IsFair advert weights kept table state) (app_choices advert weights kept table state app)
+fair_of_app : (advert : Advertised) (weights : PathWeights) (kept : List Path) (table : List ℕ) (state : State) (app : App) → AllByRecursion (IsFair advert weights kept table state) (app_choices advert weights kept table state app)
 unfolding app_choices
 fair_of_app advert weights kept table state app = fair_paths advert weights kept table state (paths_of_app (state.boundary + 1) app.number) (refl, (refl, (refl, (refl, (refl, (refl, (refl, (refl, tt))))))))
 
-fair_best : (advert : Advertised) (weights : HostWeights) (kept : List Path) (table : List ℕ) (state : State) (choices : List Choice) → AllByRecursion (IsFair advert weights kept table state) choices → (o : Option Choice) → greatest choices ≡ o → AllByRecursion (IsFair advert weights kept table state) (listed o)
+fair_best : (advert : Advertised) (weights : PathWeights) (kept : List Path) (table : List ℕ) (state : State) (choices : List Choice) → AllByRecursion (IsFair advert weights kept table state) choices → (o : Option Choice) → greatest choices ≡ o → AllByRecursion (IsFair advert weights kept table state) (listed o)
 fair_best advert weights kept table state choices fair (Some choice) is = ((found (IsFair advert weights kept table state) (is_greatest choices) choices choice is fair).0, tt)
 fair_best advert weights kept table state choices fair None is = tt
 
 -- ---- all of them
 
-fair_free : (advert : Advertised) (weights : HostWeights) (kept : List Path) (table : List ℕ) (state : State) (may : Bool) → may_stay_free advert kept (state.boundary + 1) ≡ may → AllByRecursion (IsFair advert weights kept table state) (listed (free_if_may may table state))
+fair_free : (advert : Advertised) (weights : PathWeights) (kept : List Path) (table : List ℕ) (state : State) (may : Bool) → may_stay_free advert kept (state.boundary + 1) ≡ may → AllByRecursion (IsFair advert weights kept table state) (listed (free_if_may may table state))
 fair_free advert weights kept table state true may = ((may, refl), tt)
 fair_free advert weights kept table state false not_free = tt
 
-fair_choices : (advert : Advertised) (weights : HostWeights) (kept : List Path) (table : List ℕ) (state : State) → AllByRecursion (IsFair advert weights kept table state) (choices_in advert weights kept table state)
+fair_choices : (advert : Advertised) (weights : PathWeights) (kept : List Path) (table : List ℕ) (state : State) → AllByRecursion (IsFair advert weights kept table state) (choices_in advert weights kept table state)
 fair_choices advert weights kept table state =
     let Fair = IsFair advert weights kept table state in
     let may : Bool = may_stay_free advert kept (state.boundary + 1) in
@@ -86,5 +86,5 @@ fair_ranked P [] others each placed_each = placed_each
 fair_ranked P (choice ∷ choices) others each placed_each =
     fair_ranked P choices (placed choice others) each.1 (each_inserted P others (first_smaller others choice.sum) choice each.0 placed_each)
 
-pub each_fair : (advert : Advertised) (weights : HostWeights) (kept : List Path) (table : List ℕ) (state : State) → AllByRecursion (IsFair advert weights kept table state) (ranked (choices_in advert weights kept table state))
+pub each_fair : (advert : Advertised) (weights : PathWeights) (kept : List Path) (table : List ℕ) (state : State) → AllByRecursion (IsFair advert weights kept table state) (ranked (choices_in advert weights kept table state))
 each_fair advert weights kept table state = fair_ranked (IsFair advert weights kept table state) (choices_in advert weights kept table state) [] (fair_choices advert weights kept table state) tt

@@ -7,7 +7,7 @@ use Rattle.std.proofs.lemmas.List.Quantifiers.{all_pairs_push}
 use Rattle.std.proofs.lemmas.List.Sums.{sum_by-cons}
 use Rattle.field_tables.specs.LaneSets.{Lanes, is_disjoint}
 use Rattle.applications.specs.Advertised.{Advertised}
-use Rattle.applications.specs.Weights.{HostWeights}
+use Rattle.applications.specs.AppWeights.{PathWeights}
 use Rattle.plan_certificate.specs.declared.path.Path.{Path}
 use Rattle.plan_certificate.specs.declared.state.State.{State}
 use Rattle.plan_certificate.specs.declared.state.Decision.{Decision}
@@ -40,14 +40,14 @@ pub record Grown (advert : Advertised) (kept : List Path) (state : State) (paths
 
 -- ---- one decision more
 
-stands_past : (advert : Advertised) (weights : HostWeights) (state : State) (taken path : Path) → Stands advert state path → Stands advert (path_decision advert weights state taken).end path
+stands_past : (advert : Advertised) (weights : PathWeights) (state : State) (taken path : Path) → Stands advert state path → Stands advert (path_decision advert weights state taken).end path
 stands_past advert weights state taken path is = record {
   can = is.can;
   before = omega (arith, is.before);
   used = λ others none. is.used others (disjoint_first others state.used (media_lanes advert taken) none);
 }
 
-stands_itself : (advert : Advertised) (weights : HostWeights) (state : State) (path : Path) → path.host ≡ state.boundary + 1 → is_allowed advert path ≡ true → Stands advert (path_decision advert weights state path).end path
+stands_itself : (advert : Advertised) (weights : PathWeights) (state : State) (path : Path) → path.host ≡ state.boundary + 1 → is_allowed advert path ≡ true → Stands advert (path_decision advert weights state path).end path
 stands_itself advert weights state path begins can = record {
   can = can;
   before = omega (arith, begins);
@@ -72,7 +72,7 @@ grown_free advert kept state paths is below may = record {
   keeps = taken_after_free advert kept state paths may is.keeps;
 }
 
-pub grown_path : (advert : Advertised) (weights : HostWeights) (kept : List Path) (state : State) (paths : List Path) (path : Path) → IsAdmissible advert kept → Grown advert kept state paths → path.host ≡ state.boundary + 1 → is_eligible advert kept path ≡ true → is_disjoint (media_lanes advert path) state.used ≡ true
+pub grown_path : (advert : Advertised) (weights : PathWeights) (kept : List Path) (state : State) (paths : List Path) (path : Path) → IsAdmissible advert kept → Grown advert kept state paths → path.host ≡ state.boundary + 1 → is_eligible advert kept path ≡ true → is_disjoint (media_lanes advert path) state.used ≡ true
     → Grown advert kept (path_decision advert weights state path).end (paths ++ path ∷ [])
 grown_path advert weights kept state paths path plan is begins can unused =
     let End : State = (path_decision advert weights state path).end in
@@ -88,15 +88,15 @@ grown_path advert weights kept state paths path plan is begins can unused =
 -- ---- to the end
 
 -- a plan with these paths, and others that begin past the state, that weighs at least so much more
-pub record Fulfils (advert : Advertised) (weights : HostWeights) (kept : List Path) (state : State) (paths : List Path) (gain : ℕ) : Type 0 where
+pub record Fulfils (advert : Advertised) (weights : PathWeights) (kept : List Path) (state : State) (paths : List Path) (gain : ℕ) : Type 0 where
   pub others : List Path
   pub admissible : IsAdmissible advert others
   pub keeps : Keeps kept others
   pub holds : (path : Path) → Contains paths path → Contains others path
   pub either : (path : Path) → Contains others path → Contains paths path ⊎ (state.boundary < path.host)
-  pub weighs : plan_weight advert weights paths + gain ≤ plan_weight advert weights others
+  pub weighs : plan_weight weights paths + gain ≤ plan_weight weights others
 
-ended : (advert : Advertised) (weights : HostWeights) (kept : List Path) (state : State) (paths : List Path) → Grown advert kept state paths → 8 ≤ state.boundary → Fulfils advert weights kept state paths 0
+ended : (advert : Advertised) (weights : PathWeights) (kept : List Path) (state : State) (paths : List Path) → Grown advert kept state paths → 8 ≤ state.boundary → Fulfils advert weights kept state paths 0
 ended advert weights kept state paths is past = record {
   others = paths;
   admissible = record { allowed = λ k d inside. (is.stand k d inside).can; apart = λ i j d before inside. (is.ordered i j d before inside).apart };
@@ -106,7 +106,7 @@ ended advert weights kept state paths is past = record {
   weighs = omega arith;
 }
 
-after_free : (advert : Advertised) (weights : HostWeights) (kept : List Path) (state : State) (paths : List Path) (gain : ℕ) → Fulfils advert weights kept (free_decision state).end paths gain → Fulfils advert weights kept state paths gain
+after_free : (advert : Advertised) (weights : PathWeights) (kept : List Path) (state : State) (paths : List Path) (gain : ℕ) → Fulfils advert weights kept (free_decision state).end paths gain → Fulfils advert weights kept state paths gain
 after_free advert weights kept state paths gain is = record {
   others = is.others;
   admissible = is.admissible;
@@ -119,8 +119,8 @@ after_free advert weights kept state paths gain is = record {
   weighs = is.weighs;
 }
 
-after_path : (advert : Advertised) (weights : HostWeights) (kept : List Path) (state : State) (paths : List Path) (path : Path) (gain : ℕ) → path.host ≡ state.boundary + 1 → Fulfils advert weights kept (path_decision advert weights state path).end (paths ++ path ∷ []) gain
-    → Fulfils advert weights kept state paths (path_weight advert weights path + gain)
+after_path : (advert : Advertised) (weights : PathWeights) (kept : List Path) (state : State) (paths : List Path) (path : Path) (gain : ℕ) → path.host ≡ state.boundary + 1 → Fulfils advert weights kept (path_decision advert weights state path).end (paths ++ path ∷ []) gain
+    → Fulfils advert weights kept state paths (path_weight weights path + gain)
 after_path advert weights kept state paths path gain begins is = record {
   others = is.others;
   admissible = is.admissible;
@@ -136,7 +136,7 @@ after_path advert weights kept state paths path gain begins is = record {
   weighs = omega (arith, is.weighs, weight_more advert weights paths path);
 }
 
-at_least : (advert : Advertised) (weights : HostWeights) (kept : List Path) (state : State) (paths : List Path) (gain less : ℕ) → less ≤ gain → Fulfils advert weights kept state paths gain → Fulfils advert weights kept state paths less
+at_least : (advert : Advertised) (weights : PathWeights) (kept : List Path) (state : State) (paths : List Path) (gain less : ℕ) → less ≤ gain → Fulfils advert weights kept state paths gain → Fulfils advert weights kept state paths less
 at_least advert weights kept state paths gain less smaller is = record {
   others = is.others;
   admissible = is.admissible;
@@ -147,7 +147,7 @@ at_least advert weights kept state paths gain less smaller is = record {
 }
 
 -- by no more than the kept paths that may still come
-finished : (advert : Advertised) (weights : HostWeights) (kept : List Path) (left : ℕ) (state : State) (paths : List Path) → IsAdmissible advert kept → 8 ≤ state.boundary + left → Grown advert kept state paths → Fulfils advert weights kept state paths 0
+finished : (advert : Advertised) (weights : PathWeights) (kept : List Path) (left : ℕ) (state : State) (paths : List Path) → IsAdmissible advert kept → 8 ≤ state.boundary + left → Grown advert kept state paths → Fulfils advert weights kept state paths 0
 finished advert weights kept zero state paths plan upto is = ended advert weights kept state paths is (omega (arith, upto))
 finished advert weights kept (suc left) state paths plan upto is =
     let lane : ℕ = state.boundary + 1 in
@@ -165,13 +165,13 @@ finished advert weights kept (suc left) state paths plan upto is =
                   let lanes = allowed advert one.path (eligible_allowed advert kept one.path later.can) in
                   let End : State = (path_decision advert weights state one.path).end in
                   let rest = finished advert weights kept left End (paths ++ one.path ∷ []) plan (omega (arith, upto, lanes.host_some)) (grown_path advert weights kept state paths one.path plan is begins later.can later.unused) in
-                  at_least advert weights kept state paths (path_weight advert weights one.path + 0) 0 (omega arith) (after_path advert weights kept state paths one.path 0 begins rest)
+                  at_least advert weights kept state paths (path_weight weights one.path + 0) 0 (omega arith) (after_path advert weights kept state paths one.path 0 begins rest)
             ]
       ]
     ]
 
 -- by decisions that follow one another, and then so
-pub followed : (advert : Advertised) (weights : HostWeights) (kept : List Path) (decisions : List Decision) (state : State) (paths : List Path) → IsAdmissible advert kept → Grown advert kept state paths → Follow advert weights kept state decisions → Fulfils advert weights kept state paths (decisions_weight decisions)
+pub followed : (advert : Advertised) (weights : PathWeights) (kept : List Path) (decisions : List Decision) (state : State) (paths : List Path) → IsAdmissible advert kept → Grown advert kept state paths → Follow advert weights kept state decisions → Fulfils advert weights kept state paths (decisions_weight decisions)
 followed advert weights kept [] state paths plan is follow = finished advert weights kept 8 state paths plan (omega arith) is
 followed advert weights kept (decision ∷ decisions) state paths plan is follow =
     let kind = decision_is advert weights kept state decision follow.0 in
@@ -186,5 +186,5 @@ followed advert weights kept (decision ∷ decisions) state paths plan is follow
           let End : State = (path_decision advert weights state path).end in
           let next : Follow advert weights kept End decisions = subst (λ (s : State). Follow advert weights kept s decisions) (ap (λ (s : Decision). s.end) taken.is) follow.1 in
           let rest = followed advert weights kept decisions End (paths ++ path ∷ []) plan (grown_path advert weights kept state paths path plan is taken.begins taken.can taken.unused) next in
-          at_least advert weights kept state paths (path_weight advert weights path + decisions_weight decisions) (decisions_weight (decision ∷ decisions)) (omega (arith, total, ap (λ (s : Decision). s.weight) taken.is)) (after_path advert weights kept state paths path (decisions_weight decisions) taken.begins rest)
+          at_least advert weights kept state paths (path_weight weights path + decisions_weight decisions) (decisions_weight (decision ∷ decisions)) (omega (arith, total, ap (λ (s : Decision). s.weight) taken.is)) (after_path advert weights kept state paths path (decisions_weight decisions) taken.begins rest)
     ]

@@ -4,7 +4,7 @@ use Rattle.std.specs.List.{Contains}
 use Rattle.std.proofs.lemmas.List.Elements.{All-contains, All-from_recursion, Contains-append_left, Contains-push, Contains-push_cases}
 use Rattle.field_tables.specs.LaneSets.{is_disjoint}
 use Rattle.applications.specs.Advertised.{Advertised}
-use Rattle.applications.specs.Weights.{HostWeights}
+use Rattle.applications.specs.AppWeights.{PathWeights}
 use Rattle.plan_certificate.specs.declared.path.Path.{Path}
 use Rattle.plan_certificate.specs.declared.state.State.{State}
 use Rattle.plan_certificate.specs.declared.state.Decision.{Decision}
@@ -28,22 +28,22 @@ use Rattle.plan_drawing.proofs.GrownPlans.{Fulfils, Stands, followed, grown_free
 use Rattle.plan_drawing.proofs.WalkedStates.{SameBelow, Walked, ahead_itself}
 
 -- what is known where the plan has come to a state
-pub record Here (advert : Advertised) (weights : HostWeights) (kept paths : List Path) (table : List ℕ) (state : State) (taken : List Path) : Type 0 where
+pub record Here (advert : Advertised) (weights : PathWeights) (kept paths : List Path) (table : List ℕ) (state : State) (taken : List Path) : Type 0 where
   pub kept_plan : IsAdmissible advert kept
   pub best : IsBest advert weights kept paths
   pub gains : HasGains advert weights kept 0 table
   pub below : state.boundary < 8
   pub walked : Walked advert weights kept paths state taken
 
-gain_here : (advert : Advertised) (weights : HostWeights) (kept paths : List Path) (table : List ℕ) (state : State) (taken : List Path) → Here advert weights kept paths table state taken → IsGain advert weights kept state (gain_at table state)
+gain_here : (advert : Advertised) (weights : PathWeights) (kept paths : List Path) (table : List ℕ) (state : State) (taken : List Path) → Here advert weights kept paths table state taken → IsGain advert weights kept state (gain_at table state)
 gain_here advert weights kept paths table state taken is = gain_in advert weights kept 0 table state is.gains is.walked.reached (omega arith)
 
-gain_next : (advert : Advertised) (weights : HostWeights) (kept paths : List Path) (table : List ℕ) (state : State) (taken : List Path) (decision : Decision) → Here advert weights kept paths table state taken → Contains (decisions_from advert weights kept state) decision → IsGain advert weights kept decision.end (gain_at table decision.end)
+gain_next : (advert : Advertised) (weights : PathWeights) (kept paths : List Path) (table : List ℕ) (state : State) (taken : List Path) (decision : Decision) → Here advert weights kept paths table state taken → Contains (decisions_from advert weights kept state) decision → IsGain advert weights kept decision.end (gain_at table decision.end)
 gain_next advert weights kept paths table state taken decision is contains =
     gain_in advert weights kept 0 table decision.end is.gains (reached_on advert weights kept state decision is.walked.reached contains) (omega arith)
 
 -- the plan weighs what it has taken, and all that can be gained
-whole : (advert : Advertised) (weights : HostWeights) (kept paths : List Path) (table : List ℕ) (state : State) (taken : List Path) → Here advert weights kept paths table state taken → plan_weight advert weights paths ≡ plan_weight advert weights taken + gain_at table state
+whole : (advert : Advertised) (weights : PathWeights) (kept paths : List Path) (table : List ℕ) (state : State) (taken : List Path) → Here advert weights kept paths table state taken → plan_weight weights paths ≡ plan_weight weights taken + gain_at table state
 whole advert weights kept paths table state taken is =
     let gain = gain_here advert weights kept paths table state taken is in
     let own = ahead_itself advert weights kept paths state taken is.best.admissible is.best.keeps is.walked in
@@ -54,7 +54,7 @@ whole advert weights kept paths table state taken is =
     omega (arith, most, grown.weighs, run.2, least)
 
 -- plans that grow past the state have the same paths below it
-grown_same : (advert : Advertised) (weights : HostWeights) (kept paths : List Path) (table : List ℕ) (state : State) (taken : List Path) (others : List Path) → Here advert weights kept paths table state taken
+grown_same : (advert : Advertised) (weights : PathWeights) (kept paths : List Path) (table : List ℕ) (state : State) (taken : List Path) (others : List Path) → Here advert weights kept paths table state taken
     → ((path : Path) → Contains taken path → Contains others path) → ((path : Path) → Contains others path → Contains taken path ⊎ (state.boundary < path.host)) → SameBelow paths (state.boundary + 1) others
 grown_same advert weights kept paths table state taken others is holds either path low = (
   (λ held.
@@ -71,7 +71,7 @@ grown_same advert weights kept paths table state taken others is holds either pa
 
 -- ---- a path begins at the next host lane
 
-past_path : (advert : Advertised) (weights : HostWeights) (kept : List Path) (state : State) (taken : List Path) (path : Path) (gain : ℕ) → path.host ≡ state.boundary + 1 → (grown : Fulfils advert weights kept (path_decision advert weights state path).end (taken ++ path ∷ []) gain)
+past_path : (advert : Advertised) (weights : PathWeights) (kept : List Path) (state : State) (taken : List Path) (path : Path) (gain : ℕ) → path.host ≡ state.boundary + 1 → (grown : Fulfils advert weights kept (path_decision advert weights state path).end (taken ++ path ∷ []) gain)
     → (other : Path) → Contains grown.others other → Contains taken other ⊎ (state.boundary < other.host)
 past_path advert weights kept state taken path gain begins grown other held =
     elim (grown.either other held) [
@@ -82,8 +82,8 @@ past_path advert weights kept state taken path gain begins grown other held =
       | inr past ↦ inr (omega (arith, past))
     ]
 
-pub less_by_path : (advert : Advertised) (weights : HostWeights) (kept paths : List Path) (table : List ℕ) (state : State) (taken : List Path) (path : Path) (sum : ℕ) → Here advert weights kept paths table state taken
-    → path.host ≡ state.boundary + 1 → is_eligible advert kept path ≡ true → is_disjoint (media_lanes advert path) state.used ≡ true → sum ≡ path_weight advert weights path + gain_at table (path_decision advert weights state path).end
+pub less_by_path : (advert : Advertised) (weights : PathWeights) (kept paths : List Path) (table : List ℕ) (state : State) (taken : List Path) (path : Path) (sum : ℕ) → Here advert weights kept paths table state taken
+    → path.host ≡ state.boundary + 1 → is_eligible advert kept path ≡ true → is_disjoint (media_lanes advert path) state.used ≡ true → sum ≡ path_weight weights path + gain_at table (path_decision advert weights state path).end
     → IsLess advert weights kept paths (state.boundary + 1) (Some path) (gain_at table state - sum)
 less_by_path advert weights kept paths table state taken path sum is begins can unused summed =
     let decisions = decisions_from advert weights kept state in
@@ -94,7 +94,7 @@ less_by_path advert weights kept paths table state taken path sum is begins can 
     let covers = covers_decision advert weights kept state (gain_at table state) (gain_at table decision.end) decision gain next contains in
     let all = whole advert weights kept paths table state taken is in
     let more = weight_more advert weights taken path in
-    let greatest : (others : List Path) → IsAlternative advert kept paths (state.boundary + 1) (Some path) others → plan_weight advert weights others + (gain_at table state - sum) ≤ plan_weight advert weights paths =
+    let greatest : (others : List Path) → IsAlternative advert kept paths (state.boundary + 1) (Some path) others → plan_weight weights others + (gain_at table state - sum) ≤ plan_weight weights paths =
     λ others other.
     let before = is.walked.ahead others other.admissible other.keeps other.same_below in
     let after = ahead_path advert weights kept state taken others path other.admissible is.walked.grown.stand before other.makes begins in
@@ -121,7 +121,7 @@ elsewhere advert others lane path plan free held begins =
     let lanes = allowed advert path (All-contains (λ (p : Path). is_allowed advert p ≡ true) others path plan.allowed held) in
     none_has advert others lane path free held (has_lane advert path lane (omega (arith, begins)) (omega (arith, begins, lanes.host_some)))
 
-pub less_by_free : (advert : Advertised) (weights : HostWeights) (kept paths : List Path) (table : List ℕ) (state : State) (taken : List Path) (sum : ℕ) → Here advert weights kept paths table state taken
+pub less_by_free : (advert : Advertised) (weights : PathWeights) (kept paths : List Path) (table : List ℕ) (state : State) (taken : List Path) (sum : ℕ) → Here advert weights kept paths table state taken
     → may_stay_free advert kept (state.boundary + 1) ≡ true → sum ≡ gain_at table (free_decision state).end
     → IsLess advert weights kept paths (state.boundary + 1) None (gain_at table state - sum)
 less_by_free advert weights kept paths table state taken sum is may summed =
@@ -133,7 +133,7 @@ less_by_free advert weights kept paths table state taken sum is may summed =
     let next = gain_next advert weights kept paths table state taken decision is contains in
     let covers = covers_decision advert weights kept state (gain_at table state) (gain_at table decision.end) decision gain next contains in
     let all = whole advert weights kept paths table state taken is in
-    let greatest : (others : List Path) → IsAlternative advert kept paths lane None others → plan_weight advert weights others + (gain_at table state - sum) ≤ plan_weight advert weights paths =
+    let greatest : (others : List Path) → IsAlternative advert kept paths lane None others → plan_weight weights others + (gain_at table state - sum) ≤ plan_weight weights paths =
     λ others other.
     let before = is.walked.ahead others other.admissible other.keeps other.same_below in
     let after = ahead_free advert weights kept state taken others before (λ path held begins. elsewhere advert others lane path other.admissible other.makes held begins) in

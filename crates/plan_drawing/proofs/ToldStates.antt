@@ -4,14 +4,14 @@ use Rattle.std.specs.List.{flat_map}
 use Rattle.std.proofs.lemmas.List.Concat.{flat_map-append}
 use Rattle.text_lines.specs.Lines.{text_of}
 use Rattle.applications.specs.Advertised.{Advertised}
-use Rattle.applications.specs.Weights.{HostWeights}
+use Rattle.applications.specs.AppWeights.{PathWeights}
 use Rattle.plan_certificate.specs.declared.path.Path.{Path}
 use Rattle.plan_certificate.specs.declared.state.State.{State}
 use Rattle.plan_drawing.specs.Walks.{next_state, states_on}
 use Rattle.plan_drawing.specs.Why.{state_lines, told_on}
 
 -- where the plan decides on the lane, its lines come first
-pub told_here : (advert : Advertised) (weights : HostWeights) (kept : List Path) (table : List ℕ) (paths : List Path) (state : State) (lane : ℕ) (lanes : List ℕ) (before : List ℕ) → (state.boundary + 1 == lane) ≡ true
+pub told_here : (advert : Advertised) (weights : PathWeights) (kept : List Path) (table : List ℕ) (paths : List Path) (state : State) (lane : ℕ) (lanes : List ℕ) (before : List ℕ) → (state.boundary + 1 == lane) ≡ true
     → before ++ text_of (told_on advert weights kept table paths state (lane ∷ lanes))
     ≡ (before ++ text_of (state_lines advert weights kept table paths state)) ++ text_of (told_on advert weights kept table paths (next_state advert weights paths state) lanes)
 unfolding states_on
@@ -24,7 +24,7 @@ told_here advert weights kept table paths state lane lanes before is =
     ∙ sym (append_assoc before (text_of (lines state)) (text_of (flat_map lines rest)))
 
 -- else none
-pub told_past : (advert : Advertised) (weights : HostWeights) (kept : List Path) (table : List ℕ) (paths : List Path) (state : State) (lane : ℕ) (lanes : List ℕ) (before : List ℕ) → (state.boundary + 1 == lane) ≡ false
+pub told_past : (advert : Advertised) (weights : PathWeights) (kept : List Path) (table : List ℕ) (paths : List Path) (state : State) (lane : ℕ) (lanes : List ℕ) (before : List ℕ) → (state.boundary + 1 == lane) ≡ false
     → before ++ text_of (told_on advert weights kept table paths state (lane ∷ lanes)) ≡ before ++ text_of (told_on advert weights kept table paths state lanes)
 unfolding states_on
 told_past advert weights kept table paths state lane lanes before is =

@@ -4,7 +4,7 @@ use Rattle.std.specs.List.{All, AllByRecursion, Contains, find, range_with_len}
 use Rattle.std.proofs.lemmas.Bool.{cases_Bool, eq-eqb, eqb-true}
 use Rattle.std.proofs.lemmas.List.Elements.{All-contains, All-from_recursion, All-push}
 use Rattle.applications.specs.Advertised.{Advertised}
-use Rattle.applications.specs.Weights.{HostWeights}
+use Rattle.applications.specs.AppWeights.{PathWeights}
 use Rattle.plan_certificate.specs.declared.path.Path.{Path}
 use Rattle.plan_certificate.specs.declared.state.State.{State}
 use Rattle.plan_certificate.specs.Paths.{is_allowed}
@@ -25,13 +25,13 @@ abbrev pub SameBelow : List Path → ℕ → List Path → Type 0
 SameBelow paths lane others = (path : Path) → path.host < lane → AgreeOn paths others path
 
 -- what the plan has taken before a state that it comes to
-pub record Walked (advert : Advertised) (weights : HostWeights) (kept paths : List Path) (state : State) (taken : List Path) : Type 0 where
+pub record Walked (advert : Advertised) (weights : PathWeights) (kept paths : List Path) (state : State) (taken : List Path) : Type 0 where
   pub reached : IsReached advert weights kept state
   pub grown : Grown advert kept state taken
   pub inside : All (Contains paths) taken
   pub ahead : (others : List Path) → IsAdmissible advert others → Keeps kept others → SameBelow paths (state.boundary + 1) others → Ahead advert weights kept state taken others
 
-pub walked_at_start : (advert : Advertised) (weights : HostWeights) (kept paths : List Path) → IsAdmissible advert kept → Walked advert weights kept paths start []
+pub walked_at_start : (advert : Advertised) (weights : PathWeights) (kept paths : List Path) → IsAdmissible advert kept → Walked advert weights kept paths start []
 walked_at_start advert weights kept paths kept_plan = record {
   reached = start_reached advert weights kept;
   grown = record {
@@ -45,11 +45,11 @@ walked_at_start advert weights kept paths kept_plan = record {
 }
 
 -- the plan itself
-pub ahead_itself : (advert : Advertised) (weights : HostWeights) (kept paths : List Path) (state : State) (taken : List Path) → IsAdmissible advert paths → Keeps kept paths → Walked advert weights kept paths state taken → Ahead advert weights kept state taken paths
+pub ahead_itself : (advert : Advertised) (weights : PathWeights) (kept paths : List Path) (state : State) (taken : List Path) → IsAdmissible advert paths → Keeps kept paths → Walked advert weights kept paths state taken → Ahead advert weights kept state taken paths
 ahead_itself advert weights kept paths state taken plan keeps is = is.ahead paths plan keeps (λ path below. ((λ held. held), (λ held. held)))
 
 -- a path of the plan at the next host lane or past it may still come
-pub comes : (advert : Advertised) (weights : HostWeights) (kept paths : List Path) (state : State) (taken : List Path) (path : Path) → IsAdmissible advert paths → Keeps kept paths → Walked advert weights kept paths state taken → Contains paths path → state.boundary < path.host → IsLater advert kept state path
+pub comes : (advert : Advertised) (weights : PathWeights) (kept paths : List Path) (state : State) (taken : List Path) (path : Path) → IsAdmissible advert paths → Keeps kept paths → Walked advert weights kept paths state taken → Contains paths path → state.boundary < path.host → IsLater advert kept state path
 comes advert weights kept paths state taken path plan keeps is held past =
     let own = ahead_itself advert weights kept paths state taken plan keeps is in
     elim (own.split path held) [
@@ -79,10 +79,10 @@ none_begins paths lane is path held begins =
 
 -- ---- one decision of the plan
 
-abbrev WalkedTo : Advertised → HostWeights → List Path → List Path → State → Type 0
+abbrev WalkedTo : Advertised → PathWeights → List Path → List Path → State → Type 0
 WalkedTo advert weights kept paths state = (taken : List Path) × Walked advert weights kept paths state taken
 
-walked_path : (advert : Advertised) (weights : HostWeights) (kept paths : List Path) (state : State) (taken : List Path) (path : Path) → IsAdmissible advert kept → IsAdmissible advert paths → Keeps kept paths → Walked advert weights kept paths state taken → state.boundary < 8 → Contains paths path → path.host ≡ state.boundary + 1
+walked_path : (advert : Advertised) (weights : PathWeights) (kept paths : List Path) (state : State) (taken : List Path) (path : Path) → IsAdmissible advert kept → IsAdmissible advert paths → Keeps kept paths → Walked advert weights kept paths state taken → state.boundary < 8 → Contains paths path → path.host ≡ state.boundary + 1
     → Walked advert weights kept paths (path_decision advert weights state path).end (taken ++ path ∷ [])
 walked_path advert weights kept paths state taken path kept_plan plan keeps is below held begins =
     let decisions = decisions_from advert weights kept state in
@@ -100,7 +100,7 @@ walked_path advert weights kept paths state taken path kept_plan plan keeps is b
           ahead_path advert weights kept state taken others path other_plan is.grown.stand before has begins;
     }
 
-walked_free : (advert : Advertised) (weights : HostWeights) (kept paths : List Path) (state : State) (taken : List Path) → IsAdmissible advert paths → Keeps kept paths → Walked advert weights kept paths state taken → state.boundary < 8 → ((path : Path) → Contains paths path → path.host ≢ state.boundary + 1)
+walked_free : (advert : Advertised) (weights : PathWeights) (kept paths : List Path) (state : State) (taken : List Path) → IsAdmissible advert paths → Keeps kept paths → Walked advert weights kept paths state taken → state.boundary < 8 → ((path : Path) → Contains paths path → path.host ≢ state.boundary + 1)
     → Walked advert weights kept paths (free_decision state).end taken
 walked_free advert weights kept paths state taken plan keeps is below none =
     let lane : ℕ = state.boundary + 1 in
@@ -121,7 +121,7 @@ walked_free advert weights kept paths state taken plan keeps is below none =
           ahead_free advert weights kept state taken others before (λ path held begins. none path ((same path (omega (arith, begins))).1 held) begins);
     }
 
-walked_on : (advert : Advertised) (weights : HostWeights) (kept paths : List Path) (state : State) (taken : List Path) → IsAdmissible advert kept → IsAdmissible advert paths → Keeps kept paths → Walked advert weights kept paths state taken → state.boundary < 8
+walked_on : (advert : Advertised) (weights : PathWeights) (kept paths : List Path) (state : State) (taken : List Path) → IsAdmissible advert kept → IsAdmissible advert paths → Keeps kept paths → Walked advert weights kept paths state taken → state.boundary < 8
     → (o : Option Path) → path_at paths (state.boundary + 1) ≡ o → WalkedTo advert weights kept paths (decision_of advert weights state o).end
 walked_on advert weights kept paths state taken kept_plan plan keeps is below (Some path) there =
     let one = found (Contains paths) (begins_at (state.boundary + 1)) paths path there (each_contained paths) in
@@ -132,7 +132,7 @@ walked_on advert weights kept paths state taken kept_plan plan keeps is below No
 -- ---- all of them
 
 -- what holds of each state that is walked to
-pub each_walked : (advert : Advertised) (weights : HostWeights) (kept paths : List Path) (P : State → Type 0) → IsAdmissible advert kept → IsAdmissible advert paths → Keeps kept paths
+pub each_walked : (advert : Advertised) (weights : PathWeights) (kept paths : List Path) (P : State → Type 0) → IsAdmissible advert kept → IsAdmissible advert paths → Keeps kept paths
     → ((state : State) (taken : List Path) → Walked advert weights kept paths state taken → state.boundary < 8 → P state)
     → (count first : ℕ) (state : State) (taken : List Path) → first + count ≤ 9 → Walked advert weights kept paths state taken → AllByRecursion P (states_on advert weights paths state (range_with_len first count))
 unfolding states_on

@@ -3,7 +3,7 @@
 use Rattle.std.specs.Prelude.{◌≡◌, ℕ, ◌+◌, ◌-◌, ◌<◌, ◌≤◌, true, List, Option, Some, None, Contains}
 use Rattle.std.specs.List.{AllByRecursion}
 use Rattle.applications.specs.Advertised.{Advertised}
-use Rattle.applications.specs.Weights.{HostWeights}
+use Rattle.applications.specs.AppWeights.{PathWeights}
 use Rattle.plan_certificate.specs.declared.path.Path.{Path}
 use Rattle.plan_certificate.specs.declared.state.State.{State}
 use Rattle.plan_certificate.specs.KeptPaths.{may_stay_free}
@@ -26,14 +26,14 @@ pub record IsAlternative (advert : Advertised) (kept paths : List Path) (lane : 
   pub makes : Makes advert others lane choice
 
 -- the heaviest of them weighs so much less than this one
-pub record IsLess (advert : Advertised) (weights : HostWeights) (kept paths : List Path) (lane : ℕ) (choice : Option Path) (less : ℕ) : Type 0 where
+pub record IsLess (advert : Advertised) (weights : PathWeights) (kept paths : List Path) (lane : ℕ) (choice : Option Path) (less : ℕ) : Type 0 where
   pub attained : (others : List Path) × IsAlternative advert kept paths lane choice others
-      × (plan_weight advert weights others + less ≡ plan_weight advert weights paths)
+      × (plan_weight weights others + less ≡ plan_weight weights paths)
   pub greatest : (others : List Path) → IsAlternative advert kept paths lane choice others
-      → plan_weight advert weights others + less ≤ plan_weight advert weights paths
+      → plan_weight weights others + less ≤ plan_weight weights paths
 
 -- in a state, the heaviest plan of each choice weighs as much less as the choice's sum is below what can be gained
-abbrev pub AreLess : Advertised → HostWeights → List Path → List ℕ → List Path → State → Type 0
+abbrev pub AreLess : Advertised → PathWeights → List Path → List ℕ → List Path → State → Type 0
 AreLess advert weights kept table paths state =
     AllByRecursion (λ (choice : Choice). IsLess advert weights kept paths (state.boundary + 1) choice.path (gain_at table state - choice.sum))
     (ranked (choices_in advert weights kept table state))

@@ -4,7 +4,7 @@ use Rattle.std.specs.Prelude.{ℕ, ◌+◌, ◌&&◌, ◌||◌, Bool, nat_lt, na
 use Rattle.std.specs.List.{insert, list_all, position_or_len}
 use Rattle.applications.specs.declared.app.App.{App}
 use Rattle.applications.specs.Advertised.{Advertised}
-use Rattle.applications.specs.Weights.{HostWeights}
+use Rattle.applications.specs.AppWeights.{PathWeights}
 use Rattle.plan_certificate.specs.declared.path.Path.{Path}
 use Rattle.plan_certificate.specs.declared.state.State.{State}
 use Rattle.plan_certificate.specs.Paths.{path_weight}
@@ -14,17 +14,17 @@ use Rattle.lane_planner.specs.Tables.{gain_at}
 use Rattle.plan_drawing.specs.declared.choice.Choice.{Choice}
 
 -- the path fits, and weighs something or is kept
-abbrev pub is_worth : Advertised → HostWeights → List Path → State → Path → Bool
+abbrev pub is_worth : Advertised → PathWeights → List Path → State → Path → Bool
 is_worth advert weights kept state path =
-    fits advert kept state path && (nat_lt 0 (path_weight advert weights path) || is_among kept path)
+    fits advert kept state path && (nat_lt 0 (path_weight weights path) || is_among kept path)
 
 -- its weight, and what can be gained after it
-abbrev pub path_choice : Advertised → HostWeights → List ℕ → State → Path → Choice
+abbrev pub path_choice : Advertised → PathWeights → List ℕ → State → Path → Choice
 path_choice advert weights table state path = record {
   path = Some path;
-  weight = path_weight advert weights path;
+  weight = path_weight weights path;
   rest = gain_at table (path_decision advert weights state path).end;
-  sum = path_weight advert weights path + gain_at table (path_decision advert weights state path).end;
+  sum = path_weight weights path + gain_at table (path_decision advert weights state path).end;
 }
 
 abbrev pub free_choice : List ℕ → State → Choice
@@ -44,12 +44,12 @@ abbrev pub greatest : List Choice → Option Choice
 greatest choices = find (is_greatest choices) choices
 
 -- those of these paths that are worth it
-abbrev pub worth_choices : Advertised → HostWeights → List Path → List ℕ → State → List Path → List Choice
+abbrev pub worth_choices : Advertised → PathWeights → List Path → List ℕ → State → List Path → List Choice
 worth_choices advert weights kept table state paths =
     map (path_choice advert weights table state) (filter (is_worth advert weights kept state) paths)
 
 -- of an Application's paths, by rising media lane
-unfoldable pub app_choices : Advertised → HostWeights → List Path → List ℕ → State → App → List Choice
+unfoldable pub app_choices : Advertised → PathWeights → List Path → List ℕ → State → App → List Choice
 app_choices advert weights kept table state app =
     worth_choices advert weights kept table state (paths_of_app (state.boundary + 1) app.number)
 
@@ -58,14 +58,14 @@ listed (Some choice) = choice ∷ []
 listed None = []
 
 -- an Application's path on its best media lane, if it has one
-abbrev pub best_of_app : Advertised → HostWeights → List Path → List ℕ → State → App → Option Choice
+abbrev pub best_of_app : Advertised → PathWeights → List Path → List ℕ → State → App → Option Choice
 best_of_app advert weights kept table state app = greatest (app_choices advert weights kept table state app)
 
 abbrev pub free_if_may : Bool → List ℕ → State → Option Choice
 free_if_may may table state = if may then Some (free_choice table state) else None
 
 -- the best media lane of each Application, and the free lane if it may stay free
-abbrev pub choices_in : Advertised → HostWeights → List Path → List ℕ → State → List Choice
+abbrev pub choices_in : Advertised → PathWeights → List Path → List ℕ → State → List Choice
 choices_in advert weights kept table state =
     flat_map (λ app. listed (best_of_app advert weights kept table state app)) advert.apps
     ++ listed (free_if_may (may_stay_free advert kept (state.boundary + 1)) table state)

@@ -3,7 +3,7 @@
 use Rattle.std.specs.Prelude.{◌≡◌, ℕ, Bool, true, false, nat_lt, List, [], ◌∷◌, ◌++◌, length}
 use Rattle.text_lines.specs.Lines.{text_of}
 use Rattle.applications.specs.Advertised.{Advertised}
-use Rattle.applications.specs.Weights.{HostWeights}
+use Rattle.applications.specs.AppWeights.{PathWeights}
 use Rattle.plan_certificate.specs.declared.path.Path.{Path}
 use Rattle.lane_planner.specs.FirstBest.{IsFirstBest}
 use Rattle.lane_planner.specs.Tables.{HasGains}
@@ -14,27 +14,27 @@ use Rattle.plan_drawing.specs.UsedApps.{app_lines}
 use Rattle.plan_drawing.specs.Why.{why_lines}
 
 -- what is told besides the picture, of a plan, by the gains of the states
-abbrev pub told_lines : ℕ → Advertised → HostWeights → List Path → List ℕ → List Path → List (List ℕ)
+abbrev pub told_lines : ℕ → Advertised → PathWeights → List Path → List ℕ → List Path → List (List ℕ)
 told_lines media_type advert weights kept table paths =
     app_lines media_type paths advert.apps ++ [] ∷ why_lines advert weights kept table paths
 
-abbrev pub drawing_lines : ℕ → Advertised → HostWeights → List Path → List ℕ → List Path → List (List ℕ)
+abbrev pub drawing_lines : ℕ → Advertised → PathWeights → List Path → List ℕ → List Path → List (List ℕ)
 drawing_lines media_type advert weights kept table paths =
     plan_lines advert weights paths ++ [] ∷ picture_lines advert kept paths ++ told_lines media_type advert weights kept table paths
 
 -- the same with an SVG in place of the picture
-abbrev pub drawing_svg : ℕ → Advertised → HostWeights → List Path → List ℕ → List Path → List (List ℕ)
+abbrev pub drawing_svg : ℕ → Advertised → PathWeights → List Path → List ℕ → List Path → List (List ℕ)
 drawing_svg media_type advert weights kept table paths =
     svg_lines advert kept paths (text_of (plan_lines advert weights paths ++ told_lines media_type advert weights kept table paths))
 
 -- one of both
-abbrev pub lines_as : Bool → ℕ → Advertised → HostWeights → List Path → List ℕ → List Path → List (List ℕ)
+abbrev pub lines_as : Bool → ℕ → Advertised → PathWeights → List Path → List ℕ → List Path → List (List ℕ)
 lines_as false = drawing_lines
 lines_as true = drawing_svg
 
 -- the drawing of the first of the best plans with the kept paths, by what can be gained from each state that decisions from the start
 -- reach, and whether the plan has a path
-pub record IsDrawing (as_svg : Bool) (media_type : ℕ) (advert : Advertised) (weights : HostWeights) (kept : List Path) (text : List ℕ)
+pub record IsDrawing (as_svg : Bool) (media_type : ℕ) (advert : Advertised) (weights : PathWeights) (kept : List Path) (text : List ℕ)
     (has_paths : Bool) : Type 0 where
   pub paths : List Path
   pub table : List ℕ

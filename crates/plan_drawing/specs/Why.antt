@@ -4,7 +4,7 @@ use Rattle.std.specs.Prelude.{ℕ, ◌+◌, ◌-◌, ◌==◌, Bool, true, false
 use Rattle.std.specs.List.{list_any, range_with_len}
 use Rattle.std.specs.Fmt.{decimal}
 use Rattle.applications.specs.Advertised.{Advertised}
-use Rattle.applications.specs.Weights.{HostWeights}
+use Rattle.applications.specs.AppWeights.{PathWeights}
 use Rattle.plan_certificate.specs.declared.path.Path.{Path}
 use Rattle.plan_certificate.specs.declared.state.State.{State}
 use Rattle.plan_certificate.specs.KeptPaths.{is_among}
@@ -55,16 +55,16 @@ unfoldable pub lane_line : ℕ → ℕ → List ℕ
 lane_line lane gain = codes "host lane " ++ decimal lane ++ codes ", " ++ decimal gain ++ codes " to gain"
 
 -- of a state: the next host lane, what can still be gained, and the choices
-unfoldable pub state_lines : Advertised → HostWeights → List Path → List ℕ → List Path → State → List (List ℕ)
+unfoldable pub state_lines : Advertised → PathWeights → List Path → List ℕ → List Path → State → List (List ℕ)
 state_lines advert weights kept table paths state =
     lane_line (state.boundary + 1) (gain_at table state)
     ∷ map (choice_line paths (state.boundary + 1) (gain_at table state)) (ranked (choices_in advert weights kept table state))
 
 -- of the states in which the plan decides on these host lanes
-abbrev pub told_on : Advertised → HostWeights → List Path → List ℕ → List Path → State → List ℕ → List (List ℕ)
+abbrev pub told_on : Advertised → PathWeights → List Path → List ℕ → List Path → State → List ℕ → List (List ℕ)
 told_on advert weights kept table paths state lanes =
     flat_map (state_lines advert weights kept table paths) (states_on advert weights paths state lanes)
 
 -- from the start on
-abbrev pub why_lines : Advertised → HostWeights → List Path → List ℕ → List Path → List (List ℕ)
+abbrev pub why_lines : Advertised → PathWeights → List Path → List ℕ → List Path → List (List ℕ)
 why_lines advert weights kept table paths = told_on advert weights kept table paths start (range_with_len 1 8)

@@ -6,7 +6,7 @@ pub struct Choice {
     /// The path that begins there; if none does, the lane stays free.
     pub path: Option<Path>,
     /// What the path weighs.
-    pub weight: u32,
+    pub weight: u64,
     /// What can still be gained after it.
     pub rest: u64,
     /// Both together.

@@ -8,7 +8,7 @@ ghost use Rattle.lane_planner.specs.Tables.{IsTable};
 ghost use Rattle.plan_drawing.specs.Choices as spec;
 
 use crate::choice::Choice;
-use applications::{Advert, App, Weights};
+use applications::{Advert, App, AppWeights};
 use arrayvec::ArrayVec;
 use lane_planner::Table;
 use plan_certificate::{Path, State, is_among, is_eligible_as, may_stay_free};
@@ -20,7 +20,7 @@ pub const MAX_CHOICES: usize = 16;
 #[tactic(auto, using(crate::proofs::RankedChoices::ranked_append))]
 pub fn choices_in(
     advert: &Advert,
-    weights: &Weights,
+    weights: &AppWeights,
     kept: &[Path],
     gains: &Table,
     state: &State,
@@ -93,7 +93,7 @@ fn is_greatest(choices: &[Choice], choice: &Choice) -> bool
 // An Application's path on its best media lane, if it has one.
 fn best_of_app(
     advert: &Advert,
-    weights: &Weights,
+    weights: &AppWeights,
     kept: &[Path],
     gains: &Table,
     state: &State,
@@ -112,7 +112,7 @@ fn best_of_app(
 #[tactic(auto, unfolding(crate::specs::Choices::app_choices))]
 fn app_choices(
     advert: &Advert,
-    weights: &Weights,
+    weights: &AppWeights,
     kept: &[Path],
     gains: &Table,
     state: &State,
@@ -138,7 +138,7 @@ fn app_choices(
 fn push_if_worth(
     choices: &mut ArrayVec<Choice, 8>,
     advert: &Advert,
-    weights: &Weights,
+    weights: &AppWeights,
     kept: &[Path],
     gains: &Table,
     state: &State,
@@ -158,11 +158,11 @@ fn push_if_worth(
 }
 
 // Whether the path fits, and weighs something or is kept.
-fn is_worth(advert: &Advert, weights: &Weights, kept: &[Path], state: &State, path: Path) -> bool
+fn is_worth(advert: &Advert, weights: &AppWeights, kept: &[Path], state: &State, path: Path) -> bool
     requires { AreAllowed advert.now kept.now }
     ensures { result ≡ spec.is_worth advert.now weights.now kept.now state.now path }
 {
-    fits(advert, kept, state, path) && (path.weight(advert, weights) > 0 || is_among(kept, path))
+    fits(advert, kept, state, path) && (path.weight(weights) > 0 || is_among(kept, path))
 }
 
 fn fits(advert: &Advert, kept: &[Path], state: &State, path: Path) -> bool
@@ -177,7 +177,7 @@ fn fits(advert: &Advert, kept: &[Path], state: &State, path: Path) -> bool
 #[tactic(auto, unfolding(plan_certificate::specs::Paths::is_allowed))]
 fn path_choice(
     advert: &Advert,
-    weights: &Weights,
+    weights: &AppWeights,
     gains: &Table,
     state: &State,
     path: Path,
@@ -187,7 +187,7 @@ fn path_choice(
     requires allowed { is_allowed advert.now path ≡ true }
     ensures { result ≡ spec.path_choice advert.now weights.now gains.now state.now path }
 {
-    let weight = path.weight(advert, weights);
+    let weight = path.weight(weights);
     let end = State {
         boundary: state.boundary + path.application(advert).host_lanes,
         used: state.used.union(path.media_lanes(advert)),
@@ -197,7 +197,7 @@ fn path_choice(
         path: Some(path),
         weight,
         rest,
-        sum: u64::from(weight) + rest,
+        sum: weight + rest,
     }
 }
 

@@ -9,7 +9,7 @@ use crate::picture::push_picture;
 use crate::svg::push_svg;
 use crate::used_apps::push_apps;
 use crate::why::push_why;
-use applications::{Advert, Weights};
+use applications::{Advert, AppWeights};
 use lane_planner::{Planned, plan_with_gains};
 use plan_certificate::{Path, Plan};
 use reports::plan_text;
@@ -31,7 +31,7 @@ pub fn draw(
     as_svg: bool,
     media_type: u8,
     advert: &Advert,
-    weights: &Weights,
+    weights: &AppWeights,
     kept: &Plan,
 ) -> Result<Drawing, AllocError>
     requires { IsAdmissible advert.now kept.now }
@@ -52,7 +52,7 @@ fn drawn_as(
     as_svg: bool,
     media_type: u8,
     advert: &Advert,
-    weights: &Weights,
+    weights: &AppWeights,
     kept: &[Path],
     planned: &Planned,
 ) -> Result<Vec<u8>, AllocError>
@@ -72,7 +72,7 @@ fn drawn_as_text(
     alloc: Global,
     media_type: u8,
     advert: &Advert,
-    weights: &Weights,
+    weights: &AppWeights,
     kept: &[Path],
     planned: &Planned,
 ) -> Result<Vec<u8>, AllocError>
@@ -92,7 +92,7 @@ fn drawn_as_svg(
     alloc: Global,
     media_type: u8,
     advert: &Advert,
-    weights: &Weights,
+    weights: &AppWeights,
     kept: &[Path],
     planned: &Planned,
 ) -> Result<Vec<u8>, AllocError>
@@ -114,7 +114,7 @@ fn push_told(
     out: &mut Vec<u8>,
     media_type: u8,
     advert: &Advert,
-    weights: &Weights,
+    weights: &AppWeights,
     kept: &[Path],
     planned: &Planned,
 ) -> Result<(), AllocError>

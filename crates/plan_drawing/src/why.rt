@@ -2,7 +2,7 @@
 ghost use Rattle.std.specs.Prelude.{◌≡◌, ◌+◌, ◌++◌, ◌∷◌, [], ◌≤◌, ◌<◌, ℕ, List, true, IfOk, OnOk, map};
 ghost use Rattle.std.specs.List.{list_any};
 ghost use Rattle.text_lines.specs.Lines.{text_of};
-ghost use Rattle.applications.specs.Weights.{HostWeights};
+ghost use Rattle.applications.specs.AppWeights.{PathWeights};
 ghost use Rattle.plan_certificate.specs.Paths.{is_allowed};
 ghost use Rattle.plan_certificate.specs.Plans.{AreAllowed};
 ghost use Rattle.plan_certificate.specs.States.{path_decision};
@@ -14,7 +14,7 @@ ghost use Rattle.plan_drawing.specs.Why.{choice_line, is_taken, lane_line, name_
 use crate::choice::Choice;
 use crate::choices::choices_in;
 use crate::columns::{push_left, push_number, push_right};
-use applications::{Advert, Weights};
+use applications::{Advert, AppWeights};
 use lane_planner::Table;
 use plan_certificate::{Path, State, is_among};
 use std::alloc::{AllocError, Global};
@@ -25,7 +25,7 @@ pub fn push_why(
     alloc: Global,
     out: &mut Vec<u8>,
     advert: &Advert,
-    weights: &Weights,
+    weights: &AppWeights,
     kept: &[Path],
     gains: &Table,
     paths: &[Path],
@@ -48,7 +48,7 @@ fn push_lane_if_next(
     alloc: Global,
     out: &mut Vec<u8>,
     advert: &Advert,
-    weights: &Weights,
+    weights: &AppWeights,
     kept: &[Path],
     gains: &Table,
     paths: &[Path],
@@ -76,7 +76,7 @@ fn push_lane_if_next(
 fn next_state(advert: &Advert, paths: &[Path], state: &State) -> State
     requires open { state.now.boundary < 8 }
     requires paths { AreAllowed advert.now paths.now }
-    ensures next { (weights : HostWeights) → result ≡ next_state advert.now weights paths.now state.now }
+    ensures next { (weights : PathWeights) → result ≡ next_state advert.now weights paths.now state.now }
     ensures within { result.boundary ≤ 8 }
 {
     let lane = state.boundary + 1;
@@ -92,7 +92,7 @@ fn next_state(advert: &Advert, paths: &[Path], state: &State) -> State
 fn after_path(advert: &Advert, state: &State, path: Path) -> State
     requires begins { path.host ≡ state.now.boundary + 1 }
     requires allowed { is_allowed advert.now path ≡ true }
-    ensures next { (weights : HostWeights) → result ≡ (path_decision advert.now weights state.now path).end }
+    ensures next { (weights : PathWeights) → result ≡ (path_decision advert.now weights state.now path).end }
     ensures within { result.boundary ≤ 8 }
 {
     State {
@@ -106,7 +106,7 @@ fn push_state(
     alloc: Global,
     out: &mut Vec<u8>,
     advert: &Advert,
-    weights: &Weights,
+    weights: &AppWeights,
     kept: &[Path],
     gains: &Table,
     paths: &[Path],
@@ -165,7 +165,7 @@ fn push_choice(
     out.extend_from_slice(b"  ")?;
     push_left(out, 24, &name_of(alloc, choice.path)?)?;
     out.extend_from_slice(b" ")?;
-    push_right(out, 6, u64::from(choice.weight))?;
+    push_right(out, 6, choice.weight)?;
     out.extend_from_slice(b" + ")?;
     push_right(out, 6, choice.rest)?;
     out.extend_from_slice(b" = ")?;

@@ -11,7 +11,7 @@ use Rattle.bus_model.specs.declared.operation.Reply.{Reply}
 use Rattle.bus_model.specs.declared.operation.Reply.TheVariants.{Bytes, Done, Refused}
 use Rattle.bus_model.specs.declared.operation.Step.{Step}
 use Rattle.applications.specs.Advertised.{Advertised}
-use Rattle.applications.specs.Weights.{HostWeights}
+use Rattle.applications.specs.AppWeights.{PathWeights}
 use Rattle.control_sets.specs.ControlBytes.{control_bytes}
 use Rattle.plan_certificate.specs.declared.path.Path.{Path}
 use Rattle.plan_certificate.specs.Paths.{app_of}
@@ -58,15 +58,15 @@ paths_depth : (key : List ℕ) (advert : Advertised) (paths : List Path) → mem
 unfolding paths_members paths_json
 paths_depth key advert paths = omega (arith, all_deep (path_json advert) 2 (path_depth advert) paths)
 
-pub plan_depth : (advert : Advertised) (weights : HostWeights) (kept paths : List Path) → members_depth (members_of (plan_members advert weights kept paths)) ≤ 8
+pub plan_depth : (advert : Advertised) (weights : PathWeights) (kept paths : List Path) → members_depth (members_of (plan_members advert weights kept paths)) ≤ 8
 unfolding plan_members weight_members kept_members control_members
 plan_depth advert weights kept paths =
     let control = keyed_depth (codes "control_bytes") (control_bytes advert paths) in
     let all = deep (paths_members (codes "paths") advert paths) (control_members advert paths) 8 (omega (arith, paths_depth (codes "paths") advert paths)) (omega (arith, control)) in
     let further = deep (kept_members advert kept) (paths_members (codes "paths") advert paths ++ control_members advert paths) 8
     (omega (arith, paths_depth (codes "kept_paths") advert kept)) all in
-    let weight = count_depth (codes "weight") (plan_weight advert weights paths) in
-    deep (weight_members (plan_weight advert weights paths))
+    let weight = count_depth (codes "weight") (plan_weight weights paths) in
+    deep (weight_members (plan_weight weights paths))
     (kept_members advert kept ++ (paths_members (codes "paths") advert paths ++ control_members advert paths)) 8 (omega (arith, weight)) further
 
 -- ---- faults
@@ -108,7 +108,7 @@ unfolding boolean_members
 first_depth None = omega arith
 first_depth (Some is_first) = omega arith
 
-pub good_depth : (first : Option Bool) (advert : Advertised) (weights : HostWeights) (kept paths : List Path) → members_depth (members_of (good_members true ++ (first_members first ++ plan_members advert weights kept paths))) ≤ 8
+pub good_depth : (first : Option Bool) (advert : Advertised) (weights : PathWeights) (kept paths : List Path) → members_depth (members_of (good_members true ++ (first_members first ++ plan_members advert weights kept paths))) ≤ 8
 good_depth first advert weights kept paths =
     let plan = deep (first_members first) (plan_members advert weights kept paths) 8 (first_depth first) (plan_depth advert weights kept paths) in
     deep (good_members true) (first_members first ++ plan_members advert weights kept paths) 8 (said_depth true) plan

@@ -10,7 +10,7 @@ use Rattle.json.specs.Json.{Json}
 use Rattle.json.specs.Strict.{AreDistinct, HasUniqueKeys, ItemsHaveUniqueKeys}
 use Rattle.json.specs.Word.{after_number}
 use Rattle.applications.specs.Advertised.{Advertised}
-use Rattle.applications.specs.Weights.{HostWeights}
+use Rattle.applications.specs.AppWeights.{PathWeights}
 use Rattle.control_sets.specs.ControlBytes.{control_bytes}
 use Rattle.plan_certificate.specs.declared.path.Path.{Path}
 use Rattle.plan_certificate.specs.Paths.{app_of}
@@ -108,7 +108,7 @@ pub faults_unique : FaultsHaveUniqueKeys
 unfolding fault_members reason_members form_members count_members
 faults_unique words sentence = (tested (codes "dovecounter" ∷ codes "fault" ∷ []) refl, (tt, (reason_unique words sentence, tt)))
 
-good_unique : (first : Option Bool) (advert : Advertised) (weights : HostWeights) (kept paths : List Path) → HasUniqueKeys (good_json first advert weights kept paths)
+good_unique : (first : Option Bool) (advert : Advertised) (weights : PathWeights) (kept paths : List Path) → HasUniqueKeys (good_json first advert weights kept paths)
 unfolding good_members boolean_members plan_members weight_members kept_members paths_members control_members numbers_members form_members count_members
 good_unique None advert weights kept paths = (tested (codes "dovecounter" ∷ codes "good" ∷ codes "weight" ∷ codes "kept_paths" ∷ codes "paths" ∷ codes "control_bytes" ∷ []) refl, (tt, (tt, (tt, (paths_unique advert kept, (paths_unique advert paths, (numbers_unique (control_bytes advert paths), tt)))))))
 good_unique (Some is_first) advert weights kept paths = (tested (codes "dovecounter" ∷ codes "good" ∷ codes "first" ∷ codes "weight" ∷ codes "kept_paths" ∷ codes "paths" ∷ codes "control_bytes" ∷ []) refl, (tt, (tt, (tt, (tt, (paths_unique advert kept, (paths_unique advert paths, (numbers_unique (control_bytes advert paths), tt))))))))

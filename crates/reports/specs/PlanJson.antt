@@ -4,7 +4,7 @@ use Rattle.std.specs.Prelude.{ℕ, List, [], ◌∷◌, ◌++◌, codes, map}
 use Rattle.std.specs.List.{range_with_len}
 use Rattle.json.specs.Json.{Json}
 use Rattle.applications.specs.Advertised.{Advertised}
-use Rattle.applications.specs.Weights.{HostWeights}
+use Rattle.applications.specs.AppWeights.{PathWeights}
 use Rattle.plan_certificate.specs.declared.path.Path.{Path}
 use Rattle.plan_certificate.specs.Paths.{app_of}
 use Rattle.plan_certificate.specs.Plans.{plan_weight}
@@ -53,12 +53,12 @@ kept_members advert kept = paths_members (codes "kept_paths") advert kept
 unfoldable pub control_members : Advertised → List Path → List Member
 control_members advert paths = numbers_members (codes "control_bytes") (control_bytes advert paths)
 
-unfoldable pub plan_members : Advertised → HostWeights → List Path → List Path → List Member
+unfoldable pub plan_members : Advertised → PathWeights → List Path → List Path → List Member
 plan_members advert weights kept paths =
-    weight_members (plan_weight advert weights paths)
+    weight_members (plan_weight weights paths)
     ++ (kept_members advert kept
     ++ (paths_members (codes "paths") advert paths
     ++ control_members advert paths))
 
-abbrev pub plan_json : Advertised → HostWeights → List Path → List Path → Json
+abbrev pub plan_json : Advertised → PathWeights → List Path → List Path → Json
 plan_json advert weights kept paths = object_of (form_members ++ plan_members advert weights kept paths)

@@ -3,7 +3,7 @@
 use Rattle.std.specs.Prelude.{ℕ, ◌+◌, ◌-◌, List, [], ◌∷◌, ◌++◌, codes, map}
 use Rattle.std.specs.Fmt.{decimal}
 use Rattle.applications.specs.Advertised.{Advertised}
-use Rattle.applications.specs.Weights.{HostWeights}
+use Rattle.applications.specs.AppWeights.{PathWeights}
 use Rattle.plan_certificate.specs.declared.path.Path.{Path}
 use Rattle.plan_certificate.specs.Paths.{app_of}
 use Rattle.plan_certificate.specs.Plans.{plan_weight}
@@ -39,5 +39,5 @@ weight_line weight = line (codes "weight") (decimal weight)
 unfoldable pub control_line : List ℕ → List ℕ
 control_line bytes = codes "control" ++ spaced_bytes bytes
 
-abbrev pub plan_lines : Advertised → HostWeights → List Path → List (List ℕ)
-plan_lines advert weights paths = weight_line (plan_weight advert weights paths) ∷ map (path_line advert) paths ++ control_line (control_bytes advert paths) ∷ []
+abbrev pub plan_lines : Advertised → PathWeights → List Path → List (List ℕ)
+plan_lines advert weights paths = weight_line (plan_weight weights paths) ∷ map (path_line advert) paths ++ control_line (control_bytes advert paths) ∷ []

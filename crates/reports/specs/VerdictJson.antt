@@ -4,7 +4,7 @@ use Rattle.std.specs.Prelude.{ℕ, Bool, true, false, List, [], ◌∷◌, ◌++
 use Rattle.json.specs.Json as json
 use Rattle.json.specs.Json.{Json}
 use Rattle.applications.specs.Advertised.{Advertised}
-use Rattle.applications.specs.Weights.{HostWeights}
+use Rattle.applications.specs.AppWeights.{PathWeights}
 use Rattle.plan_certificate.specs.declared.path.Path.{Path}
 use Rattle.report_entries.specs.EntryJson.{form_members}
 use Rattle.reports.specs.FaultJson.{reason_members}
@@ -22,7 +22,7 @@ abbrev pub first_members : Option Bool → List Member
 first_members None = []
 first_members (Some is_first) = boolean_members (codes "first") is_first
 
-abbrev pub good_json : Option Bool → Advertised → HostWeights → List Path → List Path → Json
+abbrev pub good_json : Option Bool → Advertised → PathWeights → List Path → List Path → Json
 good_json first advert weights kept paths =
     object_of (form_members ++ (good_members true ++ (first_members first ++ plan_members advert weights kept paths)))
 

@@ -8,7 +8,7 @@ ghost use Rattle.report_entries.specs.EntryJson.{count_json, count_members, IsJs
 ghost use Rattle.report_entries.specs.JsonTrees.{all_member_tokens, all_tokens};
 ghost use Rattle.reports.specs.PlanJson.{control_members, host_run_members, kept_members, media_run_members, numbers_json, numbers_members, path_json, paths_json, paths_members, plan_json, plan_members, run_members, weight_members};
 
-use applications::{Advert, Weights};
+use applications::{Advert, AppWeights};
 use control_sets::bytes_of;
 use plan_certificate::{Path, Plan, weight_of};
 use report_entries::json_document::{begin, end};
@@ -19,7 +19,7 @@ use std::alloc::{AllocError, Global};
 pub fn plan_json(
     alloc: Global,
     advert: &Advert,
-    weights: &Weights,
+    weights: &AppWeights,
     kept: &Plan,
     plan: &Plan,
 ) -> Result<Vec<u8>, AllocError>
@@ -36,7 +36,7 @@ pub fn plan_json(
 pub fn put_plan(
     out: &mut JsonWriter,
     advert: &Advert,
-    weights: &Weights,
+    weights: &AppWeights,
     kept: &Plan,
     plan: &Plan,
 ) -> Result<(), AllocError>
@@ -44,7 +44,7 @@ pub fn put_plan(
     ensures { OnOk result (out.new
         ≡ out.old ++ all_member_tokens (plan_members advert.now weights.now kept.now plan.now)) }
 {
-    put_weight(out, weight_of(advert, weights, plan))?;
+    put_weight(out, weight_of(weights, plan))?;
     put_kept(out, advert, kept.paths.as_slice())?;
     put_paths(out, "paths", advert, plan.paths.as_slice())?;
     put_control(out, advert, plan)

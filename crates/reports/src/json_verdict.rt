@@ -7,7 +7,7 @@ ghost use Rattle.reports.specs.VerdictJson.{bad_json, boolean_members, first_mem
 
 use crate::json_fault::put_reason;
 use crate::json_plan::put_plan;
-use applications::{Advert, Weights};
+use applications::{Advert, AppWeights};
 use plan_certificate::Plan;
 use report_entries::JsonWriter;
 use report_entries::json_document::{begin, end};
@@ -19,7 +19,7 @@ pub fn good_json(
     alloc: Global,
     first: Option<bool>,
     advert: &Advert,
-    weights: &Weights,
+    weights: &AppWeights,
     kept: &Plan,
     plan: &Plan,
 ) -> Result<Vec<u8>, AllocError>

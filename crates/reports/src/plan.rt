@@ -5,7 +5,7 @@ ghost use Rattle.plan_certificate.specs.Plans.{IsAdmissible};
 ghost use Rattle.reports.specs.PlanText.{lanes_of, path_line, plan_lines, span_of};
 
 use crate::shown_plan::{LaneSpan, PathLanes};
-use applications::{Advert, Weights};
+use applications::{Advert, AppWeights};
 use control_sets::bytes_of;
 use plan_certificate::{Path, Plan, weight_of};
 use report_entries::ReportText;
@@ -16,14 +16,14 @@ use std::alloc::{AllocError, Global};
 pub fn plan_text(
     alloc: Global,
     advert: &Advert,
-    weights: &Weights,
+    weights: &AppWeights,
     plan: &Plan,
 ) -> Result<Vec<u8>, AllocError>
     requires { IsAdmissible advert.now plan.now }
     ensures { IfOk result (λ text. text.items ≡ text_of (plan_lines advert.now weights.now plan.now)) }
 {
     let mut report = ReportText::new(alloc);
-    report.line("weight", weight_of(advert, weights, plan))?;
+    report.line("weight", weight_of(weights, plan))?;
     push_paths(&mut report, advert, plan.paths.as_slice())?;
     report.bytes("control", &bytes_of(advert, plan))?;
     Ok(report.into_bytes())

@@ -1,50 +1,92 @@
-ghost use Rattle.std.specs.Prelude.{◌≡◌, IsTrue, MatchOption, Some, option_map};
-ghost use Rattle.toml.specs.View.{table_view};
-ghost use Rattle.applications.specs.HostTable.{KeysRise, host_members, members_of, weights_of};
-ghost use Rattle.applications.specs.HostTable as spec;
-ghost use Rattle.applications.specs.WeightFaults.{has_other_key, is_host, judges_keys, weights_fault};
+ghost use Rattle.std.specs.Prelude.{◌≡◌, IsTrue, MatchOption, Some, is_some, option_map};
+ghost use Rattle.toml.specs.View.{table_view, view};
+ghost use Rattle.field_tables.specs.FirstFault.{first_fault};
+ghost use Rattle.applications.specs.WeightTables.{KeysRise, members_in, members_of, table_in, value_in, weights_in, weights_of};
+ghost use Rattle.applications.specs.WeightFaults.{faults_in, has_more, has_other_key, is_no_table, judges_keys, names_table, weights_fault};
+ghost use Rattle.applications.specs.declared.weights.table.WeightTable.{WeightTable};
 
 use super::Weights;
 use super::fault::WeightsFault;
 use super::members::read_members;
-use toml::Table;
+use super::table::WeightTable;
+use toml::{Table, Value};
 
-// The one key of a document.
-const HOST: &str = "host";
-
-/// The weights that the table `host` of a document lists.
+/// The weights that the tables of a document list.
 pub fn read_document(document: &Table) -> Result<Weights, WeightsFault>
     ensures answer { let read = Some (table_view document.now) in
-        MatchOption (weights_fault read) (result ≡ Ok (weights_of (host_members read))) (λ fault. result ≡ Err fault) }
-    ensures in_byte_order { IsTrue (judges_keys result) → KeysRise (host_members (Some (table_view document.now))) }
+        MatchOption (weights_fault read) (result ≡ Ok (weights_in read)) (λ fault. result ≡ Err fault) }
+    ensures in_byte_order { IsTrue (judges_keys result) → (table : WeightTable) → KeysRise (members_in table (Some (table_view document.now))) }
 {
-    let Some(host) = host_table(document) else {
+    if table_in(document, WeightTable::Host).is_none() {
         return Err(WeightsFault::NoHostTable);
-    };
-    if has_other_key(document) {
+    }
+    if has_more(document) {
         return Err(WeightsFault::OtherKey);
     }
-    read_members(host)
+    let by_host_id = read_table(document, WeightTable::Host);
+    let by_media_id = read_table(document, WeightTable::Media);
+    let by_app = read_table(document, WeightTable::App);
+    Ok(Weights {
+        by_host_id: by_host_id?,
+        by_media_id: by_media_id?,
+        by_app: by_app?,
+    })
 }
 
-fn host_table(document: &Table) -> Option<&Table>
-    ensures { option_map (λ host. table_view host.now) result ≡ spec.host_table (table_view document.now) }
+/// Those of one table, which may be absent.
+fn read_table(document: &Table, table: WeightTable) -> Result<[u32; 256], WeightsFault>
+    ensures answer { let read = Some (table_view document.now) in
+        MatchOption (first_fault (faults_in table read)) (result ≡ Ok (weights_of table (members_in table read))) (λ fault. result ≡ Err fault) }
+    ensures in_byte_order { KeysRise (members_in table (Some (table_view document.now))) }
 {
-    match document.get(HOST) {
+    match table_in(document, table) {
+        Some(members) => read_members(table, members),
+        None => Ok([0; 256]),
+    }
+}
+
+fn table_in(document: &Table, table: WeightTable) -> Option<&Table>
+    ensures { option_map (λ members. table_view members.now) result ≡ table_in table (table_view document.now) }
+{
+    match value_in(document, table) {
         Some(value) => value.as_table(),
         None => None,
     }
 }
 
+fn value_in(document: &Table, table: WeightTable) -> Option<&Value>
+    ensures { option_map (λ value. view value.now) result ≡ value_in table (table_view document.now) }
+{
+    document.get(table.name())
+}
+
+// Whether a document has more than the three tables.
+fn has_more(document: &Table) -> bool
+    ensures { result ≡ has_more (table_view document.now) }
+{
+    has_other_key(document)
+        || is_no_table(document, WeightTable::Media)
+        || is_no_table(document, WeightTable::App)
+}
+
 fn has_other_key(document: &Table) -> bool
     ensures { result ≡ has_other_key (members_of (table_view document.now)) }
 {
-    document.keys().any(|key| !is_host(key.as_str()))
+    document.keys().any(|key| !names_table(key.as_str()))
 }
 
-#[tactic(auto, unfolding(crate::specs::WeightFaults::is_host))]
-fn is_host(key: &str) -> bool
-    ensures { result ≡ is_host key.now }
+// Whether something else has the name of a table.
+fn is_no_table(document: &Table, table: WeightTable) -> bool
+    ensures { result ≡ is_no_table table (table_view document.now) }
 {
-    key == HOST
+    value_in(document, table).is_some() && table_in(document, table).is_none()
+}
+
+#[tactic(auto, unfolding(crate::specs::WeightFaults::names_table))]
+fn names_table(key: &str) -> bool
+    ensures { result ≡ names_table key.now }
+{
+    key == WeightTable::Host.name()
+        || key == WeightTable::Media.name()
+        || key == WeightTable::App.name()
 }

@@ -6,8 +6,7 @@ ghost use Rattle.text_lines.specs.Lines.{lines_of};
 ghost use Rattle.applications.specs.WeightLines.{Drafts, IsAnswer, IsLineFault, Says, SaysIn, host_line, is_in_place, is_plain_byte, is_plain_line, may_follow, repeats, trimmed};
 ghost use Rattle.applications.specs.declared.weights.lines.Said.{Said};
 
-use super::Weights;
-use super::members::id_of_key;
+use super::keys::id_of_key;
 use text_lines::{read_decimal, split_line};
 use thiserror::Error;
 
@@ -44,33 +43,29 @@ struct Draft {
     by_host_id: [u32; 256],
 }
 
-impl Weights {
-    /// The weights that lines list after a line `[host]`. Such lines are a TOML document with the same weights.
-    pub fn read_lines(text: &[u8]) -> Result<Weights, WeightLinesFault>
-        ensures { IsAnswer (lines_of text.now) result }
-    {
-        let mut draft = Draft {
-            has_host: false,
-            listed: [false; 256],
-            by_host_id: [0; 256],
-        };
-        let mut number = 0;
-        let mut rest = text;
-        while let Some((line, after)) = split_line(rest) {
-            number += 1;
-            match draft.take(line, number) {
-                Ok(()) => {}
-                Err(fault) => return Err(fault),
-            }
-            rest = after;
+/// The weights by HostInterfaceID that lines list after a line `[host]`. Such lines are a TOML document with the same weights.
+pub fn read_weight_lines(text: &[u8]) -> Result<[u32; 256], WeightLinesFault>
+    ensures { IsAnswer (lines_of text.now) result }
+{
+    let mut draft = Draft {
+        has_host: false,
+        listed: [false; 256],
+        by_host_id: [0; 256],
+    };
+    let mut number = 0;
+    let mut rest = text;
+    while let Some((line, after)) = split_line(rest) {
+        number += 1;
+        match draft.take(line, number) {
+            Ok(()) => {}
+            Err(fault) => return Err(fault),
         }
-        if !draft.has_host {
-            return Err(WeightLinesFault::NoHost);
-        }
-        Ok(Weights {
-            by_host_id: draft.by_host_id,
-        })
+        rest = after;
     }
+    if !draft.has_host {
+        return Err(WeightLinesFault::NoHost);
+    }
+    Ok(draft.by_host_id)
 }
 
 impl Draft {

@@ -11,7 +11,7 @@ use super::planning_inputs::read_advert;
 use crate::command_output::CommandOutput;
 use crate::fault::Fault;
 use crate::remark::Warnings;
-use applications::{Advert, Conventions, Weights};
+use applications::{Advert, AppWeights, Conventions, Weights};
 use lane_planner::first_best;
 use plan_certificate::{Certificate, STATES, Verdict};
 use reports::{good_json, plan_text};
@@ -51,11 +51,12 @@ fn judged(
         → IsOwnAnswer (IsCheckAnswer is_json tells_first conventions image listed text.now) (answer_of result) }
     ensures read { IfErr result (λ fault. fault ≢ Fault.Io) }
 {
+    let weighed = AppWeights::of(advert, weights);
     let mut read = Certificate::<STATES>::blank();
     match read.take(text) {
-        Ok(()) => match plan_certificate::check(advert, weights, &read) {
+        Ok(()) => match plan_certificate::check(advert, &weighed, &read) {
             Verdict::Good => Ok(CommandOutput {
-                text: good_output(alloc, is_json, tells_first, advert, weights, &read)?,
+                text: good_output(alloc, is_json, tells_first, advert, &weighed, &read)?,
                 fault: None,
                 warnings: Warnings::of(advert, weights, !read.plan.paths.is_empty()),
             }),
@@ -71,7 +72,7 @@ fn good_output(
     is_json: bool,
     tells_first: bool,
     advert: &Advert,
-    weights: &Weights,
+    weights: &AppWeights,
     certificate: &Certificate<STATES>,
 ) -> Result<Vec<u8>, AllocError>
     requires { IsGood advert.now weights.now certificate.now }
@@ -96,7 +97,7 @@ fn good_output(
 fn said_first(
     is_asked: bool,
     advert: &Advert,
-    weights: &Weights,
+    weights: &AppWeights,
     certificate: &Certificate<STATES>,
 ) -> Option<bool>
     requires { IsGood advert.now weights.now certificate.now }
@@ -113,7 +114,7 @@ fn good_text(
     alloc: Global,
     is_first: Option<bool>,
     advert: &Advert,
-    weights: &Weights,
+    weights: &AppWeights,
     certificate: &Certificate<STATES>,
 ) -> Result<Vec<u8>, AllocError>
     requires { IsGood advert.now weights.now certificate.now }

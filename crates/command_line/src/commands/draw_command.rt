@@ -6,7 +6,7 @@ use super::planning_inputs::{read_kept, read_module};
 use crate::command_output::CommandOutput;
 use crate::fault::Fault;
 use crate::remark::Warnings;
-use applications::{Conventions, Weights};
+use applications::{AppWeights, Conventions, Weights};
 use field_tables::{Field, number};
 use std::alloc::Global;
 
@@ -26,7 +26,8 @@ pub fn draw(
     let weights = Weights::read(alloc, weights)?;
     let kept = read_kept(&advert, kept)?;
     let media_type = number(&image, Field::CMediaType);
-    let drawing = plan_drawing::draw(alloc, as_svg, media_type, &advert, &weights, &kept)?;
+    let weighed = AppWeights::of(&advert, &weights);
+    let drawing = plan_drawing::draw(alloc, as_svg, media_type, &advert, &weighed, &kept)?;
     let warnings = Warnings::of(&advert, &weights, drawing.has_paths);
     Ok(CommandOutput {
         text: drawing.text,

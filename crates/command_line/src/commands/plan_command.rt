@@ -7,7 +7,7 @@ use super::planning_inputs::{read_advert, read_kept};
 use crate::command_output::CommandOutput;
 use crate::fault::Fault;
 use crate::remark::Warnings;
-use applications::{Advert, Conventions, Weights};
+use applications::{Advert, AppWeights, Conventions, Weights};
 use lane_planner::{certificate_text, first_plan};
 use plan_certificate::Plan;
 use reports::plan_json;
@@ -29,7 +29,8 @@ pub fn plan(
     let advert = read_advert(conventions, image)?;
     let weights = Weights::read(alloc, weights)?;
     let kept = read_kept(&advert, kept)?;
-    let (text, has_paths) = planned(alloc, is_json, &advert, &weights, &kept)?;
+    let weighed = AppWeights::of(&advert, &weights);
+    let (text, has_paths) = planned(alloc, is_json, &advert, &weighed, &kept)?;
     let warnings = Warnings::of(&advert, &weights, has_paths);
     Ok(CommandOutput {
         text,
@@ -43,7 +44,7 @@ fn planned(
     alloc: Global,
     is_json: bool,
     advert: &Advert,
-    weights: &Weights,
+    weights: &AppWeights,
     kept: &Plan,
 ) -> Result<(Vec<u8>, bool), AllocError>
     requires { IsAdmissible advert.now kept.now }

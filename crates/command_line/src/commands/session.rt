@@ -12,7 +12,7 @@ use super::outcome::{ProcedureResults, fault_of, steps_of};
 use super::planning_inputs::{read_kept, read_module};
 use crate::fault::Fault;
 use crate::remark::Warnings;
-use applications::{Advert, Conventions, Weights};
+use applications::{Advert, AppWeights, Conventions, Weights};
 use bus_model::{Script, ScriptBus};
 use control_sets::{
     Activated, MAX_STEPS, Power, ProvisionFault, Provisioned, activate, change_power,
@@ -71,7 +71,8 @@ pub fn set_up(
     let kept = read_kept(&advert, kept)?;
     let script = Script::read(script)?;
     let module = SimModule::new(&image, delays())?;
-    let plan = first_plan(&advert, &weights, &kept);
+    let weighed = AppWeights::of(&advert, &weights);
+    let plan = first_plan(&advert, &weighed, &kept);
     let warnings = Warnings::of(&advert, &weights, !plan.paths.is_empty());
     let bus = ScriptBus::new(alloc, module, script, ROOM)?;
     Ok(Session {

@@ -1,9 +1,7 @@
 // The pieces of a line of weights.
-ghost use Rattle.std.specs.Prelude.{◌≡◌, ◌==◌, ◌<◌, ◌≤◌, length, IfSome, Some, None, if◌then◌else◌};
-ghost use Rattle.std.specs.Char.{digit_value};
+ghost use Rattle.std.specs.Prelude.{◌≡◌, ◌==◌, ◌<◌, ◌≤◌, length, IfSome};
 ghost use Rattle.std.specs.List.{after_first, before_first, position, position_or_len};
 ghost use Rattle.std.specs.Str.{is_utf8};
-ghost use Rattle.applications.specs.HostTable.{id_of_key, is_hexadecimal};
 ghost use Rattle.applications.specs.WeightLines.{trimmed};
 
 pub fn is_text(line: &[u8]) -> bool
@@ -44,28 +42,4 @@ fn find_byte(bytes: &[u8], at: u8) -> Option<usize>
     ensures place { result ≡ position (λ byte. byte == at) bytes.now }
 {
     bytes.iter().position(|byte| *byte == at)
-}
-
-/// The HostInterfaceID that a key writes.
-#[tactic(auto, unfolding(applications::specs::HostTable::id_of_key))]
-pub fn id_of_key(key: &[u8]) -> Option<u8>
-    ensures { result ≡ id_of_key key.now }
-{
-    if key.len() != 3 || key[2] != b'h' {
-        return None;
-    }
-    let high = hexadecimal_digit(key[0])?;
-    let low = hexadecimal_digit(key[1])?;
-    Some(16 * high + low)
-}
-
-fn hexadecimal_digit(digit: u8) -> Option<u8>
-    ensures { result ≡ (if is_hexadecimal digit then Some (digit_value digit) else None) }
-{
-    match digit {
-        b'0'..=b'9' => Some(digit - b'0'),
-        b'A'..=b'F' => Some(digit - b'A' + 10),
-        b'a'..=b'f' => Some(digit - b'a' + 10),
-        _ => None,
-    }
 }

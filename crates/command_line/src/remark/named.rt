@@ -13,7 +13,7 @@ ghost use Rattle.command_line.specs.Places as spec;
 
 use super::place::Place;
 use crate::fault::Fault;
-use applications::{AdvertFault, WeightsFault};
+use applications::{AdvertFault, WeightTable, WeightsFault};
 use bus_model::ScriptFault;
 use control_sets::ProvisionFault;
 use field_tables::SffFault;
@@ -137,11 +137,21 @@ fn of_weights(fault: WeightsFault, line: Option<usize>) -> Named
     match fault {
         WeightsFault::NotToml => at("WT1", place),
         WeightsFault::NoHostTable => at("WT2", place),
-        WeightsFault::BadKey => at("WT3", place),
-        WeightsFault::SameKeyTwice(host_id) => at("WT4", Place::HostKey(host_id)),
-        WeightsFault::BadWeight(host_id) => at("WT5", Place::HostKey(host_id)),
+        WeightsFault::BadKey(_) => at("WT3", place),
+        WeightsFault::SameKeyTwice(table, number) => at("WT4", key_of(table, number)),
+        WeightsFault::BadWeight(table, number) => at("WT5", key_of(table, number)),
         WeightsFault::OtherKey => at("WT6", place),
         WeightsFault::Memory => nowhere("memory"),
+    }
+}
+
+fn key_of(table: WeightTable, number: u8) -> Place
+    ensures { result ≡ spec.key_of table number }
+{
+    match table {
+        WeightTable::Host => Place::HostKey(number),
+        WeightTable::Media => Place::MediaKey(number),
+        WeightTable::App => Place::AppKey(number),
     }
 }
 

@@ -20,6 +20,8 @@ pub enum Place {
     Identifier(u8),
     Revision(u8),
     HostKey(u8),
+    MediaKey(u8),
+    AppKey(u8),
     Path(usize),
     KeptPath(usize),
     Entry(usize),
@@ -60,6 +62,11 @@ impl fmt::Display for Place {
                 let host_id = ShownByte(host_id);
                 write!(f, ", key {host_id}")
             }
+            Place::MediaKey(media_id) => {
+                let media_id = ShownByte(media_id);
+                write!(f, ", key {media_id} of 'media'")
+            }
+            Place::AppKey(number) => write!(f, ", key {number} of 'app'"),
             Place::Path(number) => write!(f, ", path {number}"),
             Place::KeptPath(number) => write!(f, ", kept path {number}"),
             Place::Entry(number) => write!(f, ", entry {number}"),

@@ -1,16 +1,19 @@
-ghost use Rattle.std.specs.Prelude.{◌≡◌, map};
-ghost use Rattle.std.specs.List.{range_with_len};
-ghost use Rattle.command_line.specs.PlanWarnings.{has_interface, is_unknown, no_warnings, warnings_of};
+ghost use Rattle.std.specs.Prelude.{◌≡◌};
+ghost use Rattle.command_line.specs.PlanWarnings.{is_named, is_unknown, names_some, no_warnings, unknown_in, warnings_of};
 
 use super::shown_byte::ShownByte;
-use applications::{Advert, Weights};
+use applications::{Advert, App, WeightTable, Weights};
 use std::fmt;
 
 /// What is odd about a plan that is given.
 #[derive(Clone, Copy)]
 pub struct Warnings {
     /// By HostInterfaceID: it weighs something, and no Application of the module has it.
-    unknown: [bool; 256],
+    unknown_hosts: [bool; 256],
+    /// The same by MediaInterfaceID.
+    unknown_media: [bool; 256],
+    /// The same by the number of an Application.
+    unknown_apps: [bool; 256],
     has_no_paths: bool,
 }
 
@@ -20,7 +23,9 @@ impl Warnings {
         ensures { result ≡ no_warnings }
     {
         Warnings {
-            unknown: [false; 256],
+            unknown_hosts: [false; 256],
+            unknown_media: [false; 256],
+            unknown_apps: [false; 256],
             has_no_paths: false,
         }
     }
@@ -29,47 +34,79 @@ impl Warnings {
     pub fn of(advert: &Advert, weights: &Weights, has_paths: bool) -> Warnings
         ensures { result ≡ warnings_of advert.now weights.now has_paths }
     {
+        let unknown_hosts = unknown_in(advert, weights, WeightTable::Host);
+        let unknown_media = unknown_in(advert, weights, WeightTable::Media);
+        let unknown_apps = unknown_in(advert, weights, WeightTable::App);
         Warnings {
-            unknown: unknown_in(advert, weights),
+            unknown_hosts,
+            unknown_media,
+            unknown_apps,
             has_no_paths: !has_paths,
         }
     }
 }
 
-// Of each host interface, whether its weight counts for nothing.
-fn unknown_in(advert: &Advert, weights: &Weights) -> [bool; 256]
-    ensures { result ≡ map (is_unknown advert.now weights.now) (range_with_len 0 256) }
+// Of each number of a table, whether its weight counts for nothing.
+fn unknown_in(advert: &Advert, weights: &Weights, table: WeightTable) -> [bool; 256]
+    ensures { result ≡ unknown_in advert.now weights.now table }
 {
     let mut all = [false; 256];
-    for (host_id, unknown) in all.iter_mut().enumerate() {
-        *unknown = is_unknown(advert, weights, host_id as u8);
+    for (number, unknown) in all.iter_mut().enumerate() {
+        *unknown = is_unknown(advert, weights, table, number as u8);
     }
     all
 }
 
 // Whether the weight of this one does.
-fn is_unknown(advert: &Advert, weights: &Weights, host_id: u8) -> bool
-    ensures { result ≡ is_unknown advert.now weights.now host_id }
+fn is_unknown(advert: &Advert, weights: &Weights, table: WeightTable, number: u8) -> bool
+    ensures { result ≡ is_unknown advert.now weights.now table number }
 {
-    weights.of(host_id) != 0 && !has_interface(advert, host_id)
+    weights.table(table)[usize::from(number)] != 0 && !names_some(advert, table, number)
 }
 
-// Whether an Application has this host interface.
-fn has_interface(advert: &Advert, host_id: u8) -> bool
-    ensures { result ≡ has_interface advert.now host_id }
+// Whether an Application is named by it.
+fn names_some(advert: &Advert, table: WeightTable, number: u8) -> bool
+    ensures { result ≡ names_some advert.now table number }
 {
-    advert.apps().iter().any(|app| app.host_id == host_id)
+    advert.apps().iter().any(|app| is_named(app, table, number))
 }
 
-/// A line for each key of the weights that no Application has, and one for a plan without paths.
+fn is_named(app: &App, table: WeightTable, number: u8) -> bool
+    ensures { result ≡ is_named table number app.now }
+{
+    match table {
+        WeightTable::Host => app.host_id == number,
+        WeightTable::Media => app.media_id == number,
+        WeightTable::App => app.number == number,
+    }
+}
+
+/// A line for each key of the weights that names no Application, and one for a plan without paths.
 impl fmt::Display for Warnings {
     fn fmt<W: fmt::Write>(&self, f: &mut fmt::Formatter<W>) -> fmt::Result {
-        for host_id in 0..=255u8 {
-            if self.unknown[usize::from(host_id)] {
-                let key = ShownByte(host_id);
+        for number in 0..=255u8 {
+            if self.unknown_hosts[usize::from(number)] {
+                let key = ShownByte(number);
                 writeln!(
                     f,
                     "cmisctl: key {key}: no Application of this module has this host interface, so its weight counts for nothing; 'apps' prints those that it has, after 'host'"
+                )?;
+            }
+        }
+        for number in 0..=255u8 {
+            if self.unknown_media[usize::from(number)] {
+                let key = ShownByte(number);
+                writeln!(
+                    f,
+                    "cmisctl: key {key} of 'media': no Application of this module has this media interface, so its weight counts for nothing; 'apps' prints those that it has, after 'media'"
+                )?;
+            }
+        }
+        for number in 0..=255u8 {
+            if self.unknown_apps[usize::from(number)] {
+                writeln!(
+                    f,
+                    "cmisctl: key {number} of 'app': this module has no Application of this number, so its weight counts for nothing; 'apps' prints those that it has, after 'app'"
                 )?;
             }
         }

@@ -1,7 +1,7 @@
 // Kept data paths: while the others of a plan are provisioned, whatever the bus refuses, their lanes stay up.
 use super::modules::{FOURS, PAIRS, image, image_of, module_of, pass, upper};
 use super::plans::{FOUR_PAIRS, bus_of, plan_of};
-use applications::{Advert, Weights};
+use applications::{Advert, AppWeights, Weights};
 use control_sets::{ProvisionFault, Provisioned, provision_keeping};
 use datapath_states::PathState;
 use lane_planner::{certificate_text, plan_keeping};
@@ -27,7 +27,8 @@ fn provisioned_keeping(
     kept: &Plan,
 ) -> Result<Kept, Fail> {
     let advert = Advert::of(&image()?)?;
-    let weights = Weights::read(alloc, b"[host]\n0Dh = 101\n11h = 400\n")?;
+    let listed = Weights::read(alloc, b"[host]\n0Dh = 101\n11h = 400\n")?;
+    let weights = AppWeights::of(&advert, &listed);
     let mut bus = bus_of(alloc, module, script, 5000)?;
     let answer = match kept_fault(&advert, kept) {
         Some(_) => None,
@@ -186,7 +187,8 @@ fn kept_lanes_stay_up_whatever_is_refused(rt: HostRuntime) -> Result<(), Fail> {
 // Whether the certificate of a plan has the text that is made without it.
 fn has_its_text(alloc: Global, kept: &Plan) -> Result<bool, Fail> {
     let advert = Advert::of(&image()?)?;
-    let weights = Weights::read(alloc, b"[host]\n0Dh = 101\n11h = 400\n")?;
+    let listed = Weights::read(alloc, b"[host]\n0Dh = 101\n11h = 400\n")?;
+    let weights = AppWeights::of(&advert, &listed);
     if kept_fault(&advert, kept).is_some() {
         return Ok(false);
     }

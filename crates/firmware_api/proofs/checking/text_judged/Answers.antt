@@ -1,22 +1,13 @@
-use Rattle.std.proofs.Common.{Ok, Err, IfErr, OnOk, subst, ap, ◌∙◌, refl}
-use Rattle.text_lines.specs.Lines.{lines_of}
-use Rattle.applications.specs.Weights.{HostWeights}
-use Rattle.plan_certificate.specs.Limits.{most_states}
-use Rattle.plan_certificate.specs.CertificateFaults.{IsFirstFault}
-use Rattle.plan_certificate.specs.CertificateText.{IsTextOf}
-use Rattle.plan_certificate.specs.Verdicts.{verdict}
-use Rattle.firmware_api.specs.Checks.{judgement_of}
+use Rattle.std.proofs.Common.{◌≡◌, IfOk, subst}
+use Rattle.applications.specs.AppWeights.{PathWeights}
+use Rattle.firmware_api.specs.declared.checking.Judgement.{Judgement}
+use Rattle.firmware_api.specs.Checks.{IsTextJudgedBy, IsTextShownBestBy}
 use Rattle.firmware_api.proofs.checking.text_judged.Goals as goal
 
-pub returns-in-Ok-clause-judged : goal.returns-in-Ok-clause-judged
-returns-in-Ok-clause-judged c =
-    let text = c.args.text.now in
-    let is_text = subst (λ r. OnOk r (IsTextOf most_states (lines_of text) c.take.new.self)) c.in-Ok.is c.take.ensures.ok in
-    let weighed = c.check-verdict.ensures.verdict ∙ ap (λ (weights : HostWeights). verdict c.args.advert.now weights c.take.new.self) c.of_table.ensures in
-    (Ok c.take.new.self, is_text, ap Ok (c.judgement_of.ensures ∙ ap judgement_of weighed))
+pub returns-clause-judged : goal.returns-clause-judged
+returns-clause-judged c = subst (λ (weights : PathWeights). IsTextJudgedBy c.args.advert.now weights c.args.text.now c.text_judged_by.result) c.by_host.ensures c.text_judged_by.ensures.judged
 
-pub returns-in-Err-clause-judged : goal.returns-in-Err-clause-judged
-returns-in-Err-clause-judged c =
-    let text = c.args.text.now in
-    let first = subst (λ r. IfErr r (IsFirstFault most_states (lines_of text))) c.in-Err.is c.take.ensures.err in
-    (Err c.in-Err.fault, first, refl)
+pub returns-clause-best : goal.returns-clause-best
+returns-clause-best c =
+    subst (λ (weights : PathWeights). IfOk c.text_judged_by.result (λ (judged : Judgement). judged.reason ≡ 0 → IsTextShownBestBy c.args.advert.now weights c.args.text.now))
+    c.by_host.ensures c.text_judged_by.ensures.best

@@ -52,17 +52,17 @@ loop-one-preserved c =
           let more = one_decision_more free state moves index move c.loop-one-test.true c.one-item.is (sym c.is_open.ensures ∙ w.if-is_open.true) in
           let place : w.place-then-is_open.result ≡ state_place decision.end = w.place-then-is_open.ensures ∙ ap (λ (s : Decision). state_place s.end) w.decision.ensures in
           let rest : w.at.result ≡ gain_at table decision.end = w.at.ensures ∙ ap (λ (n : ℕ). get_or table n 0) place in
-          let new = most_risen table before decision c.loop-one.most most c.loop-one.invariant.most (omega (arith, w.most-is, rest, w.from.ensures)) (omega (arith, w.if-most-through.true, w.most-is)) in
+          let new = most_risen table before decision c.loop-one.most most c.loop-one.invariant.most (omega (arith, w.most-is, rest)) (omega (arith, w.if-most-through.true, w.most-is)) in
           record {
             most = subst (λ (decisions : List Decision). IsMost table decisions most) (sym more) new;
-            small = omega (arith, w.most-is, rest, w.from.ensures, small, leads.further, leads.within);
+            small = omega (arith, w.most-is, rest, small, leads.further, leads.within, leads.light);
           }
       | then-is_open+else-most-through w ↦
           let more = one_decision_more free state moves index move c.loop-one-test.true c.one-item.is (sym c.is_open.ensures ∙ w.if-is_open.true) in
           let place : w.place-then-is_open.result ≡ state_place decision.end = w.place-then-is_open.ensures ∙ ap (λ (s : Decision). state_place s.end) w.decision.ensures in
           let rest : w.at.result ≡ gain_at table decision.end = w.at.ensures ∙ ap (λ (n : ℕ). get_or table n 0) place in
           let same : c.loop-one.most ≡ most = sym w.most-is in
-          let new = most_kept table before decision most (subst (IsMost table before) same c.loop-one.invariant.most) (omega (arith, w.if-most-through.false, same, rest, w.from.ensures)) in
+          let new = most_kept table before decision most (subst (IsMost table before) same c.loop-one.invariant.most) (omega (arith, w.if-most-through.false, same, rest)) in
           record {
             most = subst (λ (decisions : List Decision). IsMost table decisions most) (sym more) new;
             small = omega (arith, same, c.loop-one.invariant.small);

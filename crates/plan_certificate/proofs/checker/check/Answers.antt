@@ -1,4 +1,4 @@
-use Rattle.std.proofs.Common.{◌≡◌, ℕ, Option, refl, sym, subst, ap, ◌∙◌}
+use Rattle.std.proofs.Common.{◌≡◌, Option, refl, sym, subst, ap, ◌∙◌}
 use Rattle.field_tables.specs.FirstFault.{first_fault}
 use Rattle.plan_certificate.specs.declared.verdict.Flaw.{Flaw}
 use Rattle.plan_certificate.specs.Certificates.{Claim, HasStates}

@@ -2,7 +2,6 @@ use Rattle.std.proofs.Common.{◌≡◌, ℕ, ◌+◌, ◌++◌, ◌∷◌, [], 
 use Rattle.field_tables.specs.LaneSets.{run_of}
 use Rattle.applications.specs.declared.app.App.{App}
 use Rattle.applications.specs.Advertised.{Advertised}
-use Rattle.applications.specs.Weights.{weight_at}
 use Rattle.plan_certificate.specs.declared.path.Path.{Path}
 use Rattle.plan_certificate.specs.KeptPaths.{is_eligible}
 use Rattle.plan_certificate.specs.Paths.{app_of}
@@ -52,8 +51,8 @@ loop-before-preserved g c =
           let can : is_eligible c.args.advert.now c.args.kept.now one ≡ true = sym c.is_eligible_as.ensures ∙ w.if-is_eligible_as.true in
           let app = c.application-application.ensures ∙ same_app c.args.advert.now c.args.app host 1 (before + 1) in
           let lanes = w.run-media_lanes.ensures ∙ ap (λ (a : App). run_of (before + 1) a.media_lanes) app in
-          let weight = c.of-weight.ensures ∙ ap (λ (a : App). weight_at c.args.weights.now a.host_id) app in
-          let is : ◌≡◌ {A = Move} (record { path = one; host_lanes = c.application-application.result.host_lanes; media_lanes = w.run-media_lanes.result; weight = c.of-weight.result }) (move_of c.args.advert.now c.args.weights.now one) = (λ i. record { path = one; host_lanes = (app i).host_lanes; media_lanes = lanes i; weight = weight i }) in
+          let weight = c.of_app-weight.ensures.weight in
+          let is : ◌≡◌ {A = Move} (record { path = one; host_lanes = c.application-application.result.host_lanes; media_lanes = w.run-media_lanes.result; weight = c.of_app-weight.result }) (move_of c.args.advert.now c.args.weights.now one) = (λ i. record { path = one; host_lanes = (app i).host_lanes; media_lanes = lanes i; weight = weight i }) in
           let decision = move_of_one c.args.advert.now c.args.weights.now c.args.kept.now one can in
           record {
             moves =

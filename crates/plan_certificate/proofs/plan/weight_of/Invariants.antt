@@ -5,6 +5,6 @@ use Rattle.plan_certificate.proofs.plan.weight_of.Given as goal
 -- the weight of the paths so far
 abbrev pub invariant-loop-path : goal.invariant-loop-path
 invariant-loop-path l = record {
-  weighs : l.weight ≡ plan_weight l.advert l.weights (take l.path-index l.path-items);
-  few : l.weight ≤ 4294967295 * l.path-index;
+  weighs : l.weight ≡ plan_weight l.weights (take l.path-index l.path-items);
+  few : l.weight ≤ 12884901885 * l.path-index;
 }

@@ -1,10 +1,13 @@
-use Rattle.std.proofs.Common.{refl, sym, subst, Err, IfErr, OnOk}
+use Rattle.std.proofs.Common.{refl, sym, subst, ap, ◌∙◌, Err, IfErr, OnOk}
 use Rattle.text_lines.specs.Lines.{lines_of}
+use Rattle.applications.specs.AppWeights.{PathWeights}
 use Rattle.plan_certificate.specs.Limits.{most_states}
+use Rattle.plan_certificate.specs.Plans.{IsBest}
+use Rattle.plan_certificate.specs.Verdicts.{verdict}
 use Rattle.plan_certificate.specs.CertificateFaults.{IsFirstFault}
 use Rattle.plan_certificate.specs.CertificateText.{IsTextOf}
 use Rattle.plan_certificate.specs.declared.verdict.Verdict.TheVariants.{Bad}
-use Rattle.command_line.specs.CheckCommand.{IsCheckAnswer, IsGoodAnswer, IsJudged}
+use Rattle.command_line.specs.CheckCommand.{IsCheckAnswer, IsGoodAnswer, IsJudged, TellsGood}
 use Rattle.command_line.specs.declared.fault.Fault.TheVariants.{Certificate}
 use Rattle.command_line.proofs.commands.check_command.judged.Goals as goal
 
@@ -26,10 +29,12 @@ returns-in_ok-good_output-in-Good-clause-answer c = λ conventions image listed 
         is_advert = is_advert;
         are_weights = are_weights;
         is_certificate = subst (λ r. OnOk r (IsTextOf most_states (lines_of text) c.take.new.self)) c.in-Ok.is c.take.ensures.ok;
-        is_verdict = sym c.in-Good.ensures.verdict;
+        is_verdict = ap (λ (weights : PathWeights). verdict c.args.advert.now weights c.take.new.self) (sym c.of-weighed.ensures) ∙ sym c.in-Good.ensures.verdict;
       };
-      is_best = c.in-Good.ensures.best refl;
-      told = c.in_ok-good_output-in-Good.ensures;
+      is_best = subst (λ (weights : PathWeights). IsBest c.args.advert.now weights c.take.new.self.kept c.take.new.self.paths) c.of-weighed.ensures (c.in-Good.ensures.best refl);
+      told =
+          subst (λ (weights : PathWeights). TellsGood c.args.is_json c.args.tells_first c.args.advert.now weights c.take.new.self c.in_ok-good_output-in-Good.field-0.items)
+          c.of-weighed.ensures c.in_ok-good_output-in-Good.ensures;
     } in
     good
 
@@ -43,6 +48,6 @@ returns-in-Bad-clause-answer c = λ conventions image listed is_advert are_weigh
       is_advert = is_advert;
       are_weights = are_weights;
       is_certificate = subst (λ r. OnOk r (IsTextOf most_states (lines_of text) c.take.new.self)) c.in-Ok.is c.take.ensures.ok;
-      is_verdict = sym c.in-Bad.ensures.verdict;
+      is_verdict = ap (λ (weights : PathWeights). verdict c.args.advert.now weights c.take.new.self) (sym c.of-weighed.ensures) ∙ sym c.in-Bad.ensures.verdict;
     } in
     bad

@@ -1,5 +1,6 @@
 use Rattle.std.proofs.Common.{ℕ, subst}
 use Rattle.std.proofs.lemmas.Result.{err_from_is_err_and}
+use Rattle.applications.specs.AppWeights.{PathWeights, app_weights}
 use Rattle.plan_drawing.specs.Drawings.{IsDrawing}
 use Rattle.command_line.specs.DrawCommand.{IsDrawn}
 use Rattle.command_line.specs.PlanningInputs.{IsAdvertText, IsKeptRefusal}
@@ -33,8 +34,11 @@ returns-in_err-kept-clause-answer c =
 pub returns-clause-answer : goal.returns-clause-answer
 returns-clause-answer c =
     let drawing = c.in_ok-drawing.drawing in
-    let drawn = subst (λ (m : ℕ). IsDrawing c.args.as_svg m c.in_ok-image.advert c.in_ok-weights.weights c.in_ok-kept.kept drawing.text.items drawing.has_paths)
-    c.number-media_type.ensures.value c.in_ok-drawing.ensures in
+    let weights = app_weights c.in_ok-image.advert c.in_ok-weights.weights in
+    let weighed = subst (λ (w : PathWeights). IsDrawing c.args.as_svg c.number-media_type.result c.in_ok-image.advert w c.in_ok-kept.kept drawing.text.items drawing.has_paths)
+    c.of-weighed.ensures c.in_ok-drawing.ensures in
+    let drawn = subst (λ (m : ℕ). IsDrawing c.args.as_svg m c.in_ok-image.advert weights c.in_ok-kept.kept drawing.text.items drawing.has_paths)
+    c.number-media_type.ensures.value weighed in
     let is : IsDrawn c.args.as_svg c.args.conventions c.args.image.now c.args.weights.now c.args.kept.now drawing.text.items = record {
       memory = c.in_ok-image.image;
       advert = c.in_ok-image.advert;

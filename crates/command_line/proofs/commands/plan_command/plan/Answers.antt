@@ -1,4 +1,7 @@
+use Rattle.std.proofs.Common.{subst}
 use Rattle.std.proofs.lemmas.Result.{err_from_is_err_and}
+use Rattle.applications.specs.AppWeights.{PathWeights}
+use Rattle.command_line.specs.PlanCommand.{TellsPlan}
 use Rattle.command_line.specs.PlanningInputs.{IsKeptRefusal}
 use Rattle.command_line.proofs.PlanAnswers.{advert_refused, plan_told, weights_refused}
 use Rattle.command_line.proofs.commands.plan_command.plan.Goals as goal
@@ -29,4 +32,5 @@ returns-in_err-kept-clause-answer c =
 pub returns-clause-answer : goal.returns-clause-answer
 returns-clause-answer c =
     plan_told c.args.is_json c.args.conventions c.args.image.now c.args.weights.now c.args.kept.now c.in_ok-advert.advert c.in_ok-weights.weights c.in_ok-kept.kept _
-    c.in_ok-advert.ensures c.in_ok-weights.ensures.answer c.in_ok-kept.ensures c.in_ok-text.ensures
+    c.in_ok-advert.ensures c.in_ok-weights.ensures.answer c.in_ok-kept.ensures
+    (subst (λ (weights : PathWeights). TellsPlan c.args.is_json c.in_ok-advert.advert weights c.in_ok-kept.kept c.in_ok-text.text.items) c.of-weighed.ensures c.in_ok-text.ensures)

@@ -1,6 +1,8 @@
-use Rattle.std.proofs.Common.{refl, ap, sym, ◌∙◌}
+use Rattle.std.proofs.Common.{refl, ap, sym, subst, ◌∙◌}
 use Rattle.std.proofs.lemmas.Result.{err_from_is_err_and}
+use Rattle.applications.specs.AppWeights.{PathWeights}
 use Rattle.bus_model.specs.ScriptBuses.{seen_at}
+use Rattle.lane_planner.specs.CertifiedPlans.{IsCertified}
 use Rattle.sim_module.specs.Starts.{start, start_fault}
 use Rattle.sim_module.specs.declared.delays.Delays.{Delays}
 use Rattle.sim_module.specs.declared.module.SimModule.{SimModule}
@@ -76,7 +78,7 @@ returns-clause-answer c =
     let given = c.delays.result in
     let told : IsAdvertText c.args.conventions c.args.image.now c.in_ok-image.advert = record { memory = memory; is_module = c.in_ok-image.ensures } in
     let certified = c.first_plan-plan.ensures.certified in
-    let all = certified.1 in
+    let all = subst (λ (weights : PathWeights). IsCertified c.in_ok-image.advert weights c.in_ok-kept.kept certified.0) c.of-weighed.ensures certified.1 in
     let starts = module_starts c.in_ok-module.module (start memory given) (start_fault memory given) c.in_ok-module.ensures in
     record {
       set_up = record {

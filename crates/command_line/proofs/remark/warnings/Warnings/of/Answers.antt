@@ -1,9 +1,9 @@
-use Rattle.std.proofs.Common.{ℕ, Bool, List, not, ap}
+use Rattle.std.proofs.Common.{Bool, List, not}
 use Rattle.command_line.specs.declared.remark.warnings.Warnings.{Warnings}
 use Rattle.command_line.proofs.remark.warnings.Warnings.of.Goals as goal
 
-abbrev made : Bool → List Bool → Warnings
-made has_paths unknown = record { unknown = unknown; has_no_paths = not has_paths }
+abbrev made : Bool → List Bool → List Bool → List Bool → Warnings
+made has_paths hosts media apps = record { unknown_hosts = hosts; unknown_media = media; unknown_apps = apps; has_no_paths = not has_paths }
 
 pub returns : goal.returns
-returns c = ap (made c.args.has_paths) c.unknown_in.ensures
+returns c = (λ i. made c.args.has_paths (c.unknown_in-unknown_hosts.ensures i) (c.unknown_in-unknown_media.ensures i) (c.unknown_in-unknown_apps.ensures i))

@@ -1,4 +1,4 @@
-use Rattle.std.proofs.Common.{◌≡◌, ◌<◌, ℕ, List, sym, subst, ap, rules}
+use Rattle.std.proofs.Common.{◌<◌, List, sym, subst, rules}
 use Rattle.plan_certificate.specs.declared.certificate.Entry.{Entry}
 use Rattle.plan_certificate.specs.Certificates.{entry_place}
 use Rattle.plan_certificate.proofs.AddedLines.{IsAbove}

@@ -1,7 +1,7 @@
 use Rattle.std.proofs.Common.{◌≡◌, [], refl, arith, rules}
 use Rattle.text_lines.specs.Lines.{lines_of}
-use Rattle.applications.proofs.SaidLines.{drafts_none, read_all, read_are_weights, read_fault, read_more, read_no_host, read_none}
-use Rattle.applications.proofs.weights.Weights.read_lines.Goals as goal
+use Rattle.applications.proofs.SaidLines.{drafts_none, read_all, read_fault, read_more, read_none}
+use Rattle.applications.proofs.weights.lines.read_weight_lines.Goals as goal
 
 pub loop-line-init : goal.loop-line-init
 loop-line-init c = record { read = read_none _ _ (drafts_none _ refl refl refl); bounded = omega arith }
@@ -21,9 +21,6 @@ returns-in-Err c =
     let l = c.loop-line in
     let read = rw c.in-Some.ensures.lines at l.invariant.read in
     read_fault (lines_of c.args.text.now) (lines_of c.in-Some.after.now) c.in-Some.line.now l.draft l.number c.in-Err.fault read (c.in-Err.ensures read.said read.drafts)
-
-pub invariant_of-result : goal.invariant_of-result
-invariant_of-result c = read_are_weights (lines_of c.args.text.now) (lines_of c.loop-line.rest.now) c.loop-line.draft c.loop-line.number c.loop-line.invariant.read
 
 pub returns : goal.returns
 returns c =

@@ -1,7 +1,7 @@
 use Rattle.std.proofs.Common.{◌+◌, ◌≤◌, length}
 use Rattle.text_lines.specs.Lines.{lines_of}
 use Rattle.applications.proofs.SaidLines.{ReadTo}
-use Rattle.applications.proofs.weights.Weights.read_lines.Given as goal
+use Rattle.applications.proofs.weights.lines.read_weight_lines.Given as goal
 
 abbrev pub invariant-loop-line : goal.invariant-loop-line
 invariant-loop-line l = record {
