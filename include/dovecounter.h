@@ -2,9 +2,9 @@
    paths, checks certificates of such plans, provisions a module over a bus that the caller owns, and simulates a
    module for tests.
 
-   Each function is proved to return, and to do what is said here. None allocates, prints, waits, keeps a pointer or
-   ends the process, and none has state of its own: calls may run at the same time, if none of them writes what
-   another one reads or writes.
+   Each function is proved to return, and to do what is said here, except what is called tested, or is said of a real
+   module. None allocates, prints, waits, keeps a pointer or ends the process, and none has state of its own: calls may
+   run at the same time, if none of them writes what another one reads or writes.
 
    The caller has to see to what no function can see: each pointer points to as much as its type and its length say,
    and is not null, even if a length is 0; what a pointer to const points to does not change during the call; and what
@@ -27,7 +27,7 @@ extern "C" {
    dovecounter_certificate writes the text's length if the buffer is too small for it, and dovecounter_weights the
    number of the faulty line. The comments name the faults that the program cmisctl prints for the same reason. Each
    function below has a table of the statuses besides 0 that it answers; if more than one applies, it answers the one
-   that stands first in its table. */
+   that stands first in its table, and of faults in a text's lines that of the first faulty line. */
 enum dovecounter_status {
     DOVECOUNTER_DONE = 0,
 
@@ -93,7 +93,7 @@ enum dovecounter_status {
     DOVECOUNTER_NO_HOST_LINE = 92     /* WT2: there is no line `[host]` */
 };
 
-/* No text of the four functions below is longer. */
+/* No text of the four functions below is longer (tested). */
 #define DOVECOUNTER_TEXT_SIZE 256
 
 /* Writes to the buffer what a status means and what to do: ASCII, without an end of line and without a NUL. Writes to
@@ -337,8 +337,9 @@ uint32_t dovecounter_durations(const struct dovecounter_half *halves, size_t hal
    hexadecimal digits of either case and `h`, and the weight, a decimal number up to 4294967295 without leading zeros.
    Blanks and tabs may stand at both ends of a line and around `=`; from `#` on a line is a comment; a line may have
    nothing else, or be empty. The text is UTF-8; LF ends a line, and the last one may have none. cmisctl reads the
-   same weights from it. Other TOML that cmisctl reads, such as 1_000, or lines that end in CR LF, is refused here. On
-   status 91 and 94 *line becomes the number of the faulty line, from 1 on, and on 92 it becomes 0; else it stays.
+   same weights from it (tested). Other TOML that cmisctl reads, such as 1_000, or lines that end in CR LF, is refused
+   here. On status 91 and 94 *line becomes the number of the first faulty line, from 1 on, and on 92 it becomes 0; else
+   it stays.
 
    status   if
    91       a line is none of these, comes before `[host]`, or is a second `[host]`; so is `[media]` or `[app]`, which cmisctl
@@ -446,10 +447,11 @@ enum dovecounter_fault_code {
     DOVECOUNTER_RESERVED_CODE = 7      /* PV7: the standard reserves the code `first` that the module shows */
 };
 
-/* What the host has done to the module before a fault. Provisioning: PV6, and PV7 by the module's state, nothing;
-   PV2, its lanes were taken down, and the bytes staged; PV1 and PV3, the bytes were also applied; PV4, and PV7 by a
-   path state or a status, any part of this. Activation: PV3 and PV6, nothing; PV4 and PV7, lanes may be coming up or
-   going down. Waking up and going to sleep: PV6 and PV7, byte 26 was stored; PV4, maybe. */
+/* What the host has done to the module before a fault, besides selecting pages. Provisioning: PV6, and PV7 by the
+   module's state, nothing; PV2, its lanes were taken down, and the bytes staged; PV1 and PV3, the bytes were also
+   applied; PV4, and PV7 by a path state or a status, any part of this. Activation: PV3, PV6, and PV7 by the module's
+   state, nothing; PV4, and PV7 by a path state, lanes may be coming up or going down. Waking up and going to sleep:
+   PV6 and PV7, byte 26 was stored; PV4, maybe. */
 struct dovecounter_fault {
     uint8_t code; /* of enum dovecounter_fault_code */
     uint8_t first;
@@ -544,8 +546,8 @@ struct dovecounter_answer {
     struct dovecounter_fault fault; /* its code is 0 if it succeeded */
 };
 
-/* Writes to *answer how the procedure ended. After a success of provisioning the last operation
-   has read the control bytes from the module's Active Control Set.
+/* Writes to *answer how the procedure ended. After a success of provisioning the last operation has read the control
+   bytes from the module's Active Control Set.
 
    status   if
    31       the numbers are none of a procedure
@@ -565,7 +567,7 @@ struct dovecounter_reading {
     uint8_t read;
     uint8_t wait;
     uint8_t count;                     /* how many halves were read */
-    struct dovecounter_half halves[5]; /* those, the newest first */
+    struct dovecounter_half halves[5]; /* those, the newest first (tested) */
     uint8_t part[128];
 };
 
@@ -574,7 +576,7 @@ struct dovecounter_reading {
    its memory is flat; for an SFF-8636 module the lower half and the pages 00h and 03h, likewise; for an SFF-8472
    module the lower half of 0xA0, and that of 0xA2 if it has diagnostics without an address change; for other modules
    the lower half of 0xA0. The bus fetches at most `most` bytes at once: a half comes in pieces of the largest
-   multiple of 8 that is not above that, and with 128 at once. Nobody else may use the module meanwhile. CMIS modules
+   multiple of 8 that is not above that, and of 128 at most. Nobody else may use the module meanwhile. CMIS modules
    are here those of identifiers 0x18, 0x19, 0x1B and 0x1E to 0x25, of any revision; the functions that decode and
    plan take fewer of them.
 
