@@ -1,6 +1,6 @@
 -- The drawing of the plan that is given: the plan as `check` tells it, its picture, the Applications that it uses, and why no plan
 -- weighs more. (docs/formats.md, "draw"; this project's own)
-use Rattle.std.specs.Prelude.{◌≡◌, ℕ, Bool, true, false, nat_lt, List, [], ◌∷◌, ◌++◌, length}
+use Rattle.std.specs.Prelude.{◌≡◌, ◌<◌, ℕ, Bool, true, false, nat_lt, List, [], ◌∷◌, ◌++◌, AllPairs, length}
 use Rattle.text_lines.specs.Lines.{text_of}
 use Rattle.applications.specs.Advertised.{Advertised}
 use Rattle.applications.specs.AppWeights.{PathWeights}
@@ -32,13 +32,14 @@ abbrev pub lines_as : Bool → ℕ → Advertised → PathWeights → List Path 
 lines_as false = drawing_lines
 lines_as true = drawing_svg
 
--- the drawing of the first of the best plans with the kept paths, by what can be gained from each state that decisions from the start
--- reach, and whether the plan has a path
+-- the drawing of the first of the best plans with the kept paths, whose paths stand by rising host lane, by what can be gained from each
+-- state that decisions from the start reach; and whether the plan has a path
 pub record IsDrawing (as_svg : Bool) (media_type : ℕ) (advert : Advertised) (weights : PathWeights) (kept : List Path) (text : List ℕ)
     (has_paths : Bool) : Type 0 where
   pub paths : List Path
   pub table : List ℕ
   pub first : IsFirstBest advert weights kept paths
+  pub rising : AllPairs (λ path later. path.host < later.host) paths
   pub gains : HasGains advert weights kept 0 table
   pub drawn : text ≡ text_of (lines_as as_svg media_type advert weights kept table paths)
   pub some : has_paths ≡ nat_lt 0 (length paths)
