@@ -113,7 +113,9 @@ def plan(
     halves, table = image.arguments(), _weights(weights)
 
     def status(count: int) -> int:
-        return int(_plan(*halves, paired, counts_by_id, table, _kept(keep[:count]), count, byref(found)))
+        return int(
+            _plan(*halves, paired, counts_by_id, table, _kept(keep[:count]), count, byref(found))
+        )
 
     answer = status(len(keep))
     if CODES.get(answer) == "KP3":
@@ -149,7 +151,9 @@ def check(
 
     def status(count: int) -> int:
         beginning = b"".join(line + b"\n" for line in lines[:count]) if count < len(lines) else text
-        return int(_check(*halves, paired, counts_by_id, table, beginning, len(beginning), byref(found)))
+        return int(
+            _check(*halves, paired, counts_by_id, table, beginning, len(beginning), byref(found))
+        )
 
     answer = status(len(lines))
     code = CODES.get(answer)

@@ -99,8 +99,14 @@ def test_what_an_image_advertises_and_its_plans_are_what_the_program_prints(
 def test_a_module_that_pairs_first_lanes() -> None:
     certificate = "\n".join(cmisctl("plan", DR4.to_text(), table(WEIGHTS)))
     paired = "\n".join(cmisctl("plan --paired", DR4.to_text(), table(WEIGHTS)))
-    assert check(DR4, WEIGHTS, certificate) == check(DR4, WEIGHTS, paired, True) == Judgement(None, 0)
-    assert check(DR4, WEIGHTS, paired) == check(DR4, WEIGHTS, certificate, True) == Judgement("VR10", 0)
+    assert (
+        check(DR4, WEIGHTS, certificate) == check(DR4, WEIGHTS, paired, True) == Judgement(None, 0)
+    )
+    assert (
+        check(DR4, WEIGHTS, paired)
+        == check(DR4, WEIGHTS, certificate, True)
+        == Judgement("VR10", 0)
+    )
     apart = [DataPath(2, 3, 1)]
     assert apart[0] in plan(DR4, WEIGHTS, apart).paths
     assert str(fault_of(plan, DR4, WEIGHTS, apart, True)) == "KP3 1"
@@ -272,8 +278,13 @@ def test_numbers_out_of_range_are_refused_and_not_cut() -> None:
 
 
 def test_weights_are_read_from_lines() -> None:
-    assert read_weights("# what for\n[host]\n0dh = 101 # DR1\n\n11h=400\n12h = 0") == {0x0D: 101, 0x11: 400}
-    assert read_weights(table(WEIGHTS)) == {host_id: weight for host_id, weight in WEIGHTS.items() if weight}
+    assert read_weights("# what for\n[host]\n0dh = 101 # DR1\n\n11h=400\n12h = 0") == {
+        0x0D: 101,
+        0x11: 400,
+    }
+    assert read_weights(table(WEIGHTS)) == {
+        host_id: weight for host_id, weight in WEIGHTS.items() if weight
+    }
     refused: tuple[tuple[str | bytes, str], ...] = (
         ("", ""),
         ("0Dh = 1\n[host]\n", "line 1: "),
