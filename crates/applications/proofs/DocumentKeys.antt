@@ -8,11 +8,11 @@ use Rattle.std.specs.String.{string_cmp}
 use Rattle.toml.specs.View.{members_view}
 use Rattle.toml.specs.declared.value.Value.{Value}
 use Rattle.applications.specs.WeightTables.{KeysRise, Member, members_of}
-use Rattle.applications.specs.WeightFaults.{has_other_key, names_table}
+use Rattle.applications.specs.WeightFaults.{has_other_key, is_known}
 
-pub has_other_key-view : (entries : List (String Global × Value)) → has_other_key (members_of (members_view entries)) ≡ list_any (λ key. not (names_table (string_bytes key))) (keys_of entries)
+pub has_other_key-view : (entries : List (String Global × Value)) → has_other_key (members_of (members_view entries)) ≡ list_any (λ key. not (is_known (string_bytes key))) (keys_of entries)
 has_other_key-view [] = refl
-has_other_key-view (entry ∷ entries) = ap (λ (b : Bool). not (names_table (string_bytes entry.0)) || b) (has_other_key-view entries)
+has_other_key-view (entry ∷ entries) = ap (λ (b : Bool). not (is_known (string_bytes entry.0)) || b) (has_other_key-view entries)
 
 -- keys that rise in a map rise among its members
 all_below : (key : String Global) (entries : List (String Global × Value)) → AllByRecursion (λ y. string_cmp key y ≡ Less) (keys_of entries)

@@ -1,4 +1,5 @@
 pub mod Listed
+mod LightWeights
 mod CountedApps
 mod DocumentKeys
 mod TableMembers

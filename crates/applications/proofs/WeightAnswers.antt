@@ -15,7 +15,7 @@ use Rattle.applications.specs.declared.weights.fault.WeightsFault.TheVariants.{M
 use Rattle.applications.specs.Weights.{IsTableWeights, ListedWeights}
 use Rattle.applications.specs.declared.weights.table.WeightTable.{WeightTable}
 use Rattle.applications.specs.declared.weights.table.WeightTable.TheVariants.{Host, Media, App}
-use Rattle.applications.specs.WeightTables.{Member, document_of, members_in, members_of, table_in, weights_in, weights_of}
+use Rattle.applications.specs.WeightTables.{Member, document_of, members_in, members_of, stay_in, table_in, weights_in, weights_of}
 use Rattle.applications.proofs.TableMembers.{first_fault-append_none, first_fault-append_some, weights_of-are, weights_of-none}
 use Rattle.applications.specs.WeightFaults.{IsAnswer, faults_after, faults_in, has_more, weights_fault, weights_faults}
 
@@ -101,13 +101,13 @@ module _ (document : Members) (has_host : false ≡ is_none (table_in Host docum
       pub app_refused : (fault : WeightsFault) → IsTableAnswer App document (Err fault) → weights_fault (Some document) ≡ Some fault
       app_refused fault is = of_tables (Some fault) (past_media ∙ table_refused App document fault is)
 
-      pub all_read : (by_app : List ℕ) → IsTableAnswer App document (Ok by_app)
-          → (weights_fault (Some document) ≡ None) × (◌≡◌ {A = ListedWeights} (record { by_host = by_host; by_media = by_media; by_app = by_app }) (weights_in (Some document)))
-      all_read by_app app =
+      pub all_read : (by_app : List ℕ) (stay : ℕ) → IsTableAnswer App document (Ok by_app) → stay ≡ stay_in document
+          → (weights_fault (Some document) ≡ None) × (◌≡◌ {A = ListedWeights} (record { by_host = by_host; by_media = by_media; by_app = by_app; stay = stay }) (weights_in (Some document)))
+      all_read by_app stay app stay_is =
           let host_is = (table_read Host document by_host host).1 in
           let media_is = (table_read Media document by_media media).1 in
           let app_is = (table_read App document by_app app).1 in
-          (of_tables None (past_media ∙ (table_read App document by_app app).0), (λ i. record { by_host = host_is i; by_media = media_is i; by_app = app_is i }))
+          (of_tables None (past_media ∙ (table_read App document by_app app).0), (λ i. record { by_host = host_is i; by_media = media_is i; by_app = app_is i; stay = stay_is i }))
 
 -- no fault says that memory ran out
 abbrev is_memory : WeightsFault → Bool

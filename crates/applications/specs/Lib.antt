@@ -1,6 +1,7 @@
 pub mod Usable
 pub mod Descriptors
 pub mod CountsById
+pub mod ActiveSets
 pub mod Advertised
 pub mod AdvertisedCode
 pub mod Refusals

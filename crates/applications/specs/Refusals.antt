@@ -1,6 +1,7 @@
 -- Why the Applications of a module are not read. (docs/formats.md, "apps"; OIF-CMIS-05.0, chapter 8 "Module
 -- Management Memory Map", "Management Characteristics" and the page checksums)
-use Rattle.std.specs.Prelude.{ℕ, ◌/◌, ◌==◌, ◌||◌, Bool, not, List, [], ◌∷◌, ◌++◌, Option}
+use Rattle.std.specs.Prelude.{ℕ, ◌/◌, ◌==◌, ◌||◌, Bool, not, if◌then◌else◌, List, [], ◌∷◌, ◌++◌, Option}
+use Rattle.std.specs.Option.{option_or}
 use Rattle.bus_model.specs.declared.device.Dev.TheVariants.{A0}
 use Rattle.paged_memory.specs.declared.family.Family.TheVariants.{Cmis}
 use Rattle.paged_memory.specs.Keys.{lower_key, upper_key}
@@ -8,6 +9,7 @@ use Rattle.paged_memory.specs.Images.{Memory}
 use Rattle.field_tables.specs.declared.field.Field.TheVariants.{CIdentifier, CRevision, CFlatMemory}
 use Rattle.field_tables.specs.declared.field.Sum.TheVariants.{CSum00, CSum01}
 use Rattle.field_tables.specs.Reasons.{Reason, lacks, tells, wrong, if_set, of_another, refused_by}
+use Rattle.applications.specs.declared.conventions.Conventions.{Conventions}
 use Rattle.applications.specs.declared.fault.AdvertFault.{AdvertFault}
 use Rattle.applications.specs.declared.fault.AdvertFault.TheVariants.{Absent, NotCmis, Revision, NotEightLanes, FlatMemory, BadSum}
 
@@ -39,3 +41,12 @@ page_fault memory = refused_by memory page_reasons
 
 unfoldable pub advert_fault : Memory → Option AdvertFault
 advert_fault memory = refused_by memory (module_reasons ++ page_reasons)
+
+-- of the page of its Active Control Set, which is looked at if that is asked for
+abbrev pub active_reasons : List (Reason AdvertFault)
+active_reasons = lacks (upper_key A0 0 0x11) (Absent (upper_key A0 0 0x11)) ∷ []
+
+-- why a host that reads by these conventions does not read them
+abbrev pub advert_fault_under : Conventions → Memory → Option AdvertFault
+advert_fault_under conventions memory =
+    if conventions.now then option_or (advert_fault memory) (refused_by memory active_reasons) else advert_fault memory

@@ -10,24 +10,32 @@ use Rattle.applications.specs.declared.weights.fault.WeightsFault.{WeightsFault}
 use Rattle.applications.specs.declared.weights.fault.WeightsFault.TheVariants.{Memory, NotToml, NoHostTable, OtherKey, BadKey, SameKeyTwice, BadWeight}
 use Rattle.applications.specs.declared.weights.table.WeightTable.{WeightTable}
 use Rattle.applications.specs.declared.weights.table.WeightTable.TheVariants.{Host, Media, App}
-use Rattle.applications.specs.WeightKeys.{named_by, table_name}
+use Rattle.applications.specs.WeightKeys.{named_by, stay_name, table_name}
 use Rattle.applications.specs.Weights.{ListedWeights}
-use Rattle.applications.specs.WeightTables.{Member, document_of, is_of, members_in, members_of, number_of, table_in, value_in, weight_of_value, weights_in}
+use Rattle.applications.specs.WeightTables.{Member, document_of, is_of, members_in, members_of, number_of, stay_value, table_in, value_in, weight_of_value, weights_in}
 
 -- the name of a table of weights
 unfoldable pub names_table : List ℕ → Bool
 names_table key = bytes_eq key (table_name Host) || bytes_eq key (table_name Media) || bytes_eq key (table_name App)
 
+-- the name of a table of weights, or of the weight of staying
+abbrev pub is_known : List ℕ → Bool
+is_known key = names_table key || bytes_eq key stay_name
+
 abbrev pub has_other_key : List Member → Bool
-has_other_key members = list_any (λ (member : Member). not (names_table member.0)) members
+has_other_key members = list_any (λ (member : Member). not (is_known member.0)) members
 
 -- what a document has under a table's name is no table
 abbrev pub is_no_table : WeightTable → Members → Bool
 is_no_table table document = is_some (value_in table document) && is_none (table_in table document)
 
--- more than the three tables
+-- what a document has as the weight of staying is no weight
+abbrev pub is_no_stay : Members → Bool
+is_no_stay document = option_map_or (λ value. is_none (weight_of_value value)) (stay_value document) false
+
+-- more than the three tables and the weight of staying
 abbrev pub has_more : Members → Bool
-has_more document = has_other_key (members_of document) || is_no_table Media document || is_no_table App document
+has_more document = has_other_key (members_of document) || is_no_table Media document || is_no_table App document || is_no_stay document
 
 -- of a member of a table, if these are listed before it
 abbrev pub member_faults : WeightTable → (ℕ → Bool) → Member → List (Bool × WeightsFault)

@@ -35,3 +35,7 @@ unfoldable pub table_name : WeightTable → List ℕ
 table_name Host = codes "host"
 table_name Media = codes "media"
 table_name App = codes "app"
+
+-- the key of the weight of staying
+unfoldable pub stay_name : List ℕ
+stay_name = codes "stay"

@@ -1,4 +1,4 @@
--- The tables of a document that list weights, and what their members say. (docs/formats.md, "Weights"; this project's own)
+-- The tables of a document that list weights, and what their members say; and the weight of staying beside them. (docs/formats.md, "Weights"; this project's own)
 use Rattle.std.specs.Prelude.{ℕ, ◌^◌, Bool, false, ◌==◌, nat_lt, if◌then◌else◌, List, [], ◌∷◌, find, map, pos, Option, Some, None, unwrap_or, option_and_then}
 use Rattle.std.specs.Cmp.Lexicographic.{slice_cmp}
 use Rattle.std.specs.List.{range_with_len}
@@ -11,7 +11,7 @@ use Rattle.toml.specs.Data as toml
 use Rattle.toml.specs.Parse.{parse_document}
 use Rattle.applications.specs.declared.weights.table.WeightTable.{WeightTable}
 use Rattle.applications.specs.declared.weights.table.WeightTable.TheVariants.{Host, Media, App}
-use Rattle.applications.specs.WeightKeys.{named_by, table_name}
+use Rattle.applications.specs.WeightKeys.{named_by, stay_name, table_name}
 use Rattle.applications.specs.Weights.{ListedWeights, TableWeights}
 
 -- a key with its value
@@ -68,10 +68,19 @@ weight_in table members number = option_map_or weight_of (find (is_of table numb
 unfoldable pub weights_of : WeightTable → List Member → TableWeights
 weights_of table members = map (weight_in table members) (range_with_len 0 256)
 
--- those of the three tables
+-- what a document has as the weight of staying
+abbrev pub stay_value : Members → Option Data
+stay_value document = get_member stay_name document
+
+-- that weight; without it, staying weighs 0
+abbrev pub stay_in : Members → ℕ
+stay_in document = option_map_or (λ value. unwrap_or (weight_of_value value) 0) (stay_value document) 0
+
+-- those of the three tables, and of staying
 abbrev pub weights_in : Option Members → ListedWeights
 weights_in document = record {
   by_host = weights_of Host (members_in Host document);
   by_media = weights_of Media (members_in Media document);
   by_app = weights_of App (members_in App document);
+  stay = option_map_or stay_in document 0;
 }

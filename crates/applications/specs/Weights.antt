@@ -1,5 +1,5 @@
--- Weights as a text lists them: by HostInterfaceID, by MediaInterfaceID and by the number of an Application, a number of 32 bits
--- each. (docs/formats.md, "Weights"; SFF-8024, host and media interface codes; OIF-CMIS-05.0, chapter 8 "Module Management Memory
+-- Weights as a text lists them: by HostInterfaceID, by MediaInterfaceID and by the number of an Application, and for a path that
+-- stays, a number of 32 bits each. (docs/formats.md, "Weights"; SFF-8024, host and media interface codes; OIF-CMIS-05.0, chapter 8 "Module Management Memory
 -- Map", "Applications Advertising"; what they weigh is this project's own)
 use Rattle.std.specs.Prelude.{◌≡◌, ℕ, ◌^◌, ◌<◌, List, [], length, slice_index}
 use Rattle.std.specs.List.{All}
@@ -21,6 +21,8 @@ pub record ListedWeights : Type 0 where
   pub by_host : TableWeights
   pub by_media : TableWeights
   pub by_app : TableWeights
+  -- what a path weighs more if it is among the active ones
+  pub stay : ℕ
 
 abbrev pub table_of : WeightTable → ListedWeights → TableWeights
 table_of Host weights = weights.by_host
@@ -32,7 +34,8 @@ pub record AreListedWeights (weights : ListedWeights) : Type 0 where
   pub by_host : IsTableWeights weights.by_host
   pub by_media : IsTableWeights weights.by_media
   pub by_app : IsTableWeights weights.by_app
+  pub stay : weights.stay < 2 ^ 32
 
 -- host interfaces alone weigh something
 abbrev pub weights_of_hosts : TableWeights → ListedWeights
-weights_of_hosts by_host = record { by_host = by_host; by_media = []; by_app = [] }
+weights_of_hosts by_host = record { by_host = by_host; by_media = []; by_app = []; stay = 0 }

@@ -1,20 +1,27 @@
+ghost use Rattle.std.specs.Prelude.{◌≡◌, if◌then◌else◌};
+ghost use Rattle.applications.specs.ActiveSets.{active_in, nothing_active};
+ghost use Rattle.applications.specs.Advertised.{advertised_by};
+
+use crate::active::ActiveSet;
 use crate::app::{App, MAX_APPS};
 use crate::conventions::Conventions;
 use crate::counts::counted_apps;
 use crate::descriptors::apps_in;
 use crate::fault::AdvertFault;
-use crate::refusal::refusal;
+use crate::refusal::{refusal, refusal_under};
 use arrayvec::ArrayVec;
 use field_tables::{Field, LaneSet, number};
 use paged_memory::Image;
 use std::marker::Model;
 
-/// What a module advertises: at most 15 Applications, and the media lanes that it does not support.
+/// What a module advertises: at most 15 Applications, and the media lanes that it does not support. If that is asked for, also
+/// what its Active Control Set has.
 #[derive(Debug, Drop)]
 pub struct Advert {
     apps: ArrayVec<App, MAX_APPS>,
     unsupported: LaneSet,
     paired: bool,
+    active: ActiveSet,
 }
 
 impl Model for Advert {
@@ -25,42 +32,37 @@ impl Model for Advert {
 
     ghost coded = { coded_advertised };
 
-    ghost view = { λ advert. record { apps = advert.apps.items; unsupported = advert.unsupported; paired = advert.paired } };
+    ghost view = { λ advert. record { apps = advert.apps.items; unsupported = advert.unsupported; paired = advert.paired; active = advert.active } };
 
     ghost invariant = { λ advert. InOrder advert.apps.items };
 }
 
 impl Advert {
     ghost use Rattle.std.specs.Prelude.{◌≡◌, ◌≤◌, MatchOption, length};
-    ghost use Rattle.applications.specs.Advertised.{InOrder, advertised_by, advertised_under, with_counts, with_pairing};
-    ghost use Rattle.applications.specs.Refusals.{advert_fault};
+    ghost use Rattle.applications.specs.Advertised.{InOrder, advertised_under, with_active, with_counts, with_pairing};
+    ghost use Rattle.applications.specs.Refusals.{advert_fault, advert_fault_under};
 
     /// What the module of an image advertises, with the lane counts that its descriptors say and no pairing.
     pub fn of(image: &Image) -> Result<Advert, AdvertFault>
         ensures { MatchOption (advert_fault image.now) (result ≡ Ok (advertised_by image.now)) (λ fault. result ≡ Err fault) }
     {
-        if let Some(fault) = refusal(image) {
-            return Err(fault);
+        match refusal(image) {
+            Some(fault) => Err(fault),
+            None => Ok(advertised_by(image)),
         }
-        Ok(Advert {
-            apps: apps_in(image),
-            unsupported: LaneSet::from(number(image, Field::CUnsupportedMedia)),
-            paired: false,
-        })
     }
 
     /// What it advertises to a host that reads it by these conventions.
     pub fn under(conventions: Conventions, image: &Image) -> Result<Advert, AdvertFault>
-        ensures { MatchOption (advert_fault image.now) (result ≡ Ok (advertised_under conventions image.now)) (λ fault. result ≡ Err fault) }
+        ensures { MatchOption (advert_fault_under conventions image.now) (result ≡ Ok (advertised_under conventions image.now)) (λ fault. result ≡ Err fault) }
     {
         let media_type = number(image, Field::CMediaType);
-        match Advert::of(image) {
-            Ok(advert) => {
-                let counted = advert.with_counts(conventions.counts_by_id, media_type);
-                Ok(counted.with_pairing(conventions.paired))
-            }
-            Err(fault) => Err(fault),
+        if let Some(fault) = refusal_under(conventions, image) {
+            return Err(fault);
         }
+        let counted = advertised_by(image).with_counts(conventions.counts_by_id, media_type);
+        let advert = counted.with_pairing(conventions.paired);
+        Ok(advert.with_active(active_if(conventions.now, image)))
     }
 
     // The same, with the lane counts that the interface IDs imply, or as it stands.
@@ -80,6 +82,13 @@ impl Advert {
         ensures { result ≡ with_pairing paired self }
     {
         Advert { paired, ..self }
+    }
+
+    // The same with this Active Control Set.
+    fn with_active(self, active: ActiveSet) -> Advert
+        ensures { result ≡ with_active active self }
+    {
+        Advert { active, ..self }
     }
 
     /// The Applications by rising number.
@@ -103,5 +112,35 @@ impl Advert {
         ensures { result ≡ self.now.paired }
     {
         self.paired
+    }
+
+    /// What the Active Control Set has of each host lane, if that was asked for; else nothing.
+    pub fn active(&self) -> &ActiveSet
+        ensures { result.now ≡ self.now.active }
+    {
+        &self.active
+    }
+}
+
+// What the module of an image that is not refused advertises.
+fn advertised_by(image: &Image) -> Advert
+    ensures { result ≡ advertised_by image.now }
+{
+    Advert {
+        apps: apps_in(image),
+        unsupported: LaneSet::from(number(image, Field::CUnsupportedMedia)),
+        paired: false,
+        active: ActiveSet::nothing(),
+    }
+}
+
+// Its Active Control Set, if that is asked for.
+fn active_if(now: bool, image: &Image) -> ActiveSet
+    ensures { result ≡ (if now then active_in image.now else nothing_active) }
+{
+    if now {
+        ActiveSet::of(image)
+    } else {
+        ActiveSet::nothing()
     }
 }

@@ -5,4 +5,6 @@ pub struct Conventions {
     pub paired: bool,
     /// A lane count of 0 is the one that the interface ID implies, as far as that is known; else it stays 0.
     pub counts_by_id: bool,
+    /// What the Active Control Set has of each host lane is read too, so that a data path that is active may weigh more.
+    pub now: bool,
 }

@@ -1,6 +1,7 @@
 //! The Applications that a CMIS module advertises: what it can do on which lanes. Weights say how much each is wanted.
 #![tactic(auto)]
 
+mod active;
 mod advert;
 mod app;
 mod conventions;
@@ -10,6 +11,7 @@ mod fault;
 mod refusal;
 mod weights;
 
+pub use active::ActiveSet;
 pub use advert::Advert;
 pub use app::{App, MAX_APPS};
 pub use conventions::Conventions;

@@ -1,6 +1,8 @@
 ghost use Rattle.std.specs.Prelude.{◌≡◌};
-ghost use Rattle.applications.specs.Refusals.{advert_fault, page_fault, is_read_revision};
+ghost use Rattle.field_tables.specs.Reasons.{refused_by};
+ghost use Rattle.applications.specs.Refusals.{active_reasons, advert_fault, advert_fault_under, page_fault, is_read_revision};
 
+use crate::conventions::Conventions;
 use crate::fault::AdvertFault;
 use bus_model::Dev;
 use field_tables::{Field, Sum, is_sum_right, number};
@@ -30,6 +32,28 @@ pub fn refusal(image: &Image) -> Option<AdvertFault>
         return Some(AdvertFault::FlatMemory);
     }
     page_refusal(image)
+}
+
+/// Why a host that reads by these conventions does not read them.
+pub fn refusal_under(conventions: Conventions, image: &Image) -> Option<AdvertFault>
+    ensures { result ≡ advert_fault_under conventions image.now }
+{
+    let fault = refusal(image);
+    if fault.is_none() && conventions.now {
+        return active_refusal(image);
+    }
+    fault
+}
+
+// Why the page of the Active Control Set is not read.
+fn active_refusal(image: &Image) -> Option<AdvertFault>
+    ensures { result ≡ refused_by image.now active_reasons }
+{
+    let status = Key::upper(Dev::A0, 0, 0x11);
+    if !image.has(status) {
+        return Some(AdvertFault::Absent(status));
+    }
+    None
 }
 
 /// Why pages 00h and 01h are not read.

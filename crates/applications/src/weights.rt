@@ -16,12 +16,14 @@ use std::marker::Model;
 pub use table::WeightTable;
 use toml::table_from_str;
 
-/// Weights for each HostInterfaceID and each MediaInterfaceID (SFF-8024), and for each number of an Application.
+/// Weights for each HostInterfaceID and each MediaInterfaceID (SFF-8024), for each number of an Application, and for a path that
+/// stays.
 #[derive(Debug, Drop)]
 pub struct Weights {
     by_host_id: [u32; 256],
     by_media_id: [u32; 256],
     by_app: [u32; 256],
+    stay: u32,
 }
 
 impl Model for Weights {
@@ -29,9 +31,9 @@ impl Model for Weights {
 
     ghost Value = { ListedWeights };
 
-    ghost view = { λ weights. record { by_host = weights.by_host_id; by_media = weights.by_media_id; by_app = weights.by_app } };
+    ghost view = { λ weights. record { by_host = weights.by_host_id; by_media = weights.by_media_id; by_app = weights.by_app; stay = weights.stay } };
 
-    ghost invariant = { λ weights. AreListedWeights (record { by_host = weights.by_host_id; by_media = weights.by_media_id; by_app = weights.by_app }) };
+    ghost invariant = { λ weights. AreListedWeights (record { by_host = weights.by_host_id; by_media = weights.by_media_id; by_app = weights.by_app; stay = weights.stay }) };
 }
 
 impl Weights {
@@ -41,7 +43,7 @@ impl Weights {
     ghost use Rattle.applications.specs.WeightFaults.{IsAnswer, judges_keys};
     ghost use Rattle.applications.specs.declared.weights.table.WeightTable.{WeightTable};
 
-    /// The weights that a TOML document lists in its tables.
+    /// The weights that a TOML document lists in its tables, and that of staying.
     pub fn read(alloc: Global, text: &[u8]) -> Result<Weights, WeightsFault>
         ensures answer { IsAnswer text.now result }
         ensures in_byte_order { IsTrue (judges_keys result) → (table : WeightTable) → KeysRise (members_in table (document_of text.now)) }
@@ -65,5 +67,12 @@ impl Weights {
             WeightTable::Media => &self.by_media_id,
             WeightTable::App => &self.by_app,
         }
+    }
+
+    /// What a data path weighs more if it is among the active ones.
+    pub fn stay(&self) -> u32
+        ensures { result ≡ self.now.stay }
+    {
+        self.stay
     }
 }

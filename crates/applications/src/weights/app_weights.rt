@@ -1,7 +1,8 @@
-// How much data paths are wanted, by the number of their Application.
-ghost use Rattle.std.specs.Prelude.{◌≡◌, ◌≤◌, ◌==◌, find, option_copied};
+// How much data paths are wanted, by their Application, and by whether they are active.
+ghost use Rattle.std.specs.Prelude.{◌≡◌, ◌≤◌, ◌<◌, ◌-◌, ◌==◌, ℕ, find, map, option_copied, slice_index};
+ghost use Rattle.std.specs.List.{range_with_len};
 ghost use Rattle.applications.specs.declared.app.App.{App};
-ghost use Rattle.applications.specs.AppWeights.{weight_of_number};
+ghost use Rattle.applications.specs.AppWeights.{active_app, weight_of_number};
 ghost use Rattle.applications.specs.Weights.{weight_at};
 
 use super::Weights;
@@ -10,10 +11,12 @@ use crate::advert::Advert;
 use crate::app::App;
 use std::marker::Model;
 
-/// What the data paths of each Application weigh.
+/// What the data paths of each Application weigh, and which of them weigh more, as they are active.
 #[derive(Debug, Drop)]
 pub struct AppWeights {
     by_number: [u64; 16],
+    active: [u8; 8],
+    stay: u32,
 }
 
 impl Model for AppWeights {
@@ -21,57 +24,62 @@ impl Model for AppWeights {
 
     ghost Value = { PathWeights };
 
-    ghost view = { λ weights. weights.by_number };
+    ghost view = { λ weights. record { by_app = weights.by_number; active = weights.active; stay = weights.stay } };
 
-    ghost invariant = { λ weights. ArePathWeights weights.by_number };
+    ghost invariant = { λ weights. ArePathWeights (record { by_app = weights.by_number; active = weights.active; stay = weights.stay }) };
 }
 
 impl AppWeights {
-    ghost use Rattle.std.specs.Prelude.{◌≡◌, ◌≤◌, ℕ, []};
-    ghost use Rattle.applications.specs.AppWeights.{app_weights};
-    ghost use Rattle.applications.specs.Weights.{weight_at, weights_of_hosts};
+    ghost use Rattle.applications.specs.AppWeights.{app_weights, stay_at, weight_from};
+    ghost use Rattle.applications.specs.Weights.{weights_of_hosts};
 
     /// Of a module's Applications, by weights.
     pub fn of(advert: &Advert, weights: &Weights) -> AppWeights
         ensures { result ≡ app_weights advert.now weights.now }
     {
-        AppWeights::by_tables(
-            advert,
-            weights.table(WeightTable::Host),
-            weights.table(WeightTable::Media),
-            weights.table(WeightTable::App),
-        )
+        AppWeights {
+            by_number: weights_by_number(
+                advert,
+                weights.table(WeightTable::Host),
+                weights.table(WeightTable::Media),
+                weights.table(WeightTable::App),
+            ),
+            active: active_apps(advert),
+            stay: weights.stay(),
+        }
     }
 
     /// By weights of host interfaces alone.
     pub fn by_host(advert: &Advert, weights: &[u32; 256]) -> AppWeights
         ensures { result ≡ app_weights advert.now (weights_of_hosts weights.now) }
     {
-        AppWeights::by_tables(advert, weights, &[], &[])
-    }
-
-    fn by_tables(advert: &Advert, by_host: &[u32], by_media: &[u32], by_app: &[u32]) -> AppWeights
-        ensures { result ≡ app_weights advert.now (record { by_host = by_host.now; by_media = by_media.now; by_app = by_app.now }) }
-    {
-        let mut by_number = [0; 16];
-        for (number, weight) in by_number.iter_mut().enumerate() {
-            *weight = weight_of_number(advert, by_host, by_media, by_app, number as u8);
+        AppWeights {
+            by_number: weights_by_number(advert, weights, &[], &[]),
+            active: active_apps(advert),
+            stay: 0,
         }
-        AppWeights { by_number }
     }
 
-    /// None weighs more, since each is the sum of three weights of 32 bits at most.
+    /// None weighs more, since each is the sum of four weights of 32 bits at most.
     pub fn bound(&self) -> u64
-        ensures value { result ≡ 12884901885 }
-        ensures bound { (number : ℕ) → weight_at self.now number ≤ result }
+        ensures value { result ≡ 17179869180 }
+        ensures bound { (number host : ℕ) → weight_from self.now number host ≤ result }
     {
         let _weights = &self.by_number;
-        3 * u64::from(u32::MAX)
+        4 * u64::from(u32::MAX)
     }
 
-    /// What a data path of the Application with this number weighs.
-    pub fn of_app(&self, number: u8) -> u64
-        ensures weight { result ≡ weight_at self.now number }
+    /// What a data path of the Application with this number from a host lane on weighs.
+    #[tactic(auto, unfolding(crate::specs::AppWeights::weight_from))]
+    pub fn of_path(&self, number: u8, host: u8) -> u64
+        ensures weight { result ≡ weight_from self.now number host }
+        ensures small { result ≤ 17179869180 }
+    {
+        self.of_app(number) + self.of_staying(number, host)
+    }
+
+    fn of_app(&self, number: u8) -> u64
+        ensures weight { result ≡ weight_at self.now.by_app number }
         ensures small { result ≤ 12884901885 }
     {
         if number < 16 {
@@ -79,6 +87,67 @@ impl AppWeights {
         } else {
             0
         }
+    }
+
+    fn of_staying(&self, number: u8, host: u8) -> u64
+        ensures weight { result ≡ stay_at self.now number host }
+        ensures small { result ≤ 4294967295 }
+    {
+        if active_from(&self.active, host) == number {
+            u64::from(self.stay)
+        } else {
+            0
+        }
+    }
+}
+
+fn active_from(active: &[u8; 8], host: u8) -> u8
+    ensures { result ≡ slice_index active.now (host - 1) }
+{
+    match active.get(usize::from(host).saturating_sub(1)) {
+        Some(number) => *number,
+        None => 0,
+    }
+}
+
+// What the data paths of each Application weigh, by tables of weights.
+fn weights_by_number(
+    advert: &Advert,
+    by_host: &[u32],
+    by_media: &[u32],
+    by_app: &[u32],
+) -> [u64; 16]
+    ensures weights { (stay : ℕ) → result ≡ map (weight_of_number advert.now (record { by_host = by_host.now; by_media = by_media.now; by_app = by_app.now; stay = stay })) (range_with_len 0 16) }
+    ensures small { (k : ℕ) → k < 16 → slice_index result k ≤ 12884901885 }
+{
+    let mut by_number = [0; 16];
+    for (number, weight) in by_number.iter_mut().enumerate() {
+        *weight = weight_of_number(advert, by_host, by_media, by_app, number as u8);
+    }
+    by_number
+}
+
+// The Application of which an active path begins at each host lane.
+fn active_apps(advert: &Advert) -> [u8; 8]
+    ensures { result ≡ map (active_app advert.now) (range_with_len 1 8) }
+{
+    let mut apps = [0; 8];
+    for (before, app) in apps.iter_mut().enumerate() {
+        *app = active_app(advert, before + 1);
+    }
+    apps
+}
+
+// The same of one lane.
+#[tactic(auto, unfolding(crate::specs::AppWeights::active_app))]
+fn active_app(advert: &Advert, host: usize) -> u8
+    requires { host ≤ 8 }
+    ensures { result ≡ active_app advert.now host }
+{
+    let active = advert.active();
+    match app_with(advert, active.app_sel_code(host)) {
+        Some(app) if active.is_active(app, host) => app.number,
+        _ => 0,
     }
 }
 
@@ -91,7 +160,7 @@ fn weight_of_number(
     by_app: &[u32],
     number: u8,
 ) -> u64
-    ensures weight { result ≡ weight_of_number advert.now (record { by_host = by_host.now; by_media = by_media.now; by_app = by_app.now }) number }
+    ensures weight { (stay : ℕ) → result ≡ weight_of_number advert.now (record { by_host = by_host.now; by_media = by_media.now; by_app = by_app.now; stay = stay }) number }
     ensures small { result ≤ 12884901885 }
 {
     match app_with(advert, number) {

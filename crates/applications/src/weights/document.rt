@@ -1,15 +1,18 @@
 ghost use Rattle.std.specs.Prelude.{◌≡◌, IsTrue, MatchOption, Some, is_some, option_map};
 ghost use Rattle.toml.specs.View.{table_view, view};
 ghost use Rattle.field_tables.specs.FirstFault.{first_fault};
-ghost use Rattle.applications.specs.WeightTables.{KeysRise, members_in, members_of, table_in, value_in, weights_in, weights_of};
-ghost use Rattle.applications.specs.WeightFaults.{faults_in, has_more, has_other_key, is_no_table, judges_keys, names_table, weights_fault};
+ghost use Rattle.applications.specs.WeightTables.{KeysRise, members_in, members_of, stay_in, stay_value, table_in, value_in, weights_in, weights_of};
+ghost use Rattle.applications.specs.WeightFaults.{faults_in, has_more, has_other_key, is_known, is_no_stay, is_no_table, judges_keys, names_table, weights_fault};
 ghost use Rattle.applications.specs.declared.weights.table.WeightTable.{WeightTable};
 
 use super::Weights;
 use super::fault::WeightsFault;
-use super::members::read_members;
+use super::members::{read_members, weight_of_value};
 use super::table::WeightTable;
 use toml::{Table, Value};
+
+// The key of the weight of staying.
+const STAY: &str = "stay";
 
 /// The weights that the tables of a document list.
 pub fn read_document(document: &Table) -> Result<Weights, WeightsFault>
@@ -30,6 +33,7 @@ pub fn read_document(document: &Table) -> Result<Weights, WeightsFault>
         by_host_id: by_host_id?,
         by_media_id: by_media_id?,
         by_app: by_app?,
+        stay: stay_in(document),
     })
 }
 
@@ -60,19 +64,36 @@ fn value_in(document: &Table, table: WeightTable) -> Option<&Value>
     document.get(table.name())
 }
 
-// Whether a document has more than the three tables.
+// The weight of staying, or 0 if there is none.
+fn stay_in(document: &Table) -> u32
+    ensures { result ≡ stay_in (table_view document.now) }
+{
+    match stay_value(document) {
+        Some(value) => weight_of_value(value).unwrap_or(0),
+        None => 0,
+    }
+}
+
+fn stay_value(document: &Table) -> Option<&Value>
+    ensures { option_map (λ value. view value.now) result ≡ stay_value (table_view document.now) }
+{
+    document.get(STAY)
+}
+
+// Whether a document has more than the three tables and the weight of staying.
 fn has_more(document: &Table) -> bool
     ensures { result ≡ has_more (table_view document.now) }
 {
     has_other_key(document)
         || is_no_table(document, WeightTable::Media)
         || is_no_table(document, WeightTable::App)
+        || is_no_stay(document)
 }
 
 fn has_other_key(document: &Table) -> bool
     ensures { result ≡ has_other_key (members_of (table_view document.now)) }
 {
-    document.keys().any(|key| !names_table(key.as_str()))
+    document.keys().any(|key| !is_known(key.as_str()))
 }
 
 // Whether something else has the name of a table.
@@ -80,6 +101,23 @@ fn is_no_table(document: &Table, table: WeightTable) -> bool
     ensures { result ≡ is_no_table table (table_view document.now) }
 {
     value_in(document, table).is_some() && table_in(document, table).is_none()
+}
+
+// Whether what stands as the weight of staying is no weight.
+fn is_no_stay(document: &Table) -> bool
+    ensures { result ≡ is_no_stay (table_view document.now) }
+{
+    match stay_value(document) {
+        Some(value) => weight_of_value(value).is_none(),
+        None => false,
+    }
+}
+
+#[tactic(auto, unfolding(crate::specs::WeightKeys::stay_name))]
+fn is_known(key: &str) -> bool
+    ensures { result ≡ is_known key.now }
+{
+    names_table(key) || key == STAY
 }
 
 #[tactic(auto, unfolding(crate::specs::WeightFaults::names_table))]

@@ -48,7 +48,8 @@ fn read_member(
     Ok((number, weight))
 }
 
-fn weight_of_value(value: &Value) -> Option<u32>
+/// The weight that a value is: a whole number of 32 bits.
+pub fn weight_of_value(value: &Value) -> Option<u32>
     ensures { result ≡ spec.weight_of_value (view value.now) }
 {
     match value.as_integer() {

@@ -1,10 +1,12 @@
 use Rattle.std.proofs.Common.{◌≡◌, ◌∙◌, Bool, true, false, not, Option, Some, None, is_none, is_some, option_map, Result, Ok, refl, sym, ap}
 use Rattle.std.proofs.lemmas.Result.{err_from_is_err_and}
+use Rattle.toml.specs.Data.{Members}
 use Rattle.toml.specs.View.{table_view}
 use Rattle.applications.specs.declared.weights.fault.WeightsFault.{WeightsFault}
+use Rattle.applications.specs.declared.weights.table.WeightTable.{WeightTable}
 use Rattle.applications.specs.declared.weights.table.WeightTable.TheVariants.{Host, Media, App}
 use Rattle.applications.specs.Weights.{ListedWeights}
-use Rattle.applications.specs.WeightTables.{table_in}
+use Rattle.applications.specs.WeightTables.{KeysRise, members_in, table_in}
 use Rattle.applications.proofs.WeightAnswers.{all_read, app_refused, fault-more, fault-no_host, host_refused, media_refused, table_weights}
 use Rattle.applications.proofs.weights.document.read_document.Goals as goal
 
@@ -57,6 +59,7 @@ invariant_of-result c =
       by_host = table_weights Host document c.in_ok-by_host_id.field-0 c.in_ok-by_host_id.ensures.answer;
       by_media = table_weights Media document c.in_ok-by_media_id.field-0 c.in_ok-by_media_id.ensures.answer;
       by_app = table_weights App document c.in_ok-by_app.field-0 c.in_ok-by_app.ensures.answer;
+      stay = c.stay_in.type_inv;
     }
 
 pub returns-clause-answer : goal.returns-clause-answer
@@ -65,5 +68,19 @@ returns-clause-answer c =
     let has_host : false ≡ is_none (table_in Host document) = sym c.if-is_none.false ∙ none_by _ c.table_in.result (table_in Host document) c.is_none.result c.is_none.ensures c.table_in.ensures in
     let all =
     all_read document has_host c.if-has_more.ensures c.in_ok-by_host_id.field-0 c.in_ok-by_host_id.ensures.answer c.in_ok-by_media_id.field-0 c.in_ok-by_media_id.ensures.answer
-    c.in_ok-by_app.field-0 c.in_ok-by_app.ensures.answer in
+    c.in_ok-by_app.field-0 c.stay_in.result c.in_ok-by_app.ensures.answer c.stay_in.ensures in
     rw all.0 (ap (λ (weights : ListedWeights). let answer : Result ListedWeights WeightsFault = Ok weights in answer) all.1)
+
+-- the keys of each table rise
+each_table : (document : Members) → KeysRise (members_in Host (Some document)) → KeysRise (members_in Media (Some document)) → KeysRise (members_in App (Some document)) → (table : WeightTable) → KeysRise (members_in table (Some document))
+each_table document host media app Host = host
+each_table document host media app Media = media
+each_table document host media app App = app
+
+pub returns-in_err-by_host_id-clause-in_byte_order : goal.returns-in_err-by_host_id-clause-in_byte_order
+returns-in_err-by_host_id-clause-in_byte_order c judged =
+    each_table (table_view c.args.document.now) c.read_table-by_host_id.ensures.in_byte_order c.read_table-by_media_id.ensures.in_byte_order c.read_table-by_app.ensures.in_byte_order
+
+pub returns-clause-in_byte_order : goal.returns-clause-in_byte_order
+returns-clause-in_byte_order c judged =
+    each_table (table_view c.args.document.now) c.read_table-by_host_id.ensures.in_byte_order c.read_table-by_media_id.ensures.in_byte_order c.read_table-by_app.ensures.in_byte_order

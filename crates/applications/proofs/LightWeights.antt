@@ -1,0 +1,24 @@
+-- No path weighs more than four weights of 32 bits.
+use Rattle.std.proofs.Common.{◌≡◌, ℕ, ◌*◌, ◌-◌, ◌<◌, ◌≤◌, ◌==◌, List, cond, get_or, length, slice_index, true, false, arith, inl, inr}
+use Rattle.std.specs.List.{All}
+use Rattle.std.proofs.lemmas.Bool.{cases_lt}
+use Rattle.std.proofs.lemmas.List.{get_or_past}
+use Rattle.applications.specs.AppWeights.{ArePathWeights, PathWeights, stay_at, weight_from}
+
+app_light : (weights : List ℕ) → All (λ weight. weight ≤ 3 * 4294967295) weights → (number : ℕ) → get_or weights number 0 ≤ 3 * 4294967295
+app_light weights light number =
+    elim (cases_lt number (length weights)) [
+      | inl within ↦ light number 0 within
+      | inr past ↦ omega (arith, get_or_past weights number 0 past)
+    ]
+
+pub stay_light : (weights : PathWeights) → ArePathWeights weights → (number host : ℕ) → stay_at weights number host ≤ 4294967295
+stay_light weights are number host =
+    elim (slice_index weights.active (host - 1) == number) as (λ b. cond b weights.stay 0 ≤ 4294967295) [
+      | true ↦ are.stay
+      | false ↦ omega arith
+    ]
+
+pub path_light : (weights : PathWeights) → ArePathWeights weights → (number host : ℕ) → weight_from weights number host ≤ 4 * 4294967295
+unfolding weight_from
+path_light weights are number host = omega (arith, app_light weights.by_app are.light number, stay_light weights are number host)
