@@ -1,5 +1,5 @@
 -- No path weighs more than four weights of 32 bits.
-use Rattle.std.proofs.Common.{◌≡◌, ℕ, ◌*◌, ◌-◌, ◌<◌, ◌≤◌, ◌==◌, List, cond, get_or, length, slice_index, true, false, arith, inl, inr}
+use Rattle.std.proofs.Common.{◌≡◌, ℕ, ◌*◌, ◌-◌, ◌<◌, ◌≤◌, ◌==◌, ◌&&◌, nat_lt, List, cond, get_or, length, slice_index, true, false, arith, inl, inr}
 use Rattle.std.specs.List.{All}
 use Rattle.std.proofs.lemmas.Bool.{cases_lt}
 use Rattle.std.proofs.lemmas.List.{get_or_past}
@@ -14,7 +14,7 @@ app_light weights light number =
 
 pub stay_light : (weights : PathWeights) → ArePathWeights weights → (number host : ℕ) → stay_at weights number host ≤ 4294967295
 stay_light weights are number host =
-    elim (slice_index weights.active (host - 1) == number) as (λ b. cond b weights.stay 0 ≤ 4294967295) [
+    elim (nat_lt 0 number && slice_index weights.active (host - 1) == number) as (λ b. cond b weights.stay 0 ≤ 4294967295) [
       | true ↦ are.stay
       | false ↦ omega arith
     ]

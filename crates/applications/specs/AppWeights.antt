@@ -1,10 +1,9 @@
 -- What data paths weigh: the sum of what weights say of its Application's HostInterfaceID, MediaInterfaceID and number, by which
 -- AppSelCode names it, and if the path is among the active ones, of staying. (docs/planning.md, "Data paths" and "What stays";
 -- OIF-CMIS-05.0, chapter 8 "Module Management Memory Map", "Applications Advertising"; that these are added is this project's own)
-use Rattle.std.specs.Prelude.{◌≡◌, ℕ, ◌+◌, ◌-◌, ◌*◌, ◌≤◌, ◌==◌, if◌then◌else◌, List, find, length, map, slice_index, Option}
+use Rattle.std.specs.Prelude.{◌≡◌, ℕ, ◌+◌, ◌-◌, ◌*◌, ◌≤◌, ◌==◌, ◌&&◌, Bool, false, nat_lt, if◌then◌else◌, List, find, length, map, slice_index, Option}
 use Rattle.std.specs.List.{All, range_with_len}
 use Rattle.std.specs.Option.{option_map_or}
-use Rattle.applications.specs.declared.active.ActiveSet.{ActiveSet}
 use Rattle.applications.specs.declared.app.App.{App}
 use Rattle.applications.specs.ActiveSets.{is_active}
 use Rattle.applications.specs.Advertised.{Advertised}
@@ -26,7 +25,7 @@ pub record ArePathWeights (weights : PathWeights) : Type 0 where
 
 -- what staying adds to a path of the Application with this number from a host lane on
 abbrev pub stay_at : PathWeights → ℕ → ℕ → ℕ
-stay_at weights number host = if slice_index weights.active (host - 1) == number then weights.stay else 0
+stay_at weights number host = if nat_lt 0 number && slice_index weights.active (host - 1) == number then weights.stay else 0
 
 -- what such a path weighs
 unfoldable pub weight_from : PathWeights → ℕ → ℕ → ℕ
@@ -45,13 +44,15 @@ app_with advert number = find (λ (app : App). app.number == number) advert.apps
 unfoldable pub weight_of_number : Advertised → ListedWeights → ℕ → ℕ
 weight_of_number advert weights number = option_map_or (app_weight weights) (app_with advert number) 0
 
--- the number of an Application if its path from a host lane on is among the active ones, else 0
-abbrev pub number_if_active : ActiveSet → ℕ → App → ℕ
-number_if_active active host app = if is_active active app host then app.number else 0
+-- its path from a host lane on is among the active ones
+abbrev pub is_active_from : Advertised → ℕ → ℕ → Bool
+is_active_from advert number host = option_map_or (λ app. is_active advert.active app host) (app_with advert number) false
 
--- the number of the Application of which an active path begins at a host lane: the one that the lane's AppSelCode names, or 0
+-- the number of the Application of which an active path begins at a host lane: it can only be that of the lane's AppSelCode
 unfoldable pub active_app : Advertised → ℕ → ℕ
-active_app advert host = option_map_or (number_if_active advert.active host) (app_with advert (slice_index advert.active.app_sel_codes (host - 1))) 0
+active_app advert host =
+    let number = slice_index advert.active.app_sel_codes (host - 1) in
+    if is_active_from advert number host then number else 0
 
 abbrev pub app_weights : Advertised → ListedWeights → PathWeights
 app_weights advert weights = record {

@@ -30,7 +30,7 @@ gain_after advert weights kept table place decision has is contains =
     let ends = ends_later advert weights kept (state_at place) decision (at_is_byte place) contains in
     gain_in advert weights kept (place + 1) table decision.end has (reached_on advert weights kept (state_at place) decision is contains) (place_past place decision.end ends.past)
 
-pub small_in : (table : List ℕ) (state : State) → IsTable table → state.boundary ≤ 8 → gain_at table state ≤ 12884901885 * (8 - state.boundary)
+pub small_in : (table : List ℕ) (state : State) → IsTable table → state.boundary ≤ 8 → gain_at table state ≤ 17179869180 * (8 - state.boundary)
 small_in table state numbers within = omega (arith, numbers.small (state_place state) (place_below state within), boundary_of_place state)
 
 -- ---- one state more
@@ -45,7 +45,7 @@ gains_past advert weights kept place table has not = record {
       ];
 }
 
-pub gains_more : (advert : Advertised) (weights : PathWeights) (kept : List Path) (place : ℕ) (table : List ℕ) (gain : ℕ) → HasGains advert weights kept (place + 1) table → place < 2304 → IsGain advert weights kept (state_at place) gain → gain ≤ 12884901885 * (8 - place / 256) → HasGains advert weights kept place (set table place gain)
+pub gains_more : (advert : Advertised) (weights : PathWeights) (kept : List Path) (place : ℕ) (table : List ℕ) (gain : ℕ) → HasGains advert weights kept (place + 1) table → place < 2304 → IsGain advert weights kept (state_at place) gain → gain ≤ 17179869180 * (8 - place / 256) → HasGains advert weights kept place (set table place gain)
 gains_more advert weights kept place table gain has below is small =
     let within : place < length table = omega (arith, below, has.numbers.all) in
     let new : get_or (set table place gain) place 0 ≡ gain = get_or-set_same table place gain 0 within in
@@ -54,8 +54,8 @@ gains_more advert weights kept place table gain has below is small =
         all = length-set table place gain ∙ has.numbers.all;
         small = λ k inside.
             elim (cases_eq k place) [
-              | inl same ↦ subst (λ (n : ℕ). get_or (set table place gain) n 0 ≤ 12884901885 * (8 - n / 256)) (sym same) (subst (λ (n : ℕ). n ≤ 12884901885 * (8 - place / 256)) (sym new) small)
-              | inr other ↦ subst (λ (n : ℕ). n ≤ 12884901885 * (8 - k / 256)) (sym (get_or-set_other table place k gain 0 other)) (has.numbers.small k inside)
+              | inl same ↦ subst (λ (n : ℕ). get_or (set table place gain) n 0 ≤ 17179869180 * (8 - n / 256)) (sym same) (subst (λ (n : ℕ). n ≤ 17179869180 * (8 - place / 256)) (sym new) small)
+              | inr other ↦ subst (λ (n : ℕ). n ≤ 17179869180 * (8 - k / 256)) (sym (get_or-set_other table place k gain 0 other)) (has.numbers.small k inside)
             ];
       };
       gains = λ k from inside reached.

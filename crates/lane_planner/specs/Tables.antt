@@ -36,10 +36,10 @@ pub record AreParts (lows highs : List ℕ) : Type 0 where
   pub low : length lows ≡ 2048
   pub high : length highs ≡ 2048
 
--- a number for each state; each lane that is still to be decided adds at most three weights of 32 bits
+-- a number for each state; each lane that is still to be decided adds at most four weights of 32 bits
 pub record IsTable (table : List ℕ) : Type 0 where
   pub all : length table ≡ most_states
-  pub small : (place : ℕ) → place < most_states → slice_index table place ≤ 12884901885 * (8 - place / 256)
+  pub small : (place : ℕ) → place < most_states → slice_index table place ≤ 17179869180 * (8 - place / 256)
 
 -- the gains of the reached states from a place on
 pub record HasGains (advert : Advertised) (weights : PathWeights) (kept : List Path) (from : ℕ) (table : List ℕ) : Type 0 where

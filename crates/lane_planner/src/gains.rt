@@ -43,7 +43,7 @@ fn most(may_stay_free: bool, moves: &[Move], table: &Table, state: &State) -> u6
     requires open { state.now.boundary < 8 }
     requires lead_on { All (LeadsOn state.now.boundary) moves.now }
     ensures most { IsMost table.now (decisions_by may_stay_free state.now moves.now) result }
-    ensures small { result ≤ 12884901885 * (8 - state.now.boundary) }
+    ensures small { result ≤ 17179869180 * (8 - state.now.boundary) }
 {
     let mut most = 0;
     if may_stay_free {

@@ -1,20 +1,24 @@
 -- What a module can carry by the lane counts of its descriptors, it can carry too if the interface IDs imply the others.
-use Rattle.std.proofs.Common.{◌≡◌, ℕ, ◌&&◌, Bool, true, false, cond, List, [], ◌∷◌, Option, Some, None, find, map, option_map, get_or, refl, ap, ◌∙◌, arith}
+use Rattle.std.proofs.Common.{◌≡◌, ℕ, suc, ◌+◌, ◌-◌, ◌<◌, ◌&&◌, Bool, true, false, cond, List, [], ◌∷◌, Option, Some, None, find, length, map, option_map, get_or, slice_index, sum_by, refl, sym, ap, ◌∙◌, arith}
 use Rattle.std.specs.List.{range_with_len}
 use Rattle.std.specs.Option.{option_map_or, unwrap_or}
 use Rattle.std.proofs.lemmas.Bool.{and_parts}
 use Rattle.std.proofs.lemmas.Bool.Decides.{nat_tests}
+use Rattle.std.proofs.lemmas.List.Sums.{sum_by-cons}
 use Rattle.field_tables.specs.LaneSets.{is_disjoint, run_of}
+use Rattle.applications.specs.declared.active.ActiveSet.{ActiveSet}
 use Rattle.applications.specs.declared.app.App.{App}
 use Rattle.applications.specs.Advertised.{Advertised, with_counts_by_id}
 use Rattle.applications.specs.CountsById.{count_by, counted}
 use Rattle.applications.specs.Usable.{is_lane_count, is_usable}
-use Rattle.applications.specs.AppWeights.{app_weight, app_weights, weight_of_number}
-use Rattle.applications.specs.Weights.{ListedWeights}
+use Rattle.applications.specs.ActiveSets.{is_active, nothing_active}
+use Rattle.applications.specs.AppWeights.{app_weight, app_weights, is_active_from, stay_at, weight_from, weight_of_number}
+use Rattle.applications.specs.Weights.{ListedWeights, weight_at}
 use Rattle.interface_lanes.specs.LanesById.{host_lanes_by_id, media_lanes_by_id}
 use Rattle.plan_certificate.specs.declared.path.Path.{Path}
-use Rattle.plan_certificate.specs.Paths.{app_of, has_number, is_allowed, is_paired, is_run, no_app}
+use Rattle.plan_certificate.specs.Paths.{app_of, has_number, is_allowed, is_paired, is_run, no_app, path_weight}
 use Rattle.plan_certificate.specs.Plans.{are_apart, IsAdmissible, plan_weight}
+use Rattle.plan_certificate.proofs.ActivePaths.{host_within, none_active, same_stay, stay_of}
 
 -- ---- Applications
 
@@ -102,6 +106,65 @@ number_weighs media_type advert weights number =
     ap (λ (o : Option App). option_map_or (app_weight weights) o 0) (found media_type path advert.apps)
     ∙ same_weight media_type weights (find (has_number path) advert.apps)
 
-pub still_weighs : (media_type : ℕ) (advert : Advertised) (weights : ListedWeights) (paths : List Path) →
+apps_weigh : (media_type : ℕ) (advert : Advertised) (weights : ListedWeights) (number : ℕ)
+    → weight_at (app_weights (with_counts_by_id media_type advert) weights).by_app number ≡ weight_at (app_weights advert weights).by_app number
+apps_weigh media_type advert weights number = λ i. weight_at (map (λ n. number_weighs media_type advert weights n i) (range_with_len 0 16)) number
+
+sums_are_same : (f g : Path → ℕ) (paths : List Path) → ((k : ℕ) (d : Path) → k < length paths → f (get_or paths k d) ≡ g (get_or paths k d)) → sum_by f paths ≡ sum_by g paths
+sums_are_same f g [] same = refl
+sums_are_same f g (path ∷ paths) same =
+    let first = same 0 path (omega arith) in
+    let rest = sums_are_same f g paths (λ k d below. same (suc k) d (omega arith)) in
+    sum_by-cons f path paths ∙ (λ i. first i + rest i) ∙ sym (sum_by-cons g path paths)
+
+-- ---- active paths
+
+same_active : (media_type host : ℕ) (active : ActiveSet) (found : Option App) → is_usable (unwrap_or found no_app) ≡ true
+    → option_map_or (λ app. is_active active app host) (option_map (counted media_type) found) false ≡ option_map_or (λ app. is_active active app host) found false
+same_active media_type host active None usable = refl
+same_active media_type host active (Some app) usable = ap (λ (a : App). is_active active a host) (usable_stays media_type app usable)
+
+still_active : (media_type : ℕ) (advert : Advertised) (path : Path) → is_allowed advert path ≡ true → is_active_from (with_counts_by_id media_type advert) path.app path.host ≡ is_active_from advert path.app path.host
+unfolding app_of
+still_active media_type advert path can =
+    ap (λ (o : Option App). option_map_or (λ app. is_active advert.active app path.host) o false) (found media_type path advert.apps)
+    ∙ same_active media_type path.host advert.active (find (has_number path) advert.apps) (usable advert path can)
+
+still_stays : (media_type : ℕ) (advert : Advertised) (weights : ListedWeights) (path : Path) → is_allowed advert path ≡ true
+    → stay_at (app_weights (with_counts_by_id media_type advert) weights) path.app path.host ≡ stay_at (app_weights advert weights) path.app path.host
+still_stays media_type advert weights path can =
+    let within = host_within advert path can in
+    stay_of (with_counts_by_id media_type advert) weights path.app path.host within
+    ∙ ap (λ (b : Bool). cond b weights.stay 0) (same_stay path.app (slice_index advert.active.app_sel_codes (path.host - 1))
+    (λ (number : ℕ). is_active_from (with_counts_by_id media_type advert) number path.host) (λ (number : ℕ). is_active_from advert number path.host) (still_active media_type advert path can))
+    ∙ sym (stay_of advert weights path.app path.host within)
+
+path_weighs : (media_type : ℕ) (advert : Advertised) (weights : ListedWeights) (path : Path) → is_allowed advert path ≡ true
+    → path_weight (app_weights (with_counts_by_id media_type advert) weights) path ≡ path_weight (app_weights advert weights) path
+unfolding weight_from
+path_weighs media_type advert weights path can =
+    let app = apps_weigh media_type advert weights path.app in
+    let stay = still_stays media_type advert weights path can in
+    λ i. app i + stay i
+
+pub still_weighs : (media_type : ℕ) (advert : Advertised) (weights : ListedWeights) (paths : List Path) → IsAdmissible advert paths →
     plan_weight (app_weights (with_counts_by_id media_type advert) weights) paths ≡ plan_weight (app_weights advert weights) paths
-still_weighs media_type advert weights paths = λ i. plan_weight (map (λ number. number_weighs media_type advert weights number i) (range_with_len 0 16)) paths
+still_weighs media_type advert weights paths is =
+    sums_are_same (path_weight (app_weights (with_counts_by_id media_type advert) weights)) (path_weight (app_weights advert weights)) paths
+    (λ k d below. path_weighs media_type advert weights (get_or paths k d) (is.allowed k d below))
+
+-- ---- no active paths
+
+any_path_weighs : (media_type : ℕ) (advert : Advertised) (weights : ListedWeights) (path : Path) → advert.active ≡ nothing_active
+    → path_weight (app_weights (with_counts_by_id media_type advert) weights) path ≡ path_weight (app_weights advert weights) path
+unfolding weight_from
+any_path_weighs media_type advert weights path nothing =
+    let app = apps_weigh media_type advert weights path.app in
+    let active = none_active (with_counts_by_id media_type advert) nothing ∙ sym (none_active advert nothing) in
+    λ i. app i + stay_at (record { by_app = []; active = active i; stay = weights.stay }) path.app path.host
+
+pub any_weighs : (media_type : ℕ) (advert : Advertised) (weights : ListedWeights) (paths : List Path) → advert.active ≡ nothing_active →
+    plan_weight (app_weights (with_counts_by_id media_type advert) weights) paths ≡ plan_weight (app_weights advert weights) paths
+any_weighs media_type advert weights paths nothing =
+    sums_are_same (path_weight (app_weights (with_counts_by_id media_type advert) weights)) (path_weight (app_weights advert weights)) paths
+    (λ k d below. any_path_weighs media_type advert weights (get_or paths k d) nothing)

@@ -43,7 +43,7 @@ allowed advert path can = record {
   media_some = grind (arith, nat_tests);
 }
 
-app_found : (advert : Advertised) (path : Path) (o : Option App) → find (has_number path) advert.apps ≡ o → is_allowed advert path ≡ true → (app : App) × (find (has_number path) advert.apps ≡ Some app)
+pub app_found : (advert : Advertised) (path : Path) (o : Option App) → find (has_number path) advert.apps ≡ o → is_allowed advert path ≡ true → (app : App) × (find (has_number path) advert.apps ≡ Some app)
 unfolding app_of
 app_found advert path (Some app) is can = (app, is)
 app_found advert path None is can =

@@ -11,6 +11,7 @@ pub mod ByteLanes
 pub mod GoodVerdicts
 pub mod Heaviest
 pub mod PairedLanes
+mod ActivePaths
 mod CountedLanes
 mod LineWords
 mod NextLines

@@ -9,8 +9,7 @@ use Rattle.std.proofs.lemmas.List.FromFn.{map-range_with_len_more}
 use Rattle.std.specs.List.{AllByRecursion, flat_map, range_with_len}
 use Rattle.applications.specs.declared.app.App.{App}
 use Rattle.applications.specs.Advertised.{Advertised}
-use Rattle.applications.specs.AppWeights.{PathWeights}
-use Rattle.applications.specs.Weights.{weight_at}
+use Rattle.applications.specs.AppWeights.{PathWeights, weight_from}
 use Rattle.plan_certificate.specs.declared.path.Path.{Path}
 use Rattle.plan_certificate.specs.Paths.{is_allowed}
 use Rattle.plan_certificate.specs.KeptPaths.{is_eligible}
@@ -58,12 +57,12 @@ each_begins advert host =
     all_of_flat_map (BeginsAt host) (λ (app : App). paths_of_app host app.number) advert.apps
     (λ app. all_of_map (BeginsAt host) (λ (media : ℕ). record { app = app.number; host = host; media = media }) (range_with_len 1 8) (λ media. refl))
 
-leads_on : (advert : Advertised) (weights : PathWeights) (small : (number : ℕ) → weight_at weights number ≤ 3 * 4294967295) (host : ℕ) (path : Path) → path.host ≡ host → is_allowed advert path ≡ true → LeadsOn (host - 1) (move_of advert weights path)
+leads_on : (advert : Advertised) (weights : PathWeights) (small : (number host : ℕ) → weight_from weights number host ≤ 4 * 4294967295) (host : ℕ) (path : Path) → path.host ≡ host → is_allowed advert path ≡ true → LeadsOn (host - 1) (move_of advert weights path)
 leads_on advert weights small host path begins can =
     let lanes = allowed advert path can in
-    record { further = lanes.host_some; within = omega (arith, begins, lanes.host_from, lanes.host_to); light = small path.app }
+    record { further = lanes.host_some; within = omega (arith, begins, lanes.host_from, lanes.host_to); light = small path.app path.host }
 
-of_paths_lead_on : (advert : Advertised) (weights : PathWeights) (small : (number : ℕ) → weight_at weights number ≤ 3 * 4294967295) (kept : List Path) (host : ℕ) (paths : List Path) → AllByRecursion (BeginsAt host) paths → AllByRecursion (LeadsOn (host - 1)) (moves_of advert weights kept paths)
+of_paths_lead_on : (advert : Advertised) (weights : PathWeights) (small : (number host : ℕ) → weight_from weights number host ≤ 4 * 4294967295) (kept : List Path) (host : ℕ) (paths : List Path) → AllByRecursion (BeginsAt host) paths → AllByRecursion (LeadsOn (host - 1)) (moves_of advert weights kept paths)
 unfolding moves_of
 of_paths_lead_on advert weights small kept host [] begin = tt
 of_paths_lead_on advert weights small kept host (path ∷ paths) begin =
@@ -74,5 +73,5 @@ of_paths_lead_on advert weights small kept host (path ∷ paths) begin =
       | inr barred ↦ subst Made (sym barred) rest
     ]
 
-pub moves_lead_on : (advert : Advertised) (weights : PathWeights) (small : (number : ℕ) → weight_at weights number ≤ 3 * 4294967295) (kept : List Path) (host : ℕ) → AllByRecursion (LeadsOn (host - 1)) (moves_at advert weights kept host)
+pub moves_lead_on : (advert : Advertised) (weights : PathWeights) (small : (number host : ℕ) → weight_from weights number host ≤ 4 * 4294967295) (kept : List Path) (host : ℕ) → AllByRecursion (LeadsOn (host - 1)) (moves_at advert weights kept host)
 moves_lead_on advert weights small kept host = of_paths_lead_on advert weights small kept host (paths_at advert host) (each_begins advert host)

@@ -46,12 +46,12 @@ move_decisions state moves = map (move_decision state) (filter (is_open state) m
 abbrev pub decisions_by : Bool → State → List Move → List Decision
 decisions_by free state moves = free_decisions free state ++ move_decisions state moves
 
--- from a state with this boundary a move leads further, and not past the last host lane; it weighs at most three weights of 32
+-- from a state with this boundary a move leads further, and not past the last host lane; it weighs at most four weights of 32
 -- bits
 pub record LeadsOn (boundary : ℕ) (move : Move) : Type 0 where
   pub further : 1 ≤ move.host_lanes
   pub within : boundary + move.host_lanes ≤ 8
-  pub light : move.weight ≤ 3 * 4294967295
+  pub light : move.weight ≤ 4 * 4294967295
 
 -- on as many host lanes, and the same media lanes
 pub record HasLanesOf (move other : Move) : Type 0 where

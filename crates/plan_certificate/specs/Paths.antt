@@ -10,8 +10,7 @@ use Rattle.field_tables.specs.LaneSets.{Lanes, run_of, is_disjoint}
 use Rattle.applications.specs.declared.app.App.{App}
 use Rattle.applications.specs.Advertised.{Advertised}
 use Rattle.applications.specs.Usable.{is_usable}
-use Rattle.applications.specs.AppWeights.{PathWeights}
-use Rattle.applications.specs.Weights.{weight_at}
+use Rattle.applications.specs.AppWeights.{PathWeights, weight_from}
 use Rattle.plan_certificate.specs.declared.path.Path.{Path}
 
 -- what stands for an Application that isn't advertised: it takes no lanes, and no path of it is allowed
@@ -78,9 +77,9 @@ may_take advert app host media =
     && is_disjoint (run_of media app.media_lanes) advert.unsupported
     && is_paired advert app host media
 
--- what its Application weighs
+-- what a path of its Application from its first host lane on weighs
 abbrev pub path_weight : PathWeights → Path → ℕ
-path_weight weights path = weight_at weights path.app
+path_weight weights path = weight_from weights path.app path.host
 
 -- the path has the lower Application, or the same and the lower media lane
 abbrev pub IsLower : Path → Path → Type 0

@@ -1,13 +1,14 @@
 //! What holds of certificates and their texts, over all of them.
-ghost use Rattle.std.specs.Prelude.{◌≡◌, ℕ, List, Result, Ok, true, false};
+ghost use Rattle.std.specs.Prelude.{◌≡◌, ℕ, ◌+◌, ◌<◌, List, Result, Ok, true, false, if◌then◌else◌};
 ghost use Rattle.text_lines.specs.Lines.{lines_of, text_of};
 ghost use Rattle.plan_certificate.specs.declared.fault.CertificateFault.{CertificateFault};
 ghost use Rattle.plan_certificate.specs.declared.fault.KeptFault.{KeptFault};
 ghost use Rattle.plan_certificate.specs.declared.path.Path.{Path};
+ghost use Rattle.applications.specs.ActiveSets.{is_active, nothing_active};
 ghost use Rattle.applications.specs.Advertised.{Advertised, with_counts_by_id, with_pairing};
-ghost use Rattle.applications.specs.AppWeights.{app_weights};
+ghost use Rattle.applications.specs.AppWeights.{app_weight, app_weights};
 ghost use Rattle.applications.specs.Weights.{ListedWeights};
-ghost use Rattle.plan_certificate.specs.Paths.{is_allowed};
+ghost use Rattle.plan_certificate.specs.Paths.{app_of, is_allowed, path_weight};
 ghost use Rattle.plan_certificate.specs.Plans.{IsAdmissible, plan_weight};
 ghost use Rattle.plan_certificate.specs.Certificates.{Claim};
 ghost use Rattle.plan_certificate.specs.CertificateText.{certificate_lines, IsReadable, IsTextOf};
@@ -46,11 +47,21 @@ pub fn paired_plans_are_admissible()
         IsAdmissible (with_pairing false advert) paths }
 {}
 
+/// A path that the module can carry weighs what its Application weighs, and if it is among the active ones, what staying weighs.
+pub fn active_paths_weigh_more()
+    ensures { (advert : Advertised) (weights : ListedWeights) (path : Path) → is_allowed advert path ≡ true → 0 < path.app → path.app < 16 →
+        path_weight (app_weights advert weights) path ≡ app_weight weights (app_of advert path)
+        + (if is_active advert.active (app_of advert path) path.host then weights.stay else 0) }
+{}
+
 /// A plan that is admissible by the lane counts of a module's descriptors is admissible, and weighs the same, if the interface IDs
-/// imply the counts that are 0. So no best plan weighs less then.
+/// imply the counts that are 0. So no best plan weighs less then. If the Active Control Set isn't looked at, so it is with all plans.
 pub fn plans_stay_admissible_with_counts_by_id()
     ensures admissible { (media_type : ℕ) (advert : Advertised) (paths : List Path) → IsAdmissible advert paths →
         IsAdmissible (with_counts_by_id media_type advert) paths }
     ensures weight { (media_type : ℕ) (advert : Advertised) (weights : ListedWeights) (paths : List Path) →
+        IsAdmissible advert paths →
+        plan_weight (app_weights (with_counts_by_id media_type advert) weights) paths ≡ plan_weight (app_weights advert weights) paths }
+    ensures any_weight { (media_type : ℕ) (advert : Advertised) (weights : ListedWeights) (paths : List Path) → advert.active ≡ nothing_active →
         plan_weight (app_weights (with_counts_by_id media_type advert) weights) paths ≡ plan_weight (app_weights advert weights) paths }
 {}

@@ -157,7 +157,7 @@ pub(crate) fn push_moves<const ROOM: usize>(
     };
     let application = first.application(advert);
     let begins = first.may_begin(&application);
-    let weight = weights.of_app(app);
+    let weight = weights.of_path(app, host);
     for before in 0..8 {
         let path = Path {
             app,

@@ -100,9 +100,9 @@ impl Path {
     /// What the path weighs.
     pub fn weight(self, weights: &AppWeights) -> u64
         ensures weight { result ≡ spec.path_weight weights.now self }
-        ensures small { result ≤ 12884901885 }
+        ensures small { result ≤ 17179869180 }
     {
-        weights.of_app(self.app)
+        weights.of_path(self.app, self.host)
     }
 }
 

@@ -2,7 +2,7 @@
 ghost use Rattle.std.specs.Prelude.{◌≡◌, ◌≤◌, ◌<◌, ◌-◌, ◌==◌, ℕ, find, map, option_copied, slice_index};
 ghost use Rattle.std.specs.List.{range_with_len};
 ghost use Rattle.applications.specs.declared.app.App.{App};
-ghost use Rattle.applications.specs.AppWeights.{active_app, weight_of_number};
+ghost use Rattle.applications.specs.AppWeights.{active_app, is_active_from, weight_of_number};
 ghost use Rattle.applications.specs.Weights.{weight_at};
 
 use super::Weights;
@@ -93,7 +93,7 @@ impl AppWeights {
         ensures weight { result ≡ stay_at self.now number host }
         ensures small { result ≤ 4294967295 }
     {
-        if active_from(&self.active, host) == number {
+        if number != 0 && active_from(&self.active, host) == number {
             u64::from(self.stay)
         } else {
             0
@@ -144,10 +144,22 @@ fn active_app(advert: &Advert, host: usize) -> u8
     requires { host ≤ 8 }
     ensures { result ≡ active_app advert.now host }
 {
-    let active = advert.active();
-    match app_with(advert, active.app_sel_code(host)) {
-        Some(app) if active.is_active(app, host) => app.number,
-        _ => 0,
+    let number = advert.active().app_sel_code(host);
+    if is_active_from(advert, number, host) {
+        number
+    } else {
+        0
+    }
+}
+
+// Whether the path of the Application with this number from a host lane on is among the active ones.
+fn is_active_from(advert: &Advert, number: u8, host: usize) -> bool
+    requires { host ≤ 8 }
+    ensures { result ≡ is_active_from advert.now number host }
+{
+    match app_with(advert, number) {
+        Some(app) => advert.active().is_active(app, host),
+        None => false,
     }
 }
 

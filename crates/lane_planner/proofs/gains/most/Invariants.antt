@@ -7,5 +7,5 @@ use Rattle.lane_planner.proofs.gains.most.Given as goal
 abbrev pub invariant-loop-one : goal.invariant-loop-one
 invariant-loop-one l = record {
   most : IsMost l.table (decisions_by l.may_stay_free l.state (take l.one-index l.moves)) l.most;
-  small : l.most ≤ 12884901885 * (8 - l.state.boundary);
+  small : l.most ≤ 17179869180 * (8 - l.state.boundary);
 }

@@ -51,8 +51,8 @@ loop-before-preserved g c =
           let can : is_eligible c.args.advert.now c.args.kept.now one ≡ true = sym c.is_eligible_as.ensures ∙ w.if-is_eligible_as.true in
           let app = c.application-application.ensures ∙ same_app c.args.advert.now c.args.app host 1 (before + 1) in
           let lanes = w.run-media_lanes.ensures ∙ ap (λ (a : App). run_of (before + 1) a.media_lanes) app in
-          let weight = c.of_app-weight.ensures.weight in
-          let is : ◌≡◌ {A = Move} (record { path = one; host_lanes = c.application-application.result.host_lanes; media_lanes = w.run-media_lanes.result; weight = c.of_app-weight.result }) (move_of c.args.advert.now c.args.weights.now one) = (λ i. record { path = one; host_lanes = (app i).host_lanes; media_lanes = lanes i; weight = weight i }) in
+          let weight = c.of_path-weight.ensures.weight in
+          let is : ◌≡◌ {A = Move} (record { path = one; host_lanes = c.application-application.result.host_lanes; media_lanes = w.run-media_lanes.result; weight = c.of_path-weight.result }) (move_of c.args.advert.now c.args.weights.now one) = (λ i. record { path = one; host_lanes = (app i).host_lanes; media_lanes = lanes i; weight = weight i }) in
           let decision = move_of_one c.args.advert.now c.args.weights.now c.args.kept.now one can in
           record {
             moves =

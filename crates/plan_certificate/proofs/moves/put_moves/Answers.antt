@@ -4,8 +4,7 @@ use Rattle.std.proofs.Math.Seq.{take-length}
 use Rattle.std.proofs.lemmas.List.Elements.{All-from_recursion}
 use Rattle.applications.specs.declared.app.App.{App}
 use Rattle.applications.specs.Advertised.{Advertised, InOrder}
-use Rattle.applications.specs.AppWeights.{PathWeights}
-use Rattle.applications.specs.Weights.{weight_at}
+use Rattle.applications.specs.AppWeights.{PathWeights, weight_from}
 use Rattle.plan_certificate.specs.declared.path.Path.{Path}
 use Rattle.plan_certificate.specs.Paths.{IsLower}
 use Rattle.plan_certificate.specs.States.{paths_of_app}
@@ -59,7 +58,7 @@ returns-clause-lead_on c =
     let weights = c.args.weights.now in
     let kept = c.args.kept.now in
     let host : ℕ = c.args.host in
-    let small : (number : ℕ) → weight_at weights number ≤ 3 * 4294967295 = λ number. omega (arith, c.bound-bound.ensures.bound number, c.bound-bound.ensures.value) in
+    let small : (number host : ℕ) → weight_from weights number host ≤ 4 * 4294967295 = λ number host. omega (arith, c.bound-bound.ensures.bound number host, c.bound-bound.ensures.value) in
     let end : c.loop-app.app-index ≡ length c.apps-app-items.result.now = omega (arith, c.loop-app-test.false, c.loop-app.auto.app-index-end) in
     let is = all_made advert weights kept host c.loop-app.app-index c.apps-app-items.result.now c.loop-app.moves.items c.loop-app.invariant.moves end c.apps-app-items.ensures.apps in
     subst (All (LeadsOn (host - 1))) (sym is) (All-from_recursion (LeadsOn (host - 1)) (moves_at advert weights kept host) (moves_lead_on advert weights small kept host))

@@ -6,5 +6,5 @@ use Rattle.plan_certificate.proofs.plan.weight_of.Given as goal
 abbrev pub invariant-loop-path : goal.invariant-loop-path
 invariant-loop-path l = record {
   weighs : l.weight ≡ plan_weight l.weights (take l.path-index l.path-items);
-  few : l.weight ≤ 12884901885 * l.path-index;
+  few : l.weight ≤ 17179869180 * l.path-index;
 }

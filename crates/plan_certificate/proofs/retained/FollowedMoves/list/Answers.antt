@@ -1,7 +1,7 @@
 use Rattle.std.proofs.Common.{◌≡◌, ℕ, ◌+◌, ◌-◌, ◌*◌, ◌≤◌, refl, subst, arith}
 use Rattle.std.specs.List.{All}
 use Rattle.std.proofs.lemmas.List.Elements.{All-from_recursion}
-use Rattle.applications.specs.Weights.{weight_at}
+use Rattle.applications.specs.AppWeights.{weight_from}
 use Rattle.plan_certificate.specs.Moves.{LeadsOn, moves_at}
 use Rattle.plan_certificate.proofs.MoveLists.{moves_lead_on}
 use Rattle.plan_certificate.proofs.retained.FollowedMoves.list.Goals as goal
@@ -12,7 +12,7 @@ returns c =
     let weights = c.args.weights.now in
     let kept = c.args.kept.now in
     let boundary : ℕ = c.args.boundary in
-    let small : (number : ℕ) → weight_at weights number ≤ 3 * 4294967295 = λ number. omega (arith, c.bound-bound.ensures.bound number, c.bound-bound.ensures.value) in
+    let small : (number host : ℕ) → weight_from weights number host ≤ 4 * 4294967295 = λ number host. omega (arith, c.bound-bound.ensures.bound number host, c.bound-bound.ensures.value) in
     let same : boundary + 1 - 1 ≡ boundary = omega arith in
     let all = moves_at advert weights kept (boundary + 1) in
     record {
