@@ -36,6 +36,6 @@ pub record AreListedWeights (weights : ListedWeights) : Type 0 where
   pub by_app : IsTableWeights weights.by_app
   pub stay : weights.stay < 2 ^ 32
 
--- host interfaces alone weigh something
-abbrev pub weights_of_hosts : TableWeights → ListedWeights
-weights_of_hosts by_host = record { by_host = by_host; by_media = []; by_app = []; stay = 0 }
+-- host interfaces and staying alone weigh something
+abbrev pub weights_of_hosts : TableWeights → ℕ → ListedWeights
+weights_of_hosts by_host stay = record { by_host = by_host; by_media = []; by_app = []; stay = stay }

@@ -6,4 +6,4 @@ use Rattle.applications.specs.Advertised.{Advertised, advertised_under}
 
 -- it knows its lane counts, and takes a path's media lanes as they come
 abbrev pub own_advert : Memory → Advertised
-own_advert memory = advertised_under (record { paired = false; counts_by_id = true }) memory
+own_advert memory = advertised_under (record { paired = false; counts_by_id = true; now = false }) memory

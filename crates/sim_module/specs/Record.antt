@@ -6,6 +6,7 @@ use Rattle.std.specs.FinSet as set
 use Rattle.paged_memory.specs.Images.{Memory}
 use Rattle.paged_memory.specs.declared.mapped_page.MappedPage.{MappedPage}
 use Rattle.field_tables.specs.LaneSets.{Lanes}
+use Rattle.applications.specs.ActiveSets.{nothing_active}
 use Rattle.applications.specs.Advertised.{Advertised}
 use Rattle.module_states.specs.declared.state.ModuleState.{ModuleState}
 use Rattle.sim_module.specs.declared.delays.Delays.{Delays}
@@ -51,7 +52,7 @@ module_of fixed moving = record {
 
 -- no memory, and no Applications
 abbrev pub nothing : Fixed
-nothing = record { image = finmap.empty; advert = record { apps = []; unsupported = set.empty; paired = false } }
+nothing = record { image = finmap.empty; advert = record { apps = []; unsupported = set.empty; paired = false; active = nothing_active } }
 
 -- what changes, alone
 abbrev pub bare : Moving → Simulated

@@ -12,6 +12,7 @@ pub fn own_advert(image: &Image) -> Result<Advert, AdvertFault>
     let conventions = Conventions {
         paired: false,
         counts_by_id: true,
+        now: false,
     };
     Advert::under(conventions, image)
 }

@@ -49,14 +49,14 @@ impl AppWeights {
         }
     }
 
-    /// By weights of host interfaces alone.
-    pub fn by_host(advert: &Advert, weights: &[u32; 256]) -> AppWeights
-        ensures { result ≡ app_weights advert.now (weights_of_hosts weights.now) }
+    /// By weights of host interfaces and of staying alone.
+    pub fn by_host(advert: &Advert, weights: &[u32; 256], stay: u32) -> AppWeights
+        ensures { result ≡ app_weights advert.now (weights_of_hosts weights.now stay) }
     {
         AppWeights {
             by_number: weights_by_number(advert, weights, &[], &[]),
             active: active_apps(advert),
-            stay: 0,
+            stay,
         }
     }
 

@@ -13,7 +13,7 @@ pub enum WeightsFault {
     NotToml,
     /// The document has no table `host`.
     NoHostTable,
-    /// The document has more than the tables of weights.
+    /// The document has more than the tables of weights and the weight of staying, or that is no whole number of 32 bits.
     OtherKey,
     /// A key of this table names nothing that it weighs.
     BadKey(WeightTable),
