@@ -61,7 +61,7 @@ pub fn sentences() -> &'static [Sentence]
         "WT3 app" "a key of 'app' is no number of an Application, 1 to 15: write 3, and not 03, 3h or a name; 'apps' prints the numbers that the module has, after 'app'";
         "WT4" "the key stands there twice, in lower case and in upper case: keep one";
         "WT5" "the weight of this key is no whole number from 0 to 4294967295: write 400, and not 400.0 or '400'";
-        "WT6" "the weights have more than the tables 'host', 'media' and 'app': delete what stands above '[host]', and other tables";
+        "WT6" "the weights have more than 'stay', a whole number of at most 4294967295, and the tables 'host', 'media' and 'app': delete what else stands above '[host]', and other tables";
         "CT1" "the line has none of the forms of a certificate's lines, or one that may not stand there: write single spaces, numbers without leading zeros, and used media lanes as two digits in lower case";
         "CT2" "the state of the line is not above the one before: put states in rising order, by boundary and then by used media lanes, and each once";
         "CT3" "there is a ninth path, a ninth kept path or a state too many: eight lanes have at most eight paths";
