@@ -92,6 +92,11 @@ abbrev pub status_in : {A : Type 0} → Result A Refusal → ℕ
 status_in (Ok value) = done
 status_in (Err refusal) = status_of refusal
 
+-- the same result, with the refusal's number
+abbrev pub by_status : {A : Type 0} → Result A Refusal → Result A ℕ
+by_status (Ok value) = Ok value
+by_status (Err refusal) = Err (status_of refusal)
+
 -- A module's family is known by its identifier before it is decoded, and with flat memory values have no limits: no call answers
 -- these two.
 abbrev pub is_answered : Refusal → Bool

@@ -10,6 +10,39 @@ use sim_module::SimFault;
 /// What a call answers if it did what it is for.
 pub const DONE: u32 = 0;
 
+// The numbers of refusals that no fault is the cause of.
+pub const TOO_MANY_HALVES: u32 = 1;
+
+pub const NO_PLACE: u32 = 2;
+
+pub const NO_TEXT: u32 = 3;
+
+pub const TOO_SMALL: u32 = 4;
+
+pub const NO_PROCEDURE: u32 = 31;
+
+pub const ENDED: u32 = 32;
+
+pub const NOT_ENDED: u32 = 33;
+
+pub const NO_REPLY: u32 = 34;
+
+pub const GAVE_UP: u32 = 35;
+
+pub const TOO_FEW_BYTES: u32 = 36;
+
+pub const TOO_MANY_KEPT: u32 = 42;
+
+pub const KEPT_NOT_ADMISSIBLE: u32 = 43;
+
+pub const NO_MODULE: u32 = 61;
+
+pub const NO_RANGE: u32 = 62;
+
+pub const NOT_TAKEN: u32 = 63;
+/// A page of a CMIS module is needed that is not there.
+pub const PAGE_ABSENT: u32 = 76;
+
 /// Why a call does nothing.
 #[derive(Clone, Copy)]
 pub enum Refusal {
@@ -64,24 +97,24 @@ impl Refusal {
         ensures refused { result ≢ done }
     {
         match self {
-            Refusal::TooManyHalves => 1,
-            Refusal::NoPlace => 2,
-            Refusal::NoText => 3,
-            Refusal::TooSmall => 4,
+            Refusal::TooManyHalves => TOO_MANY_HALVES,
+            Refusal::NoPlace => NO_PLACE,
+            Refusal::NoText => NO_TEXT,
+            Refusal::TooSmall => TOO_SMALL,
             Refusal::Advert(fault) => advert_status(fault),
             Refusal::Certificate(fault) => certificate_status(fault),
-            Refusal::NoProcedure => 31,
-            Refusal::Ended => 32,
-            Refusal::NotEnded => 33,
-            Refusal::NoReply => 34,
-            Refusal::GaveUp => 35,
-            Refusal::TooFewBytes => 36,
-            Refusal::TooManyKept => 42,
-            Refusal::KeptNotAdmissible => 43,
+            Refusal::NoProcedure => NO_PROCEDURE,
+            Refusal::Ended => ENDED,
+            Refusal::NotEnded => NOT_ENDED,
+            Refusal::NoReply => NO_REPLY,
+            Refusal::GaveUp => GAVE_UP,
+            Refusal::TooFewBytes => TOO_FEW_BYTES,
+            Refusal::TooManyKept => TOO_MANY_KEPT,
+            Refusal::KeptNotAdmissible => KEPT_NOT_ADMISSIBLE,
             Refusal::NoStart(fault) => start_status(fault),
-            Refusal::NoModule => 61,
-            Refusal::NoRange => 62,
-            Refusal::NotTaken => 63,
+            Refusal::NoModule => NO_MODULE,
+            Refusal::NoRange => NO_RANGE,
+            Refusal::NotTaken => NOT_TAKEN,
             Refusal::Module(fault) => module_status(fault),
             Refusal::Sff(fault) => sff_status(fault),
             Refusal::Weights(fault) => weights_status(fault),
@@ -89,7 +122,8 @@ impl Refusal {
     }
 }
 
-fn advert_status(fault: AdvertFault) -> u32
+/// The number by which C knows it.
+pub fn advert_status(fault: AdvertFault) -> u32
     ensures status { result ≡ advert_status fault }
     ensures refused { result ≢ done }
 {
@@ -103,7 +137,8 @@ fn advert_status(fault: AdvertFault) -> u32
     }
 }
 
-fn certificate_status(fault: CertificateFault) -> u32
+/// The number by which C knows it.
+pub fn certificate_status(fault: CertificateFault) -> u32
     ensures status { result ≡ certificate_status fault }
     ensures refused { result ≢ done }
 {
@@ -115,7 +150,8 @@ fn certificate_status(fault: CertificateFault) -> u32
     }
 }
 
-fn start_status(fault: SimFault) -> u32
+/// The number by which C knows it.
+pub fn start_status(fault: SimFault) -> u32
     ensures status { result ≡ start_status fault }
     ensures refused { result ≢ done }
 {
@@ -127,18 +163,20 @@ fn start_status(fault: SimFault) -> u32
     }
 }
 
-fn module_status(fault: ModuleFault) -> u32
+/// The number by which C knows it.
+pub fn module_status(fault: ModuleFault) -> u32
     ensures status { result ≡ module_status fault }
     ensures refused { result ≢ done }
 {
     match fault {
         ModuleFault::Unknown(_) => 71,
         ModuleFault::Revision(_) => 74,
-        ModuleFault::Absent(_) => 76,
+        ModuleFault::Absent(_) => PAGE_ABSENT,
     }
 }
 
-fn sff_status(fault: SffFault) -> u32
+/// The number by which C knows it.
+pub fn sff_status(fault: SffFault) -> u32
     ensures status { result ≡ sff_status fault }
     ensures refused { result ≢ done }
 {
@@ -152,7 +190,8 @@ fn sff_status(fault: SffFault) -> u32
     }
 }
 
-fn weights_status(fault: WeightLinesFault) -> u32
+/// The number by which C knows it.
+pub fn weights_status(fault: WeightLinesFault) -> u32
     ensures status { result ≡ weights_status fault }
     ensures refused { result ≢ done }
 {

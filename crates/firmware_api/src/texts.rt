@@ -5,7 +5,7 @@ ghost use Rattle.firmware_api.specs.Statuses.{done, status_by};
 ghost use Rattle.notices.specs.declared.version.TheConstants.{VERSION};
 ghost use Rattle.firmware_api.specs.Texts.{text_refusal, with_text};
 
-use crate::status::{DONE, Refusal};
+use crate::status::{DONE, NO_TEXT, TOO_SMALL};
 use notices::{procedure_fault_text, reason_text, status_text, version_text};
 
 /// Puts the text of a status into `buffer`, and its length into `text_length`.
@@ -67,11 +67,11 @@ fn put(text: Option<&str>, buffer: &mut [u8], text_length: &mut usize) -> u32
     ensures refused { result ≢ done → (buffer.new ≡ buffer.old) × (text_length.new ≡ text_length.old) }
 {
     let Some(text) = text else {
-        return Refusal::NoText.status();
+        return NO_TEXT;
     };
     let bytes = text.as_bytes();
     if bytes.len() > buffer.len() {
-        return Refusal::TooSmall.status();
+        return TOO_SMALL;
     }
     buffer[..bytes.len()].copy_from_slice(bytes);
     *text_length = bytes.len();

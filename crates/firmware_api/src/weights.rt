@@ -5,7 +5,7 @@ ghost use Rattle.applications.specs.Weights.{TableWeights};
 ghost use Rattle.applications.specs.WeightLines.{IsAnswer};
 ghost use Rattle.firmware_api.specs.ReadWeights.{IsTold, line_of};
 
-use crate::status::{DONE, Refusal};
+use crate::status::{DONE, weights_status};
 use applications::{WeightLinesFault, read_weight_lines};
 
 /// Puts into `weights` what the lines of a text say, or into `line` the number of the first faulty one.
@@ -25,7 +25,7 @@ pub extern "C" fn dovecounter_weights(
         }
         Err(fault) => {
             *line = line_of(fault);
-            Refusal::Weights(fault).status()
+            weights_status(fault)
         }
     }
 }
