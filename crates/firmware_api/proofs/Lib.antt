@@ -1,6 +1,8 @@
 mod HalfMemories
 mod SavedLaws
+mod StatusLaws
 mod ModuleRefusals
+mod ToldJudgements
 mod Padding
 mod HeldModules
 mod ReadingLaws

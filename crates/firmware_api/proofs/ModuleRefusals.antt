@@ -13,6 +13,7 @@ use Rattle.firmware_api.specs.declared.half.HalfBytes.{HalfBytes}
 use Rattle.firmware_api.specs.declared.status.Refusal.{Refusal}
 use Rattle.firmware_api.specs.declared.status.Refusal.TheVariants.{TooManyHalves, NoPlace, Advert}
 use Rattle.firmware_api.specs.Halves.{advert_of, has_place, memory_of, module_refusal}
+use Rattle.firmware_api.specs.Statuses.{advert_status, status_of}
 
 is_below : (m n : ℕ) (b : Bool) → nat_lt m n ≡ b → m < n → nat_lt m n ≡ true
 is_below m n true e below = e
@@ -35,22 +36,22 @@ pub placed : (halves : List HalfBytes) → length halves ≤ 16 → list_all has
 unfolding module_refusal
 placed halves few all = rw (is_not_below 16 (length halves) _ refl few, all) refl
 
--- what the module says, or its fault as a refusal
-abbrev pub passed : Result Advertised AdvertFault → Result Advertised Refusal
+-- what the module says, or the status of its fault
+abbrev pub passed : Result Advertised AdvertFault → Result Advertised ℕ
 passed (Ok advert) = Ok advert
-passed (Err fault) = Err (Advert fault)
+passed (Err fault) = Err (advert_status fault)
 
 passes_on : (fault : Option AdvertFault) (read : Result Advertised AdvertFault) (advert : Advertised) →
     MatchOption fault (read ≡ Ok advert) (λ f. read ≡ Err f) →
-    MatchOption (option_map Advert fault) (passed read ≡ Ok advert) (λ refusal. passed read ≡ Err refusal)
+    MatchOption (option_map Advert fault) (passed read ≡ Ok advert) (λ refusal. passed read ≡ Err (status_of refusal))
 passes_on None read advert answers = ap passed answers
 passes_on (Some fault) read advert answers = ap passed answers
 
 abbrev pub IsRead : Conventions → Result Advertised AdvertFault → Memory → Type 0
 IsRead conventions read memory = MatchOption (advert_fault memory) (read ≡ Ok (advertised_under conventions memory)) (λ fault. read ≡ Err fault)
 
-abbrev pub IsPassed : Conventions → Result Advertised Refusal → List HalfBytes → Type 0
-IsPassed conventions told halves = MatchOption (module_refusal halves) (told ≡ Ok (advert_of halves conventions)) (λ refusal. told ≡ Err refusal)
+abbrev pub IsPassed : Conventions → Result Advertised ℕ → List HalfBytes → Type 0
+IsPassed conventions told halves = MatchOption (module_refusal halves) (told ≡ Ok (advert_of halves conventions)) (λ refusal. told ≡ Err (status_of refusal))
 
 pub reads : (conventions : Conventions) (halves : List HalfBytes) (memory : Memory) (read : Result Advertised AdvertFault) → length halves ≤ 16 → list_all has_place halves ≡ true →
     memory ≡ memory_of halves → IsRead conventions read memory → IsPassed conventions (passed read) halves
@@ -65,12 +66,12 @@ few halves none = by (nat_lt 16 (length halves)) (if not (list_all has_place hal
   by false later e none = ltb-false 16 (length halves) e
 
 few_by : (halves : List HalfBytes) (advert : Advertised) (found : Option Refusal) → module_refusal halves ≡ found →
-    MatchOption found (◌≡◌ {A = Result Advertised Refusal} (Ok advert) (Ok (advertised_by (memory_of halves)))) (λ refusal. ◌≡◌ {A = Result Advertised Refusal} (Ok advert) (Err refusal)) → length halves ≤ 16
+    MatchOption found (◌≡◌ {A = Result Advertised ℕ} (Ok advert) (Ok (advertised_by (memory_of halves)))) (λ refusal. ◌≡◌ {A = Result Advertised ℕ} (Ok advert) (Err (status_of refusal))) → length halves ≤ 16
 few_by halves advert None e read = few halves e
 few_by halves advert (Some refusal) e read = absurd (let same = read in cc)
 
 -- of halves that a module's Applications were read of
 pub few_if_read : (halves : List HalfBytes) (advert : Advertised)
-    → MatchOption (module_refusal halves) (◌≡◌ {A = Result Advertised Refusal} (Ok advert) (Ok (advertised_by (memory_of halves)))) (λ refusal. ◌≡◌ {A = Result Advertised Refusal} (Ok advert) (Err refusal))
+    → MatchOption (module_refusal halves) (◌≡◌ {A = Result Advertised ℕ} (Ok advert) (Ok (advertised_by (memory_of halves)))) (λ refusal. ◌≡◌ {A = Result Advertised ℕ} (Ok advert) (Err (status_of refusal)))
     → length halves ≤ 16
 few_if_read halves advert read = few_by halves advert (module_refusal halves) refl read

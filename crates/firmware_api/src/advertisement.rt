@@ -52,32 +52,28 @@ pub extern "C" fn dovecounter_advertisement(
 {
     match read_advert_under(conventions_of(0, counts_by_id), halves) {
         Ok(advert) => {
-            *advertisement = advertisement_of(&advert);
+            put_advertisement(&advert, advertisement);
             DONE
         }
-        Err(refusal) => refusal.status(),
+        Err(status) => status,
     }
 }
 
-fn advertisement_of(advert: &Advert) -> Advertisement
-    ensures { result ≡ advertisement_of advert.now }
+fn put_advertisement(advert: &Advert, advertisement: &mut Advertisement)
+    ensures { advertisement.new ≡ advertisement_of advert.now }
 {
     let apps = advert.apps();
-    Advertisement {
-        count: apps.len() as u8,
-        unsupported: advert.unsupported().byte(),
-        applications: applications_of(apps),
-    }
+    advertisement.count = apps.len() as u8;
+    advertisement.unsupported = advert.unsupported().byte();
+    put_applications(apps, &mut advertisement.applications);
 }
 
-fn applications_of(apps: &[App]) -> [Application; MAX_APPS]
-    ensures { result ≡ applications_of apps.now }
+fn put_applications(apps: &[App], applications: &mut [Application; MAX_APPS])
+    ensures { applications.new ≡ applications_of apps.now }
 {
-    let mut applications = [Application::default(); MAX_APPS];
     for (place, application) in applications.iter_mut().enumerate() {
         *application = application_at(apps, place);
     }
-    applications
 }
 
 fn application_at(apps: &[App], place: usize) -> Application

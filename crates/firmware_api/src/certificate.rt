@@ -7,8 +7,8 @@ ghost use Rattle.firmware_api.specs.WrittenCertificates.{IsCertificatePut, IsTex
 
 use crate::half::{HalfBytes, conventions_of, read_advert_under};
 use crate::planning::kept_plan;
-use crate::status::{DONE, Refusal};
-use applications::{Advert, AppWeights, Conventions};
+use crate::status::{DONE, TOO_SMALL};
+use applications::{Advert, AppWeights};
 use lane_planner::put_certificate;
 use plan_certificate::{Path, Plan};
 
@@ -28,44 +28,20 @@ pub extern "C" fn dovecounter_certificate(
         (IsCertificatePut (advert_of halves.now (conventions_of paired counts_by_id)) weights.now kept.now buffer.old result buffer.new text_length.new)
         (λ refusal. (result ≡ status_of refusal) × (buffer.new ≡ buffer.old) × (text_length.new ≡ text_length.old)) }
 {
+    let advert = match read_advert_under(conventions_of(paired, counts_by_id), halves) {
+        Ok(advert) => advert,
+        Err(status) => return status,
+    };
+    let kept = match kept_plan(&advert, kept) {
+        Ok(kept) => kept,
+        Err(status) => return status,
+    };
     let room = buffer.len();
-    match put(
-        halves,
-        conventions_of(paired, counts_by_id),
-        weights,
-        kept,
-        buffer,
-    ) {
-        Ok(len) => {
-            *text_length = len;
-            if room < len {
-                Refusal::TooSmall.status()
-            } else {
-                DONE
-            }
-        }
-        Err(refusal) => refusal.status(),
-    }
+    *text_length = put_text(&advert, weights, &kept, buffer);
+    if room < *text_length { TOO_SMALL } else { DONE }
 }
 
-// The length of that text, which is put into the buffer if there is room for it.
-fn put(
-    halves: &[HalfBytes],
-    conventions: Conventions,
-    weights: &[u32; 256],
-    kept: &[Path],
-    buffer: &mut [u8],
-) -> Result<usize, Refusal>
-    ensures { MatchOption (plan_refusal halves.now conventions kept.now)
-        (MatchResult result (IsTextPut (advert_of halves.now conventions) weights.now kept.now buffer.old buffer.new) (λ _. ⊥))
-        (λ refusal. (result ≡ Err refusal) × (buffer.new ≡ buffer.old)) }
-{
-    let advert = read_advert_under(conventions, halves)?;
-    let kept = kept_plan(&advert, kept)?;
-    Ok(put_text(&advert, weights, &kept, buffer))
-}
-
-// Not inlined, or the stack of `put` would hold the planner's tables while it reads the advertisement.
+// Not inlined, or the stack would hold the planner's tables while the advertisement is read.
 #[inline(never)]
 fn put_text(advert: &Advert, weights: &[u32; 256], kept: &Plan, buffer: &mut [u8]) -> usize
     requires { IsAdmissible advert.now kept.now }

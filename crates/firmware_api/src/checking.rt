@@ -4,8 +4,8 @@ ghost use Rattle.firmware_api.specs.Halves.{conventions_of};
 ghost use Rattle.firmware_api.specs.Statuses.{done};
 
 use crate::half::{HalfBytes, conventions_of, read_advert_under};
-use crate::status::{DONE, Refusal};
-use applications::{Advert, AppWeights, Conventions};
+use crate::status::{DONE, certificate_status};
+use applications::{Advert, AppWeights};
 use plan_certificate::{Certificate, Reason, STATES, Verdict, check};
 
 /// What a certificate is worth.
@@ -33,49 +33,41 @@ pub extern "C" fn dovecounter_check(
     ensures best { result ≡ done → judgement.new.reason ≡ 0 → IsShownBest halves.now (conventions_of paired counts_by_id) weights.now text.now }
     ensures refused { result ≢ done → judgement.new ≡ judgement.old }
 {
-    match judged(halves, conventions_of(paired, counts_by_id), weights, text) {
-        Ok(judged) => {
-            *judgement = judged;
-            DONE
-        }
-        Err(refusal) => refusal.status(),
+    match read_advert_under(conventions_of(paired, counts_by_id), halves) {
+        Ok(advert) => judge(&advert, weights, text, judgement),
+        Err(status) => status,
     }
 }
 
-fn judged(
-    halves: &[HalfBytes],
-    conventions: Conventions,
-    weights: &[u32; 256],
-    text: &[u8],
-) -> Result<Judgement, Refusal>
-    ensures judged { IsJudged halves.now conventions weights.now text.now result }
-    ensures best { IfOk result (λ judged. judged.reason ≡ 0 → IsShownBest halves.now conventions weights.now text.now) }
-{
-    let advert = read_advert_under(conventions, halves)?;
-    text_judged(&advert, weights, text)
-}
-
-// Not inlined, or the stack of `judged` would hold a certificate while it reads the advertisement.
+// Not inlined, or the stack would hold a certificate while the advertisement is read.
 #[inline(never)]
-fn text_judged(advert: &Advert, weights: &[u32; 256], text: &[u8]) -> Result<Judgement, Refusal>
-    ensures judged { IsTextJudged advert.now weights.now text.now result }
-    ensures best { IfOk result (λ judged. judged.reason ≡ 0 → IsTextShownBest advert.now weights.now text.now) }
+fn judge(advert: &Advert, weights: &[u32; 256], text: &[u8], judgement: &mut Judgement) -> u32
+    ensures told { IsTold (IsTextJudged advert.now weights.now text.now) result judgement.new }
+    ensures best { result ≡ done → judgement.new.reason ≡ 0 → IsTextShownBest advert.now weights.now text.now }
+    ensures refused { result ≢ done → judgement.new ≡ judgement.old }
 {
-    text_judged_by(advert, &AppWeights::by_host(advert, weights), text)
+    judge_by(
+        advert,
+        &AppWeights::by_host(advert, weights),
+        text,
+        judgement,
+    )
 }
 
 // The same by what the paths of each Application weigh.
-fn text_judged_by(advert: &Advert, weights: &AppWeights, text: &[u8]) -> Result<Judgement, Refusal>
-    ensures judged { IsTextJudgedBy advert.now weights.now text.now result }
-    ensures best { IfOk result (λ judged. judged.reason ≡ 0 → IsTextShownBestBy advert.now weights.now text.now) }
+fn judge_by(advert: &Advert, weights: &AppWeights, text: &[u8], judgement: &mut Judgement) -> u32
+    ensures told { IsTold (IsTextJudgedBy advert.now weights.now text.now) result judgement.new }
+    ensures best { result ≡ done → judgement.new.reason ≡ 0 → IsTextShownBestBy advert.now weights.now text.now }
+    ensures refused { result ≢ done → judgement.new ≡ judgement.old }
 {
     let mut certificate = Certificate::<STATES>::blank();
     match certificate.take(text) {
         Ok(()) => {
             let verdict = check(advert, weights, &certificate);
-            Ok(judgement_of(verdict))
+            *judgement = judgement_of(verdict);
+            DONE
         }
-        Err(fault) => Err(Refusal::Certificate(fault)),
+        Err(fault) => certificate_status(fault),
     }
 }
 

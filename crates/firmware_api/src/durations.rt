@@ -1,10 +1,10 @@
-ghost use Rattle.std.specs.Prelude.{◌≡◌, ◌≢◌, MatchOption, Ok, Err};
+ghost use Rattle.std.specs.Prelude.{◌≡◌, ◌≢◌};
 ghost use Rattle.firmware_api.specs.Durations.{durations_of, longest};
 ghost use Rattle.firmware_api.specs.Halves.{memory_of, module_refusal};
 ghost use Rattle.firmware_api.specs.Statuses.{done, status_by};
 
 use crate::half::{HalfBytes, image_of, read_advert};
-use crate::status::{DONE, Refusal};
+use crate::status::DONE;
 use field_tables::{Field, number};
 use paged_memory::Image;
 
@@ -27,37 +27,24 @@ pub extern "C" fn dovecounter_durations(halves: &[HalfBytes], durations: &mut Du
     ensures done { result ≡ done → durations.new ≡ durations_of (memory_of halves.now) }
     ensures refused { result ≢ done → durations.new ≡ durations.old }
 {
-    match read_durations(halves) {
-        Ok(read) => {
-            *durations = read;
+    match read_advert(halves) {
+        Ok(_advert) => {
+            put_durations(&image_of(halves), durations);
             DONE
         }
-        Err(refusal) => refusal.status(),
+        Err(status) => status,
     }
 }
 
-#[tactic(auto, using(crate::proofs::ModuleRefusals::few_if_read))]
-fn read_durations(halves: &[HalfBytes]) -> Result<Durations, Refusal>
-    ensures { MatchOption (module_refusal halves.now) (result ≡ Ok (durations_of (memory_of halves.now)))
-        (λ refusal. result ≡ Err refusal) }
+fn put_durations(image: &Image, durations: &mut Durations)
+    ensures { durations.new ≡ durations_of image.now }
 {
-    match read_advert(halves) {
-        Ok(_advert) => Ok(durations_of(&image_of(halves))),
-        Err(refusal) => Err(refusal),
-    }
-}
-
-fn durations_of(image: &Image) -> Durations
-    ensures { result ≡ durations_of image.now }
-{
-    Durations {
-        module_power_up: longest(number(image, Field::CMaxDurationModulePwrUp)),
-        module_power_down: longest(number(image, Field::CMaxDurationModulePwrDn)),
-        path_init: longest(number(image, Field::CMaxDurationDPInit)),
-        path_deinit: longest(number(image, Field::CMaxDurationDPDeinit)),
-        path_tx_turn_on: longest(number(image, Field::CMaxDurationDPTxTurnOn)),
-        path_tx_turn_off: longest(number(image, Field::CMaxDurationDPTxTurnOff)),
-    }
+    durations.module_power_up = longest(number(image, Field::CMaxDurationModulePwrUp));
+    durations.module_power_down = longest(number(image, Field::CMaxDurationModulePwrDn));
+    durations.path_init = longest(number(image, Field::CMaxDurationDPInit));
+    durations.path_deinit = longest(number(image, Field::CMaxDurationDPDeinit));
+    durations.path_tx_turn_on = longest(number(image, Field::CMaxDurationDPTxTurnOn));
+    durations.path_tx_turn_off = longest(number(image, Field::CMaxDurationDPTxTurnOff));
 }
 
 // The end of the range that a code of durations stands for, in milliseconds.

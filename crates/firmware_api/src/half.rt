@@ -1,11 +1,12 @@
-ghost use Rattle.std.specs.Prelude.{◌≡◌, ◌≤◌, length, MatchOption, Ok, Err};
+ghost use Rattle.std.specs.Prelude.{◌≡◌, ◌≤◌, length, MatchOption, None, Ok, Err};
 ghost use Rattle.std.specs.List.{list_all};
 ghost use Rattle.applications.specs.Advertised.{advertised_by};
 ghost use Rattle.firmware_api.specs.Halves.{advert_of, conventions_of, has_place, key_of, memory_of, module_refusal};
 ghost use Rattle.firmware_api.specs.SimulatedModules.{half_refusal, unless_refused};
+ghost use Rattle.firmware_api.specs.Statuses.{done, status_by, status_of};
 ghost use Rattle.paged_memory.specs.Images.{most_pages};
 
-use crate::status::Refusal;
+use crate::status::{DONE, NO_PLACE, Refusal, TOO_MANY_HALVES, advert_status};
 use applications::{Advert, Conventions};
 use paged_memory::{Dev, Image, Key, MAX_PAGES, PAGE_LEN, Page};
 
@@ -60,10 +61,10 @@ pub fn conventions_of(paired: u8, counts_by_id: u8) -> Conventions
     }
 }
 
-/// What the module whose memory has these halves advertises, as it stands there.
-pub fn read_advert(halves: &[HalfBytes]) -> Result<Advert, Refusal>
+/// What the module whose memory has these halves advertises, as it stands there, or the status of its refusal.
+pub fn read_advert(halves: &[HalfBytes]) -> Result<Advert, u32>
     ensures { MatchOption (module_refusal halves.now) (result ≡ Ok (advertised_by (memory_of halves.now)))
-        (λ refusal. result ≡ Err refusal) }
+        (λ refusal. result ≡ Err (status_of refusal)) }
 {
     let as_it_stands = Conventions {
         paired: false,
@@ -73,18 +74,19 @@ pub fn read_advert(halves: &[HalfBytes]) -> Result<Advert, Refusal>
 }
 
 /// What it advertises to a host that reads it by these conventions.
-pub fn read_advert_under(conventions: Conventions, halves: &[HalfBytes]) -> Result<Advert, Refusal>
-    ensures { MatchOption (module_refusal halves.now) (result ≡ Ok (advert_of halves.now conventions)) (λ refusal. result ≡ Err refusal) }
+pub fn read_advert_under(conventions: Conventions, halves: &[HalfBytes]) -> Result<Advert, u32>
+    ensures { MatchOption (module_refusal halves.now) (result ≡ Ok (advert_of halves.now conventions))
+        (λ refusal. result ≡ Err (status_of refusal)) }
 {
     if halves.len() > MAX_PAGES {
-        return Err(Refusal::TooManyHalves);
+        return Err(TOO_MANY_HALVES);
     }
     if !all_have_places(halves) {
-        return Err(Refusal::NoPlace);
+        return Err(NO_PLACE);
     }
     match Advert::under(conventions, &image_of(halves)) {
         Ok(advert) => Ok(advert),
-        Err(fault) => Err(Refusal::Advert(fault)),
+        Err(fault) => Err(advert_status(fault)),
     }
 }
 
@@ -107,7 +109,22 @@ pub fn image_of(halves: &[HalfBytes]) -> Image
     image
 }
 
-/// The same, or why there is none.
+/// The status of what is wrong with the halves themselves, or 0.
+pub fn half_status(halves: &[HalfBytes]) -> u32
+    ensures status { result ≡ status_by (half_refusal halves.now) }
+    ensures sound { result ≡ done → half_refusal halves.now ≡ None }
+    ensures few { result ≡ done → length halves.now ≤ most_pages }
+{
+    if halves.len() > MAX_PAGES {
+        TOO_MANY_HALVES
+    } else if !all_have_places(halves) {
+        NO_PLACE
+    } else {
+        DONE
+    }
+}
+
+/// The memory that they have, or why there is none.
 pub fn image_in(halves: &[HalfBytes]) -> Result<Image, Refusal>
     ensures { result ≡ unless_refused (half_refusal halves.now) (memory_of halves.now) }
 {

@@ -2,11 +2,11 @@ ghost use Rattle.std.specs.Prelude.{◌≡◌, ◌≢◌, IfOk, MatchOption, Ok,
 ghost use Rattle.plan_certificate.specs.Plans.{IsAdmissible};
 ghost use Rattle.firmware_api.specs.Halves.{advert_of, conventions_of};
 ghost use Rattle.firmware_api.specs.Plans.{IsPlanned, IsPlannedBy, kept_refusal, paths_of, plan_refusal};
-ghost use Rattle.firmware_api.specs.Statuses.{done, status_by, status_in};
+ghost use Rattle.firmware_api.specs.Statuses.{done, status_by, status_of};
 
 use crate::half::{HalfBytes, conventions_of, read_advert_under};
-use crate::status::{DONE, Refusal};
-use applications::{Advert, AppWeights, Conventions};
+use crate::status::{DONE, KEPT_NOT_ADMISSIBLE, TOO_MANY_KEPT};
+use applications::{Advert, AppWeights};
 use arrayvec::ArrayVec;
 use control_sets::{ControlSet, bytes_of, lanes_of, lanes_outside};
 use lane_planner::first_plan;
@@ -46,74 +46,60 @@ pub extern "C" fn dovecounter_plan(
     ensures done { result ≡ done → IsPlanned (advert_of halves.now (conventions_of paired counts_by_id)) weights.now kept.now plan.new }
     ensures refused { result ≢ done → plan.new ≡ plan.old }
 {
-    match planned(halves, conventions_of(paired, counts_by_id), weights, kept) {
-        Ok(planned) => {
-            *plan = planned;
-            DONE
-        }
-        Err(refusal) => refusal.status(),
-    }
-}
-
-fn planned(
-    halves: &[HalfBytes],
-    conventions: Conventions,
-    weights: &[u32; 256],
-    kept: &[Path],
-) -> Result<LanePlan, Refusal>
-    ensures status { status_in result ≡ status_by (plan_refusal halves.now conventions kept.now) }
-    ensures planned { IfOk result (IsPlanned (advert_of halves.now conventions) weights.now kept.now) }
-{
-    let advert = read_advert_under(conventions, halves)?;
-    let kept = kept_plan(&advert, kept)?;
-    Ok(best_plan(&advert, weights, &kept))
+    let advert = match read_advert_under(conventions_of(paired, counts_by_id), halves) {
+        Ok(advert) => advert,
+        Err(status) => return status,
+    };
+    let kept = match kept_plan(&advert, kept) {
+        Ok(kept) => kept,
+        Err(status) => return status,
+    };
+    put_best(&advert, weights, &kept, plan);
+    DONE
 }
 
 /// The kept paths as a plan, if the module can carry it.
-pub fn kept_plan(advert: &Advert, kept: &[Path]) -> Result<Plan, Refusal>
+pub fn kept_plan(advert: &Advert, kept: &[Path]) -> Result<Plan, u32>
     ensures { MatchOption (kept_refusal advert.now kept.now) ((result ≡ Ok kept.now) × IsAdmissible advert.now kept.now)
-        (λ refusal. result ≡ Err refusal) }
+        (λ refusal. result ≡ Err (status_of refusal)) }
 {
     let Ok(paths) = ArrayVec::try_from(kept) else {
-        return Err(Refusal::TooManyKept);
+        return Err(TOO_MANY_KEPT);
     };
     let plan = Plan { paths };
     match kept_fault(advert, &plan) {
         None => Ok(plan),
-        Some(_) => Err(Refusal::KeptNotAdmissible),
+        Some(_) => Err(KEPT_NOT_ADMISSIBLE),
     }
 }
 
-// Not inlined, or the stack of `planned` would hold the planner's tables while it reads the advertisement.
+// Not inlined, or the stack would hold the planner's tables while the advertisement is read.
 #[inline(never)]
-fn best_plan(advert: &Advert, weights: &[u32; 256], kept: &Plan) -> LanePlan
+fn put_best(advert: &Advert, weights: &[u32; 256], kept: &Plan, plan: &mut LanePlan)
     requires { IsAdmissible advert.now kept.now }
-    ensures { IsPlanned advert.now weights.now kept.now result }
+    ensures { IsPlanned advert.now weights.now kept.now plan.new }
 {
-    plan_by(advert, &AppWeights::by_host(advert, weights), kept)
+    put_plan(advert, &AppWeights::by_host(advert, weights), kept, plan);
 }
 
 // The same by what the paths of each Application weigh.
-fn plan_by(advert: &Advert, weights: &AppWeights, kept: &Plan) -> LanePlan
+fn put_plan(advert: &Advert, weights: &AppWeights, kept: &Plan, plan: &mut LanePlan)
     requires { IsAdmissible advert.now kept.now }
-    ensures { IsPlannedBy advert.now weights.now kept.now result }
+    ensures { IsPlannedBy advert.now weights.now kept.now plan.new }
 {
-    let plan = first_plan(advert, weights, kept);
-    LanePlan {
-        weight: weight_of(weights, &plan),
-        count: plan.paths.len() as u8,
-        lanes: lanes_of(advert, &plan).byte(),
-        outside: lanes_outside(advert, kept).byte(),
-        control: bytes_of(advert, &plan),
-        paths: paths_of(&plan),
-    }
+    let best = first_plan(advert, weights, kept);
+    plan.weight = weight_of(weights, &best);
+    plan.count = best.paths.len() as u8;
+    plan.lanes = lanes_of(advert, &best).byte();
+    plan.outside = lanes_outside(advert, kept).byte();
+    plan.control = bytes_of(advert, &best);
+    put_paths(&best, &mut plan.paths);
 }
 
-fn paths_of(plan: &Plan) -> [Path; MAX_PATHS]
-    ensures { result ≡ paths_of plan.now }
+fn put_paths(plan: &Plan, all: &mut [Path; MAX_PATHS])
+    ensures { all.new ≡ paths_of plan.now }
 {
-    let mut all = [Path::default(); MAX_PATHS];
     let paths = plan.paths.as_slice();
+    *all = [Path::default(); MAX_PATHS];
     all[..paths.len()].copy_from_slice(paths);
-    all
 }

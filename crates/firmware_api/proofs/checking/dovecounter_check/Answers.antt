@@ -1,14 +1,34 @@
-use Rattle.std.proofs.Common.{Ok, refl, subst}
+use Rattle.std.proofs.Common.{◌≡◌, subst}
+use Rattle.applications.specs.Advertised.{Advertised}
 use Rattle.applications.specs.declared.conventions.Conventions.{Conventions}
-use Rattle.firmware_api.specs.Checks.{IsJudged, IsShownBest}
+use Rattle.firmware_api.specs.Checks.{IsJudged, IsShownBest, IsTextShownBest, IsTold}
+use Rattle.firmware_api.specs.Halves.{advert_of, module_refusal}
+use Rattle.firmware_api.specs.Statuses.{done}
+use Rattle.firmware_api.proofs.StatusLaws.{same_value}
+use Rattle.firmware_api.proofs.ToldJudgements.{told_if_read, told_if_refused}
 use Rattle.firmware_api.proofs.checking.dovecounter_check.Goals as goal
 
 pub returns-in-Ok-clause-told : goal.returns-in-Ok-clause-told
 returns-in-Ok-clause-told c =
-    let judged = subst (λ (conventions : Conventions). IsJudged c.args.halves.now conventions c.args.weights.now c.args.text.now (Ok c.in-Ok.judged))
-    c.conventions_of.ensures c.in-Ok.ensures.judged in
-    (Ok c.in-Ok.judged, judged, (refl, refl))
+    let halves = c.args.halves.now in
+    let weights = c.args.weights.now in
+    let text = c.args.text.now in
+    subst (λ (conventions : Conventions). IsTold (IsJudged halves conventions weights text) c.judge.result c.judge.new.judgement) c.conventions_of.ensures
+    (told_if_read halves c.conventions_of.result weights text c.read_advert_under.result c.judge.result c.judge.new.judgement c.read_advert_under.ensures c.in-Ok.advert c.in-Ok.is c.judge.ensures.told)
 
 pub returns-in-Ok-clause-best : goal.returns-in-Ok-clause-best
-returns-in-Ok-clause-best c = λ _ good. subst (λ (conventions : Conventions). IsShownBest c.args.halves.now conventions c.args.weights.now c.args.text.now)
-    c.conventions_of.ensures (c.in-Ok.ensures.best good)
+returns-in-Ok-clause-best c =
+    let halves = c.args.halves.now in
+    let weights = c.args.weights.now in
+    let text = c.args.text.now in
+    let same = same_value c.read_advert_under.result (module_refusal halves) c.in-Ok.advert (advert_of halves c.conventions_of.result) c.read_advert_under.ensures c.in-Ok.is in
+    subst (λ (conventions : Conventions). c.judge.result ≡ done → c.judge.new.judgement.reason ≡ 0 → IsShownBest halves conventions weights text) c.conventions_of.ensures
+    (subst (λ (advert : Advertised). c.judge.result ≡ done → c.judge.new.judgement.reason ≡ 0 → IsTextShownBest advert weights text) same c.judge.ensures.best)
+
+pub returns-in-Err-clause-told : goal.returns-in-Err-clause-told
+returns-in-Err-clause-told c =
+    let halves = c.args.halves.now in
+    let weights = c.args.weights.now in
+    let text = c.args.text.now in
+    subst (λ (conventions : Conventions). IsTold (IsJudged halves conventions weights text) c.in-Err.status c.args.judgement.now) c.conventions_of.ensures
+    (told_if_refused halves c.conventions_of.result weights text c.read_advert_under.result c.in-Err.status c.args.judgement.now c.read_advert_under.ensures c.in-Err.is)

@@ -16,5 +16,5 @@ returns-in-Ok c =
 
 pub returns-in-Err : goal.returns-in-Err
 returns-in-Err c =
-    reads c.args.conventions c.args.halves.now c.image_of.result (Err c.in-Err.fault) c.if-halves-gt-MAX_PAGES.false (sym c.all_have_places.ensures ∙ c.if-not-all_have_places.false)
-    c.image_of.ensures c.in-Err.ensures
+    rw c.advert_status.ensures.status (reads c.args.conventions c.args.halves.now c.image_of.result (Err c.in-Err.fault) c.if-halves-gt-MAX_PAGES.false (sym c.all_have_places.ensures ∙ c.if-not-all_have_places.false)
+    c.image_of.ensures c.in-Err.ensures)

@@ -1,6 +1,6 @@
 use Rattle.std.proofs.Common.{◌≡◌, length, ap, rules}
 use Rattle.firmware_api.proofs.Padding.{is_no_path, no_paths_behind}
-use Rattle.firmware_api.proofs.planning.paths_of.Goals as goal
+use Rattle.firmware_api.proofs.planning.put_paths.Goals as goal
 
 pub returns : goal.returns
 returns c =
