@@ -19,6 +19,7 @@ use Rattle.sff8472_map.specs.Identity as sff8472
 use Rattle.sff8472_map.specs.Refusals as sff8472_refusals
 use Rattle.sff8472_map.specs.declared.identity.Identity as sfp
 use Rattle.firmware_api.specs.declared.identity.ModuleIdentity.{ModuleIdentity}
+use Rattle.firmware_api.specs.declared.identity.SharedFields.{SharedFields}
 use Rattle.firmware_api.specs.declared.status.Refusal.{Refusal}
 use Rattle.firmware_api.specs.declared.status.Refusal.TheVariants.{Sff}
 use Rattle.firmware_api.specs.Plans.{refusal_before}
@@ -45,6 +46,29 @@ cmis_identity memory = record {
   part_revision = shown_text (text memory texts.CPartRevision);
   serial = shown_text (text memory texts.CSerial);
   date = shown_text (text memory texts.CDate);
+}
+
+-- what modules of every family say, by the fields that have it, and zeros
+abbrev pub shared_identity : Memory → Family → SharedFields → ModuleIdentity
+shared_identity memory family at = record {
+  max_power = pos 0;
+  length = pos 0;
+  family = family_number family;
+  identifier = number memory at.identifier;
+  revision = 0;
+  flat = 0;
+  media_type = 0;
+  power_class = 0;
+  connector = number memory at.connector;
+  technology = 0;
+  sum_base = number_of (is_sum_right memory at.sum_base);
+  sum_ext = 0;
+  oui = all_numbers memory at.oui;
+  vendor = shown_text (text memory at.vendor);
+  part = shown_text (text memory at.part);
+  part_revision = shown_text (text memory at.part_revision);
+  serial = shown_text (text memory at.serial);
+  date = shown_text (text memory at.date);
 }
 
 -- what only CMIS says is 0

@@ -1,4 +1,4 @@
-ghost use Rattle.std.specs.Prelude.{◌≡◌, ◌≢◌, ◌+◌, ◌≤◌, IsTrue, MatchOption, Ok, Err};
+ghost use Rattle.std.specs.Prelude.{◌≡◌, ◌≢◌, ◌+◌, ◌≤◌, IsTrue};
 ghost use Rattle.field_tables.specs.FieldRows.{row_of};
 ghost use Rattle.field_tables.specs.Readings.{is_of_bytes};
 ghost use Rattle.firmware_api.specs.Halves.{memory_of};
@@ -9,11 +9,11 @@ ghost use Rattle.firmware_api.specs.SimulatedModules.{half_refusal};
 ghost use Rattle.firmware_api.specs.Statuses.{done, status_by};
 ghost use Rattle.paged_memory.specs.declared.family.Family.TheVariants as families;
 
-use crate::half::{HalfBytes, image_in};
-use crate::read_module::{family_in, family_number, lacks};
-use crate::status::{DONE, Refusal};
+use crate::half::{HalfBytes, half_status, image_of};
+use crate::read_module::family_number;
+use crate::status::{DONE, PAGE_ABSENT, module_status, sff_status};
 use field_tables::{Field, all_numbers, bit_at, number};
-use module_decoding::{absent_flag_page, is_flat};
+use module_decoding::{absent_flag_page, family_of, is_flat};
 use paged_memory::{Family, Image};
 
 /// Which limits are passed: 0 or 1 for a value of the module, a byte of lanes for a value of its lanes.
@@ -58,207 +58,173 @@ pub extern "C" fn dovecounter_flags(halves: &[HalfBytes], flags: &mut ModuleFlag
     ensures done { result ≡ done → flags.new ≡ flags_in (memory_of halves.now) }
     ensures refused { result ≢ done → flags.new ≡ flags.old }
 {
-    match read_flags(halves) {
-        Ok(read) => {
-            *flags = read;
-            DONE
-        }
-        Err(refusal) => refusal.status(),
+    let status = half_status(halves);
+    if status != DONE {
+        return status;
+    }
+    put_flags(&image_of(halves), flags)
+}
+
+#[tactic(auto, unfolding(crate::specs::RaisedFlags::flags_refusal, crate::specs::RaisedFlags::flags_in, crate::specs::ReadModules::unread_refusal))]
+fn put_flags(image: &Image, flags: &mut ModuleFlags) -> u32
+    ensures status { result ≡ status_by (flags_refusal image.now) }
+    ensures done { result ≡ done → flags.new ≡ flags_in image.now }
+    ensures refused { result ≢ done → flags.new ≡ flags.old }
+{
+    match family_of(image) {
+        Ok(Family::Cmis) => put_cmis(image, flags),
+        Ok(Family::Sff8636) => put_sff8636(image, flags),
+        Ok(Family::Sff8472) => put_sff8472(image, flags),
+        Err(fault) => module_status(fault),
     }
 }
 
-fn read_flags(halves: &[HalfBytes]) -> Result<ModuleFlags, Refusal>
-    ensures { MatchOption (refusal_before (half_refusal halves.now) (flags_refusal (memory_of halves.now)))
-        (result ≡ Ok (flags_in (memory_of halves.now))) (λ refusal. result ≡ Err refusal) }
+fn put_cmis(image: &Image, flags: &mut ModuleFlags) -> u32
+    ensures status { result ≡ status_by (spec.refusal_of families.Cmis image.now) }
+    ensures done { result ≡ done → flags.new ≡ spec.flags_of families.Cmis image.now }
+    ensures refused { result ≢ done → flags.new ≡ flags.old }
 {
-    flags_in(&image_in(halves)?)
+    if absent_flag_page(image).is_some() {
+        return PAGE_ABSENT;
+    }
+    put_cmis_flags(image, flags);
+    DONE
 }
 
-#[tactic(auto, unfolding(crate::specs::RaisedFlags::flags_refusal, crate::specs::RaisedFlags::flags_in))]
-fn flags_in(image: &Image) -> Result<ModuleFlags, Refusal>
-    ensures { MatchOption (flags_refusal image.now) (result ≡ Ok (flags_in image.now)) (λ refusal. result ≡ Err refusal) }
+fn put_sff8636(image: &Image, flags: &mut ModuleFlags) -> u32
+    ensures status { result ≡ status_by (spec.refusal_of families.Sff8636 image.now) }
+    ensures done { result ≡ done → flags.new ≡ spec.flags_of families.Sff8636 image.now }
+    ensures refused { result ≢ done → flags.new ≡ flags.old }
 {
-    match family_in(image)? {
-        Family::Cmis => cmis(image),
-        Family::Sff8636 => sff8636(image),
-        Family::Sff8472 => sff8472(image),
+    if let Some(fault) = sff8636_map::module_refusal(image) {
+        return sff_status(fault);
     }
+    put_qsfp_flags(image, flags);
+    DONE
 }
 
-fn cmis(image: &Image) -> Result<ModuleFlags, Refusal>
-    ensures { MatchOption (spec.refusal_of families.Cmis image.now) (result ≡ Ok (spec.flags_of families.Cmis image.now)) (λ refusal. result ≡ Err refusal) }
+fn put_sff8472(image: &Image, flags: &mut ModuleFlags) -> u32
+    ensures status { result ≡ status_by (spec.refusal_of families.Sff8472 image.now) }
+    ensures done { result ≡ done → flags.new ≡ spec.flags_of families.Sff8472 image.now }
+    ensures refused { result ≢ done → flags.new ≡ flags.old }
 {
-    match lacks(absent_flag_page(image)) {
-        Some(refusal) => Err(refusal),
-        None => Ok(cmis_flags(image)),
+    if let Some(fault) = sff8472_map::flags_refusal(image) {
+        return sff_status(fault);
     }
+    put_sfp_flags(image, flags);
+    DONE
 }
 
-fn sff8636(image: &Image) -> Result<ModuleFlags, Refusal>
-    ensures { MatchOption (spec.refusal_of families.Sff8636 image.now) (result ≡ Ok (spec.flags_of families.Sff8636 image.now)) (λ refusal. result ≡ Err refusal) }
-{
-    match sff8636_map::module_refusal(image) {
-        Some(fault) => Err(Refusal::Sff(fault)),
-        None => Ok(qsfp_flags(image)),
-    }
-}
+const NO_LEVELS: LevelFlags = LevelFlags {
+    high_alarm: 0,
+    low_alarm: 0,
+    high_warning: 0,
+    low_warning: 0,
+};
 
-fn sff8472(image: &Image) -> Result<ModuleFlags, Refusal>
-    ensures { MatchOption (spec.refusal_of families.Sff8472 image.now) (result ≡ Ok (spec.flags_of families.Sff8472 image.now)) (λ refusal. result ≡ Err refusal) }
-{
-    match sff8472_map::flags_refusal(image) {
-        Some(fault) => Err(Refusal::Sff(fault)),
-        None => Ok(sfp_flags(image)),
-    }
-}
-
-#[tactic(auto, unfolding(crate::specs::RaisedFlags::cmis_flags))]
-fn cmis_flags(image: &Image) -> ModuleFlags
-    ensures { result ≡ spec.cmis_flags image.now }
-{
-    if is_flat(image) {
-        flat_flags(image)
-    } else {
-        paged_flags(image)
-    }
-}
+const NO_FLAGS: ModuleFlags = ModuleFlags {
+    family: 0,
+    lanes: 0,
+    state: 0,
+    path_states: [0; 8],
+    statuses: [0; 8],
+    path_state_changed: 0,
+    tx_fault: 0,
+    tx_los: 0,
+    tx_lol: 0,
+    tx_eq_fail: 0,
+    rx_los: 0,
+    rx_lol: 0,
+    temperature: NO_LEVELS,
+    vcc: NO_LEVELS,
+    tx_power: NO_LEVELS,
+    tx_bias: NO_LEVELS,
+    rx_power: NO_LEVELS,
+};
 
 // A module with flat memory tells nothing of its lanes.
-fn flat_flags(image: &Image) -> ModuleFlags
-    ensures { result ≡ spec.flat_flags image.now }
+#[tactic(auto, unfolding(crate::specs::RaisedFlags::cmis_flags))]
+fn put_cmis_flags(image: &Image, flags: &mut ModuleFlags)
+    ensures { flags.new ≡ spec.cmis_flags image.now }
 {
-    ModuleFlags {
-        family: family_number(Family::Cmis),
-        lanes: 0,
-        state: number(image, Field::CModuleState),
-        path_states: [0; 8],
-        statuses: [0; 8],
-        path_state_changed: 0,
-        tx_fault: 0,
-        tx_los: 0,
-        tx_lol: 0,
-        tx_eq_fail: 0,
-        rx_los: 0,
-        rx_lol: 0,
-        temperature: past_limits(image, Field::CModuleFlag, 1),
-        vcc: past_limits(image, Field::CModuleFlag, 5),
-        tx_power: no_levels(),
-        tx_bias: no_levels(),
-        rx_power: no_levels(),
+    *flags = NO_FLAGS;
+    flags.family = family_number(Family::Cmis);
+    flags.state = number(image, Field::CModuleState);
+    flags.temperature = past_limits(image, Field::CModuleFlag, 1);
+    flags.vcc = past_limits(image, Field::CModuleFlag, 5);
+    if is_flat(image) {
+        return;
     }
+    flags.lanes = 8;
+    flags.path_states = all_numbers(image, Field::CPathStates);
+    flags.statuses = all_numbers(image, Field::CConfigStatus);
+    flags.path_state_changed = eight_lanes(image, Field::CPathStateChanged);
+    flags.tx_fault = eight_lanes(image, Field::CTxFailure);
+    flags.tx_los = eight_lanes(image, Field::CTxLos);
+    flags.tx_lol = eight_lanes(image, Field::CTxLol);
+    flags.tx_eq_fail = eight_lanes(image, Field::CTxEqFail);
+    flags.rx_los = eight_lanes(image, Field::CRxLos);
+    flags.rx_lol = eight_lanes(image, Field::CRxLol);
+    let tx_power = &mut flags.tx_power;
+    tx_power.high_alarm = eight_lanes(image, Field::CTxPowerHighAlarm);
+    tx_power.low_alarm = eight_lanes(image, Field::CTxPowerLowAlarm);
+    tx_power.high_warning = eight_lanes(image, Field::CTxPowerHighWarning);
+    tx_power.low_warning = eight_lanes(image, Field::CTxPowerLowWarning);
+    let tx_bias = &mut flags.tx_bias;
+    tx_bias.high_alarm = eight_lanes(image, Field::CTxBiasHighAlarm);
+    tx_bias.low_alarm = eight_lanes(image, Field::CTxBiasLowAlarm);
+    tx_bias.high_warning = eight_lanes(image, Field::CTxBiasHighWarning);
+    tx_bias.low_warning = eight_lanes(image, Field::CTxBiasLowWarning);
+    let rx_power = &mut flags.rx_power;
+    rx_power.high_alarm = eight_lanes(image, Field::CRxPowerHighAlarm);
+    rx_power.low_alarm = eight_lanes(image, Field::CRxPowerLowAlarm);
+    rx_power.high_warning = eight_lanes(image, Field::CRxPowerHighWarning);
+    rx_power.low_warning = eight_lanes(image, Field::CRxPowerLowWarning);
 }
 
-fn paged_flags(image: &Image) -> ModuleFlags
-    ensures { result ≡ spec.paged_flags image.now }
+fn put_qsfp_flags(image: &Image, flags: &mut ModuleFlags)
+    ensures { flags.new ≡ spec.qsfp_flags image.now }
 {
-    ModuleFlags {
-        family: family_number(Family::Cmis),
-        lanes: 8,
-        state: number(image, Field::CModuleState),
-        path_states: all_numbers(image, Field::CPathStates),
-        statuses: all_numbers(image, Field::CConfigStatus),
-        path_state_changed: eight_lanes(image, Field::CPathStateChanged),
-        tx_fault: eight_lanes(image, Field::CTxFailure),
-        tx_los: eight_lanes(image, Field::CTxLos),
-        tx_lol: eight_lanes(image, Field::CTxLol),
-        tx_eq_fail: eight_lanes(image, Field::CTxEqFail),
-        rx_los: eight_lanes(image, Field::CRxLos),
-        rx_lol: eight_lanes(image, Field::CRxLol),
-        temperature: past_limits(image, Field::CModuleFlag, 1),
-        vcc: past_limits(image, Field::CModuleFlag, 5),
-        tx_power: LevelFlags {
-            high_alarm: eight_lanes(image, Field::CTxPowerHighAlarm),
-            low_alarm: eight_lanes(image, Field::CTxPowerLowAlarm),
-            high_warning: eight_lanes(image, Field::CTxPowerHighWarning),
-            low_warning: eight_lanes(image, Field::CTxPowerLowWarning),
-        },
-        tx_bias: LevelFlags {
-            high_alarm: eight_lanes(image, Field::CTxBiasHighAlarm),
-            low_alarm: eight_lanes(image, Field::CTxBiasLowAlarm),
-            high_warning: eight_lanes(image, Field::CTxBiasHighWarning),
-            low_warning: eight_lanes(image, Field::CTxBiasLowWarning),
-        },
-        rx_power: LevelFlags {
-            high_alarm: eight_lanes(image, Field::CRxPowerHighAlarm),
-            low_alarm: eight_lanes(image, Field::CRxPowerLowAlarm),
-            high_warning: eight_lanes(image, Field::CRxPowerHighWarning),
-            low_warning: eight_lanes(image, Field::CRxPowerLowWarning),
-        },
-    }
+    *flags = NO_FLAGS;
+    flags.family = family_number(Family::Sff8636);
+    flags.lanes = 4;
+    flags.tx_fault = four_lanes(image, Field::QTxFault);
+    flags.tx_los = four_lanes(image, Field::QTxLos);
+    flags.tx_lol = four_lanes(image, Field::QTxLol);
+    flags.rx_los = four_lanes(image, Field::QRxLos);
+    flags.rx_lol = four_lanes(image, Field::QRxLol);
+    flags.temperature = past_limits(image, Field::QTempFlag, 1);
+    flags.vcc = past_limits(image, Field::QVccFlag, 1);
+    let tx_power = &mut flags.tx_power;
+    tx_power.high_alarm = four_lanes(image, Field::QTxPowerHighAlarm);
+    tx_power.low_alarm = four_lanes(image, Field::QTxPowerLowAlarm);
+    tx_power.high_warning = four_lanes(image, Field::QTxPowerHighWarning);
+    tx_power.low_warning = four_lanes(image, Field::QTxPowerLowWarning);
+    let tx_bias = &mut flags.tx_bias;
+    tx_bias.high_alarm = four_lanes(image, Field::QTxBiasHighAlarm);
+    tx_bias.low_alarm = four_lanes(image, Field::QTxBiasLowAlarm);
+    tx_bias.high_warning = four_lanes(image, Field::QTxBiasHighWarning);
+    tx_bias.low_warning = four_lanes(image, Field::QTxBiasLowWarning);
+    let rx_power = &mut flags.rx_power;
+    rx_power.high_alarm = four_lanes(image, Field::QRxPowerHighAlarm);
+    rx_power.low_alarm = four_lanes(image, Field::QRxPowerLowAlarm);
+    rx_power.high_warning = four_lanes(image, Field::QRxPowerHighWarning);
+    rx_power.low_warning = four_lanes(image, Field::QRxPowerLowWarning);
 }
 
-fn qsfp_flags(image: &Image) -> ModuleFlags
-    ensures { result ≡ spec.qsfp_flags image.now }
+fn put_sfp_flags(image: &Image, flags: &mut ModuleFlags)
+    ensures { flags.new ≡ spec.sfp_flags image.now }
 {
-    ModuleFlags {
-        family: family_number(Family::Sff8636),
-        lanes: 4,
-        state: 0,
-        path_states: [0; 8],
-        statuses: [0; 8],
-        path_state_changed: 0,
-        tx_fault: four_lanes(image, Field::QTxFault),
-        tx_los: four_lanes(image, Field::QTxLos),
-        tx_lol: four_lanes(image, Field::QTxLol),
-        tx_eq_fail: 0,
-        rx_los: four_lanes(image, Field::QRxLos),
-        rx_lol: four_lanes(image, Field::QRxLol),
-        temperature: past_limits(image, Field::QTempFlag, 1),
-        vcc: past_limits(image, Field::QVccFlag, 1),
-        tx_power: LevelFlags {
-            high_alarm: four_lanes(image, Field::QTxPowerHighAlarm),
-            low_alarm: four_lanes(image, Field::QTxPowerLowAlarm),
-            high_warning: four_lanes(image, Field::QTxPowerHighWarning),
-            low_warning: four_lanes(image, Field::QTxPowerLowWarning),
-        },
-        tx_bias: LevelFlags {
-            high_alarm: four_lanes(image, Field::QTxBiasHighAlarm),
-            low_alarm: four_lanes(image, Field::QTxBiasLowAlarm),
-            high_warning: four_lanes(image, Field::QTxBiasHighWarning),
-            low_warning: four_lanes(image, Field::QTxBiasLowWarning),
-        },
-        rx_power: LevelFlags {
-            high_alarm: four_lanes(image, Field::QRxPowerHighAlarm),
-            low_alarm: four_lanes(image, Field::QRxPowerLowAlarm),
-            high_warning: four_lanes(image, Field::QRxPowerHighWarning),
-            low_warning: four_lanes(image, Field::QRxPowerLowWarning),
-        },
-    }
-}
-
-fn sfp_flags(image: &Image) -> ModuleFlags
-    ensures { result ≡ spec.sfp_flags image.now }
-{
-    ModuleFlags {
-        family: family_number(Family::Sff8472),
-        lanes: 1,
-        state: 0,
-        path_states: [0; 8],
-        statuses: [0; 8],
-        path_state_changed: 0,
-        tx_fault: lane_bit(image, Field::STxFault, 1, 1),
-        tx_los: 0,
-        tx_lol: 0,
-        tx_eq_fail: 0,
-        rx_los: lane_bit(image, Field::SRxLos, 1, 1),
-        rx_lol: 0,
-        temperature: past_pairs(image, Field::SAlarms, Field::SWarnings, 1),
-        vcc: past_pairs(image, Field::SAlarms, Field::SWarnings, 3),
-        tx_power: past_pairs(image, Field::SAlarms, Field::SWarnings, 7),
-        tx_bias: past_pairs(image, Field::SAlarms, Field::SWarnings, 5),
-        rx_power: past_pairs(image, Field::SRxAlarms, Field::SRxWarnings, 1),
-    }
-}
-
-fn no_levels() -> LevelFlags
-    ensures { result ≡ spec.no_levels }
-{
-    LevelFlags {
-        high_alarm: 0,
-        low_alarm: 0,
-        high_warning: 0,
-        low_warning: 0,
-    }
+    *flags = NO_FLAGS;
+    flags.family = family_number(Family::Sff8472);
+    flags.lanes = 1;
+    flags.tx_fault = lane_bit(image, Field::STxFault, 1, 1);
+    flags.rx_los = lane_bit(image, Field::SRxLos, 1, 1);
+    flags.temperature = past_pairs(image, Field::SAlarms, Field::SWarnings, 1);
+    flags.vcc = past_pairs(image, Field::SAlarms, Field::SWarnings, 3);
+    flags.tx_power = past_pairs(image, Field::SAlarms, Field::SWarnings, 7);
+    flags.tx_bias = past_pairs(image, Field::SAlarms, Field::SWarnings, 5);
+    flags.rx_power = past_pairs(image, Field::SRxAlarms, Field::SRxWarnings, 1);
 }
 
 // Of the module itself: four flags of a field from the first on.

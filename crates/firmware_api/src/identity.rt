@@ -1,20 +1,20 @@
-ghost use Rattle.std.specs.Prelude.{◌≡◌, ◌≢◌, MatchOption, Ok, Err};
+ghost use Rattle.std.specs.Prelude.{◌≡◌, ◌≢◌, IsTrue};
+ghost use Rattle.field_tables.specs.FieldRows.{row_of};
+ghost use Rattle.field_tables.specs.Readings.{is_of_bytes};
 ghost use Rattle.firmware_api.specs.Halves.{memory_of};
 ghost use Rattle.firmware_api.specs.Identities as spec;
-ghost use Rattle.firmware_api.specs.Identities.{cmis_identity, identity_in, identity_refusal, qsfp_identity, sfp_identity};
+ghost use Rattle.firmware_api.specs.Identities.{identity_in, identity_refusal, shared_identity};
 ghost use Rattle.firmware_api.specs.Plans.{refusal_before};
 ghost use Rattle.firmware_api.specs.SimulatedModules.{half_refusal};
 ghost use Rattle.firmware_api.specs.Statuses.{done, status_by};
-ghost use Rattle.firmware_api.specs.ShownTexts.{shown_text};
-ghost use Rattle.field_tables.specs.Readings.{text};
 ghost use Rattle.paged_memory.specs.declared.family.Family.TheVariants as families;
 
-use crate::half::{HalfBytes, image_in};
-use crate::read_module::{family_in, family_number, lacks, number_of};
-use crate::shown_texts::shown_text;
-use crate::status::{DONE, Refusal};
-use field_tables::{Field, Sum, TextField, all_numbers, is_sum_right, number, text};
-use module_decoding::{absent_identity_page, amount_at, is_flat, length_in};
+use crate::half::{HalfBytes, half_status, image_of};
+use crate::read_module::{family_number, number_of};
+use crate::shown_texts::put_text;
+use crate::status::{DONE, PAGE_ABSENT, module_status, sff_status};
+use field_tables::{Field, Sum, TextField, all_numbers, is_sum_right, number};
+use module_decoding::{absent_identity_page, amount_at, family_of, is_flat, length_in};
 use paged_memory::{Family, Image};
 
 /// What a module is. Amounts are in thousandths of a watt and of a metre. What only CMIS has is 0 for other modules.
@@ -44,6 +44,20 @@ pub struct ModuleIdentity {
     pub date: [u8; 17],
 }
 
+// Where a family keeps what modules of every family say of themselves.
+#[derive(Clone, Copy)]
+pub struct SharedFields {
+    pub identifier: Field,
+    pub connector: Field,
+    pub oui: Field,
+    pub sum_base: Sum,
+    pub vendor: TextField,
+    pub part: TextField,
+    pub part_revision: TextField,
+    pub serial: TextField,
+    pub date: TextField,
+}
+
 /// Puts into `identity` what the module whose memory has these halves is.
 #[unsafe(no_mangle)]
 pub extern "C" fn dovecounter_identity(halves: &[HalfBytes], identity: &mut ModuleIdentity) -> u32
@@ -51,138 +65,135 @@ pub extern "C" fn dovecounter_identity(halves: &[HalfBytes], identity: &mut Modu
     ensures done { result ≡ done → identity.new ≡ identity_in (memory_of halves.now) }
     ensures refused { result ≢ done → identity.new ≡ identity.old }
 {
-    match read_identity(halves) {
-        Ok(read) => {
-            *identity = read;
-            DONE
-        }
-        Err(refusal) => refusal.status(),
+    let status = half_status(halves);
+    if status != DONE {
+        return status;
+    }
+    put_identity(&image_of(halves), identity)
+}
+
+#[tactic(auto, unfolding(crate::specs::Identities::identity_refusal, crate::specs::Identities::identity_in, crate::specs::ReadModules::unread_refusal))]
+fn put_identity(image: &Image, identity: &mut ModuleIdentity) -> u32
+    ensures status { result ≡ status_by (identity_refusal image.now) }
+    ensures done { result ≡ done → identity.new ≡ identity_in image.now }
+    ensures refused { result ≢ done → identity.new ≡ identity.old }
+{
+    match family_of(image) {
+        Ok(Family::Cmis) => put_cmis(image, identity),
+        Ok(Family::Sff8636) => put_sff8636(image, identity),
+        Ok(Family::Sff8472) => put_sff8472(image, identity),
+        Err(fault) => module_status(fault),
     }
 }
 
-fn read_identity(halves: &[HalfBytes]) -> Result<ModuleIdentity, Refusal>
-    ensures { MatchOption (refusal_before (half_refusal halves.now) (identity_refusal (memory_of halves.now)))
-        (result ≡ Ok (identity_in (memory_of halves.now))) (λ refusal. result ≡ Err refusal) }
+fn put_cmis(image: &Image, identity: &mut ModuleIdentity) -> u32
+    ensures status { result ≡ status_by (spec.refusal_of families.Cmis image.now) }
+    ensures done { result ≡ done → identity.new ≡ spec.identity_of families.Cmis image.now }
+    ensures refused { result ≢ done → identity.new ≡ identity.old }
 {
-    identity_in(&image_in(halves)?)
-}
-
-#[tactic(auto, unfolding(crate::specs::Identities::identity_refusal, crate::specs::Identities::identity_in))]
-fn identity_in(image: &Image) -> Result<ModuleIdentity, Refusal>
-    ensures { MatchOption (identity_refusal image.now) (result ≡ Ok (identity_in image.now)) (λ refusal. result ≡ Err refusal) }
-{
-    match family_in(image)? {
-        Family::Cmis => cmis(image),
-        Family::Sff8636 => sff8636(image),
-        Family::Sff8472 => sff8472(image),
+    if absent_identity_page(image).is_some() {
+        return PAGE_ABSENT;
     }
+    put_shared(image, Family::Cmis, &CMIS, identity);
+    identity.max_power = amount_at(image, Field::CMaxPower, None, 1);
+    identity.length = length_in(image, Field::CLengthBase, Field::CLengthMultiplier);
+    identity.revision = number(image, Field::CRevision);
+    identity.flat = number_of(is_flat(image));
+    identity.media_type = number(image, Field::CMediaType);
+    identity.power_class = number(image, Field::CPowerClass) + 1;
+    identity.technology = number(image, Field::CTechnology);
+    DONE
 }
 
-fn cmis(image: &Image) -> Result<ModuleIdentity, Refusal>
-    ensures { MatchOption (spec.refusal_of families.Cmis image.now) (result ≡ Ok (spec.identity_of families.Cmis image.now)) (λ refusal. result ≡ Err refusal) }
+fn put_sff8636(image: &Image, identity: &mut ModuleIdentity) -> u32
+    ensures status { result ≡ status_by (spec.refusal_of families.Sff8636 image.now) }
+    ensures done { result ≡ done → identity.new ≡ spec.identity_of families.Sff8636 image.now }
+    ensures refused { result ≢ done → identity.new ≡ identity.old }
 {
-    match lacks(absent_identity_page(image)) {
-        Some(refusal) => Err(refusal),
-        None => Ok(cmis_identity(image)),
+    if let Some(fault) = sff8636_map::identity_refusal(image) {
+        return sff_status(fault);
     }
+    put_shared(image, Family::Sff8636, &QSFP, identity);
+    identity.sum_ext = number_of(is_sum_right(image, Sum::QSumExt));
+    DONE
 }
 
-fn sff8636(image: &Image) -> Result<ModuleIdentity, Refusal>
-    ensures { MatchOption (spec.refusal_of families.Sff8636 image.now) (result ≡ Ok (spec.identity_of families.Sff8636 image.now)) (λ refusal. result ≡ Err refusal) }
+fn put_sff8472(image: &Image, identity: &mut ModuleIdentity) -> u32
+    ensures status { result ≡ status_by (spec.refusal_of families.Sff8472 image.now) }
+    ensures done { result ≡ done → identity.new ≡ spec.identity_of families.Sff8472 image.now }
+    ensures refused { result ≢ done → identity.new ≡ identity.old }
 {
-    match sff8636_map::Identity::of(image) {
-        Ok(identity) => Ok(qsfp_identity(&identity)),
-        Err(fault) => Err(Refusal::Sff(fault)),
+    if let Some(fault) = sff8472_map::module_refusal(image) {
+        return sff_status(fault);
     }
+    put_shared(image, Family::Sff8472, &SFP, identity);
+    identity.sum_ext = number_of(is_sum_right(image, Sum::SSumExt));
+    DONE
 }
 
-fn sff8472(image: &Image) -> Result<ModuleIdentity, Refusal>
-    ensures { MatchOption (spec.refusal_of families.Sff8472 image.now) (result ≡ Ok (spec.identity_of families.Sff8472 image.now)) (λ refusal. result ≡ Err refusal) }
-{
-    match sff8472_map::Identity::of(image) {
-        Ok(identity) => Ok(sfp_identity(&identity)),
-        Err(fault) => Err(Refusal::Sff(fault)),
-    }
-}
+const CMIS: SharedFields = SharedFields {
+    identifier: Field::CIdentifier,
+    connector: Field::CConnector,
+    oui: Field::COui,
+    sum_base: Sum::CSum00,
+    vendor: TextField::CVendor,
+    part: TextField::CPart,
+    part_revision: TextField::CPartRevision,
+    serial: TextField::CSerial,
+    date: TextField::CDate,
+};
 
-fn cmis_identity(image: &Image) -> ModuleIdentity
-    ensures { result ≡ cmis_identity image.now }
-{
-    ModuleIdentity {
-        max_power: amount_at(image, Field::CMaxPower, None, 1),
-        length: length_in(image, Field::CLengthBase, Field::CLengthMultiplier),
-        family: family_number(Family::Cmis),
-        identifier: number(image, Field::CIdentifier),
-        revision: number(image, Field::CRevision),
-        flat: number_of(is_flat(image)),
-        media_type: number(image, Field::CMediaType),
-        power_class: number(image, Field::CPowerClass) + 1,
-        connector: number(image, Field::CConnector),
-        technology: number(image, Field::CTechnology),
-        sum_base: number_of(is_sum_right(image, Sum::CSum00)),
-        sum_ext: 0,
-        oui: all_numbers(image, Field::COui),
-        vendor: text_in(image, TextField::CVendor),
-        part: text_in(image, TextField::CPart),
-        part_revision: text_in(image, TextField::CPartRevision),
-        serial: text_in(image, TextField::CSerial),
-        date: text_in(image, TextField::CDate),
-    }
-}
+const QSFP: SharedFields = SharedFields {
+    identifier: Field::QIdentifier,
+    connector: Field::QConnector,
+    oui: Field::QOui,
+    sum_base: Sum::QSumBase,
+    vendor: TextField::QVendor,
+    part: TextField::QPart,
+    part_revision: TextField::QPartRevision,
+    serial: TextField::QSerial,
+    date: TextField::QDate,
+};
 
-fn text_in(image: &Image, field: TextField) -> [u8; 17]
-    ensures { result ≡ shown_text (text image.now field) }
-{
-    shown_text(text(image, field).as_slice())
-}
+const SFP: SharedFields = SharedFields {
+    identifier: Field::SIdentifier,
+    connector: Field::SConnector,
+    oui: Field::SOui,
+    sum_base: Sum::SSumBase,
+    vendor: TextField::SVendor,
+    part: TextField::SPart,
+    part_revision: TextField::SPartRevision,
+    serial: TextField::SSerial,
+    date: TextField::SDate,
+};
 
-// What only CMIS has is 0.
-fn qsfp_identity(identity: &sff8636_map::Identity) -> ModuleIdentity
-    ensures { result ≡ qsfp_identity identity.now }
+// What is in these fields; all else is 0.
+#[inline(never)]
+fn put_shared(image: &Image, family: Family, fields: &SharedFields, identity: &mut ModuleIdentity)
+    requires identifier { IsTrue (is_of_bytes (row_of fields.now.identifier)) }
+    requires one_identifier { 1 ≡ (row_of fields.now.identifier).count }
+    requires connector { IsTrue (is_of_bytes (row_of fields.now.connector)) }
+    requires one_connector { 1 ≡ (row_of fields.now.connector).count }
+    requires oui { IsTrue (is_of_bytes (row_of fields.now.oui)) }
+    requires three { 3 ≡ (row_of fields.now.oui).count }
+    ensures { identity.new ≡ shared_identity image.now family fields.now }
 {
-    ModuleIdentity {
-        max_power: 0,
-        length: 0,
-        family: family_number(Family::Sff8636),
-        identifier: identity.identifier,
-        revision: 0,
-        flat: 0,
-        media_type: 0,
-        power_class: 0,
-        connector: identity.connector,
-        technology: 0,
-        sum_base: number_of(identity.sum_base),
-        sum_ext: number_of(identity.sum_ext),
-        oui: identity.oui,
-        vendor: shown_text(identity.vendor.as_slice()),
-        part: shown_text(identity.part.as_slice()),
-        part_revision: shown_text(identity.part_revision.as_slice()),
-        serial: shown_text(identity.serial.as_slice()),
-        date: shown_text(identity.date.as_slice()),
-    }
-}
-
-fn sfp_identity(identity: &sff8472_map::Identity) -> ModuleIdentity
-    ensures { result ≡ sfp_identity identity.now }
-{
-    ModuleIdentity {
-        max_power: 0,
-        length: 0,
-        family: family_number(Family::Sff8472),
-        identifier: identity.identifier,
-        revision: 0,
-        flat: 0,
-        media_type: 0,
-        power_class: 0,
-        connector: identity.connector,
-        technology: 0,
-        sum_base: number_of(identity.sum_base),
-        sum_ext: number_of(identity.sum_ext),
-        oui: identity.oui,
-        vendor: shown_text(identity.vendor.as_slice()),
-        part: shown_text(identity.part.as_slice()),
-        part_revision: shown_text(identity.part_revision.as_slice()),
-        serial: shown_text(identity.serial.as_slice()),
-        date: shown_text(identity.date.as_slice()),
-    }
+    identity.max_power = 0;
+    identity.length = 0;
+    identity.family = family_number(family);
+    identity.identifier = number(image, fields.identifier);
+    identity.revision = 0;
+    identity.flat = 0;
+    identity.media_type = 0;
+    identity.power_class = 0;
+    identity.connector = number(image, fields.connector);
+    identity.technology = 0;
+    identity.sum_base = number_of(is_sum_right(image, fields.sum_base));
+    identity.sum_ext = 0;
+    identity.oui = all_numbers(image, fields.oui);
+    put_text(image, fields.vendor, &mut identity.vendor);
+    put_text(image, fields.part, &mut identity.part);
+    put_text(image, fields.part_revision, &mut identity.part_revision);
+    put_text(image, fields.serial, &mut identity.serial);
+    put_text(image, fields.date, &mut identity.date);
 }

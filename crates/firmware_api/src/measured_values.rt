@@ -5,7 +5,7 @@ ghost use Rattle.firmware_api.specs.MeasuredValues as spec;
 ghost use Rattle.module_decoding.specs.Amounts.{power_fits};
 
 use field_tables::{Field, number, row};
-use module_decoding::{amount_at, limit_amounts};
+use module_decoding::amount_at;
 use paged_memory::Image;
 
 /// The limits of a value, in thousandths of its unit.
@@ -36,39 +36,38 @@ pub struct LaneValues {
     pub support: u8,
 }
 
-/// A value of the module itself, of a module that has limits or has none.
-pub fn module_value(image: &Image, limited: bool, field: Field, limits: Field) -> ModuleValue
+/// Puts a value of the module itself, of a module that has limits or has none.
+pub fn put_value(image: &Image, limited: bool, field: Field, limits: Field, value: &mut ModuleValue)
     requires one { 1 ≡ (row_of field).count }
     requires limits { 4 ≡ (row_of limits).count }
-    ensures { result ≡ spec.module_value image.now limited field limits }
+    ensures { value.new ≡ spec.module_value image.now limited field limits }
 {
-    ModuleValue {
-        value: amount_at(image, field, None, 1),
-        limits: limits_in(image, limited, limits, None),
-    }
+    value.value = amount_at(image, field, None, 1);
+    put_limits(image, limited, limits, None, &mut value.limits);
 }
 
-/// The values of lanes of a CMIS module, which says whether it measures them.
+/// Puts the values of lanes of a CMIS module, which says whether it measures them.
 #[tactic(auto, unfolding(crate::specs::MeasuredValues::supported_values))]
-pub fn supported_values(
+pub fn put_supported(
     image: &Image,
     support: Field,
     field: Field,
     multiplier: Option<Field>,
     limits: Field,
-) -> LaneValues
+    lanes: &mut LaneValues,
+)
     requires bytes { IsTrue (is_of_bytes (row_of support)) }
     requires one { 1 ≡ (row_of support).count }
     requires multiplier { IsTrue (power_fits multiplier) }
     requires limits { 4 ≡ (row_of limits).count }
-    ensures { result ≡ spec.supported_values image.now support field multiplier limits }
+    ensures { lanes.new ≡ spec.supported_values image.now support field multiplier limits }
 {
     if number(image, support) == 0 {
-        no_lane_values(0)
+        put_no_lanes(0, lanes);
     } else if is_reserved(image, multiplier) {
-        no_lane_values(2)
+        put_no_lanes(2, lanes);
     } else {
-        lane_values(image, true, field, multiplier, limits)
+        put_lanes(image, true, field, multiplier, limits, lanes);
     }
 }
 
@@ -82,46 +81,41 @@ fn is_reserved(image: &Image, multiplier: Option<Field>) -> bool
     }
 }
 
-/// The values of lanes, of a module that has limits or has none.
-pub fn lane_values(
+/// Puts the values of lanes, of a module that has limits or has none.
+pub fn put_lanes(
     image: &Image,
     limited: bool,
     field: Field,
     power: Option<Field>,
     limits: Field,
-) -> LaneValues
+    lanes: &mut LaneValues,
+)
     requires power { IsTrue (power_fits power) }
     requires limits { 4 ≡ (row_of limits).count }
-    ensures { result ≡ spec.lane_values image.now limited field power limits }
+    ensures { lanes.new ≡ spec.lane_values image.now limited field power limits }
 {
-    LaneValues {
-        values: eight_values(image, field, power),
-        limits: limits_in(image, limited, limits, power),
-        support: 1,
-    }
+    put_values(image, field, power, &mut lanes.values);
+    put_limits(image, limited, limits, power, &mut lanes.limits);
+    lanes.support = 1;
 }
 
-/// No values, and why.
-pub fn no_lane_values(support: u8) -> LaneValues
-    ensures { result ≡ spec.no_lane_values support }
+/// Puts no values, and why.
+pub fn put_no_lanes(support: u8, lanes: &mut LaneValues)
+    ensures { lanes.new ≡ spec.no_lane_values support }
 {
-    LaneValues {
-        values: [0; 8],
-        limits: no_limits(),
-        support,
-    }
+    lanes.values = [0; 8];
+    lanes.limits = NO_LIMITS;
+    lanes.support = support;
 }
 
 #[tactic(auto, unfolding(crate::specs::MeasuredValues::eight_values))]
-fn eight_values(image: &Image, field: Field, power: Option<Field>) -> [i64; 8]
+fn put_values(image: &Image, field: Field, power: Option<Field>, values: &mut [i64; 8])
     requires { IsTrue (power_fits power) }
-    ensures { result ≡ spec.eight_values image.now field power }
+    ensures { values.new ≡ spec.eight_values image.now field power }
 {
-    let mut values = [0; 8];
     for (before, value) in values.iter_mut().enumerate() {
         *value = value_at(image, field, power, before as u8 + 1);
     }
-    values
 }
 
 // 0 in a lane that the module doesn't have.
@@ -137,30 +131,24 @@ fn value_at(image: &Image, field: Field, power: Option<Field>, lane: u8) -> i64
     }
 }
 
-fn limits_in(image: &Image, limited: bool, field: Field, power: Option<Field>) -> Limits
+fn put_limits(image: &Image, limited: bool, field: Field, power: Option<Field>, limits: &mut Limits)
     requires count { 4 ≡ (row_of field).count }
     requires power { IsTrue (power_fits power) }
-    ensures { result ≡ spec.limits_in image.now limited field power }
+    ensures { limits.new ≡ spec.limits_in image.now limited field power }
 {
-    if !limited {
-        return no_limits();
-    }
-    let limits = limit_amounts(image, field, power);
-    Limits {
-        high_alarm: limits.high_alarm,
-        low_alarm: limits.low_alarm,
-        high_warning: limits.high_warning,
-        low_warning: limits.low_warning,
+    if limited {
+        limits.high_alarm = amount_at(image, field, power, 1);
+        limits.low_alarm = amount_at(image, field, power, 2);
+        limits.high_warning = amount_at(image, field, power, 3);
+        limits.low_warning = amount_at(image, field, power, 4);
+    } else {
+        *limits = NO_LIMITS;
     }
 }
 
-fn no_limits() -> Limits
-    ensures { result ≡ spec.no_limits }
-{
-    Limits {
-        high_alarm: 0,
-        low_alarm: 0,
-        high_warning: 0,
-        low_warning: 0,
-    }
-}
+const NO_LIMITS: Limits = Limits {
+    high_alarm: 0,
+    low_alarm: 0,
+    high_warning: 0,
+    low_warning: 0,
+};

@@ -1,4 +1,4 @@
-ghost use Rattle.std.specs.Prelude.{◌≡◌, ◌≢◌, MatchOption, Ok, Err};
+ghost use Rattle.std.specs.Prelude.{◌≡◌, ◌≢◌};
 ghost use Rattle.firmware_api.specs.Halves.{memory_of};
 ghost use Rattle.firmware_api.specs.Monitors as spec;
 ghost use Rattle.firmware_api.specs.Monitors.{monitors_in, monitors_refusal};
@@ -7,14 +7,14 @@ ghost use Rattle.firmware_api.specs.SimulatedModules.{half_refusal};
 ghost use Rattle.firmware_api.specs.Statuses.{done, status_by};
 ghost use Rattle.paged_memory.specs.declared.family.Family.TheVariants as families;
 
-use crate::half::{HalfBytes, image_in};
+use crate::half::{HalfBytes, half_status, image_of};
 use crate::measured_values::{
-    LaneValues, ModuleValue, lane_values, module_value, no_lane_values, supported_values,
+    LaneValues, ModuleValue, put_lanes, put_no_lanes, put_supported, put_value,
 };
-use crate::read_module::{family_in, family_number, lacks, number_of};
-use crate::status::{DONE, Refusal};
+use crate::read_module::{family_number, number_of};
+use crate::status::{DONE, PAGE_ABSENT, module_status, sff_status};
 use field_tables::{Field, Sum, bit, is_sum_right};
-use module_decoding::{absent_monitor_page, is_flat};
+use module_decoding::{absent_monitor_page, family_of, is_flat};
 use paged_memory::{Family, Image};
 
 /// What a module measures. What it does not have is 0.
@@ -41,152 +41,213 @@ pub extern "C" fn dovecounter_monitors(halves: &[HalfBytes], monitors: &mut Modu
     ensures done { result ≡ done → monitors.new ≡ monitors_in (memory_of halves.now) }
     ensures refused { result ≢ done → monitors.new ≡ monitors.old }
 {
-    match read_monitors(halves) {
-        Ok(read) => {
-            *monitors = read;
-            DONE
-        }
-        Err(refusal) => refusal.status(),
+    let status = half_status(halves);
+    if status != DONE {
+        return status;
+    }
+    put_monitors(&image_of(halves), monitors)
+}
+
+#[tactic(auto, unfolding(crate::specs::Monitors::monitors_refusal, crate::specs::Monitors::monitors_in, crate::specs::ReadModules::unread_refusal))]
+fn put_monitors(image: &Image, monitors: &mut ModuleMonitors) -> u32
+    ensures status { result ≡ status_by (monitors_refusal image.now) }
+    ensures done { result ≡ done → monitors.new ≡ monitors_in image.now }
+    ensures refused { result ≢ done → monitors.new ≡ monitors.old }
+{
+    match family_of(image) {
+        Ok(Family::Cmis) => put_cmis(image, monitors),
+        Ok(Family::Sff8636) => put_sff8636(image, monitors),
+        Ok(Family::Sff8472) => put_sff8472(image, monitors),
+        Err(fault) => module_status(fault),
     }
 }
 
-fn read_monitors(halves: &[HalfBytes]) -> Result<ModuleMonitors, Refusal>
-    ensures { MatchOption (refusal_before (half_refusal halves.now) (monitors_refusal (memory_of halves.now)))
-        (result ≡ Ok (monitors_in (memory_of halves.now))) (λ refusal. result ≡ Err refusal) }
+fn put_cmis(image: &Image, monitors: &mut ModuleMonitors) -> u32
+    ensures status { result ≡ status_by (spec.refusal_of families.Cmis image.now) }
+    ensures done { result ≡ done → monitors.new ≡ spec.monitors_of families.Cmis image.now }
+    ensures refused { result ≢ done → monitors.new ≡ monitors.old }
 {
-    monitors_in(&image_in(halves)?)
-}
-
-#[tactic(auto, unfolding(crate::specs::Monitors::monitors_refusal, crate::specs::Monitors::monitors_in))]
-fn monitors_in(image: &Image) -> Result<ModuleMonitors, Refusal>
-    ensures { MatchOption (monitors_refusal image.now) (result ≡ Ok (monitors_in image.now)) (λ refusal. result ≡ Err refusal) }
-{
-    match family_in(image)? {
-        Family::Cmis => cmis(image),
-        Family::Sff8636 => sff8636(image),
-        Family::Sff8472 => sff8472(image),
+    if absent_monitor_page(image).is_some() {
+        return PAGE_ABSENT;
     }
+    put_cmis_monitors(image, monitors);
+    DONE
 }
 
-fn cmis(image: &Image) -> Result<ModuleMonitors, Refusal>
-    ensures { MatchOption (spec.refusal_of families.Cmis image.now) (result ≡ Ok (spec.monitors_of families.Cmis image.now)) (λ refusal. result ≡ Err refusal) }
+fn put_sff8636(image: &Image, monitors: &mut ModuleMonitors) -> u32
+    ensures status { result ≡ status_by (spec.refusal_of families.Sff8636 image.now) }
+    ensures done { result ≡ done → monitors.new ≡ spec.monitors_of families.Sff8636 image.now }
+    ensures refused { result ≢ done → monitors.new ≡ monitors.old }
 {
-    match lacks(absent_monitor_page(image)) {
-        Some(refusal) => Err(refusal),
-        None => Ok(cmis_monitors(image)),
+    if let Some(fault) = sff8636_map::measured_refusal(image) {
+        return sff_status(fault);
     }
+    put_qsfp_monitors(image, monitors);
+    DONE
 }
 
-fn sff8636(image: &Image) -> Result<ModuleMonitors, Refusal>
-    ensures { MatchOption (spec.refusal_of families.Sff8636 image.now) (result ≡ Ok (spec.monitors_of families.Sff8636 image.now)) (λ refusal. result ≡ Err refusal) }
+fn put_sff8472(image: &Image, monitors: &mut ModuleMonitors) -> u32
+    ensures status { result ≡ status_by (spec.refusal_of families.Sff8472 image.now) }
+    ensures done { result ≡ done → monitors.new ≡ spec.monitors_of families.Sff8472 image.now }
+    ensures refused { result ≢ done → monitors.new ≡ monitors.old }
 {
-    match sff8636_map::measured_refusal(image) {
-        Some(fault) => Err(Refusal::Sff(fault)),
-        None => Ok(qsfp_monitors(image)),
+    if let Some(fault) = sff8472_map::measured_refusal(image) {
+        return sff_status(fault);
     }
+    put_sfp_monitors(image, monitors);
+    DONE
 }
 
-fn sff8472(image: &Image) -> Result<ModuleMonitors, Refusal>
-    ensures { MatchOption (spec.refusal_of families.Sff8472 image.now) (result ≡ Ok (spec.monitors_of families.Sff8472 image.now)) (λ refusal. result ≡ Err refusal) }
-{
-    match sff8472_map::measured_refusal(image) {
-        Some(fault) => Err(Refusal::Sff(fault)),
-        None => Ok(sfp_monitors(image)),
-    }
-}
-
+// A module with flat memory tells nothing of its lanes, and has no limits.
 #[tactic(auto, unfolding(crate::specs::Monitors::cmis_monitors))]
-fn cmis_monitors(image: &Image) -> ModuleMonitors
-    ensures { result ≡ spec.cmis_monitors image.now }
+fn put_cmis_monitors(image: &Image, monitors: &mut ModuleMonitors)
+    ensures { monitors.new ≡ spec.cmis_monitors image.now }
 {
-    if is_flat(image) {
-        flat_monitors(image)
-    } else {
-        paged_monitors(image)
+    let paged = !is_flat(image);
+    put_value(
+        image,
+        paged,
+        Field::CTemperature,
+        Field::CTempLimits,
+        &mut monitors.temperature,
+    );
+    put_value(
+        image,
+        paged,
+        Field::CVcc,
+        Field::CVccLimits,
+        &mut monitors.vcc,
+    );
+    monitors.family = family_number(Family::Cmis);
+    if !paged {
+        put_no_lanes(0, &mut monitors.tx_power);
+        put_no_lanes(0, &mut monitors.tx_bias);
+        put_no_lanes(0, &mut monitors.rx_power);
+        monitors.lanes = 0;
+        monitors.has_limits = 0;
+        monitors.sum = 0;
+        return;
     }
+    put_supported(
+        image,
+        Field::CTxPowerMonitor,
+        Field::CTxPower,
+        None,
+        Field::CTxPowerLimits,
+        &mut monitors.tx_power,
+    );
+    put_supported(
+        image,
+        Field::CTxBiasMonitor,
+        Field::CTxBias,
+        Some(Field::CBiasMultiplier),
+        Field::CTxBiasLimits,
+        &mut monitors.tx_bias,
+    );
+    put_supported(
+        image,
+        Field::CRxPowerMonitor,
+        Field::CRxPower,
+        None,
+        Field::CRxPowerLimits,
+        &mut monitors.rx_power,
+    );
+    monitors.lanes = 8;
+    monitors.has_limits = 1;
+    monitors.sum = number_of(is_sum_right(image, Sum::CSum02));
 }
 
-// A CMIS module with flat memory tells nothing of its lanes, and has no limits.
-fn flat_monitors(image: &Image) -> ModuleMonitors
-    ensures { result ≡ spec.flat_monitors image.now }
-{
-    ModuleMonitors {
-        temperature: module_value(image, false, Field::CTemperature, Field::CTempLimits),
-        vcc: module_value(image, false, Field::CVcc, Field::CVccLimits),
-        tx_power: no_lane_values(0),
-        tx_bias: no_lane_values(0),
-        rx_power: no_lane_values(0),
-        family: family_number(Family::Cmis),
-        lanes: 0,
-        has_limits: 0,
-        sum: 0,
-    }
-}
-
-fn paged_monitors(image: &Image) -> ModuleMonitors
-    ensures { result ≡ spec.paged_monitors image.now }
-{
-    let multiplier = Some(Field::CBiasMultiplier);
-    ModuleMonitors {
-        temperature: module_value(image, true, Field::CTemperature, Field::CTempLimits),
-        vcc: module_value(image, true, Field::CVcc, Field::CVccLimits),
-        tx_power: supported_values(
-            image,
-            Field::CTxPowerMonitor,
-            Field::CTxPower,
-            None,
-            Field::CTxPowerLimits,
-        ),
-        tx_bias: supported_values(
-            image,
-            Field::CTxBiasMonitor,
-            Field::CTxBias,
-            multiplier,
-            Field::CTxBiasLimits,
-        ),
-        rx_power: supported_values(
-            image,
-            Field::CRxPowerMonitor,
-            Field::CRxPower,
-            None,
-            Field::CRxPowerLimits,
-        ),
-        family: family_number(Family::Cmis),
-        lanes: 8,
-        has_limits: 1,
-        sum: number_of(is_sum_right(image, Sum::CSum02)),
-    }
-}
-
-fn qsfp_monitors(image: &Image) -> ModuleMonitors
-    ensures { result ≡ spec.qsfp_monitors image.now }
+fn put_qsfp_monitors(image: &Image, monitors: &mut ModuleMonitors)
+    ensures { monitors.new ≡ spec.qsfp_monitors image.now }
 {
     let limited = !bit(image, Field::QFlatMemory);
-    ModuleMonitors {
-        temperature: module_value(image, limited, Field::QTemperature, Field::QTempLimits),
-        vcc: module_value(image, limited, Field::QVcc, Field::QVccLimits),
-        tx_power: lane_values(image, limited, Field::QTxPower, None, Field::QTxPowerLimits),
-        tx_bias: lane_values(image, limited, Field::QTxBias, None, Field::QTxBiasLimits),
-        rx_power: lane_values(image, limited, Field::QRxPower, None, Field::QRxPowerLimits),
-        family: family_number(Family::Sff8636),
-        lanes: 4,
-        has_limits: number_of(limited),
-        sum: 0,
-    }
+    put_value(
+        image,
+        limited,
+        Field::QTemperature,
+        Field::QTempLimits,
+        &mut monitors.temperature,
+    );
+    put_value(
+        image,
+        limited,
+        Field::QVcc,
+        Field::QVccLimits,
+        &mut monitors.vcc,
+    );
+    put_lanes(
+        image,
+        limited,
+        Field::QTxPower,
+        None,
+        Field::QTxPowerLimits,
+        &mut monitors.tx_power,
+    );
+    put_lanes(
+        image,
+        limited,
+        Field::QTxBias,
+        None,
+        Field::QTxBiasLimits,
+        &mut monitors.tx_bias,
+    );
+    put_lanes(
+        image,
+        limited,
+        Field::QRxPower,
+        None,
+        Field::QRxPowerLimits,
+        &mut monitors.rx_power,
+    );
+    monitors.family = family_number(Family::Sff8636);
+    monitors.lanes = 4;
+    monitors.has_limits = number_of(limited);
+    monitors.sum = 0;
 }
 
-fn sfp_monitors(image: &Image) -> ModuleMonitors
-    ensures { result ≡ spec.sfp_monitors image.now }
+fn put_sfp_monitors(image: &Image, monitors: &mut ModuleMonitors)
+    ensures { monitors.new ≡ spec.sfp_monitors image.now }
 {
-    ModuleMonitors {
-        temperature: module_value(image, true, Field::STemperature, Field::STempLimits),
-        vcc: module_value(image, true, Field::SVcc, Field::SVccLimits),
-        tx_power: lane_values(image, true, Field::STxPower, None, Field::STxPowerLimits),
-        tx_bias: lane_values(image, true, Field::STxBias, None, Field::STxBiasLimits),
-        rx_power: lane_values(image, true, Field::SRxPower, None, Field::SRxPowerLimits),
-        family: family_number(Family::Sff8472),
-        lanes: 1,
-        has_limits: 1,
-        sum: number_of(is_sum_right(image, Sum::SSumDmi)),
-    }
+    put_value(
+        image,
+        true,
+        Field::STemperature,
+        Field::STempLimits,
+        &mut monitors.temperature,
+    );
+    put_value(
+        image,
+        true,
+        Field::SVcc,
+        Field::SVccLimits,
+        &mut monitors.vcc,
+    );
+    put_lanes(
+        image,
+        true,
+        Field::STxPower,
+        None,
+        Field::STxPowerLimits,
+        &mut monitors.tx_power,
+    );
+    put_lanes(
+        image,
+        true,
+        Field::STxBias,
+        None,
+        Field::STxBiasLimits,
+        &mut monitors.tx_bias,
+    );
+    put_lanes(
+        image,
+        true,
+        Field::SRxPower,
+        None,
+        Field::SRxPowerLimits,
+        &mut monitors.rx_power,
+    );
+    monitors.family = family_number(Family::Sff8472);
+    monitors.lanes = 1;
+    monitors.has_limits = 1;
+    monitors.sum = number_of(is_sum_right(image, Sum::SSumDmi));
 }

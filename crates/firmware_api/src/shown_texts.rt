@@ -1,25 +1,26 @@
 ghost use Rattle.std.specs.Prelude.{◌≡◌, map};
 ghost use Rattle.std.specs.List.{range_with_len};
+ghost use Rattle.field_tables.specs.Readings.{text};
 ghost use Rattle.firmware_api.specs.ShownTexts.{letter_at, shown_letter, shown_text};
 
+use field_tables::{TextField, text};
 use module_decoding::{shown_byte, trimmed};
+use paged_memory::Image;
 
-/// The bytes of a text field as C is shown them: without the padding at their end, and NUL after the last one.
+/// Puts into `shown` the bytes of a text field as C is shown them: without the padding at their end, and NUL after the last one.
 #[tactic(auto, unfolding(crate::specs::ShownTexts::shown_text))]
-pub fn shown_text(bytes: &[u8]) -> [u8; 17]
-    ensures { result ≡ shown_text bytes.now }
+pub fn put_text(image: &Image, field: TextField, shown: &mut [u8; 17])
+    ensures { shown.new ≡ shown_text (text image.now field) }
 {
-    letters(trimmed(bytes))
+    put_letters(trimmed(text(image, field).as_slice()), shown);
 }
 
-fn letters(bytes: &[u8]) -> [u8; 17]
-    ensures { result ≡ map (letter_at bytes.now) (range_with_len 0 17) }
+fn put_letters(bytes: &[u8], letters: &mut [u8; 17])
+    ensures { letters.new ≡ map (letter_at bytes.now) (range_with_len 0 17) }
 {
-    let mut letters = [0; 17];
     for (place, letter) in letters.iter_mut().enumerate() {
         *letter = letter_at(bytes, place);
     }
-    letters
 }
 
 fn letter_at(bytes: &[u8], place: usize) -> u8

@@ -1,10 +1,10 @@
 use Rattle.std.proofs.Common.{◌≡◌, ℕ, ◌<◌, get_or, length}
 use Rattle.firmware_api.specs.ShownTexts.{letter_at}
-use Rattle.firmware_api.proofs.shown_texts.letters.Given as goal
+use Rattle.firmware_api.proofs.shown_texts.put_letters.Given as goal
 
 -- the letters so far are those of their places
 abbrev pub invariant-loop-place : goal.invariant-loop-place
 invariant-loop-place l = record {
-  len : length l.letter-items ≡ 17;
-  each : (k : ℕ) → k < l.place → get_or l.letter-items k 0 ≡ letter_at l.bytes k;
+  len : length l.letters ≡ 17;
+  each : (k : ℕ) → k < l.place → get_or l.letters k 0 ≡ letter_at l.bytes k;
 }

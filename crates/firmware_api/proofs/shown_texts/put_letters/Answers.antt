@@ -3,11 +3,11 @@ use Rattle.std.specs.List.{range_with_len}
 use Rattle.std.proofs.lemmas.List.{ext_get_or}
 use Rattle.std.proofs.lemmas.List.FromFn.{get_or-map-range_with_len}
 use Rattle.firmware_api.specs.ShownTexts.{letter_at}
-use Rattle.firmware_api.proofs.shown_texts.letters.Goals as goal
+use Rattle.firmware_api.proofs.shown_texts.put_letters.Goals as goal
 
 pub returns : goal.returns
 returns c =
     let loop = c.loop-place in
     let at = letter_at c.args.bytes.now in
-    ext_get_or 0 loop.letter-items (map at (range_with_len 0 17)) loop.invariant.len
+    ext_get_or 0 loop.letters (map at (range_with_len 0 17)) loop.invariant.len
     (λ k below. loop.invariant.each k (omega (arith, below, loop.invariant.len)) ∙ sym (get_or-map-range_with_len at 0 17 k k 0 (omega (arith, below, loop.invariant.len)) (omega arith)))
