@@ -23,27 +23,26 @@ pub struct Operation {
 }
 
 impl Operation {
-    /// The operation, with the number that says whether it is to be made after a pause.
-    pub fn of(op: &Op, wait: u8) -> Operation
-        ensures { result ≡ operation_of op.now wait }
+    /// Becomes the operation, with the number that says whether it is to be made after a pause.
+    pub fn put(&mut self, op: &Op, wait: u8)
+        ensures { self.new ≡ operation_of op.now wait }
     {
+        self.bytes = [0; MAX_STORE];
+        self.wait = wait;
         match op {
-            Op::Fetch { dev, offset, count } => Operation {
-                kind: 0,
-                device: address_of(*dev),
-                offset: *offset,
-                count: *count,
-                bytes: [0; MAX_STORE],
-                wait,
-            },
-            Op::Store { dev, offset, bytes } => Operation {
-                kind: 1,
-                device: address_of(*dev),
-                offset: *offset,
-                count: bytes.len() as u8,
-                bytes: padded(bytes),
-                wait,
-            },
+            Op::Fetch { dev, offset, count } => {
+                self.kind = 0;
+                self.device = address_of(*dev);
+                self.offset = *offset;
+                self.count = *count;
+            }
+            Op::Store { dev, offset, bytes } => {
+                self.kind = 1;
+                self.device = address_of(*dev);
+                self.offset = *offset;
+                self.count = bytes.len() as u8;
+                self.bytes[..bytes.len()].copy_from_slice(bytes);
+            }
         }
     }
 }
@@ -55,14 +54,6 @@ fn address_of(dev: Dev) -> u8
         Dev::A0 => 0xA0,
         Dev::A2 => 0xA2,
     }
-}
-
-fn padded(bytes: &ArrayVec<u8, MAX_STORE>) -> [u8; MAX_STORE]
-    ensures { result ≡ padded bytes.now.items }
-{
-    let mut all = [0; MAX_STORE];
-    all[..bytes.len()].copy_from_slice(bytes);
-    all
 }
 
 /// The reply by its number: 0 if the bus refused, 1 if a store was taken, 2 if these bytes were fetched.

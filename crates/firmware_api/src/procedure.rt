@@ -23,8 +23,8 @@ ghost use Rattle.firmware_api.specs.Statuses.{done, status_in};
 
 use crate::kept::Kept;
 use crate::operation::{Operation, reply_of};
-use crate::status::{DONE, Refusal};
-use bus_model::{Dev, Op, Reply, Step};
+use crate::status::{DONE, ENDED, NO_PROCEDURE, NO_REPLY, NOT_ENDED};
+use bus_model::{Dev, Op, Reply};
 use control_sets::{
     ControlSet, Power, PowerChange, Procedure, ProcedureNext, ProvisionFault, SavedFault,
     SavedProcedure,
@@ -63,7 +63,8 @@ pub extern "C" fn dovecounter_provision(
 )
     ensures { IsSavedAt (provisioning control.now (lanes_in lanes)) [] procedure.new }
 {
-    *procedure = begun(Kept::OfTasks(Procedure::provisioning(*control, LaneSet::from(lanes))));
+    let begun = Kept::OfTasks(Procedure::provisioning(*control, LaneSet::from(lanes)));
+    put_numbers(&begun, false, procedure);
 }
 
 /// Puts into `procedure` the procedure that brings up the data paths of these lanes, if these control bytes are active,
@@ -76,7 +77,8 @@ pub extern "C" fn dovecounter_activate(
 )
     ensures { IsSavedAt (activation control.now (lanes_in lanes)) [] procedure.new }
 {
-    *procedure = begun(Kept::OfTasks(Procedure::activation(*control, LaneSet::from(lanes))));
+    let begun = Kept::OfTasks(Procedure::activation(*control, LaneSet::from(lanes)));
+    put_numbers(&begun, false, procedure);
 }
 
 /// Puts into `procedure` the procedure that wakes a module up.
@@ -84,7 +86,8 @@ pub extern "C" fn dovecounter_activate(
 pub extern "C" fn dovecounter_wake(procedure: &mut KeptProcedure)
     ensures { IsSavedPowerAt Awake [] procedure.new }
 {
-    *procedure = begun(Kept::OfPower(PowerChange::to(Power::Awake)));
+    let begun = Kept::OfPower(PowerChange::to(Power::Awake));
+    put_numbers(&begun, false, procedure);
 }
 
 /// Puts into `procedure` the procedure that puts a module to sleep.
@@ -92,7 +95,8 @@ pub extern "C" fn dovecounter_wake(procedure: &mut KeptProcedure)
 pub extern "C" fn dovecounter_sleep(procedure: &mut KeptProcedure)
     ensures { IsSavedPowerAt Asleep [] procedure.new }
 {
-    *procedure = begun(Kept::OfPower(PowerChange::to(Power::Asleep)));
+    let begun = Kept::OfPower(PowerChange::to(Power::Asleep));
+    put_numbers(&begun, false, procedure);
 }
 
 /// Puts into `operation` the operation that is to be made now.
@@ -109,12 +113,12 @@ pub extern "C" fn dovecounter_next(procedure: &KeptProcedure, operation: &mut Op
         asked procedure.now ≡ Some (nexts.Do op) → operation.new.wait ≡ wait_for history (nexts.Do op) }
 {
     match wanted(procedure) {
-        Ok(ProcedureNext::Do(op)) => {
-            *operation = Operation::of(&op, procedure.wait);
+        Some(ProcedureNext::Do(op)) => {
+            operation.put(&op, procedure.wait);
             DONE
         }
-        Ok(ProcedureNext::Done(_)) => Refusal::Ended.status(),
-        Err(refusal) => refusal.status(),
+        Some(ProcedureNext::Done(_)) => ENDED,
+        None => NO_PROCEDURE,
     }
 }
 
@@ -130,12 +134,18 @@ pub extern "C" fn dovecounter_reply(procedure: &mut KeptProcedure, reply: u8, by
         reply_of reply bytes.now ≡ Some made → IsSavedPowerAt power (step_with op made ∷ history) procedure.new }
     ensures refused { result ≢ done → procedure.new ≡ procedure.old }
 {
-    match told(procedure, reply, bytes) {
-        Ok(told) => {
-            *procedure = told;
+    let Some(mut kept) = restore(procedure) else {
+        return NO_PROCEDURE;
+    };
+    let ProcedureNext::Do(op) = kept.next() else {
+        return ENDED;
+    };
+    match reply_of(reply, bytes) {
+        Some(reply) if kept.try_take(&reply) => {
+            put_after(&kept, &op, &reply, procedure);
             DONE
         }
-        Err(refusal) => refusal.status(),
+        _ => NO_REPLY,
     }
 }
 
@@ -153,12 +163,12 @@ pub extern "C" fn dovecounter_answer(procedure: &KeptProcedure, answer: &mut Ans
         IsPowerChange power (made ≡ room) history ended }
 {
     match wanted(procedure) {
-        Ok(ProcedureNext::Done(ended)) => {
+        Some(ProcedureNext::Done(ended)) => {
             *answer = answer_of(ended);
             DONE
         }
-        Ok(ProcedureNext::Do(_)) => Refusal::NotEnded.status(),
-        Err(refusal) => refusal.status(),
+        Some(ProcedureNext::Do(_)) => NOT_ENDED,
+        None => NO_PROCEDURE,
     }
 }
 
@@ -177,35 +187,13 @@ fn answer_of(ended: Result<u16, ProvisionFault>) -> Answer
     }
 }
 
-// What the procedure with these numbers asks for.
-fn wanted(saved: &KeptProcedure) -> Result<ProcedureNext, Refusal>
-    ensures { MatchOption (asked saved.now) (result ≡ Err Refusal.NoProcedure) (λ next. result ≡ Ok next) }
+// What the procedure with these numbers asks for, if one has them.
+fn wanted(saved: &KeptProcedure) -> Option<ProcedureNext>
+    ensures { result ≡ asked saved.now }
 {
     match restore(saved) {
-        Some(kept) => Ok(kept.next()),
-        None => Err(Refusal::NoProcedure),
-    }
-}
-
-// The procedure with these numbers after it was told the reply.
-fn told(saved: &KeptProcedure, reply: u8, bytes: &[u8]) -> Result<KeptProcedure, Refusal>
-    ensures told { IsReplyTold (status_in result) (reply_of reply bytes.now) (asked saved.now) }
-    ensures taken { IfOk result (λ told. (tasks : List Task) (history : History) (op : Op) (made : Reply) →
-        IsSavedAt tasks history saved.now → asked saved.now ≡ Some (nexts.Do op) →
-        reply_of reply bytes.now ≡ Some made → IsSavedAt tasks (step_with op made ∷ history) told) }
-    ensures taken_by_power { IfOk result (λ told. (power : Power) (history : History) (op : Op) (made : Reply) →
-        IsSavedPowerAt power history saved.now → asked saved.now ≡ Some (nexts.Do op) →
-        reply_of reply bytes.now ≡ Some made → IsSavedPowerAt power (step_with op made ∷ history) told) }
-{
-    let Some(mut kept) = restore(saved) else {
-        return Err(Refusal::NoProcedure);
-    };
-    let ProcedureNext::Do(op) = kept.next() else {
-        return Err(Refusal::Ended);
-    };
-    match reply_of(reply, bytes) {
-        Some(reply) if kept.try_take(&reply) => Ok(kept_after(&kept, &Step { op, reply })),
-        _ => Err(Refusal::NoReply),
+        Some(kept) => Some(kept.next()),
+        None => None,
     }
 }
 
@@ -222,39 +210,28 @@ fn restore(kept: &KeptProcedure) -> Option<Kept>
 }
 
 #[tactic(auto, unfolding(crate::specs::SavedProcedures::procedure_in))]
-fn numbers_of(kept: &Kept, wait: bool) -> KeptProcedure
-    ensures same { procedure_in result ≡ Some kept.now }
-    ensures wait { result.wait ≡ wait_number wait }
+fn put_numbers(kept: &Kept, wait: bool, procedure: &mut KeptProcedure)
+    ensures same { procedure_in procedure.new ≡ Some kept.now }
+    ensures wait { procedure.new.wait ≡ wait_number wait }
 {
-    KeptProcedure {
-        magic: PROCEDURE,
-        wait: if wait { 1 } else { 0 },
-        saved: kept.save(),
-    }
+    procedure.magic = PROCEDURE;
+    procedure.wait = if wait { 1 } else { 0 };
+    procedure.saved = kept.save();
 }
 
-// A procedure that was told nothing yet.
-fn begun(kept: Kept) -> KeptProcedure
-    ensures same { procedure_in result ≡ Some kept }
-    ensures wait { result.wait ≡ 0 }
+// The numbers of the procedure after the operation had this reply.
+fn put_after(kept: &Kept, op: &Op, reply: &Reply, procedure: &mut KeptProcedure)
+    ensures same { procedure_in procedure.new ≡ Some kept.now }
+    ensures wait { (before : History) → procedure.new.wait ≡ wait_for (step_with op.now reply.now ∷ before) (next_of kept.now) }
 {
-    numbers_of(&kept, false)
+    put_numbers(kept, waits_after(op, reply, &kept.next()), procedure);
 }
 
-// The procedure after this step.
-fn kept_after(kept: &Kept, step: &Step) -> KeptProcedure
-    ensures same { procedure_in result ≡ Some kept.now }
-    ensures wait { (before : History) → result.wait ≡ wait_for (step.now ∷ before) (next_of kept.now) }
-{
-    numbers_of(kept, waits_after(step, &kept.next()))
-}
-
-fn waits_after(step: &Step, wanted: &ProcedureNext) -> bool
-    ensures { result ≡ waits_after step.now wanted.now }
+fn waits_after(op: &Op, reply: &Reply, wanted: &ProcedureNext) -> bool
+    ensures { result ≡ waits_after (step_with op.now reply.now) wanted.now }
 {
     match wanted {
-        ProcedureNext::Do(op) => matches!(step.reply, Reply::Refused)
-            || is_same_fetch(&step.op, op),
+        ProcedureNext::Do(next) => matches!(reply, Reply::Refused) || is_same_fetch(op, next),
         ProcedureNext::Done(_) => false,
     }
 }

@@ -17,12 +17,12 @@ mod numbers;
 
 use crate::half::HalfBytes;
 use crate::operation::{Operation, reply_of};
-use crate::status::{DONE, Refusal};
+use crate::status::{DONE, ENDED, GAVE_UP, NO_PROCEDURE, NO_REPLY, TOO_FEW_BYTES};
 use bus_model::{Dev, Reply};
 use control_sets::can_have;
 use module_reading::{PieceReading, ReadingNext};
 pub use numbers::SavedReading;
-use numbers::{of_nothing, restore, with_half, without_half};
+use numbers::{put_nothing, put_with_half, put_without_half, restore};
 use paged_memory::{Key, PAGE_LEN};
 
 /// Puts into `reading` one that has read nothing yet, over a bus that fetches at most so many bytes at once. A piece of a half
@@ -34,9 +34,9 @@ pub extern "C" fn dovecounter_read(most: u8, reading: &mut SavedReading) -> u32
     ensures refused { result ≢ done → reading.new ≡ reading.old }
 {
     if most < 8 {
-        return Refusal::TooFewBytes.status();
+        return TOO_FEW_BYTES;
     }
-    *reading = of_nothing(&PieceReading::new(piece_for(most)));
+    put_nothing(&PieceReading::new(piece_for(most)), reading);
     DONE
 }
 
@@ -57,15 +57,15 @@ pub extern "C" fn dovecounter_read_next(reading: &SavedReading, operation: &mut 
         reading_in reading.now ≡ Some read → HasJoinedOutcome history read }
 {
     let Some(read) = restore(reading) else {
-        return Refusal::NoProcedure.status();
+        return NO_PROCEDURE;
     };
     match read.next() {
         ReadingNext::Do(op) => {
-            *operation = Operation::of(&op, reading.wait);
+            operation.put(&op, reading.wait);
             DONE
         }
-        ReadingNext::Complete => Refusal::Ended.status(),
-        ReadingNext::GiveUp => Refusal::GaveUp.status(),
+        ReadingNext::Complete => ENDED,
+        ReadingNext::GiveUp => GAVE_UP,
     }
 }
 
@@ -78,46 +78,35 @@ pub extern "C" fn dovecounter_read_reply(reading: &mut SavedReading, reply: u8, 
         reply_of reply bytes.now ≡ Some made → IsReadAt piece (step_with op made ∷ history) reading.new }
     ensures refused { result ≢ done → reading.new ≡ reading.old }
 {
-    match told(reading, reply, bytes) {
-        Ok(told) => {
-            *reading = told;
-            DONE
-        }
-        Err(refusal) => refusal.status(),
-    }
-}
-
-fn told(saved: &SavedReading, number: u8, bytes: &[u8]) -> Result<SavedReading, Refusal>
-    ensures told { IsReadingReplyTold (status_in result) (reply_of number bytes.now) (asked saved.now) }
-    ensures taken { IfOk result (λ told. (read : PieceReading) (made : Reply) → reading_in saved.now ≡ Some read →
-        reply_of number bytes.now ≡ Some made → (reading_in told ≡ Some (pieces.after read made)) × (told.wait ≡ is_refusal made)
-        × IsReplyTo (pieces.next read) made) }
-{
-    let Some(read) = restore(saved) else {
-        return Err(Refusal::NoProcedure);
+    let Some(mut read) = restore(reading) else {
+        return NO_PROCEDURE;
     };
     let ReadingNext::Do(op) = read.next() else {
-        return Err(Refusal::Ended);
+        return ENDED;
     };
-    match reply_of(number, bytes) {
-        Some(reply) if can_have(&op, &reply) => Ok(after(saved, read, &reply)),
-        _ => Err(Refusal::NoReply),
+    match reply_of(reply, bytes) {
+        Some(reply) if can_have(&op, &reply) => {
+            put_after(&mut read, &reply, reading);
+            DONE
+        }
+        _ => NO_REPLY,
     }
 }
 
 // The numbers of the reading after the reply.
-fn after(saved: &SavedReading, mut read: PieceReading, reply: &Reply) -> SavedReading
-    requires fit { IsFit saved.now read }
-    requires reply { IsReplyTo (pieces.next read) reply.now }
-    ensures after { reading_in result ≡ Some (pieces.after read reply.now) }
-    ensures wait { result.wait ≡ is_refusal reply.now }
+fn put_after(read: &mut PieceReading, reply: &Reply, reading: &mut SavedReading)
+    requires fit { IsFit reading.old read.old }
+    requires reply { IsReplyTo (pieces.next read.old) reply.now }
+    ensures after { reading_in reading.new ≡ Some (pieces.after read.old reply.now) }
+    ensures wait { reading.new.wait ≡ is_refusal reply.now }
+    ensures answers { IsReplyTo (pieces.next read.old) reply.now }
 {
-    let half = half_by(&read, reply);
+    let half = half_by(read, reply);
     read.take(reply);
     let wait = matches!(reply, Reply::Refused);
     match half {
-        Some(half) => with_half(saved, &read, wait, half),
-        None => without_half(saved, &read, wait),
+        Some(half) => put_with_half(read, wait, half, reading),
+        None => put_without_half(read, wait, reading),
     }
 }
 

@@ -56,88 +56,78 @@ const NO_HALF: HalfBytes = HalfBytes {
     bytes: [0; PAGE_LEN],
 };
 
-/// The numbers of a reading that has read no half.
+/// Puts the numbers of a reading that has read no half.
 #[tactic(auto, unfolding(crate::specs::Halves::memory_of))]
-pub fn of_nothing(read: &PieceReading) -> SavedReading
+pub fn put_nothing(read: &PieceReading, saved: &mut SavedReading)
     requires size { HasSize read.now }
     requires settled { read.now.reading.settled ≤ 5 }
     requires image { read.now.reading.image ≡ map.empty }
-    ensures same { reading_in result ≡ Some read.now }
-    ensures wait { result.wait ≡ 0 }
+    ensures same { reading_in saved.new ≡ Some read.now }
+    ensures wait { saved.new.wait ≡ 0 }
 {
-    numbers(read, false, 0, [NO_HALF; MAX_READ])
+    saved.count = 0;
+    saved.halves = [NO_HALF; MAX_READ];
+    put_numbers(read, false, saved);
 }
 
-/// The numbers of a reading whose image has what it had before.
-pub fn without_half(before: &SavedReading, read: &PieceReading, wait: bool) -> SavedReading
-    requires fit { IsFit before.now read.now }
-    ensures same { reading_in result ≡ Some read.now }
-    ensures wait { result.wait ≡ wait_number wait }
+/// Puts the numbers of a reading whose image has what it had before.
+pub fn put_without_half(read: &PieceReading, wait: bool, saved: &mut SavedReading)
+    requires fit { IsFit saved.old read.now }
+    ensures same { reading_in saved.new ≡ Some read.now }
+    ensures wait { saved.new.wait ≡ wait_number wait }
 {
-    numbers(read, wait, before.count, before.halves)
+    put_numbers(read, wait, saved);
 }
 
-/// The numbers of a reading whose image has this half in addition.
-pub fn with_half(
-    before: &SavedReading,
-    read: &PieceReading,
-    wait: bool,
-    half: HalfBytes,
-) -> SavedReading
-    requires count { before.now.count < read.now.reading.settled }
+/// Puts the numbers of a reading whose image has this half in addition.
+pub fn put_with_half(read: &PieceReading, wait: bool, half: HalfBytes, saved: &mut SavedReading)
+    requires count { saved.old.count < read.now.reading.settled }
     requires settled { read.now.reading.settled ≤ 5 }
-    requires places { IsTrue (list_all has_place (halves_in before.now)) }
+    requires places { IsTrue (list_all has_place (halves_in saved.old)) }
     requires place { IsTrue (has_place half) }
-    requires image { read.now.reading.image ≡ map.insert (memory_of (halves_in before.now)) (key_of half) half.bytes }
+    requires image { read.now.reading.image ≡ map.insert (memory_of (halves_in saved.old)) (key_of half) half.bytes }
     requires size { HasSize read.now }
-    ensures same { reading_in result ≡ Some read.now }
-    ensures wait { result.wait ≡ wait_number wait }
+    ensures same { reading_in saved.new ≡ Some read.now }
+    ensures wait { saved.new.wait ≡ wait_number wait }
 {
     let mut halves = [half; MAX_READ];
-    halves[1..].copy_from_slice(&before.halves[..4]);
-    numbers(read, wait, before.count + 1, halves)
+    halves[1..].copy_from_slice(&saved.halves[..4]);
+    saved.halves = halves;
+    saved.count += 1;
+    put_numbers(read, wait, saved);
 }
 
+// Puts the numbers of a reading whose halves stand there.
 #[tactic(auto, unfolding(crate::specs::SavedReadings::reading_in))]
-fn numbers(
-    read: &PieceReading,
-    wait: bool,
-    count: u8,
-    halves: [HalfBytes; MAX_READ],
-) -> SavedReading
+fn put_numbers(read: &PieceReading, wait: bool, saved: &mut SavedReading)
     requires size { HasSize read.now }
-    requires count { count ≤ read.now.reading.settled }
+    requires count { saved.old.count ≤ read.now.reading.settled }
     requires settled { read.now.reading.settled ≤ 5 }
-    requires places { IsTrue (list_all has_place (take count halves)) }
-    requires image { read.now.reading.image ≡ memory_of (take count halves) }
-    ensures same { reading_in result ≡ Some read.now }
-    ensures wait { result.wait ≡ wait_number wait }
+    requires places { IsTrue (list_all has_place (halves_in saved.old)) }
+    requires image { read.now.reading.image ≡ memory_of (halves_in saved.old) }
+    ensures same { reading_in saved.new ≡ Some read.now }
+    ensures wait { saved.new.wait ≡ wait_number wait }
 {
     let (selection, page) = numbers_of_selected(read.reading.selected);
-    SavedReading {
-        magic: READING,
-        steps: read.reading.steps,
-        settled: read.reading.settled as u8,
-        selection,
-        page,
-        accepted: if read.reading.accepted { 1 } else { 0 },
-        piece: read.piece,
-        read: read.part.len() as u8,
-        wait: if wait { 1 } else { 0 },
-        count,
-        halves,
-        part: padded(&read.part),
-    }
+    saved.magic = READING;
+    saved.steps = read.reading.steps;
+    saved.settled = read.reading.settled as u8;
+    saved.selection = selection;
+    saved.page = page;
+    saved.accepted = if read.reading.accepted { 1 } else { 0 };
+    saved.piece = read.piece;
+    saved.read = read.part.len() as u8;
+    saved.wait = if wait { 1 } else { 0 };
+    put_part(&read.part, &mut saved.part);
 }
 
 // With zeros after them.
-fn padded(part: &ArrayVec<u8, PAGE_LEN>) -> [u8; PAGE_LEN]
+fn put_part(part: &ArrayVec<u8, PAGE_LEN>, all: &mut [u8; PAGE_LEN])
     requires { length part.now.items < 128 }
-    ensures { take (length part.now.items) result ≡ part.now.items }
+    ensures { take (length part.now.items) all.new ≡ part.now.items }
 {
-    let mut all = [0; PAGE_LEN];
+    *all = [0; PAGE_LEN];
     all[..part.len()].copy_from_slice(part);
-    all
 }
 
 fn numbers_of_selected(selected: KnownPage) -> (u8, u8)

@@ -6,7 +6,7 @@ use Rattle.firmware_api.proofs.procedure.dovecounter_activate.Goals as goal
 pub returns : goal.returns
 returns c = (
   c.activation.result,
-  c.begun.ensures.same,
+  c.put_numbers.ensures.same,
   subst (λ lanes. IsAt (activation c.args.control.now lanes) [] c.activation.result) c.from.ensures c.activation.ensures,
-  c.begun.ensures.wait,
+  c.put_numbers.ensures.wait,
 )

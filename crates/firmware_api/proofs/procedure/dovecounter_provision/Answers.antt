@@ -6,7 +6,7 @@ use Rattle.firmware_api.proofs.procedure.dovecounter_provision.Goals as goal
 pub returns : goal.returns
 returns c = (
   c.provisioning.result,
-  c.begun.ensures.same,
+  c.put_numbers.ensures.same,
   subst (λ lanes. IsAt (provisioning c.args.control.now lanes) [] c.provisioning.result) c.from.ensures c.provisioning.ensures,
-  c.begun.ensures.wait,
+  c.put_numbers.ensures.wait,
 )

@@ -1,4 +1,4 @@
 use Rattle.firmware_api.proofs.procedure.dovecounter_wake.Goals as goal
 
 pub returns : goal.returns
-returns c = (c.to.result, c.begun.ensures.same, c.to.ensures.power, c.to.ensures.begins, c.begun.ensures.wait)
+returns c = (c.to.result, c.put_numbers.ensures.same, c.to.ensures.power, c.to.ensures.begins, c.put_numbers.ensures.wait)

@@ -3,4 +3,4 @@ use Rattle.module_reading.specs.PieceReading as pieces
 use Rattle.firmware_api.proofs.reading.dovecounter_read.Goals as goal
 
 pub returns-clause-begun : goal.returns-clause-begun
-returns-clause-begun c done = (c.new.result, c.of_nothing.ensures.same, c.new.ensures ∙ ap pieces.begun c.piece_for.ensures.piece, c.of_nothing.ensures.wait)
+returns-clause-begun c done = (c.new.result, c.put_nothing.ensures.same, c.new.ensures ∙ ap pieces.begun c.piece_for.ensures.piece, c.put_nothing.ensures.wait)
