@@ -24,31 +24,15 @@ use Rattle.firmware_api.specs.Halves.{memory_of}
 use Rattle.firmware_api.specs.Plans.{refusal_before}
 use Rattle.firmware_api.specs.SimulatedModules.{begun, half_refusal, held, held_by, module_in, unless_refused}
 use Rattle.firmware_api.proofs.SavedLaws.{same_some}
-
-abbrev in_ok : {A E : Type 0} → A → Result A E → A
-in_ok other (Ok value) = value
-in_ok other (Err fault) = other
-
-same_ok : {A E : Type 0} (a b : A) → ◌≡◌ {A = Result A E} (Ok a) (Ok b) → a ≡ b
-same_ok a b same = ap (in_ok a) same
+use Rattle.firmware_api.proofs.StatusLaws.{same_ok}
 
 pub when_ok : {A : Type 0} (r : Result A Refusal) (value : A) (P : A → Type 0) → r ≡ Ok value → P value → IfOk r P
 when_ok {A = A} r value P is holds = subst (λ (r : Result A Refusal). IfOk r P) (sym is) holds
 
--- ---- halves that are not refused
-
-no_refusal : {A : Type 0} (refusal : Option Refusal) (right value : A) → unless_refused refusal right ≡ Ok value → refusal ≡ None
-no_refusal None right value is = refl
-no_refusal (Some refusal) right value is = cc
-
-right_value : {A : Type 0} (refusal : Option Refusal) (right value : A) → unless_refused refusal right ≡ Ok value → right ≡ value
-right_value None right value is = same_ok right value is
-right_value (Some refusal) right value is = cc
-
 -- ---- a module at the start
 
 -- its fault as a refusal
-abbrev passed : Result SimModule SimFault → Result SimModule Refusal
+abbrev pub passed : Result SimModule SimFault → Result SimModule Refusal
 passed (Ok sim) = Ok sim
 passed (Err fault) = Err (NoStart fault)
 
@@ -61,13 +45,10 @@ passes (Some refusal) fault made sim none is = cc
 abbrev IsNew : Memory → Delays → Result SimModule SimFault → Type 0
 IsNew memory delays made = MatchOption (start_fault memory delays) (made ≡ Ok (start memory delays)) (λ fault. made ≡ Err fault)
 
-pub begun_fault : (halves : List HalfBytes) (delays : Delays) (image : Memory) (made : Result SimModule SimFault) (fault : SimFault) →
-    unless_refused (half_refusal halves) (memory_of halves) ≡ Ok image → IsNew image delays made → made ≡ Err fault → begun halves delays ≡ Err (NoStart fault)
-begun_fault halves delays image made fault reads new is =
-    let same = right_value (half_refusal halves) (memory_of halves) image reads in
-    passes (half_refusal halves) (start_fault (memory_of halves) delays) made (start (memory_of halves) delays)
-    (no_refusal (half_refusal halves) (memory_of halves) image reads) (subst (λ (memory : Memory). IsNew memory delays made) (sym same) new)
-    ∙ ap passed is
+pub begun_is : (halves : List HalfBytes) (delays : Delays) (image : Memory) (made : Result SimModule SimFault) → half_refusal halves ≡ None →
+    image ≡ memory_of halves → IsNew image delays made → begun halves delays ≡ passed made
+begun_is halves delays image made none same new =
+    passes (half_refusal halves) (start_fault (memory_of halves) delays) made (start (memory_of halves) delays) none (subst (λ (memory : Memory). IsNew memory delays made) same new)
 
 -- ---- a module with its numbers
 
@@ -90,14 +71,12 @@ abbrev IsRead : Memory → Result Advertised AdvertFault → Type 0
 IsRead memory read = MatchOption (advert_fault memory) (read ≡ Ok (own_advert memory)) (λ fault. read ≡ Err fault)
 
 pub held_is : (halves : List HalfBytes) (numbers : SavedModule) (image : Memory) (read : Result Advertised AdvertFault) (advert : Advertised)
-    (sim : Option SimModule) → unless_refused (half_refusal halves) (memory_of halves) ≡ Ok image → IsRead image read → read ≡ Ok advert →
+    (sim : Option SimModule) → half_refusal halves ≡ None → image ≡ memory_of halves → IsRead image read → read ≡ Ok advert →
     sim ≡ module_in (record { image = image; advert = advert }) numbers → held halves numbers ≡ module_or sim
-held_is halves numbers image read advert sim reads advertises is made =
-    let same = right_value (half_refusal halves) (memory_of halves) image reads in
+held_is halves numbers image read advert sim none same advertises is made =
     held_with (half_refusal halves) (advert_fault (memory_of halves)) read (own_advert (memory_of halves)) advert
-    (λ a. module_in (record { image = memory_of halves; advert = a }) numbers)
-    (no_refusal (half_refusal halves) (memory_of halves) image reads) (subst (λ (memory : Memory). IsRead memory read) (sym same) advertises) is
-    ∙ ap (λ (memory : Memory). module_or (module_in (record { image = memory; advert = advert }) numbers)) same
+    (λ a. module_in (record { image = memory_of halves; advert = a }) numbers) none (subst (λ (memory : Memory). IsRead memory read) same advertises) is
+    ∙ ap (λ (memory : Memory). module_or (module_in (record { image = memory; advert = advert }) numbers)) (sym same)
     ∙ ap module_or (sym made)
 
 -- ---- numbers alone

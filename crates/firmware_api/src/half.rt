@@ -2,11 +2,11 @@ ghost use Rattle.std.specs.Prelude.{◌≡◌, ◌≤◌, length, MatchOption, N
 ghost use Rattle.std.specs.List.{list_all};
 ghost use Rattle.applications.specs.Advertised.{advertised_by};
 ghost use Rattle.firmware_api.specs.Halves.{advert_of, conventions_of, has_place, key_of, memory_of, module_refusal};
-ghost use Rattle.firmware_api.specs.SimulatedModules.{half_refusal, unless_refused};
+ghost use Rattle.firmware_api.specs.SimulatedModules.{half_refusal};
 ghost use Rattle.firmware_api.specs.Statuses.{done, status_by, status_of};
 ghost use Rattle.paged_memory.specs.Images.{most_pages};
 
-use crate::status::{DONE, NO_PLACE, Refusal, TOO_MANY_HALVES, advert_status};
+use crate::status::{DONE, NO_PLACE, TOO_MANY_HALVES, advert_status};
 use applications::{Advert, Conventions};
 use paged_memory::{Dev, Image, Key, MAX_PAGES, PAGE_LEN, Page};
 
@@ -122,17 +122,4 @@ pub fn half_status(halves: &[HalfBytes]) -> u32
     } else {
         DONE
     }
-}
-
-/// The memory that they have, or why there is none.
-pub fn image_in(halves: &[HalfBytes]) -> Result<Image, Refusal>
-    ensures { result ≡ unless_refused (half_refusal halves.now) (memory_of halves.now) }
-{
-    if halves.len() > MAX_PAGES {
-        return Err(Refusal::TooManyHalves);
-    }
-    if !all_have_places(halves) {
-        return Err(Refusal::NoPlace);
-    }
-    Ok(image_of(halves))
 }

@@ -7,12 +7,11 @@ ghost use Rattle.sim_module.specs.SavedModules.{restored};
 ghost use Rattle.sim_module.specs.Ticks.{pinned, ticked};
 ghost use Rattle.firmware_api.specs.Halves.{memory_of};
 ghost use Rattle.firmware_api.specs.SimulatedModules as spec;
-ghost use Rattle.firmware_api.specs.Statuses.{done, status_by, status_in};
+ghost use Rattle.firmware_api.specs.Statuses.{by_status, done, status_by, status_in};
 
-use crate::half::{HalfBytes, image_in};
-use crate::status::{DONE, Refusal};
-use arrayvec::ArrayVec;
-use bus_model::{Dev, Device, MAX_FETCH, MAX_STORE};
+use crate::half::{HalfBytes, half_status, image_of};
+use crate::status::{DONE, NO_MODULE, NO_RANGE, NOT_TAKEN, advert_status, start_status};
+use bus_model::{Dev, Device, MAX_STORE};
 use control_sets::ControlSet;
 use sim_module::{Delays, Moving, SavedModule, SimModule, own_advert};
 
@@ -28,12 +27,16 @@ pub extern "C" fn dovecounter_module_begin(
     ensures numbers { result ≡ done → spec.AreSaved simulated.new }
     ensures refused { result ≢ done → simulated.new ≡ simulated.old }
 {
-    match begun(halves, *delays) {
+    let status = half_status(halves);
+    if status != DONE {
+        return status;
+    }
+    match SimModule::new(&image_of(halves), *delays) {
         Ok(begun) => {
             *simulated = begun.save();
             DONE
         }
-        Err(refusal) => refusal.status(),
+        Err(fault) => start_status(fault),
     }
 }
 
@@ -52,13 +55,20 @@ pub extern "C" fn dovecounter_module_fetch(
     ensures numbers { result ≡ done → spec.AreSaved simulated.new }
     ensures refused { result ≢ done → (simulated.new ≡ simulated.old) × (bytes.new ≡ bytes.old) }
 {
-    match fetched(halves, simulated, device, offset, bytes.len()) {
-        Ok((fetched, after)) => {
+    let mut held = match held(halves, simulated) {
+        Ok(held) => held,
+        Err(status) => return status,
+    };
+    if !is_range(device, offset, bytes.len()) {
+        return NO_RANGE;
+    }
+    match held.fetch(dev_of(device), offset, bytes.len() as u8) {
+        Some(fetched) => {
             bytes.copy_from_slice(&fetched);
-            *simulated = after.save();
+            *simulated = held.save();
             DONE
         }
-        Err(refusal) => refusal.status(),
+        None => NOT_TAKEN,
     }
 }
 
@@ -77,13 +87,18 @@ pub extern "C" fn dovecounter_module_store(
     ensures numbers { result ≡ done → spec.AreSaved simulated.new }
     ensures refused { result ≢ done → simulated.new ≡ simulated.old }
 {
-    match stored(halves, simulated, device, offset, bytes) {
-        Ok(after) => {
-            *simulated = after.save();
-            DONE
-        }
-        Err(refusal) => refusal.status(),
+    let mut held = match held(halves, simulated) {
+        Ok(held) => held,
+        Err(status) => return status,
+    };
+    if bytes.len() > MAX_STORE || !is_range(device, offset, bytes.len()) {
+        return NO_RANGE;
     }
+    if !held.store(dev_of(device), offset, bytes) {
+        return NOT_TAKEN;
+    }
+    *simulated = held.save();
+    DONE
 }
 
 /// Lets one tick pass, whichever halves the module has.
@@ -100,7 +115,7 @@ pub extern "C" fn dovecounter_module_tick(simulated: &mut SavedModule) -> u32
             *simulated = moving.save();
             DONE
         }
-        None => Refusal::NoModule.status(),
+        None => NO_MODULE,
     }
 }
 
@@ -119,7 +134,7 @@ pub extern "C" fn dovecounter_module_pin(simulated: &mut SavedModule, on: u8) ->
             *simulated = moving.save();
             DONE
         }
-        None => Refusal::NoModule.status(),
+        None => NO_MODULE,
     }
 }
 
@@ -135,72 +150,25 @@ pub extern "C" fn dovecounter_module_active(simulated: &SavedModule, active: &mu
             *active = moving.active();
             DONE
         }
-        None => Refusal::NoModule.status(),
+        None => NO_MODULE,
     }
 }
 
-fn begun(halves: &[HalfBytes], delays: Delays) -> Result<SimModule, Refusal>
-    ensures { result ≡ spec.begun halves.now delays }
+// The module that has these halves and these numbers, or the status of its refusal.
+fn held(halves: &[HalfBytes], saved: &SavedModule) -> Result<SimModule, u32>
+    ensures { result ≡ by_status (spec.held halves.now saved.now) }
 {
-    let image = image_in(halves)?;
-    match SimModule::new(&image, delays) {
-        Ok(begun) => Ok(begun),
-        Err(fault) => Err(Refusal::NoStart(fault)),
+    let status = half_status(halves);
+    if status != DONE {
+        return Err(status);
     }
-}
-
-// The module that has these halves and these numbers.
-fn held(halves: &[HalfBytes], saved: &SavedModule) -> Result<SimModule, Refusal>
-    ensures { result ≡ spec.held halves.now saved.now }
-{
-    let image = image_in(halves)?;
-    let advert = match own_advert(&image) {
-        Ok(advert) => advert,
-        Err(fault) => return Err(Refusal::Advert(fault)),
-    };
-    match SimModule::restore(image, advert, saved) {
-        Some(held) => Ok(held),
-        None => Err(Refusal::NoModule),
-    }
-}
-
-fn fetched(
-    halves: &[HalfBytes],
-    saved: &SavedModule,
-    device: u8,
-    offset: u8,
-    count: usize,
-) -> Result<(ArrayVec<u8, MAX_FETCH>, SimModule), Refusal>
-    ensures answer { spec.with_items result ≡ spec.fetched_by (spec.held halves.now saved.now) device offset count }
-    ensures count { IfOk result (λ answer. length answer.0.items ≡ count) }
-{
-    let mut held = held(halves, saved)?;
-    if !is_range(device, offset, count) {
-        return Err(Refusal::NoRange);
-    }
-    match held.fetch(dev_of(device), offset, count as u8) {
-        Some(bytes) => Ok((bytes, held)),
-        None => Err(Refusal::NotTaken),
-    }
-}
-
-fn stored(
-    halves: &[HalfBytes],
-    saved: &SavedModule,
-    device: u8,
-    offset: u8,
-    bytes: &[u8],
-) -> Result<SimModule, Refusal>
-    ensures { result ≡ spec.stored_by (spec.held halves.now saved.now) device offset bytes.now }
-{
-    let mut held = held(halves, saved)?;
-    if bytes.len() > MAX_STORE || !is_range(device, offset, bytes.len()) {
-        return Err(Refusal::NoRange);
-    }
-    if held.store(dev_of(device), offset, bytes) {
-        Ok(held)
-    } else {
-        Err(Refusal::NotTaken)
+    let image = image_of(halves);
+    match own_advert(&image) {
+        Ok(advert) => match SimModule::restore(image, advert, saved) {
+            Some(held) => Ok(held),
+            None => Err(NO_MODULE),
+        },
+        Err(fault) => Err(advert_status(fault)),
     }
 }
 
