@@ -2,6 +2,7 @@
 
 A function is taken by its contract if the proof that it meets it is left open: a file Proof.antt with a hole. What the check then says
 of the functions that it is asked for rests on no other body. It stands over the libraries as `rt ci` or `rt lib` built them."""
+import json
 import os
 import re
 import shutil
@@ -51,6 +52,11 @@ class Libraries:
         """Keeps a library, by links, if there is one."""
         if os.path.isdir(built_library(name)) and not os.path.isdir(self.path(name)):
             shutil.copytree(built_library(name), self.path(name), copy_function=link)
+
+    def functions(self, name):
+        """The functions of a library, by their paths, as it has them for what is linked; none of a crate that has no library."""
+        file = f"{self.path(name)}/toolchain/mir.json"
+        return {it[0].removeprefix(f"{name}::") for it in json.loads(read(file))} if os.path.isfile(file) else set()
 
 
 def link(file, to):
@@ -108,12 +114,16 @@ def functions_proved(name, said):
 class Copy:
     """A copy of a crate in a scratch folder, and its functions by the paths that a check has for them."""
 
-    def __init__(self, name, folder, functions, libraries):
-        self.name, self.folder, self.functions, self.libraries, self.checks = name, folder, functions, libraries, 0
+    def __init__(self, name, folder, libraries):
+        self.name, self.folder, self.functions, self.libraries, self.checks = name, folder, set(), libraries, 0
         for it in PARTS:
             if os.path.isdir(f"{ROOT}/crates/{name}/{it}"):
                 shutil.copytree(f"{ROOT}/crates/{name}/{it}", f"{folder}/{it}")
         os.makedirs(f"{folder}/out")
+
+    def take_by_contracts(self, functions):
+        """Takes all functions of the crate, whose paths are given, by their contracts."""
+        self.functions = functions
         for it in functions:
             self.leave_open(it)
 
@@ -160,7 +170,7 @@ class Copy:
             self.give_proof(it)
         own = {path: read(f"{self.folder}/{path}") for path in texts}
         self.write(texts)
-        said = self.said(functions)
+        said = self.said(["--allow-holes", *(word for it in sorted(functions) for word in ("--only", it))])
         self.write(own)
         for it in functions:
             self.leave_open(it)
@@ -171,11 +181,9 @@ class Copy:
             raise CheckFailed(broken[0] if broken else said[-1500:])
         return said
 
-    def said(self, functions):
-        """What a check of these functions prints. One that is killed, most likely for memory, is made once more."""
-        words = [*check_of(self.name, self.libraries), "--jobs", "1", "--allow-holes"]
-        for it in sorted(functions):
-            words += ["--only", it]
+    def said(self, words):
+        """What a check with these words prints. One that is killed, most likely for memory, is made once more."""
+        words = [*check_of(self.name, self.libraries), "--jobs", "1", *words]
         for _ in range(2):
             with subprocess.Popen(words, cwd=self.folder, stdout=subprocess.PIPE, stderr=subprocess.STDOUT, text=True) as ran:
                 RUNNING.add(ran)
