@@ -4,7 +4,7 @@ import re
 import time
 from functions import ROOT, BadEdit, edit_of, functions_of, read, sources, with_bodies
 
-REFUSED, PROVED, WAITS, UNREADABLE = "refused", "proved", "waits", "does not compile"
+REFUSED, PROVED, WAITS, UNREADABLE, NAMES = "refused", "proved", "waits", "does not compile", "refused for a name alone"
 
 
 class Tried:
@@ -52,24 +52,32 @@ def is_own(path, function):
     return path == function or bool(last) and f"{module}::{last}::".startswith(f"{function}::")
 
 
-def has_own_error(said, function, path, lines):
-    """Whether an error stands in the function's answers, or at its lines."""
-    answers = re.findall(r"^\./proofs/([\w/]+)/\w+\.antt:\d+:\d+: error", said, re.M)
-    if any(is_own(it.replace("/", "::"), function) for it in answers):
-        return True
-    at = re.findall(rf"^(?:note: )?(?:\./)?{re.escape(path)}:(\d+):\d+: (?:error|it is not proved)", said, re.M)
-    return any(int(it) in lines for it in at)
+def errors_of(said, function, path, lines):
+    """The errors in the function's answers, and the errors and open goals at its lines."""
+    answers = re.findall(r"^\./proofs/([\w/]+)/\w+\.antt:\d+:\d+: (error.*)$", said, re.M)
+    at = re.findall(rf"^(?:note: )?(?:\./)?{re.escape(path)}:(\d+):\d+: (error.*|it is not proved.*)$", said, re.M)
+    return [words for it, words in answers if is_own(it.replace("/", "::"), function)] + [words for it, words in at if int(it) in lines]
+
+
+def is_of_name(error):
+    """Whether an error only says that what a proof names is not there, or that it rests on such a proof."""
+    return bool(re.search(r"\bhas no\b|is not in scope|was not admitted|which was rejected", re.sub(r"`[^`]*`", "", error)))
 
 
 def verdict_of(said, function, path, lines, is_alone):
-    """What a check says of one function, whose file and lines there are given. If nothing else is wrong, what is not proved is refused."""
+    """What a check says of one function, whose file and lines there are given. Tried alone, all that is wrong is due to its edit."""
     told = [words for name, words in re.findall(r"^fn \w+::(\S+): (.*)$", said, re.M) if is_own(name, function)]
     if not told:
         return WAITS
     if all(re.match(r"no holes|depends on a hole", it) for it in told):
         return PROVED
-    open_goals = [it for it in told if "` did not prove" in it or it == "not proved" or is_alone and it.startswith("not proved")]
-    return REFUSED if open_goals or has_own_error(said, function, path, lines) else WAITS
+    every = r"^(?:note: )?(?:\./)?(?:proofs|src)/\S+: (error.*|it is not proved.*)$"
+    errors = re.findall(every, said, re.M) if is_alone else errors_of(said, function, path, lines)
+    if any("` did not prove" in it for it in told) or not all(map(is_of_name, errors)):
+        return REFUSED
+    if errors:
+        return NAMES if is_alone else WAITS
+    return REFUSED if any(it == "not proved" or is_alone and it.startswith("not proved") for it in told) else WAITS
 
 
 def judged(crate, edit, said, texts, is_alone):
@@ -80,7 +88,7 @@ def judged(crate, edit, said, texts, is_alone):
         function = functions_of(text)[place]
         first, last = (text.count("\n", 0, it) + 1 for it in (function.header, function.end))
         verdicts.add(verdict_of(said, name, path, range(first, last + 1), is_alone))
-    return REFUSED if REFUSED in verdicts else PROVED if verdicts == {PROVED} else WAITS
+    return next((it for it in (REFUSED, NAMES) if it in verdicts), PROVED if verdicts == {PROVED} else WAITS)
 
 
 def texts_of(crate, edits):
