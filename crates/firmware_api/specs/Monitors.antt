@@ -14,6 +14,7 @@ use Rattle.module_decoding.specs.CmisPages.{absent_page, is_flat, monitor_pages}
 use Rattle.module_decoding.specs.ModuleFamilies.{family_of}
 use Rattle.sff8636_map.specs.Refusals as sff8636_refusals
 use Rattle.sff8472_map.specs.Refusals as sff8472_refusals
+use Rattle.firmware_api.specs.declared.monitors.MeasuredFields.{MeasuredFields}
 use Rattle.firmware_api.specs.declared.monitors.ModuleMonitors.{ModuleMonitors}
 use Rattle.firmware_api.specs.declared.status.Refusal.{Refusal}
 use Rattle.firmware_api.specs.declared.status.Refusal.TheVariants.{Sff}
@@ -50,6 +51,20 @@ paged_monitors memory = record {
 
 unfoldable pub cmis_monitors : Memory → ModuleMonitors
 cmis_monitors memory = if is_flat memory then flat_monitors memory else paged_monitors memory
+
+-- what is measured, by the fields that have it, in the place of what stood there
+abbrev pub with_measured : ModuleMonitors → Memory → Bool → MeasuredFields → ModuleMonitors
+with_measured monitors memory limited at = record {
+  temperature = module_value memory limited at.temperature at.temperature_limits;
+  vcc = module_value memory limited at.vcc at.vcc_limits;
+  tx_power = lane_values memory limited at.tx_power None at.tx_power_limits;
+  tx_bias = lane_values memory limited at.tx_bias None at.tx_bias_limits;
+  rx_power = lane_values memory limited at.rx_power None at.rx_power_limits;
+  family = monitors.family;
+  lanes = monitors.lanes;
+  has_limits = monitors.has_limits;
+  sum = monitors.sum;
+}
 
 -- limits stand on a page that flat memory doesn't have
 abbrev pub qsfp_has_limits : Memory → Bool

@@ -1,4 +1,4 @@
-ghost use Rattle.std.specs.Prelude.{◌≡◌, ◌↔◌, IsFalse, IsTrue, None, Some};
+ghost use Rattle.std.specs.Prelude.{◌≡◌, None, Some};
 ghost use Rattle.control_sets.specs.Asking.{IsReplyTo};
 ghost use Rattle.control_sets.specs.SavedNumbers.{restored};
 ghost use Rattle.control_sets.specs.SavedPower.{restored_power};
@@ -47,15 +47,14 @@ impl Kept {
         }
     }
 
-    /// Takes the reply if it is one that the operation to be made can have; answers whether it was.
-    pub fn try_take(&mut self, reply: &Reply) -> bool
-        ensures taken { IsTrue result ↔ IsReplyTo (next_of self.old) reply.now }
-        ensures told { IsTrue result → Takes self.old reply.now self.new }
-        ensures refused { IsFalse result → self.new ≡ self.old }
+    /// Takes the reply to the operation that was to be made.
+    pub fn take(&mut self, reply: &Reply)
+        requires { IsReplyTo (next_of self.old) reply.now }
+        ensures { Takes self.old reply.now self.new }
     {
         match self {
-            Kept::OfTasks(procedure) => procedure.try_take(reply),
-            Kept::OfPower(change) => change.try_take(reply),
+            Kept::OfTasks(procedure) => procedure.take(reply),
+            Kept::OfPower(change) => change.take(reply),
         }
     }
 }

@@ -1,4 +1,5 @@
 ghost use Rattle.std.specs.Prelude.{◌≡◌, ◌≢◌};
+ghost use Rattle.field_tables.specs.FieldRows.{row_of};
 ghost use Rattle.firmware_api.specs.Halves.{memory_of};
 ghost use Rattle.firmware_api.specs.Monitors as spec;
 ghost use Rattle.firmware_api.specs.Monitors.{monitors_in, monitors_refusal};
@@ -32,6 +33,21 @@ pub struct ModuleMonitors {
     pub has_limits: u8,
     /// Whether the sum over the limits is right.
     pub sum: u8,
+}
+
+// Where a family keeps what modules measure, and the limits of that.
+#[derive(Clone, Copy)]
+pub struct MeasuredFields {
+    pub temperature: Field,
+    pub temperature_limits: Field,
+    pub vcc: Field,
+    pub vcc_limits: Field,
+    pub tx_power: Field,
+    pub tx_power_limits: Field,
+    pub tx_bias: Field,
+    pub tx_bias_limits: Field,
+    pub rx_power: Field,
+    pub rx_power_limits: Field,
 }
 
 /// Puts into `monitors` what the module whose memory has these halves measures.
@@ -161,44 +177,7 @@ fn put_qsfp_monitors(image: &Image, monitors: &mut ModuleMonitors)
     ensures { monitors.new ≡ spec.qsfp_monitors image.now }
 {
     let limited = !bit(image, Field::QFlatMemory);
-    put_value(
-        image,
-        limited,
-        Field::QTemperature,
-        Field::QTempLimits,
-        &mut monitors.temperature,
-    );
-    put_value(
-        image,
-        limited,
-        Field::QVcc,
-        Field::QVccLimits,
-        &mut monitors.vcc,
-    );
-    put_lanes(
-        image,
-        limited,
-        Field::QTxPower,
-        None,
-        Field::QTxPowerLimits,
-        &mut monitors.tx_power,
-    );
-    put_lanes(
-        image,
-        limited,
-        Field::QTxBias,
-        None,
-        Field::QTxBiasLimits,
-        &mut monitors.tx_bias,
-    );
-    put_lanes(
-        image,
-        limited,
-        Field::QRxPower,
-        None,
-        Field::QRxPowerLimits,
-        &mut monitors.rx_power,
-    );
+    put_measured(image, limited, &QSFP, monitors);
     monitors.family = family_number(Family::Sff8636);
     monitors.lanes = 4;
     monitors.has_limits = number_of(limited);
@@ -208,46 +187,87 @@ fn put_qsfp_monitors(image: &Image, monitors: &mut ModuleMonitors)
 fn put_sfp_monitors(image: &Image, monitors: &mut ModuleMonitors)
     ensures { monitors.new ≡ spec.sfp_monitors image.now }
 {
-    put_value(
-        image,
-        true,
-        Field::STemperature,
-        Field::STempLimits,
-        &mut monitors.temperature,
-    );
-    put_value(
-        image,
-        true,
-        Field::SVcc,
-        Field::SVccLimits,
-        &mut monitors.vcc,
-    );
-    put_lanes(
-        image,
-        true,
-        Field::STxPower,
-        None,
-        Field::STxPowerLimits,
-        &mut monitors.tx_power,
-    );
-    put_lanes(
-        image,
-        true,
-        Field::STxBias,
-        None,
-        Field::STxBiasLimits,
-        &mut monitors.tx_bias,
-    );
-    put_lanes(
-        image,
-        true,
-        Field::SRxPower,
-        None,
-        Field::SRxPowerLimits,
-        &mut monitors.rx_power,
-    );
+    put_measured(image, true, &SFP, monitors);
     monitors.family = family_number(Family::Sff8472);
     monitors.lanes = 1;
     monitors.has_limits = 1;
     monitors.sum = number_of(is_sum_right(image, Sum::SSumDmi));
+}
+
+const QSFP: MeasuredFields = MeasuredFields {
+    temperature: Field::QTemperature,
+    temperature_limits: Field::QTempLimits,
+    vcc: Field::QVcc,
+    vcc_limits: Field::QVccLimits,
+    tx_power: Field::QTxPower,
+    tx_power_limits: Field::QTxPowerLimits,
+    tx_bias: Field::QTxBias,
+    tx_bias_limits: Field::QTxBiasLimits,
+    rx_power: Field::QRxPower,
+    rx_power_limits: Field::QRxPowerLimits,
+};
+
+const SFP: MeasuredFields = MeasuredFields {
+    temperature: Field::STemperature,
+    temperature_limits: Field::STempLimits,
+    vcc: Field::SVcc,
+    vcc_limits: Field::SVccLimits,
+    tx_power: Field::STxPower,
+    tx_power_limits: Field::STxPowerLimits,
+    tx_bias: Field::STxBias,
+    tx_bias_limits: Field::STxBiasLimits,
+    rx_power: Field::SRxPower,
+    rx_power_limits: Field::SRxPowerLimits,
+};
+
+// What is measured in these fields, of a module that has limits or has none; the other numbers stay.
+#[inline(never)]
+fn put_measured(
+    image: &Image,
+    limited: bool,
+    fields: &MeasuredFields,
+    monitors: &mut ModuleMonitors,
+)
+    requires temperature { 1 ≡ (row_of fields.now.temperature).count }
+    requires temperature_limits { 4 ≡ (row_of fields.now.temperature_limits).count }
+    requires vcc { 1 ≡ (row_of fields.now.vcc).count }
+    requires vcc_limits { 4 ≡ (row_of fields.now.vcc_limits).count }
+    requires tx_power_limits { 4 ≡ (row_of fields.now.tx_power_limits).count }
+    requires tx_bias_limits { 4 ≡ (row_of fields.now.tx_bias_limits).count }
+    requires rx_power_limits { 4 ≡ (row_of fields.now.rx_power_limits).count }
+    ensures { monitors.new ≡ spec.with_measured monitors.old image.now limited fields.now }
+{
+    let at = fields;
+    put_value(
+        image,
+        limited,
+        at.temperature,
+        at.temperature_limits,
+        &mut monitors.temperature,
+    );
+    put_value(image, limited, at.vcc, at.vcc_limits, &mut monitors.vcc);
+    put_lanes(
+        image,
+        limited,
+        at.tx_power,
+        None,
+        at.tx_power_limits,
+        &mut monitors.tx_power,
+    );
+    put_lanes(
+        image,
+        limited,
+        at.tx_bias,
+        None,
+        at.tx_bias_limits,
+        &mut monitors.tx_bias,
+    );
+    put_lanes(
+        image,
+        limited,
+        at.rx_power,
+        None,
+        at.rx_power_limits,
+        &mut monitors.rx_power,
+    );
 }

@@ -27,7 +27,7 @@ use crate::status::{DONE, ENDED, NO_PROCEDURE, NO_REPLY, NOT_ENDED};
 use bus_model::{Dev, Op, Reply};
 use control_sets::{
     ControlSet, Power, PowerChange, Procedure, ProcedureNext, ProvisionFault, SavedFault,
-    SavedProcedure,
+    SavedProcedure, can_have,
 };
 use field_tables::LaneSet;
 
@@ -141,7 +141,8 @@ pub extern "C" fn dovecounter_reply(procedure: &mut KeptProcedure, reply: u8, by
         return ENDED;
     };
     match reply_of(reply, bytes) {
-        Some(reply) if kept.try_take(&reply) => {
+        Some(reply) if can_have(&op, &reply) => {
+            kept.take(&reply);
             put_after(&kept, &op, &reply, procedure);
             DONE
         }

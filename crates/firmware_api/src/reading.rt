@@ -22,7 +22,7 @@ use bus_model::{Dev, Reply};
 use control_sets::can_have;
 use module_reading::{PieceReading, ReadingNext};
 pub use numbers::SavedReading;
-use numbers::{put_nothing, put_with_half, put_without_half, restore};
+use numbers::{put_begun, put_with_half, put_without_half, restore};
 use paged_memory::{Key, PAGE_LEN};
 
 /// Puts into `reading` one that has read nothing yet, over a bus that fetches at most so many bytes at once. A piece of a half
@@ -36,7 +36,7 @@ pub extern "C" fn dovecounter_read(most: u8, reading: &mut SavedReading) -> u32
     if most < 8 {
         return TOO_FEW_BYTES;
     }
-    put_nothing(&PieceReading::new(piece_for(most)), reading);
+    put_begun(piece_for(most), reading);
     DONE
 }
 

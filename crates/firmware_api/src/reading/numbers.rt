@@ -3,6 +3,7 @@ ghost use Rattle.std.specs.Prelude.{◌≡◌, ◌≤◌, ◌<◌, IfSome, IsTru
 ghost use Rattle.std.specs.FinMap as map;
 ghost use Rattle.std.specs.List.{list_all};
 ghost use Rattle.control_sets.specs.SavedNumbers.{selected_numbered};
+ghost use Rattle.module_reading.specs.PieceReading as pieces;
 ghost use Rattle.module_reading.specs.PieceReading.{HasSize};
 ghost use Rattle.firmware_api.specs.Halves.{has_place, key_of, memory_of};
 ghost use Rattle.firmware_api.specs.SavedReadings.{IsFit, halves_in, is_sound, reading_in};
@@ -56,18 +57,32 @@ const NO_HALF: HalfBytes = HalfBytes {
     bytes: [0; PAGE_LEN],
 };
 
-/// Puts the numbers of a reading that has read no half.
-#[tactic(auto, unfolding(crate::specs::Halves::memory_of))]
-pub fn put_nothing(read: &PieceReading, saved: &mut SavedReading)
-    requires size { HasSize read.now }
-    requires settled { read.now.reading.settled ≤ 5 }
-    requires image { read.now.reading.image ≡ map.empty }
-    ensures same { reading_in saved.new ≡ Some read.now }
+// Zeros, which are no reading.
+const NO_READING: SavedReading = SavedReading {
+    magic: 0,
+    steps: 0,
+    settled: 0,
+    selection: 0,
+    page: 0,
+    accepted: 0,
+    piece: 0,
+    read: 0,
+    wait: 0,
+    count: 0,
+    halves: [NO_HALF; MAX_READ],
+    part: [0; PAGE_LEN],
+};
+
+/// Puts the numbers of a reading in pieces of so many bytes that has read nothing.
+#[tactic(auto, unfolding(crate::specs::Halves::memory_of, crate::specs::SavedReadings::reading_in))]
+pub fn put_begun(piece: u8, saved: &mut SavedReading)
+    requires { 0 < piece }
+    ensures same { reading_in saved.new ≡ Some (pieces.begun piece) }
     ensures wait { saved.new.wait ≡ 0 }
 {
-    saved.count = 0;
-    saved.halves = [NO_HALF; MAX_READ];
-    put_numbers(read, false, saved);
+    *saved = NO_READING;
+    saved.magic = READING;
+    saved.piece = piece;
 }
 
 /// Puts the numbers of a reading whose image has what it had before.

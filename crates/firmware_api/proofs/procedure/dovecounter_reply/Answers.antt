@@ -15,8 +15,8 @@ returns-in-Some-reply_of-clause-taken c done tasks history op made saved asks re
     let same_op = same_do c.in-Do.op op (sym c.in-Do.is ∙ c.next.ensures ∙ wanted) in
     let same = same_some c.in-Some-reply_of.reply made (sym c.in-Some-reply_of.is ∙ c.reply_of.ensures ∙ replied) in
     let told = c.put_after.new.procedure in
-    let at = taken_by_tasks c.args.procedure.now told history c.in-Do.op c.in-Some-reply_of.reply tasks old c.try_take.new.self is c.put_after.ensures.same
-    (c.if-try_take.ensures.told refl) (c.put_after.ensures.wait history) saved (sym c.next.ensures ∙ c.in-Do.is) in
+    let at = taken_by_tasks c.args.procedure.now told history c.in-Do.op c.in-Some-reply_of.reply tasks old c.take.new.self is c.put_after.ensures.same
+    c.take.ensures (c.put_after.ensures.wait history) saved (sym c.next.ensures ∙ c.in-Do.is) in
     subst (λ (reply : Reply). IsSavedAt tasks (step_with op reply ∷ history) told) same
     (subst (λ (o : Op). IsSavedAt tasks (step_with o c.in-Some-reply_of.reply ∷ history) told) same_op at)
 
@@ -28,7 +28,7 @@ returns-in-Some-reply_of-clause-taken_by_power c done power history op made save
     let same_op = same_do c.in-Do.op op (sym c.in-Do.is ∙ c.next.ensures ∙ wanted) in
     let same = same_some c.in-Some-reply_of.reply made (sym c.in-Some-reply_of.is ∙ c.reply_of.ensures ∙ replied) in
     let told = c.put_after.new.procedure in
-    let at = taken_by_power c.args.procedure.now told history c.in-Do.op c.in-Some-reply_of.reply power old c.try_take.new.self is c.put_after.ensures.same
-    (c.if-try_take.ensures.told refl) (c.put_after.ensures.wait history) saved (sym c.next.ensures ∙ c.in-Do.is) in
+    let at = taken_by_power c.args.procedure.now told history c.in-Do.op c.in-Some-reply_of.reply power old c.take.new.self is c.put_after.ensures.same
+    c.take.ensures (c.put_after.ensures.wait history) saved (sym c.next.ensures ∙ c.in-Do.is) in
     subst (λ (reply : Reply). IsSavedPowerAt power (step_with op reply ∷ history) told) same
     (subst (λ (o : Op). IsSavedPowerAt power (step_with o c.in-Some-reply_of.reply ∷ history) told) same_op at)
