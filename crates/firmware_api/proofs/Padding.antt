@@ -2,12 +2,7 @@
 use Rattle.std.proofs.Common.{◌≡◌, ℕ, List, [], ◌∷◌, ◌++◌, length, drop, ap}
 use Rattle.std.proofs.lemmas.List.{drop-replicate}
 use Rattle.plan_certificate.specs.declared.path.Path.{Path}
-use Rattle.firmware_api.specs.Operations.{padded}
 use Rattle.firmware_api.specs.Plans.{no_path, paths_of}
-
-pub zeros_behind : (bytes front : List ℕ) (n : ℕ) → front ≡ bytes → n ≡ length bytes →
-    front ++ drop n (0 ∷ 0 ∷ 0 ∷ 0 ∷ 0 ∷ 0 ∷ 0 ∷ 0 ∷ []) ≡ padded bytes
-zeros_behind bytes front n same count = rw (same, count) (ap (λ (rest : List ℕ). bytes ++ rest) (drop-replicate (length bytes) 8 0))
 
 pub is_no_path : (path : Path) → path.app ≡ 0 → path.host ≡ 0 → path.media ≡ 0 → path ≡ no_path
 is_no_path path app host media = λ i. record { app = app i; host = host i; media = media i }

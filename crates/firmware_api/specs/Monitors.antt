@@ -52,18 +52,18 @@ paged_monitors memory = record {
 unfoldable pub cmis_monitors : Memory → ModuleMonitors
 cmis_monitors memory = if is_flat memory then flat_monitors memory else paged_monitors memory
 
--- what is measured, by the fields that have it, in the place of what stood there
-abbrev pub with_measured : ModuleMonitors → Memory → Bool → MeasuredFields → ModuleMonitors
-with_measured monitors memory limited at = record {
+-- what is measured, by the fields that have it, and zeros
+abbrev pub measured : Memory → Bool → MeasuredFields → ModuleMonitors
+measured memory limited at = record {
   temperature = module_value memory limited at.temperature at.temperature_limits;
   vcc = module_value memory limited at.vcc at.vcc_limits;
   tx_power = lane_values memory limited at.tx_power None at.tx_power_limits;
   tx_bias = lane_values memory limited at.tx_bias None at.tx_bias_limits;
   rx_power = lane_values memory limited at.rx_power None at.rx_power_limits;
-  family = monitors.family;
-  lanes = monitors.lanes;
-  has_limits = monitors.has_limits;
-  sum = monitors.sum;
+  family = 0;
+  lanes = 0;
+  has_limits = 0;
+  sum = 0;
 }
 
 -- limits stand on a page that flat memory doesn't have

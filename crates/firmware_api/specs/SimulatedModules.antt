@@ -3,7 +3,6 @@
 use Rattle.std.specs.Prelude.{◌≡◌, ℕ, ◌+◌, ◌==◌, ◌&&◌, ◌||◌, nat_le, nat_lt, Bool, true, false, not, List, length, Option, Some, None, Result, Ok, Err, if◌then◌else◌}
 use Rattle.std.specs.List.{list_all}
 use Rattle.std.specs.Option.{option_map}
-use Rattle.arrayvec.specs.ArrayVec.{ArrayVec}
 use Rattle.bus_model.specs.declared.device.Dev.{Dev}
 use Rattle.bus_model.specs.declared.device.Dev.TheVariants.{A0, A2}
 use Rattle.applications.specs.Refusals.{advert_fault}
@@ -104,8 +103,3 @@ stored_by (Ok sim) device offset bytes =
 -- each number but 0 holds the pin
 abbrev pub is_on : ℕ → Bool
 is_on on = not (on == 0)
-
--- the same with the bytes as a list
-abbrev pub with_items : Result (ArrayVec ℕ × SimModule) Refusal → Result (List ℕ × SimModule) Refusal
-with_items (Ok (bytes, after)) = Ok (bytes.items, after)
-with_items (Err refusal) = Err refusal

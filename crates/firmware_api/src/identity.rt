@@ -167,7 +167,28 @@ const SFP: SharedFields = SharedFields {
     date: TextField::SDate,
 };
 
-// What is in these fields; all else is 0.
+const NO_IDENTITY: ModuleIdentity = ModuleIdentity {
+    max_power: 0,
+    length: 0,
+    family: 0,
+    identifier: 0,
+    revision: 0,
+    flat: 0,
+    media_type: 0,
+    power_class: 0,
+    connector: 0,
+    technology: 0,
+    sum_base: 0,
+    sum_ext: 0,
+    oui: [0; 3],
+    vendor: [0; 17],
+    part: [0; 17],
+    part_revision: [0; 17],
+    serial: [0; 17],
+    date: [0; 17],
+};
+
+// What is in these fields; all else is 0, also what stands between the members.
 #[inline(never)]
 fn put_shared(image: &Image, family: Family, fields: &SharedFields, identity: &mut ModuleIdentity)
     requires identifier { IsTrue (is_of_bytes (row_of fields.now.identifier)) }
@@ -178,18 +199,11 @@ fn put_shared(image: &Image, family: Family, fields: &SharedFields, identity: &m
     requires three { 3 ≡ (row_of fields.now.oui).count }
     ensures { identity.new ≡ shared_identity image.now family fields.now }
 {
-    identity.max_power = 0;
-    identity.length = 0;
+    *identity = NO_IDENTITY;
     identity.family = family_number(family);
     identity.identifier = number(image, fields.identifier);
-    identity.revision = 0;
-    identity.flat = 0;
-    identity.media_type = 0;
-    identity.power_class = 0;
     identity.connector = number(image, fields.connector);
-    identity.technology = 0;
     identity.sum_base = number_of(is_sum_right(image, fields.sum_base));
-    identity.sum_ext = 0;
     identity.oui = all_numbers(image, fields.oui);
     put_text(image, fields.vendor, &mut identity.vendor);
     put_text(image, fields.part, &mut identity.part);

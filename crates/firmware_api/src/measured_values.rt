@@ -99,8 +99,8 @@ pub fn put_lanes(
     lanes.support = 1;
 }
 
-/// Puts no values, and why.
-pub fn put_no_lanes(support: u8, lanes: &mut LaneValues)
+// No values, and why.
+fn put_no_lanes(support: u8, lanes: &mut LaneValues)
     ensures { lanes.new ≡ spec.no_lane_values support }
 {
     lanes.values = [0; 8];
@@ -146,7 +146,8 @@ fn put_limits(image: &Image, limited: bool, field: Field, power: Option<Field>, 
     }
 }
 
-const NO_LIMITS: Limits = Limits {
+/// No limits.
+pub const NO_LIMITS: Limits = Limits {
     high_alarm: 0,
     low_alarm: 0,
     high_warning: 0,

@@ -10,7 +10,7 @@ ghost use Rattle.paged_memory.specs.declared.family.Family.TheVariants as famili
 
 use crate::half::{HalfBytes, half_status, image_of};
 use crate::measured_values::{
-    LaneValues, ModuleValue, put_lanes, put_no_lanes, put_supported, put_value,
+    LaneValues, ModuleValue, NO_LIMITS, put_lanes, put_supported, put_value,
 };
 use crate::read_module::{family_number, number_of};
 use crate::status::{DONE, PAGE_ABSENT, module_status, sff_status};
@@ -120,6 +120,7 @@ fn put_cmis_monitors(image: &Image, monitors: &mut ModuleMonitors)
     ensures { monitors.new ≡ spec.cmis_monitors image.now }
 {
     let paged = !is_flat(image);
+    *monitors = NO_MONITORS;
     put_value(
         image,
         paged,
@@ -136,12 +137,6 @@ fn put_cmis_monitors(image: &Image, monitors: &mut ModuleMonitors)
     );
     monitors.family = family_number(Family::Cmis);
     if !paged {
-        put_no_lanes(0, &mut monitors.tx_power);
-        put_no_lanes(0, &mut monitors.tx_bias);
-        put_no_lanes(0, &mut monitors.rx_power);
-        monitors.lanes = 0;
-        monitors.has_limits = 0;
-        monitors.sum = 0;
         return;
     }
     put_supported(
@@ -181,7 +176,6 @@ fn put_qsfp_monitors(image: &Image, monitors: &mut ModuleMonitors)
     monitors.family = family_number(Family::Sff8636);
     monitors.lanes = 4;
     monitors.has_limits = number_of(limited);
-    monitors.sum = 0;
 }
 
 fn put_sfp_monitors(image: &Image, monitors: &mut ModuleMonitors)
@@ -220,7 +214,30 @@ const SFP: MeasuredFields = MeasuredFields {
     rx_power_limits: Field::SRxPowerLimits,
 };
 
-// What is measured in these fields, of a module that has limits or has none; the other numbers stay.
+const NO_LANES: LaneValues = LaneValues {
+    values: [0; 8],
+    limits: NO_LIMITS,
+    support: 0,
+};
+
+const NO_VALUE: ModuleValue = ModuleValue {
+    value: 0,
+    limits: NO_LIMITS,
+};
+
+const NO_MONITORS: ModuleMonitors = ModuleMonitors {
+    temperature: NO_VALUE,
+    vcc: NO_VALUE,
+    tx_power: NO_LANES,
+    tx_bias: NO_LANES,
+    rx_power: NO_LANES,
+    family: 0,
+    lanes: 0,
+    has_limits: 0,
+    sum: 0,
+};
+
+// What is measured in these fields, of a module that has limits or has none; all else is 0, also what stands between the members.
 #[inline(never)]
 fn put_measured(
     image: &Image,
@@ -235,9 +252,10 @@ fn put_measured(
     requires tx_power_limits { 4 ≡ (row_of fields.now.tx_power_limits).count }
     requires tx_bias_limits { 4 ≡ (row_of fields.now.tx_bias_limits).count }
     requires rx_power_limits { 4 ≡ (row_of fields.now.rx_power_limits).count }
-    ensures { monitors.new ≡ spec.with_measured monitors.old image.now limited fields.now }
+    ensures { monitors.new ≡ spec.measured image.now limited fields.now }
 {
     let at = fields;
+    *monitors = NO_MONITORS;
     put_value(
         image,
         limited,

@@ -1,5 +1,5 @@
 ghost use Rattle.std.specs.Prelude.{◌≡◌, ◌≤◌, length};
-ghost use Rattle.firmware_api.specs.Operations.{address_of, operation_of, padded, reply_of};
+ghost use Rattle.firmware_api.specs.Operations.{address_of, operation_of, reply_of};
 
 use arrayvec::ArrayVec;
 use bus_model::{Dev, MAX_STORE, Op, Reply};

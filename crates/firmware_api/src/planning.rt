@@ -82,12 +82,29 @@ fn put_best(advert: &Advert, weights: &[u32; 256], kept: &Plan, plan: &mut LaneP
     put_plan(advert, &AppWeights::by_host(advert, weights), kept, plan);
 }
 
+const NO_PATH: Path = Path {
+    app: 0,
+    host: 0,
+    media: 0,
+};
+
+// Zeros, also between the members, so that equal plans have equal bytes.
+const NO_PLAN: LanePlan = LanePlan {
+    weight: 0,
+    count: 0,
+    lanes: 0,
+    outside: 0,
+    control: [0; 8],
+    paths: [NO_PATH; MAX_PATHS],
+};
+
 // The same by what the paths of each Application weigh.
 fn put_plan(advert: &Advert, weights: &AppWeights, kept: &Plan, plan: &mut LanePlan)
     requires { IsAdmissible advert.now kept.now }
     ensures { IsPlannedBy advert.now weights.now kept.now plan.new }
 {
     let best = first_plan(advert, weights, kept);
+    *plan = NO_PLAN;
     plan.weight = weight_of(weights, &best);
     plan.count = best.paths.len() as u8;
     plan.lanes = lanes_of(advert, &best).byte();

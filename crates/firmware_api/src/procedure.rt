@@ -215,9 +215,11 @@ fn put_numbers(kept: &Kept, wait: bool, procedure: &mut KeptProcedure)
     ensures same { procedure_in procedure.new ≡ Some kept.now }
     ensures wait { procedure.new.wait ≡ wait_number wait }
 {
-    procedure.magic = PROCEDURE;
-    procedure.wait = if wait { 1 } else { 0 };
-    procedure.saved = kept.save();
+    *procedure = KeptProcedure {
+        magic: PROCEDURE,
+        wait: if wait { 1 } else { 0 },
+        saved: kept.save(),
+    };
 }
 
 // The numbers of the procedure after the operation had this reply.
