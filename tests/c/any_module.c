@@ -106,25 +106,25 @@ static void expect_plan(const struct dovecounter_plan *plan, const struct doveco
 static void try_certificate(uint8_t paired, const struct dovecounter_path *kept, size_t kept_count) {
     size_t length = 0, same = 0;
     expect("too small for a certificate", DOVECOUNTER_TOO_SMALL,
-           dovecounter_certificate(halves, half_count, paired, counts_by_id, weights, kept, kept_count, text_end, 0,
+           dovecounter_certificate(halves, half_count, paired, counts_by_id, weights, 0, kept, kept_count, text_end, 0,
                                    &length));
     expect("a certificate's length", 1, 0 < length && length <= DOVECOUNTER_CERTIFICATE_SIZE);
     uint8_t *text = text_end - length;
     expect("a certificate", DOVECOUNTER_DONE,
-           dovecounter_certificate(halves, half_count, paired, counts_by_id, weights, kept, kept_count, text, length,
+           dovecounter_certificate(halves, half_count, paired, counts_by_id, weights, 0, kept, kept_count, text, length,
                                    &same));
     expect("the same length", length, same);
     struct dovecounter_judgement *found = output(sizeof *found);
     expect("checked", DOVECOUNTER_DONE,
-           dovecounter_check(halves, half_count, paired, counts_by_id, weights, text, length, found));
+           dovecounter_check(halves, half_count, paired, counts_by_id, weights, 0, text, length, found));
     expect("good", 0, found->reason);
     expect("checked", DOVECOUNTER_DONE,
-           dovecounter_check(halves, half_count, !paired, counts_by_id, weights, text, length, found));
+           dovecounter_check(halves, half_count, !paired, counts_by_id, weights, 0, text, length, found));
     expect("of the other pairing", 10, found->reason);
     text[chance((unsigned)length)] ^= (uint8_t)(1 << chance(8));
     found = output(sizeof *found);
-    JUDGE(dovecounter_check(halves, half_count, paired, counts_by_id, weights, text, length, found), found, 21, 22, 23,
-          24);
+    JUDGE(dovecounter_check(halves, half_count, paired, counts_by_id, weights, 0, text, length, found), found, 21, 22,
+          23, 24);
 }
 
 /* Writes some paths of the plan where kept ones are handed over, and seldom one by chance. */
@@ -143,7 +143,7 @@ static int try_plans(struct dovecounter_plan *plan, uint32_t wanted) {
     size_t count = 0;
     const struct dovecounter_path *kept = (void *)kept_end;
     struct dovecounter_plan *found = output(sizeof *found);
-    uint32_t status = JUDGE(dovecounter_plan(halves, half_count, paired, counts_by_id, weights, kept, count, found),
+    uint32_t status = JUDGE(dovecounter_plan(halves, half_count, paired, counts_by_id, weights, 0, kept, count, found),
                             found, OF_ADVERTISEMENT);
     expect("the status of the advertisement", wanted, status);
     if (status) return 0;
@@ -152,7 +152,7 @@ static int try_plans(struct dovecounter_plan *plan, uint32_t wanted) {
     kept = keep_some(plan, &count);
     for (int id = 0; id < 256; id++) weights[id] = chance(4);
     found = output(sizeof *found);
-    if (JUDGE(dovecounter_plan(halves, half_count, paired, counts_by_id, weights, kept, count, found), found, 43))
+    if (JUDGE(dovecounter_plan(halves, half_count, paired, counts_by_id, weights, 0, kept, count, found), found, 43))
         return 1;
     expect_plan(found, kept, count);
     try_certificate(paired, kept, count);

@@ -328,7 +328,8 @@ static int is_judged_good(const char *program, char **words, int in, int out, si
     char *judge[WORDS] = {"cmisctl", "check", "--first"};
     int count = 3;
     for (char **word = words; *word; word++)
-        if (!strcmp(*word, "--paired") || !strcmp(*word, "--counts-by-id")) judge[count++] = *word;
+        if (!strcmp(*word, "--paired") || !strcmp(*word, "--counts-by-id") || !strcmp(*word, "--now"))
+            judge[count++] = *word;
     int status = run(program, judge, in, out, &length);
     return WIFEXITED(status) && WEXITSTATUS(status) == 0 && begins(answer, "good\n") && lines_with("first yes\n") == 1;
 }

@@ -7,7 +7,7 @@
 
 /* ---- a module with one Application ---- */
 
-static struct dovecounter_half halves[3];
+static struct dovecounter_half halves[4];
 static uint32_t weights[256];
 
 static void make_module(void) {
@@ -25,7 +25,7 @@ static uint32_t plan_status(size_t count) {
     struct dovecounter_plan plan, before;
     memset(&plan, 0x5A, sizeof plan);
     before = plan;
-    uint32_t status = dovecounter_plan(halves, count, 0, 0, weights, nothing, 0, &plan);
+    uint32_t status = dovecounter_plan(halves, count, 0, 0, weights, 0, nothing, 0, &plan);
     if (status != DOVECOUNTER_DONE) expect_same("a refused plan is not written", &before, &plan, sizeof plan);
     return status;
 }
@@ -81,9 +81,9 @@ static void try_halves(void) {
     expect_status("two halves", DOVECOUNTER_ABSENT, 2);
     memset(many, 0, sizeof many);
     expect("seventeen halves", DOVECOUNTER_TOO_MANY_HALVES,
-           dovecounter_plan(many, 17, 0, 0, weights, nothing, 0, &plan));
+           dovecounter_plan(many, 17, 0, 0, weights, 0, nothing, 0, &plan));
     expect("sixteen halves without a device", DOVECOUNTER_NO_PLACE,
-           dovecounter_plan(many, 16, 0, 0, weights, nothing, 0, &plan));
+           dovecounter_plan(many, 16, 0, 0, weights, 0, nothing, 0, &plan));
     for (size_t i = 0; i < sizeof changes / sizeof changes[0]; i++) {
         const struct change *change = &changes[i];
         make_module();
@@ -121,7 +121,7 @@ static void try_plan(struct dovecounter_plan *plan) {
     static const uint8_t control[8] = {0x10, 0x10, 0x10, 0x10, 0x10, 0x10, 0x10, 0x10};
     static const struct dovecounter_path none;
     make_module();
-    expect("plan", DOVECOUNTER_DONE, dovecounter_plan(halves, 3, 0, 0, weights, nothing, 0, plan));
+    expect("plan", DOVECOUNTER_DONE, dovecounter_plan(halves, 3, 0, 0, weights, 0, nothing, 0, plan));
     expect("weight", 400, (unsigned long)plan->weight);
     expect("paths", 1, plan->count);
     expect("lanes", 0xFF, plan->lanes);
@@ -139,7 +139,7 @@ static void refuse_kept(const char *what, uint32_t wanted, const struct dovecoun
     struct dovecounter_plan plan, before;
     memset(&plan, 0x5A, sizeof plan);
     before = plan;
-    expect(what, wanted, dovecounter_plan(halves, 3, 0, 0, weights, kept, count, &plan));
+    expect(what, wanted, dovecounter_plan(halves, 3, 0, 0, weights, 0, kept, count, &plan));
     expect_same("a plan with refused kept paths is not written", &before, &plan, sizeof plan);
 }
 
@@ -159,9 +159,9 @@ static void try_kept(void) {
     struct dovecounter_plan plan;
     make_two_applications();
     expect("plan with two Applications", DOVECOUNTER_DONE,
-           dovecounter_plan(halves, 3, 0, 0, weights, nothing, 0, &plan));
+           dovecounter_plan(halves, 3, 0, 0, weights, 0, nothing, 0, &plan));
     expect("nothing kept: Application", 1, plan.paths[0].application);
-    expect("kept", DOVECOUNTER_DONE, dovecounter_plan(halves, 3, 0, 0, weights, &first, 1, &plan));
+    expect("kept", DOVECOUNTER_DONE, dovecounter_plan(halves, 3, 0, 0, weights, 0, &first, 1, &plan));
     expect("kept: weight", 200, (unsigned long)plan.weight);
     expect("kept: paths", 4, plan.count);
     expect("kept: lanes", 0xFF, plan.lanes);
@@ -172,7 +172,7 @@ static void try_kept(void) {
     refuse_kept("KP3, a lane twice", DOVECOUNTER_KEPT_NOT_ADMISSIBLE, other, 2);
     refuse_kept("KP3, no such Application", DOVECOUNTER_KEPT_NOT_ADMISSIBLE, &absent, 1);
     expect("the halves come before kept paths", DOVECOUNTER_ABSENT,
-           dovecounter_plan(halves, 0, 0, 0, weights, nine, 9, &plan));
+           dovecounter_plan(halves, 0, 0, 0, weights, 0, nine, 9, &plan));
     weights[0x0D] = 0;
 }
 
@@ -180,7 +180,7 @@ static void try_kept(void) {
 
 static void judge_text(const char *what, uint8_t reason, uint8_t paired, const uint8_t *text, size_t length) {
     struct dovecounter_judgement judgement = {77, 77};
-    expect(what, DOVECOUNTER_DONE, dovecounter_check(halves, 3, paired, 0, weights, text, length, &judgement));
+    expect(what, DOVECOUNTER_DONE, dovecounter_check(halves, 3, paired, 0, weights, 0, text, length, &judgement));
     expect(what, reason, judgement.reason);
     expect(what, 0, (unsigned long)judgement.number);
 }
@@ -192,18 +192,18 @@ static void try_paired(void) {
     struct dovecounter_plan plan;
     size_t length;
     make_two_applications();
-    expect("lanes apart", DOVECOUNTER_DONE, dovecounter_plan(halves, 3, 0, 0, weights, &other, 1, &plan));
+    expect("lanes apart", DOVECOUNTER_DONE, dovecounter_plan(halves, 3, 0, 0, weights, 0, &other, 1, &plan));
     expect("lanes apart, paired", DOVECOUNTER_KEPT_NOT_ADMISSIBLE,
-           dovecounter_plan(halves, 3, 1, 0, weights, &other, 1, &plan));
+           dovecounter_plan(halves, 3, 1, 0, weights, 0, &other, 1, &plan));
     expect("lanes apart, certified", DOVECOUNTER_KEPT_NOT_ADMISSIBLE,
-           dovecounter_certificate(halves, 3, 1, 0, weights, &other, 1, text, sizeof text, &length));
+           dovecounter_certificate(halves, 3, 1, 0, weights, 0, &other, 1, text, sizeof text, &length));
     expect("lanes of one place, by any number but 0", DOVECOUNTER_DONE,
-           dovecounter_plan(halves, 3, 255, 0, weights, &own, 1, &plan));
+           dovecounter_plan(halves, 3, 255, 0, weights, 0, &own, 1, &plan));
     expect("their weight", 200, (unsigned long)plan.weight);
     for (size_t i = 0; i < 4; i++) expect("media lanes in order", (unsigned long)i + 1, plan.paths[i].media);
     for (uint8_t paired = 0; paired < 2; paired++) {
         expect("certified", DOVECOUNTER_DONE,
-               dovecounter_certificate(halves, 3, paired, 0, weights, &own, 1, text, sizeof text, &length));
+               dovecounter_certificate(halves, 3, paired, 0, weights, 0, &own, 1, text, sizeof text, &length));
         expect_same("its first line", paired ? "certificate 4\n" : "certificate 2\n", text, 14);
         judge_text("a certificate of the same module", 0, paired, text, length);
         judge_text("VR10", 10, !paired, text, length);
@@ -229,28 +229,64 @@ static void try_counts(void) {
     size_t length;
     make_two_applications();
     halves[0].bytes[85] = 2;
-    expect("counts that stand", DOVECOUNTER_DONE, dovecounter_plan(halves, 3, 0, 1, weights, &first, 1, &said));
+    expect("counts that stand", DOVECOUNTER_DONE, dovecounter_plan(halves, 3, 0, 1, weights, 0, &first, 1, &said));
     halves[0].bytes[88] = halves[0].bytes[92] = 0;
     expect_counts("as they stand", 0, 0, 0);
     expect_counts("by the IDs", 8, 4, 1);
     expect_counts("by any number but 0", 8, 4, 255);
-    expect("no lanes", DOVECOUNTER_KEPT_NOT_ADMISSIBLE, dovecounter_plan(halves, 3, 0, 0, weights, &first, 1, &plan));
-    expect("counts by the IDs", DOVECOUNTER_DONE, dovecounter_plan(halves, 3, 0, 1, weights, &first, 1, &plan));
+    expect("no lanes", DOVECOUNTER_KEPT_NOT_ADMISSIBLE,
+           dovecounter_plan(halves, 3, 0, 0, weights, 0, &first, 1, &plan));
+    expect("counts by the IDs", DOVECOUNTER_DONE, dovecounter_plan(halves, 3, 0, 1, weights, 0, &first, 1, &plan));
     expect("their weight", 200, (unsigned long)plan.weight);
     expect_same("the same plan", &said, &plan, sizeof plan);
     expect("certified without lanes", DOVECOUNTER_KEPT_NOT_ADMISSIBLE,
-           dovecounter_certificate(halves, 3, 0, 0, weights, &first, 1, text, sizeof text, &length));
+           dovecounter_certificate(halves, 3, 0, 0, weights, 0, &first, 1, text, sizeof text, &length));
     expect("certified", DOVECOUNTER_DONE,
-           dovecounter_certificate(halves, 3, 0, 2, weights, &first, 1, text, sizeof text, &length));
-    expect("judged", DOVECOUNTER_DONE, dovecounter_check(halves, 3, 0, 3, weights, text, length, &judgement));
+           dovecounter_certificate(halves, 3, 0, 2, weights, 0, &first, 1, text, sizeof text, &length));
+    expect("judged", DOVECOUNTER_DONE, dovecounter_check(halves, 3, 0, 3, weights, 0, text, length, &judgement));
     expect("good", 0, judgement.reason);
     expect("judged without lanes", DOVECOUNTER_DONE,
-           dovecounter_check(halves, 3, 0, 0, weights, text, length, &judgement));
+           dovecounter_check(halves, 3, 0, 0, weights, 0, text, length, &judgement));
     expect("VR8", 8, judgement.reason);
     halves[0].bytes[88] = 0x80;
     expect_counts("media lanes by the ID", 8, 4, 1);
     halves[0].bytes[85] = 3;
     expect_counts("copper, whose IDs tell no lanes", 8, 0, 1);
+    weights[0x0D] = 0;
+}
+
+/* ---- a module that has data paths already ---- */
+
+/* Two of the four paths that weigh 200 are active, and one that weighs 400 is not: these gain 101 for each that stays. */
+static void try_active(void) {
+    static const uint8_t active[8] = {0x20, 0x21, 0x24, 0x24};
+    static uint8_t text[DOVECOUNTER_CERTIFICATE_SIZE];
+    struct dovecounter_plan plan;
+    struct dovecounter_judgement judgement;
+    size_t length;
+    make_two_applications();
+    halves[3] = (struct dovecounter_half){.device = 0xA0, .upper = 1, .page = 0x11};
+    memcpy(halves[3].bytes + 206 - 128, active, 8);
+    expect("nothing stays", DOVECOUNTER_DONE, dovecounter_plan(halves, 4, 0, 0, weights, 0, nothing, 0, &plan));
+    expect("the heavier path", 400, (unsigned long)plan.weight);
+    expect("as much", DOVECOUNTER_DONE, dovecounter_plan(halves, 4, 0, 0, weights, 100, nothing, 0, &plan));
+    expect("the first of two best plans", 1, plan.paths[0].application);
+    expect("more", DOVECOUNTER_DONE, dovecounter_plan(halves, 4, 0, 0, weights, 101, nothing, 0, &plan));
+    expect("the paths that stay", 402, (unsigned long)plan.weight);
+    expect("their Application", 2, plan.paths[0].application);
+    expect("their number", 4, plan.count);
+    expect("certified", DOVECOUNTER_DONE,
+           dovecounter_certificate(halves, 4, 0, 0, weights, 101, nothing, 0, text, sizeof text, &length));
+    expect("judged", DOVECOUNTER_DONE, dovecounter_check(halves, 4, 0, 0, weights, 101, text, length, &judgement));
+    expect("good", 0, judgement.reason);
+    expect("judged by another weight", DOVECOUNTER_DONE,
+           dovecounter_check(halves, 4, 0, 0, weights, 100, text, length, &judgement));
+    expect("VR3", 3, judgement.reason);
+    expect("no page 11h", DOVECOUNTER_ABSENT, dovecounter_plan(halves, 3, 0, 0, weights, 1, nothing, 0, &plan));
+    expect("no page 11h, certified", DOVECOUNTER_ABSENT,
+           dovecounter_certificate(halves, 3, 0, 0, weights, 1, nothing, 0, text, sizeof text, &length));
+    expect("no page 11h, judged", DOVECOUNTER_ABSENT,
+           dovecounter_check(halves, 3, 0, 0, weights, 1, text, length, &judgement));
     weights[0x0D] = 0;
 }
 
@@ -266,7 +302,8 @@ static void check_text(const char *what, const char *text, uint32_t status, uint
     memset(&judgement, 0x5A, sizeof judgement);
     before = judgement;
     make_module();
-    expect(what, status, dovecounter_check(halves, 3, 0, 0, weights, (const uint8_t *)text, strlen(text), &judgement));
+    expect(what, status,
+           dovecounter_check(halves, 3, 0, 0, weights, 0, (const uint8_t *)text, strlen(text), &judgement));
     if (status != DOVECOUNTER_DONE) {
         expect_same("a refused judgement is not written", &before, &judgement, sizeof judgement);
         return;
@@ -301,7 +338,7 @@ static void try_check(void) {
                DOVECOUNTER_DONE, 0, 0);
     make_module();
     expect("the halves come before the text", DOVECOUNTER_ABSENT,
-           dovecounter_check(halves, 0, 0, 0, weights, (const uint8_t *)"", 0, &judgement));
+           dovecounter_check(halves, 0, 0, 0, weights, 0, (const uint8_t *)"", 0, &judgement));
 }
 
 /* ---- written certificates ---- */
@@ -312,7 +349,7 @@ static void write_text(const char *what, const struct dovecounter_path *kept, si
     size_t needed = strlen(wanted), length = 12345;
     uint8_t *buffer = malloc(size + (size == 0));
     memset(buffer, 0x5A, size + (size == 0));
-    uint32_t status = dovecounter_certificate(halves, 3, 0, 0, weights, kept, kept_count, buffer, size, &length);
+    uint32_t status = dovecounter_certificate(halves, 3, 0, 0, weights, 0, kept, kept_count, buffer, size, &length);
     expect(what, size < needed ? DOVECOUNTER_TOO_SMALL : DOVECOUNTER_DONE, status);
     expect("length of a certificate's text", (unsigned long)needed, (unsigned long)length);
     if (status == DOVECOUNTER_DONE) expect_same(what, wanted, buffer, needed);
@@ -328,7 +365,7 @@ static void refuse_text(const char *what, uint32_t wanted, const struct dovecoun
     memset(buffer, 0x5A, sizeof buffer);
     memcpy(before, buffer, sizeof buffer);
     expect(what, wanted,
-           dovecounter_certificate(in, count, 0, 0, weights, kept, kept_count, buffer, sizeof buffer, &length));
+           dovecounter_certificate(in, count, 0, 0, weights, 0, kept, kept_count, buffer, sizeof buffer, &length));
     expect("a refused certificate has no length", 12345, (unsigned long)length);
     expect_same("a refused certificate is not written", before, buffer, sizeof buffer);
 }
@@ -339,13 +376,13 @@ static void expect_good_text(const char *what, const struct dovecounter_path *ke
     struct dovecounter_judgement judgement = {77, 77};
     struct dovecounter_plan plan;
     size_t length = 0;
-    expect(what, DOVECOUNTER_DONE, dovecounter_plan(halves, 3, 0, 0, weights, kept, kept_count, &plan));
-    expect(
-        what, DOVECOUNTER_DONE,
-        dovecounter_certificate(halves, 3, 0, 0, weights, kept, kept_count, (uint8_t *)text, sizeof text - 1, &length));
+    expect(what, DOVECOUNTER_DONE, dovecounter_plan(halves, 3, 0, 0, weights, 0, kept, kept_count, &plan));
+    expect(what, DOVECOUNTER_DONE,
+           dovecounter_certificate(halves, 3, 0, 0, weights, 0, kept, kept_count, (uint8_t *)text, sizeof text - 1,
+                                   &length));
     text[length] = 0;
     expect(what, DOVECOUNTER_DONE,
-           dovecounter_check(halves, 3, 0, 0, weights, (const uint8_t *)text, length, &judgement));
+           dovecounter_check(halves, 3, 0, 0, weights, 0, (const uint8_t *)text, length, &judgement));
     expect(what, 0, judgement.reason);
     int end =
         snprintf(head, sizeof head, "certificate %d\nweight %lu\n", kept_count ? 2 : 1, (unsigned long)plan.weight);
@@ -541,7 +578,7 @@ static void try_kept_procedure(void) {
     struct dovecounter_procedure procedure;
     struct dovecounter_fault fault;
     make_two_applications();
-    expect("kept", DOVECOUNTER_DONE, dovecounter_plan(halves, 3, 0, 0, weights, &kept, 1, &plan));
+    expect("kept", DOVECOUNTER_DONE, dovecounter_plan(halves, 3, 0, 0, weights, 0, &kept, 1, &plan));
     memcpy(module.active, before, 8);
     dovecounter_provision(plan.control, plan.outside, &procedure);
     expect("provisioned beside a kept path", 0, carry_out(&module, &procedure).code);
@@ -599,6 +636,7 @@ int main(void) {
     try_kept();
     try_paired();
     try_counts();
+    try_active();
     try_check();
     try_certificate();
     try_durations();

@@ -34,17 +34,18 @@ static void *advertises(void *x) {
     return x;
 }
 static void *plans(void *x) {
-    dovecounter_plan(halves, half_count, 0, 0, weights, kept, 0, &plan);
+    dovecounter_plan(halves, half_count, 0, 0, weights, 0, kept, 0, &plan);
     return x;
 }
 static void *checks(void *x) {
-    dovecounter_check(halves, half_count, 0, 0, weights, (const uint8_t *)certificate, strlen(certificate), &judgement);
+    dovecounter_check(halves, half_count, 0, 0, weights, 0, (const uint8_t *)certificate, strlen(certificate),
+                      &judgement);
     return x;
 }
 static void *writes(void *x) {
     static uint8_t text[DOVECOUNTER_CERTIFICATE_SIZE];
     size_t length;
-    dovecounter_certificate(halves, half_count, 0, 0, weights, kept, 0, text, sizeof text, &length);
+    dovecounter_certificate(halves, half_count, 0, 0, weights, 0, kept, 0, text, sizeof text, &length);
     return x;
 }
 static void *provisions(void *x) {

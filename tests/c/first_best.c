@@ -1,9 +1,11 @@
-/* first_best RUNS SEED FOLDER [keep] [paired] [counts] [tables]: writes, for each number N from 1 to RUNS, the files N, an input of the command plan for a
+/* first_best RUNS SEED FOLDER [keep] [paired] [counts] [tables] [now]: writes, for each number N from 1 to RUNS, the files N, an input of the command plan for a
    module made by chance, N.wanted, the weight and the paths of the plan that is to be given, and N.drawing, what draw is to say
    of it, but for the names of interfaces. With keep, each third plan keeps paths, and its input is one of plan --keep. With paired,
    the modules pair first lanes, as plan --paired takes them. With counts, descriptors leave lane counts at 0 by chance, for plan
    --counts-by-id: a path takes the lanes of its interface (SFF-8024), and there is none if that has no count, or isn't known. With
    tables, media interfaces and Applications weigh something too, by chance as much as a weight can be, and a path weighs the sum.
+   With now, for plan --now, the Active Control Set (page 11h) has bytes of some paths and others, and a path weighs more if each of
+   its host lanes has its AppSelCode and DataPathID there.
 
    A plan is a set of data paths. All plans that the module can carry are gone through, and the first of the best without needless
    paths is what docs/planning.md, "The first best plan", says, and not how the planner finds it. */
@@ -48,7 +50,8 @@ struct module {
     int host_codes[4], weights[4]; /* by an Application's host_id */
     int tables;                    /* whether the weights have tables of media interfaces and of Applications */
     int media_weights[256], app_weights[APPS + 1];
-    long long unit; /* what a weight of 1 stands for */
+    long long unit;               /* what a weight of 1 stands for */
+    int now, stay, active[LANES]; /* whether active paths weigh more, how much, and the Active Control Set */
     struct plan kept;
 };
 
@@ -102,9 +105,17 @@ static long seen;
 
 static int is_kept(struct path p) { return of->kept.at[p.host].app && same(of->kept.at[p.host], p); }
 
+/* Whether each host lane of the path has its Application and its first lane in the Active Control Set. */
+static int stays(struct path p) {
+    for (int lane = p.host; lane < p.host + of->apps[p.app].host_lanes; lane++)
+        if (of->active[lane - 1] / 16 != p.app || of->active[lane - 1] / 2 % 8 != p.host - 1) return 0;
+    return 1;
+}
+
 static long long weight_of(struct path p) {
     struct app a = of->apps[p.app];
-    return of->unit * ((long long)of->weights[a.host_id] + of->media_weights[a.media_code] + of->app_weights[p.app]);
+    return of->unit * ((long long)of->weights[a.host_id] + of->media_weights[a.media_code] + of->app_weights[p.app] +
+                       (of->now && stays(p) ? of->stay : 0));
 }
 
 static int keeps(const struct plan *plan) {
@@ -229,6 +240,22 @@ static void keep(struct module *m) {
     }
 }
 
+/* Puts the control bytes of some paths into the Active Control Set, and by chance another byte. */
+static void activate(struct module *m) {
+    int host = 0;
+    m->now = 1;
+    m->stay = chance(4);
+    for (int tries = 0; tries < 6; tries++) {
+        struct path p = {1 + chance(m->count), 1 + chance(LANES), 1};
+        int lanes = m->apps[p.app].host_lanes;
+        if (!lanes || p.host + lanes > 9 || (run(p.host, lanes) & host)) continue;
+        host |= run(p.host, lanes);
+        for (int lane = p.host; lane < p.host + lanes; lane++)
+            m->active[lane - 1] = 16 * p.app + 2 * (p.host - 1) + chance(2);
+    }
+    if (!chance(3)) m->active[chance(LANES)] = chance(256);
+}
+
 static void write_half(FILE *out, const char *key, const int bytes[128]) {
     fprintf(out, "%s ", key);
     for (int i = 0; i < 128; i++) fprintf(out, "%02x", (unsigned)bytes[i]);
@@ -256,7 +283,14 @@ static void write_image(FILE *out, const struct module *m) {
     write_half(out, "lower A0", lower);
     write_half(out, "upper A0 00 00", page00);
     write_half(out, "upper A0 00 01", page01);
-    fprintf(out, "end\n---\n[host]\n");
+    if (m->now) {
+        int page11[128] = {0};
+        memcpy(page11 + 206 - 128, m->active, sizeof m->active);
+        write_half(out, "upper A0 00 11", page11);
+    }
+    fprintf(out, "end\n---\n");
+    if (m->now) fprintf(out, "stay = %lld\n", m->unit * m->stay);
+    fprintf(out, "[host]\n");
     for (int id = 1; id < 4; id++)
         fprintf(out, "%02xh = %lld\n", (unsigned)m->host_codes[id], m->unit * m->weights[id]);
     if (!m->tables) return;
@@ -288,18 +322,20 @@ static FILE *open_at(const char *folder, int number, const char *end) {
 
 int main(int argc, char **argv) {
     if (argc < 4) return 2;
-    int runs = atoi(argv[1]), keeping = 0, paired = 0, counts = 0, tables = 0;
+    int runs = atoi(argv[1]), keeping = 0, paired = 0, counts = 0, tables = 0, now = 0;
     for (int i = 4; i < argc; i++) {
         keeping |= !strcmp(argv[i], "keep");
         paired |= !strcmp(argv[i], "paired");
         counts |= !strcmp(argv[i], "counts");
         tables |= !strcmp(argv[i], "tables");
+        now |= !strcmp(argv[i], "now");
     }
     state = strtoull(argv[2], 0, 10) * 2654435761u + 88172645463325252u;
     for (int number = 1; number <= runs;) {
         struct module m;
         struct plan empty = {0};
         make(&m, paired, counts, tables);
+        if (now) activate(&m);
         if (keeping && number % 3 == 0) keep(&m);
         of = &m, found = 0, seen = 0;
         extend(&empty, 1, 0, 0);

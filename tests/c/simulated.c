@@ -207,7 +207,7 @@ int main(void) {
     weights[0x11] = 400;
     try_begin();
     expect("a module begins", DOVECOUNTER_DONE, dovecounter_module_begin(halves, HALVES, &delays, &module));
-    expect("it has a plan", DOVECOUNTER_DONE, dovecounter_plan(halves, HALVES, 0, 0, weights, kept, 0, &plan));
+    expect("it has a plan", DOVECOUNTER_DONE, dovecounter_plan(halves, HALVES, 0, 0, weights, 0, kept, 0, &plan));
     try_ranges(module);
     try_other_numbers(&module);
     for (int run = 0; run < 1000; run++) {

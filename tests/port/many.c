@@ -74,7 +74,7 @@ static void make_active(struct run *run) {
         struct dovecounter_path *path = &run->paths[run->path_count];
         *path = (struct dovecounter_path){(uint8_t)(1 + below(run, 15)), (uint8_t)(1 + below(run, 8)),
                                           (uint8_t)(1 + below(run, 8))};
-        if (dovecounter_plan(run->halves, 3, 1, 0, run->weights, run->paths, run->path_count + 1, &plan) ==
+        if (dovecounter_plan(run->halves, 3, 1, 0, run->weights, 0, run->paths, run->path_count + 1, &plan) ==
             DOVECOUNTER_DONE)
             run->path_count++;
     }
@@ -149,7 +149,7 @@ static const char *judge(const struct run *run, int status) {
     struct dovecounter_plan plan;
     const struct emulator *module = &shim.module;
     const uint8_t *active = &module->pages[0x11][206 - 128];
-    if (dovecounter_plan(run->halves, 3, 1, 0, run->weights, run->paths, run->kept_count, &plan) != DOVECOUNTER_DONE)
+    if (dovecounter_plan(run->halves, 3, 1, 0, run->weights, 0, run->paths, run->kept_count, &plan) != DOVECOUNTER_DONE)
         return "no plan";
     uint8_t kept = (uint8_t)~plan.outside;
     if (module->left_activated & kept) return "a kept lane went down";
