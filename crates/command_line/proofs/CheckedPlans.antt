@@ -8,7 +8,9 @@ use Rattle.paged_memory.specs.ImageText.{IsTextOf as IsImageText}
 use Rattle.paged_memory.proofs.OneAnswer.{same_answer as same_image_answer}
 use Rattle.applications.specs.declared.conventions.Conventions.{Conventions}
 use Rattle.applications.specs.Advertised.{Advertised, advertised_under}
+use Rattle.applications.specs.declared.fault.AdvertFault.{AdvertFault}
 use Rattle.applications.specs.AppWeights.{PathWeights, app_weights}
+use Rattle.applications.specs.Refusals.{advert_fault_under}
 use Rattle.applications.specs.Weights.{ListedWeights}
 use Rattle.applications.specs.WeightFaults.{IsAnswer as IsWeightsAnswer}
 use Rattle.applications.specs.declared.weights.fault.WeightsFault.{WeightsFault}
@@ -167,8 +169,8 @@ module _ (conventions : Conventions) (image_text weights_text kept_text text : L
   alone json first (Err (fault.Advert f)) is =
       let read = planned.given.is_advert in
       let same = same_image image_text read.memory is.0 read.is_module.is_text is.1 in
-      let accepted = read.is_module.accepted in
-      absurd (cc is.2)
+      let refused : ◌≡◌ {A = Option AdvertFault} None (Some f) = sym read.is_module.accepted ∙ ap (advert_fault_under conventions) same ∙ is.2 in
+      absurd cc
   alone json first (Err f) is = absurd is
 
   module _ (input : List ℕ) (cut : parts_of input ≡ image_text ∷ weights_text ∷ text ∷ []) (within : length input ≤ input_limit) where

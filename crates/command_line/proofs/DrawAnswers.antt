@@ -12,7 +12,7 @@ use Rattle.command_line.specs.declared.fault.Fault.{Fault}
 use Rattle.command_line.specs.declared.fault.Fault.TheVariants as fault
 
 module _ (svg : Bool) (conventions : Conventions) (image listed kept : List ℕ) where
-  pub advert_refused : (f : Fault) → IsAdvertRefusal image f → IsOwnAnswer (IsDrawAnswer svg conventions image listed kept) (Err f)
+  pub advert_refused : (f : Fault) → IsAdvertRefusal conventions image f → IsOwnAnswer (IsDrawAnswer svg conventions image listed kept) (Err f)
   advert_refused (fault.Image f) is = is
   advert_refused (fault.Advert f) is = is
   advert_refused f is = absurd is

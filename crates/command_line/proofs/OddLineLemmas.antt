@@ -19,9 +19,10 @@ place_is p xs =
           ap (λ b. unwrap_or (cond b (Some place) None) (length xs)) (le-ltb _ _ past) ∙ omega (arith, past, prefix_len-le-length (λ x. not (p x)) xs)
     ]
 
-pub keeps_none : (so_far : SoFar) → so_far.table ≡ None → so_far.has_host ≡ false → so_far.has_media ≡ false → so_far.has_app ≡ false → so_far.listed ≡ replicate 256 false → Keeps [] so_far
-keeps_none so_far table host media app listed = record {
+pub keeps_none : (so_far : SoFar) → so_far.table ≡ None → so_far.has_stay ≡ false → so_far.has_host ≡ false → so_far.has_media ≡ false → so_far.has_app ≡ false → so_far.listed ≡ replicate 256 false → Keeps [] so_far
+keeps_none so_far table stay host media app listed = record {
   table = table;
+  stay = stay;
   host = host;
   media = media;
   app = app;

@@ -95,7 +95,7 @@ plan_told false conventions image_text weights_text kept_text advert listed kept
     }
 
 module _ (json : Bool) (conventions : Conventions) (image listed kept : List ℕ) where
-  pub advert_refused : (f : Fault) → IsAdvertRefusal image f → IsOwnAnswer (IsPlanAnswer json conventions image listed kept) (Err f)
+  pub advert_refused : (f : Fault) → IsAdvertRefusal conventions image f → IsOwnAnswer (IsPlanAnswer json conventions image listed kept) (Err f)
   advert_refused (fault.Image f) is = is
   advert_refused (fault.Advert f) is = is
   advert_refused f is = absurd is

@@ -61,7 +61,7 @@ module _ (conventions : Conventions) (image listed kept script : List ℕ) where
   weights_refused weights.Memory told is = tt
   weights_refused f told is = (told, (λ same. absurd cc, is))
 
-  pub advert_refused : (f : Fault) → IsAdvertRefusal image f → IsSetUpRefusal conventions image listed kept script f
+  pub advert_refused : (f : Fault) → IsAdvertRefusal conventions image f → IsSetUpRefusal conventions image listed kept script f
   advert_refused fault.Memory is = tt
   advert_refused (fault.Module g) is = absurd is
   advert_refused (fault.Script g) is = absurd is

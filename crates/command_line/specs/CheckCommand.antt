@@ -91,4 +91,4 @@ IsCheckAnswer json first conventions image weights certificate (Err (fault.Bad r
 IsCheckAnswer json first conventions image weights certificate (Err (fault.Certificate f)) =
     Advertises conventions image × ((listed : ListedWeights) × IsAnswer weights (Ok listed)) × IsFirstFault most_states (lines_of certificate) f
 IsCheckAnswer json first conventions image weights certificate (Err (fault.Weights f)) = Advertises conventions image × IsWeightsRefusal weights f
-IsCheckAnswer json first conventions image weights certificate (Err f) = IsAdvertRefusal image f
+IsCheckAnswer json first conventions image weights certificate (Err f) = IsAdvertRefusal conventions image f

@@ -15,7 +15,7 @@ use Rattle.command_line.specs.declared.choice.commands.Choice.{Choice}
 use Rattle.command_line.specs.declared.choice.commands.Choice.TheVariants as choice
 use Rattle.command_line.specs.declared.choice.commands.Request.{Request}
 use Rattle.command_line.specs.declared.choice.word_fault.WordFault.{WordFault}
-use Rattle.command_line.specs.GivenFlags.{FlagEntry, activate, bus, counts_by_id, first, flag_rule, flags_flag, is_given, json, keep, label_flag, paired, svg, switch, wake, with_word, with_words}
+use Rattle.command_line.specs.GivenFlags.{FlagEntry, activate, bus, counts_by_id, first, flag_rule, flags_flag, is_given, json, keep, label_flag, now, paired, svg, switch, wake, with_word, with_words}
 use Rattle.command_line.specs.MetricsChoice.{metrics_with, then_with}
 
 -- a command, by its name among the words, and its flags
@@ -32,11 +32,11 @@ commands =
     ∷ record { name = codes "flags"; command = Report Flags; flags = switch bus ∷ switch json ∷ [] }
     ∷ record { name = codes "details"; command = Report Details; flags = switch bus ∷ switch json ∷ [] }
     ∷ record { name = codes "metrics"; command = Metrics; flags = switch bus ∷ with_words label_flag ∷ with_word flags_flag ∷ [] }
-    ∷ record { name = codes "plan"; command = Plan; flags = switch keep ∷ switch paired ∷ switch counts_by_id ∷ switch json ∷ [] }
-    ∷ record { name = codes "draw"; command = Draw; flags = switch svg ∷ switch keep ∷ switch paired ∷ switch counts_by_id ∷ [] }
-    ∷ record { name = codes "check"; command = Check; flags = switch first ∷ switch paired ∷ switch counts_by_id ∷ switch json ∷ [] }
-    ∷ record { name = codes "provision"; command = Provision; flags = switch wake ∷ switch activate ∷ switch keep ∷ switch paired ∷ switch counts_by_id ∷ switch json ∷ [] }
-    ∷ record { name = codes "trace"; command = Trace; flags = switch wake ∷ switch activate ∷ switch keep ∷ switch paired ∷ switch counts_by_id ∷ switch json ∷ [] }
+    ∷ record { name = codes "plan"; command = Plan; flags = switch keep ∷ switch paired ∷ switch counts_by_id ∷ switch now ∷ switch json ∷ [] }
+    ∷ record { name = codes "draw"; command = Draw; flags = switch svg ∷ switch keep ∷ switch paired ∷ switch counts_by_id ∷ switch now ∷ [] }
+    ∷ record { name = codes "check"; command = Check; flags = switch first ∷ switch paired ∷ switch counts_by_id ∷ switch now ∷ switch json ∷ [] }
+    ∷ record { name = codes "provision"; command = Provision; flags = switch wake ∷ switch activate ∷ switch keep ∷ switch paired ∷ switch counts_by_id ∷ switch now ∷ switch json ∷ [] }
+    ∷ record { name = codes "trace"; command = Trace; flags = switch wake ∷ switch activate ∷ switch keep ∷ switch paired ∷ switch counts_by_id ∷ switch now ∷ switch json ∷ [] }
     ∷ []
 
 -- a command and its flags
@@ -67,7 +67,7 @@ entry_named name = find (λ entry. bytes_eq entry.name name) commands
 
 -- how what a module advertises is to be read
 abbrev pub conventions_in : List Row → Conventions
-conventions_in rows = record { paired = is_given paired rows; counts_by_id = is_given counts_by_id rows }
+conventions_in rows = record { paired = is_given paired rows; counts_by_id = is_given counts_by_id rows; now = is_given now rows }
 
 -- a command with its own flags, by its matches
 abbrev pub choice_with : CommandName → List Row → Result Choice WordFault
@@ -89,7 +89,7 @@ request_in = option_and_then (λ found. option_map (λ entry. request_with entry
 
 -- by neither of the two flags
 abbrev pub as_it_stands : Conventions
-as_it_stands = record { paired = false; counts_by_id = false }
+as_it_stands = record { paired = false; counts_by_id = false; now = false }
 
 -- a command with none of its flags
 abbrev pub plain_choice : CommandName → Choice

@@ -33,4 +33,4 @@ IsDrawAnswer as_svg conventions image weights kept (Ok (text, None)) = IsDrawn a
 IsDrawAnswer as_svg conventions image weights kept (Ok (text, ended)) = ⊥
 IsDrawAnswer as_svg conventions image weights kept (Err (fault.Kept f)) = IsKeptRefusal conventions image weights kept f
 IsDrawAnswer as_svg conventions image weights kept (Err (fault.Weights f)) = Advertises conventions image × IsWeightsRefusal weights f
-IsDrawAnswer as_svg conventions image weights kept (Err f) = IsAdvertRefusal image f
+IsDrawAnswer as_svg conventions image weights kept (Err f) = IsAdvertRefusal conventions image f

@@ -43,6 +43,9 @@ paired = codes "paired"
 abbrev pub counts_by_id : Text
 counts_by_id = codes "counts-by-id"
 
+abbrev pub now : Text
+now = codes "now"
+
 abbrev pub svg : Text
 svg = codes "svg"
 

@@ -50,4 +50,4 @@ IsPlanAnswer json conventions image weights kept (Ok (text, None)) = IsPlannedAs
 IsPlanAnswer json conventions image weights kept (Ok (text, ended)) = ⊥
 IsPlanAnswer json conventions image weights kept (Err (fault.Kept f)) = IsKeptRefusal conventions image weights kept f
 IsPlanAnswer json conventions image weights kept (Err (fault.Weights f)) = Advertises conventions image × IsWeightsRefusal weights f
-IsPlanAnswer json conventions image weights kept (Err f) = IsAdvertRefusal image f
+IsPlanAnswer json conventions image weights kept (Err f) = IsAdvertRefusal conventions image f

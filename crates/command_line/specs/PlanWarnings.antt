@@ -1,7 +1,7 @@
--- What is odd about a plan that is given: weights that count for nothing, and no data paths. (docs/formats.md, "Standard error";
+-- What is odd about a plan that is given: weights that count for nothing, also that of staying, and no data paths. (docs/formats.md, "Standard error";
 -- this project's own)
-use Rattle.std.specs.Prelude.{ℕ, Bool, false, not, ◌==◌, ◌||◌, List, map}
-use Rattle.std.specs.List.{list_any, range_with_len}
+use Rattle.std.specs.Prelude.{ℕ, Bool, false, not, ◌==◌, ◌&&◌, ◌||◌, List, map}
+use Rattle.std.specs.List.{list_all, list_any, range_with_len}
 use Rattle.applications.specs.declared.app.App.{App}
 use Rattle.applications.specs.Advertised.{Advertised}
 use Rattle.applications.specs.declared.weights.table.WeightTable.{WeightTable}
@@ -26,12 +26,17 @@ is_unknown advert weights table number = not (weight_at (table_of table weights)
 abbrev pub unknown_in : Advertised → ListedWeights → WeightTable → List Bool
 unknown_in advert weights table = map (is_unknown advert weights table) (range_with_len 0 256)
 
+-- staying weighs something, and no lane of an Active Control Set that is looked at is in a data path
+abbrev pub stays_unused : Advertised → ListedWeights → Bool
+stays_unused advert weights = not (weights.stay == 0) && list_all (λ code. code == 0) advert.active.app_sel_codes
+
 -- those of a plan for this module by these weights, which has paths or none
 abbrev pub warnings_of : Advertised → ListedWeights → Bool → Warnings
 warnings_of advert weights has_paths = record {
   unknown_hosts = unknown_in advert weights table.Host;
   unknown_media = unknown_in advert weights table.Media;
   unknown_apps = unknown_in advert weights table.App;
+  stays_unused = stays_unused advert weights;
   has_no_paths = not has_paths;
 }
 
@@ -40,4 +45,4 @@ nothing_unknown = map (λ number. false) (range_with_len 0 256)
 
 -- none
 abbrev pub no_warnings : Warnings
-no_warnings = record { unknown_hosts = nothing_unknown; unknown_media = nothing_unknown; unknown_apps = nothing_unknown; has_no_paths = false }
+no_warnings = record { unknown_hosts = nothing_unknown; unknown_media = nothing_unknown; unknown_apps = nothing_unknown; stays_unused = false; has_no_paths = false }

@@ -7,7 +7,7 @@ use Rattle.paged_memory.specs.ImageText.{IsTextOf}
 use Rattle.paged_memory.specs.ImageFaults.{IsFirstFault}
 use Rattle.applications.specs.declared.conventions.Conventions.{Conventions}
 use Rattle.applications.specs.Advertised.{Advertised, advertised_under}
-use Rattle.applications.specs.Refusals.{advert_fault}
+use Rattle.applications.specs.Refusals.{advert_fault_under}
 use Rattle.applications.specs.WeightFaults.{IsAnswer}
 use Rattle.applications.specs.declared.weights.fault.WeightsFault.{WeightsFault}
 use Rattle.applications.specs.declared.weights.fault.WeightsFault.TheVariants as weights
@@ -21,10 +21,10 @@ use Rattle.plan_certificate.specs.declared.path.Path.{Path}
 use Rattle.command_line.specs.declared.fault.Fault.{Fault}
 use Rattle.command_line.specs.declared.fault.Fault.TheVariants as fault
 
--- the text is that of this image, whose module advertises this if it pairs first lanes, or does not
+-- the text is that of this image, whose module advertises this to a host that reads it by these conventions
 pub record IsModuleText (conventions : Conventions) (text : List ℕ) (memory : Memory) (advert : Advertised) : Type 0 where
   pub is_text : IsTextOf (lines_of text) memory
-  pub accepted : advert_fault memory ≡ None
+  pub accepted : advert_fault_under conventions memory ≡ None
   pub advertised : advert ≡ advertised_under conventions memory
 
 -- the text is that of an image whose module advertises this
@@ -37,10 +37,10 @@ abbrev pub Advertises : Conventions → List ℕ → Type 0
 Advertises conventions text = (advert : Advertised) × IsAdvertText conventions text advert
 
 -- the text is no image's, or the module doesn't say what it advertises
-abbrev pub IsAdvertRefusal : List ℕ → Fault → Type 0
-IsAdvertRefusal text (fault.Image f) = IsFirstFault (lines_of text) f
-IsAdvertRefusal text (fault.Advert f) = (memory : Memory) × IsTextOf (lines_of text) memory × (advert_fault memory ≡ Some f)
-IsAdvertRefusal text f = ⊥
+abbrev pub IsAdvertRefusal : Conventions → List ℕ → Fault → Type 0
+IsAdvertRefusal conventions text (fault.Image f) = IsFirstFault (lines_of text) f
+IsAdvertRefusal conventions text (fault.Advert f) = (memory : Memory) × IsTextOf (lines_of text) memory × (advert_fault_under conventions memory ≡ Some f)
+IsAdvertRefusal conventions text f = ⊥
 
 -- the text lists no weights
 abbrev pub IsWeightsRefusal : List ℕ → WeightsFault → Type 0

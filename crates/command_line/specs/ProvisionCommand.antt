@@ -202,7 +202,7 @@ IsSetUpRefusal conventions image weights kept script (fault.Module f) = IsNoModu
 IsSetUpRefusal conventions image weights kept script (fault.Script f) = ArePlanningInputs conventions image weights kept × IsFirstFault (lines_of script) f
 IsSetUpRefusal conventions image weights kept script (fault.Kept f) = IsKeptRefusal conventions image weights kept f
 IsSetUpRefusal conventions image weights kept script (fault.Weights f) = Advertises conventions image × IsWeightsRefusal weights f
-IsSetUpRefusal conventions image weights kept script f = IsAdvertRefusal image f
+IsSetUpRefusal conventions image weights kept script f = IsAdvertRefusal conventions image f
 
 -- what was done, and what is told of it
 pub record IsCarriedOut (json traced wake activate : Bool) (conventions : Conventions) (image_text weights_text kept_text script_text text : List ℕ) (told_fault : Option ToldFault) : Type 0 where

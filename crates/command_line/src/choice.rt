@@ -103,6 +103,7 @@ fn conventions_in(given: Option<&ArgMatches<'_>>) -> Conventions
     Conventions {
         paired: has_flag(given, "paired"),
         counts_by_id: has_flag(given, "counts-by-id"),
+        now: has_flag(given, "now"),
     }
 }
 

@@ -15,7 +15,8 @@ ghost use Rattle.command_line.specs.declared.remark.opening.Opening.{Opening};
 
 /// What `plan` writes, `check` calls good, and writes the plan: after the input of `plan`, whose last line is ended, and a
 /// line `---`, if all of it is within the limit. With `--keep` it does so after the image and the weights, and in the place
-/// of the kept paths, whose last line need not be ended. Both commands have the same of the flags `--paired` and `--counts-by-id`.
+/// of the kept paths, whose last line need not be ended. Both commands have the same of the flags `--paired`,
+/// `--counts-by-id` and `--now`.
 /// With `--first` it says that the plan is the first of the best, and with `--json` it says the same as JSON.
 pub fn what_is_planned_is_good()
     ensures nothing_kept { (conventions : Conventions) (input text : List ℕ) → IsEnded input → IsAnswerOf (in_form false (Plan false conventions)) input (Ok (text, None))

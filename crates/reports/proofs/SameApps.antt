@@ -20,6 +20,7 @@ use Rattle.field_tables.specs.Readings.{number_at}
 use Rattle.field_tables.specs.Reasons.{judged}
 use Rattle.field_tables.proofs.SameRefusals.{same_refusal}
 use Rattle.field_tables.proofs.SameValues.{Agree, is_selection, same_number, same_reading_at}
+use Rattle.applications.specs.ActiveSets.{nothing_active}
 use Rattle.applications.specs.Advertised.{advertised_by}
 use Rattle.applications.specs.Descriptors.{app_at, apps_of, described, is_listed}
 use Rattle.applications.specs.Refusals.{advert_fault, module_reasons, page_fault, page_reasons}
@@ -100,7 +101,7 @@ module _ (a b : Memory) (agree : CmisAgree a b) (second : Agree a b (upper_key A
   pub same_advertised : advertised_by a ≡ advertised_by b
   same_advertised =
       let unsupported = same_number a b fields.CUnsupportedMedia agree.first refl refl in
-      λ i. record { apps = same_apps_of i; unsupported = lanes_in (unsupported i); paired = false }
+      λ i. record { apps = same_apps_of i; unsupported = lanes_in (unsupported i); paired = false; active = nothing_active }
 
 pub same_page_fault : (a b : Memory) → Agree a b (upper_key A0 0 0x00) → Agree a b (upper_key A0 0 0x01) → page_fault a ≡ page_fault b
 same_page_fault a b zeroth second = same_refusal a b page_reasons refl (zeroth, λ there. (second, λ both. (zeroth, λ right. (second, λ rights. tt))))

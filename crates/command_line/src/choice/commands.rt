@@ -179,6 +179,14 @@ const COUNTS_BY_ID: Flag = Flag {
     help: "A lane count of 0 is the one that the interface ID implies, as far as that is known",
 };
 
+/// Asks for what is active to count.
+const NOW: Flag = Flag {
+    name: "now",
+    takes: Takes::Nothing,
+    word: "",
+    help: "A data path that is in the image's Active Control Set weighs more, by what the weights have as 'stay'",
+};
+
 /// Asks for an SVG.
 const SVG: Flag = Flag {
     name: "svg",
@@ -235,11 +243,11 @@ pub fn commands() -> &'static [CommandEntry]
         "flags" Report(Flags) [BUS JSON] "Print the states of the module and its lanes, and the flags that are raised";
         "details" Report(Details) [BUS JSON] "Print all that the module says of itself, with names";
         "metrics" Metrics [BUS LABEL FLAGS] "Print what 'inventory', 'monitors' and 'flags' say, as metrics for Prometheus";
-        "plan" Plan [KEEP PAIRED COUNTS_BY_ID JSON] "Print the plan that weighs most for an image and weights, with its certificate";
-        "draw" Draw [SVG KEEP PAIRED COUNTS_BY_ID] "Draw the plan, and say for each host lane what else could have been done there";
-        "check" Check [FIRST PAIRED COUNTS_BY_ID JSON] "Judge a certificate for an image and weights, and print its plan if it is good";
-        "provision" Provision [WAKE ACTIVATE KEEP PAIRED COUNTS_BY_ID JSON] "Put the plan into the Active Control Set of a simulated module, over a bus that does as a script says";
-        "trace" Trace [WAKE ACTIVATE KEEP PAIRED COUNTS_BY_ID JSON] "Do what 'provision' does, and print each transaction";
+        "plan" Plan [KEEP PAIRED COUNTS_BY_ID NOW JSON] "Print the plan that weighs most for an image and weights, with its certificate";
+        "draw" Draw [SVG KEEP PAIRED COUNTS_BY_ID NOW] "Draw the plan, and say for each host lane what else could have been done there";
+        "check" Check [FIRST PAIRED COUNTS_BY_ID NOW JSON] "Judge a certificate for an image and weights, and print its plan if it is good";
+        "provision" Provision [WAKE ACTIVATE KEEP PAIRED COUNTS_BY_ID NOW JSON] "Put the plan into the Active Control Set of a simulated module, over a bus that does as a script says";
+        "trace" Trace [WAKE ACTIVATE KEEP PAIRED COUNTS_BY_ID NOW JSON] "Do what 'provision' does, and print each transaction";
     }
 }
 

@@ -8,7 +8,7 @@ use plan_certificate::{KeptFault, Plan, kept_fault, kept_of};
 
 /// The image of this text, and what its module advertises, read by these conventions.
 pub fn read_module(conventions: Conventions, text: &[u8]) -> Result<(Image, Advert), Fault>
-    ensures { MatchResult result (λ read. IsModuleText conventions text.now read.0 read.1) (IsAdvertRefusal text.now) }
+    ensures { MatchResult result (λ read. IsModuleText conventions text.now read.0 read.1) (IsAdvertRefusal conventions text.now) }
 {
     let image = Image::read(text)?;
     let advert = Advert::under(conventions, &image)?;
@@ -17,7 +17,7 @@ pub fn read_module(conventions: Conventions, text: &[u8]) -> Result<(Image, Adve
 
 /// What the module advertises whose image has this text, read by these conventions.
 pub fn read_advert(conventions: Conventions, text: &[u8]) -> Result<Advert, Fault>
-    ensures { MatchResult result (IsAdvertText conventions text.now) (IsAdvertRefusal text.now) }
+    ensures { MatchResult result (IsAdvertText conventions text.now) (IsAdvertRefusal conventions text.now) }
 {
     let (_image, advert) = read_module(conventions, text)?;
     Ok(advert)

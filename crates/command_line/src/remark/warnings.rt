@@ -1,5 +1,6 @@
-ghost use Rattle.std.specs.Prelude.{◌≡◌};
-ghost use Rattle.command_line.specs.PlanWarnings.{is_named, is_unknown, names_some, no_warnings, unknown_in, warnings_of};
+ghost use Rattle.std.specs.Prelude.{◌≡◌, ◌==◌};
+ghost use Rattle.std.specs.List.{list_all};
+ghost use Rattle.command_line.specs.PlanWarnings.{is_named, is_unknown, names_some, no_warnings, stays_unused, unknown_in, warnings_of};
 
 use super::shown_byte::ShownByte;
 use applications::{Advert, App, WeightTable, Weights};
@@ -14,6 +15,8 @@ pub struct Warnings {
     unknown_media: [bool; 256],
     /// The same by the number of an Application.
     unknown_apps: [bool; 256],
+    /// Staying weighs something, and no data path is known to be active.
+    stays_unused: bool,
     has_no_paths: bool,
 }
 
@@ -26,6 +29,7 @@ impl Warnings {
             unknown_hosts: [false; 256],
             unknown_media: [false; 256],
             unknown_apps: [false; 256],
+            stays_unused: false,
             has_no_paths: false,
         }
     }
@@ -41,9 +45,23 @@ impl Warnings {
             unknown_hosts,
             unknown_media,
             unknown_apps,
+            stays_unused: stays_unused(advert, weights),
             has_no_paths: !has_paths,
         }
     }
+}
+
+// Whether the weight of staying counts for nothing, as no data path is known to be active.
+fn stays_unused(advert: &Advert, weights: &Weights) -> bool
+    ensures { result ≡ stays_unused advert.now weights.now }
+{
+    weights.stay() != 0 && has_no_code(&advert.active().app_sel_codes)
+}
+
+fn has_no_code(codes: &[u8; 8]) -> bool
+    ensures { result ≡ list_all (λ code. code == 0) codes.now }
+{
+    codes.iter().all(|code| *code == 0)
 }
 
 // Of each number of a table, whether its weight counts for nothing.
@@ -81,7 +99,7 @@ fn is_named(app: &App, table: WeightTable, number: u8) -> bool
     }
 }
 
-/// A line for each key of the weights that names no Application, and one for a plan without paths.
+/// A line for each key of the weights that names no Application or that counts for nothing, and one for a plan without paths.
 impl fmt::Display for Warnings {
     fn fmt<W: fmt::Write>(&self, f: &mut fmt::Formatter<W>) -> fmt::Result {
         for number in 0..=255u8 {
@@ -109,6 +127,12 @@ impl fmt::Display for Warnings {
                     "cmisctl: key {number} of 'app': this module has no Application of this number, so its weight counts for nothing; 'apps' prints those that it has, after 'app'"
                 )?;
             }
+        }
+        if self.stays_unused {
+            writeln!(
+                f,
+                "cmisctl: key stay: no data path is known to be active, so the weight of staying counts for nothing; '--now' looks at those of the image's Active Control Set"
+            )?;
         }
         if self.has_no_paths {
             writeln!(

@@ -5,15 +5,16 @@ ghost use Rattle.std.specs.List.{list_all};
 ghost use Rattle.text_lines.specs.Lines.{lines_of};
 ghost use Rattle.command_line.specs.declared.remark.weights_lines.Kind.{Kind};
 ghost use Rattle.command_line.specs.declared.remark.weights_lines.Kind.TheVariants.{Header};
-ghost use Rattle.command_line.specs.OddLines.{Keeps, has_header, is_number, is_odd, kind_after, kind_in, kind_of, odd_line, odd_line_of_weights, weighed};
+ghost use Rattle.command_line.specs.OddLines.{Keeps, has_header, is_number, is_odd, kind_after, kind_in, kind_of, odd_line, odd_line_of_weights, says_stay, weighed};
 
 use super::line_pieces::{cut, is_text, trimmed};
 use crate::parts::part;
 use applications::WeightTable;
 use text_lines::split_line;
 
-/// The number from 1 of the first line of the weights in an input that is none of `[host]`, `[media]` and `[app]`, each once,
-/// `KEY = NUMBER` after one of these with a key that it has not had, a comment or an empty line.
+/// The number from 1 of the first line of the weights in an input that is none of `stay = NUMBER`, once and before all tables,
+/// `[host]`, `[media]` and `[app]`, each once, `KEY = NUMBER` after one of these with a key that it has not had, a comment or an
+/// empty line.
 pub fn odd_line_of_weights(input: &[u8]) -> Option<usize>
     ensures { result ≡ odd_line_of_weights input.now }
 {
@@ -26,6 +27,8 @@ pub fn odd_line_of_weights(input: &[u8]) -> Option<usize>
 pub enum Kind {
     /// A comment, or nothing.
     Nothing,
+    /// `stay = NUMBER`, before all tables
+    Stay,
     /// `[host]`, `[media]` or `[app]`
     Header(WeightTable),
     /// The weight of what this number stands for in the table.
@@ -38,6 +41,7 @@ pub enum Kind {
 struct SoFar {
     // The table that they are in.
     table: Option<WeightTable>,
+    has_stay: bool,
     has_host: bool,
     has_media: bool,
     has_app: bool,
@@ -51,6 +55,7 @@ fn odd_line(text: &[u8]) -> Option<usize>
 {
     let mut so_far = SoFar {
         table: None,
+        has_stay: false,
         has_host: false,
         has_media: false,
         has_app: false,
@@ -84,6 +89,7 @@ impl SoFar {
     {
         match kind {
             Kind::Nothing => false,
+            Kind::Stay => self.has_stay,
             Kind::Header(table) => self.has_header(table),
             Kind::Weight(number) => self.listed[usize::from(number)],
             Kind::Other => true,
@@ -106,6 +112,7 @@ impl SoFar {
     {
         match kind {
             Kind::Nothing | Kind::Other => {}
+            Kind::Stay => self.has_stay = true,
             Kind::Header(table) => self.begin(table),
             Kind::Weight(number) => self.listed[usize::from(number)] = true,
         }
@@ -125,6 +132,7 @@ impl SoFar {
     // The lines are in this table now, which lists nothing yet.
     fn turn_to(&mut self, table: WeightTable)
         ensures table { self.new.table ≡ Some table }
+        ensures stay { self.new.has_stay ≡ self.old.has_stay }
         ensures host { self.new.has_host ≡ self.old.has_host }
         ensures media { self.new.has_media ≡ self.old.has_media }
         ensures app { self.new.has_app ≡ self.old.has_app }
@@ -163,10 +171,22 @@ fn kind_in(table: Option<WeightTable>, content: &[u8]) -> Kind
     if content == b"[app]".as_slice() {
         return Kind::Header(WeightTable::App);
     }
+    if says_stay(table, content) {
+        return Kind::Stay;
+    }
     match weighed(table, content) {
         Some(number) => Kind::Weight(number),
         None => Kind::Other,
     }
+}
+
+// Whether a content before all tables says what staying weighs.
+#[tactic(auto, unfolding(applications::specs::WeightKeys::stay_name))]
+fn says_stay(table: Option<WeightTable>, content: &[u8]) -> bool
+    ensures { result ≡ says_stay table content.now }
+{
+    let (key, value) = cut(content, b'=');
+    table.is_none() && trimmed(key) == b"stay".as_slice() && is_number(trimmed(value))
 }
 
 // The number of which a content `KEY = NUMBER` says the weight, in this table.

@@ -5,7 +5,7 @@ use Rattle.command_line.proofs.OddLineLemmas.{keeps_none, read_all, read_more, r
 use Rattle.command_line.proofs.remark.weights_lines.odd_line.Goals as goal
 
 pub loop-line-init : goal.loop-line-init
-loop-line-init c = record { read = read_none _ _ (keeps_none _ refl refl refl refl refl); bounded = omega arith }
+loop-line-init c = record { read = read_none _ _ (keeps_none _ refl refl refl refl refl refl); bounded = omega arith }
 
 pub loop-line-preserved : goal.loop-line-preserved
 loop-line-preserved c =
