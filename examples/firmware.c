@@ -132,7 +132,7 @@ int main(void) {
     struct dovecounter_plan plan;
     struct dovecounter_procedure procedure;
     size_t count = read_halves(stdin, halves);
-    uint32_t status = dovecounter_plan(halves, count, 1, 0, weights, kept, KEPT, &plan);
+    uint32_t status = dovecounter_plan(halves, count, 1, 0, weights, 0, kept, KEPT, &plan);
     if (status != DOVECOUNTER_DONE) {
         printf("status %u\n", (unsigned)status);
         return 1;

@@ -46,7 +46,8 @@ enum dovecounter_status {
     DOVECOUNTER_NOT_EIGHT_LANES = 16, /* AD6: the module doesn't have eight lanes */
     DOVECOUNTER_FLAT_MEMORY = 13,    /* AD3: the module has no page but 00h */
     DOVECOUNTER_ABSENT = 14,         /* AD4: device 0xA0 has no page 00h or 01h of bank 0, or no lower half, which is looked
-                                        for before DOVECOUNTER_NOT_CMIS */
+                                        for before DOVECOUNTER_NOT_CMIS; or no page 11h of bank 0, which is needed if staying
+                                        weighs something, and looked for last */
     DOVECOUNTER_BAD_SUM = 15,        /* AD5: the sum of page 00h or 01h is wrong */
 
     /* of a certificate's text, the first */
@@ -370,6 +371,10 @@ struct dovecounter_plan {
    docs/planning.md. A path weighs what `weights` has at its HostInterfaceID; its media interface and its Application weigh
    nothing here. The kept paths may come in any order.
 
+   A path that the module has already, by the Active Control Set (page 11h, bytes 206 to 213), weighs `stay` more, so that
+   no plan changes more than it gains. If `stay` is not 0, page 11h of bank 0 is needed too. cmisctl plans for 0, and with
+   --now for what the weights have as 'stay'.
+
    If `paired` is not 0, the module pairs first lanes: a path that begins at the second of its Application's first
    host lanes takes the second of its first media lanes, and so on. If it is 0, it may take any of them. No register
    of a module says which holds, or lets a host choose media lanes, so hand over 1 if in doubt: such a plan is allowed
@@ -386,12 +391,13 @@ struct dovecounter_plan {
 
    status     if
    1, 2       there are more than 16 halves, or one has no place
-   11 to 16   the halves do not say what the module advertises, as dovecounter_advertisement tells
+   11 to 16   the halves do not say what the module advertises, as dovecounter_advertisement tells; 14 also if `stay` is
+              not 0 and page 11h is missing
    42         there are more than 8 kept paths
    43         a kept path is not allowed, or shares a lane with another one */
 uint32_t dovecounter_plan(const struct dovecounter_half *halves, size_t half_count, uint8_t paired,
-                          uint8_t counts_by_id, const uint32_t weights[256], const struct dovecounter_path *kept, size_t kept_count,
-                          struct dovecounter_plan *plan);
+                          uint8_t counts_by_id, const uint32_t weights[256], uint32_t stay,
+                          const struct dovecounter_path *kept, size_t kept_count, struct dovecounter_plan *plan);
 
 /* What a certificate is worth. */
 struct dovecounter_judgement {
@@ -404,34 +410,35 @@ struct dovecounter_judgement {
 /* Judges the certificate with this text, as the command plan of cmisctl prints it, for the module with these halves
    and for these weights, and writes to *judgement. The text says which paths are kept, and whether it is for a module
    that pairs first lanes: if that differs from `paired`, the reason is VR10. It does not say by which lane counts it
-   was made: hand over the `counts_by_id` that it was made with.
+   was made, nor how much staying weighed: hand over the `counts_by_id` and the `stay` that it was made with.
 
    status     if
    1, 2       there are more than 16 halves, or one has no place
-   11 to 16   the halves do not say what the module advertises, as dovecounter_advertisement tells
+   11 to 16   the halves do not say what the module advertises, as dovecounter_plan tells
    21 to 24   the text is no certificate: the first of its faults */
 uint32_t dovecounter_check(const struct dovecounter_half *halves, size_t half_count, uint8_t paired,
-                           uint8_t counts_by_id, const uint32_t weights[256], const uint8_t *text, size_t text_length,
-                           struct dovecounter_judgement *judgement);
+                           uint8_t counts_by_id, const uint32_t weights[256], uint32_t stay, const uint8_t *text,
+                           size_t text_length, struct dovecounter_judgement *judgement);
 
 /* No certificate's text is longer. */
 #define DOVECOUNTER_CERTIFICATE_SIZE 74046
 
 /* Writes to the buffer the text of the certificate of the plan that dovecounter_plan gives for the same arguments:
-   what the command plan of cmisctl prints, with --keep if paths are kept, with --paired if `paired` is not 0 and with
-   --counts-by-id if `counts_by_id` is not 0, byte for byte, with the end of its last line and without a NUL. Writes
+   what the command plan of cmisctl prints, with --keep if paths are kept, with --paired if `paired` is not 0, with
+   --counts-by-id if `counts_by_id` is not 0 and with --now if `stay` is not 0, byte for byte, with the end of its last line and without a NUL. Writes
    to *text_length how many bytes the text has, also if the buffer is too small; the buffer stays as it is then. The
-   bytes of the buffer after the text stay, too. dovecounter_check judges the certificate good for the same `paired`
-   and `counts_by_id`.
+   bytes of the buffer after the text stay, too. dovecounter_check judges the certificate good for the same `paired`,
+   `counts_by_id` and `stay`.
 
    status   if
    1, 2     there are more than 16 halves, or one has no place
-   11 to 16 the halves do not say what the module advertises
+   11 to 16 the halves do not say what the module advertises, as dovecounter_plan tells
    42, 43   the kept paths are too many, or not admissible
    4        buffer_size is below *text_length */
 uint32_t dovecounter_certificate(const struct dovecounter_half *halves, size_t half_count, uint8_t paired,
-                                 uint8_t counts_by_id, const uint32_t weights[256], const struct dovecounter_path *kept, size_t kept_count,
-                                 uint8_t *buffer, size_t buffer_size, size_t *text_length);
+                                 uint8_t counts_by_id, const uint32_t weights[256], uint32_t stay,
+                                 const struct dovecounter_path *kept, size_t kept_count, uint8_t *buffer,
+                                 size_t buffer_size, size_t *text_length);
 
 /* Why a procedure ended without success. The comments say what `first` and `second` of a dovecounter_fault are then;
    else they are 0. */

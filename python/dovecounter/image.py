@@ -83,7 +83,7 @@ def page(number: int, bank: int = 0, device: int = 0xA0) -> Key:
 # Which halves have to be there, by the code of the fault that says that one of them isn't.
 _Needed = Mapping[str, Tuple[Key, ...]]
 _OF_APPLICATIONS: _Needed = {
-    "AD4": (LOWER, page(0x00), page(0x01)),
+    "AD4": (LOWER, page(0x00), page(0x01), page(0x11)),
     "SM1": (LOWER, page(0x00), page(0x01), page(0x10), page(0x11)),
 }
 _OF_INVENTORY: _Needed = {"RP6": (LOWER, page(0x00)), "SF3": (page(0x00),)}

@@ -200,9 +200,12 @@ FUNCTIONS: Dict[str, Tuple[Any, Tuple[Any, ...]]] = {
     "durations": (c_uint32, (*_HALVES, POINTER(Durations))),
     "plan": (
         c_uint32,
-        (*_HALVES, c_uint8, c_uint8, _WEIGHTS, POINTER(Path), c_size_t, POINTER(Plan)),
+        (*_HALVES, c_uint8, c_uint8, _WEIGHTS, c_uint32, POINTER(Path), c_size_t, POINTER(Plan)),
     ),
-    "check": (c_uint32, (*_HALVES, c_uint8, c_uint8, _WEIGHTS, *_BYTES, POINTER(Judgement))),
+    "check": (
+        c_uint32,
+        (*_HALVES, c_uint8, c_uint8, _WEIGHTS, c_uint32, *_BYTES, POINTER(Judgement)),
+    ),
     "weights": (c_uint32, (*_BYTES, _WEIGHTS, POINTER(c_size_t))),
     "provision": (None, (_CONTROL, c_uint8, POINTER(Procedure))),
     "activate": (None, (_CONTROL, c_uint8, POINTER(Procedure))),

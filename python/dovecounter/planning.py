@@ -100,6 +100,7 @@ def plan(
     keep: Sequence[DataPath] = (),
     paired: bool = False,
     counts_by_id: bool = False,
+    stay: int = 0,
 ) -> Plan:
     """The best plan for the module: its paths are allowed, no two share a lane, the kept ones are
     among them, and no such plan weighs more; of several the first (docs/planning.md). A path weighs
@@ -107,15 +108,16 @@ def plan(
     `paired` says that the module pairs an Application's first host lanes with its first media lanes
     in their order, which no register tells; else each may go with each. `counts_by_id` says that a
     lane count of 0 is the one that the interface ID implies, as far as that is known; else an
-    Application without a lane count is not planned.
+    Application without a lane count is not planned. `stay` is what a path weighs more if the module
+    has it already, by its Active Control Set (page 11h), 0 to 4294967295.
     Raises a Fault of AD1 to AD6, KP2 or KP3; ValueError for a number that is out of range."""
     found = library.Plan()
     halves, table = image.arguments(), _weights(weights)
+    look_at("the weight of staying", stay, 2**32 - 1)
 
     def status(count: int) -> int:
-        return int(
-            _plan(*halves, paired, counts_by_id, table, _kept(keep[:count]), count, byref(found))
-        )
+        kept = _kept(keep[:count])
+        return int(_plan(*halves, paired, counts_by_id, table, stay, kept, count, byref(found)))
 
     answer = status(len(keep))
     if CODES.get(answer) == "KP3":
@@ -135,11 +137,13 @@ def check(
     certificate: Union[str, bytes],
     paired: bool = False,
     counts_by_id: bool = False,
+    stay: int = 0,
 ) -> Judgement:
     """Judges the certificate with this text, as `cmisctl plan` prints it, for the module and these
     weights. The text says which paths are kept, and whether it is for a module that pairs first
     lanes, as `paired` says of this one: if they differ, the reason is VR10. By which lane counts it
-    was made only `counts_by_id` says: it has to be as it was for `plan`. Raises a Fault of AD1 to
+    was made only `counts_by_id` says, and how much staying weighed only `stay`: they have to be as
+    they were for `plan`. Raises a Fault of AD1 to
     AD6 or CT1 to CT4; ValueError for a number that is out of range."""
     text = (
         certificate.encode("utf-8", "surrogateescape")
@@ -148,11 +152,14 @@ def check(
     )
     found = library.Judgement()
     halves, table, lines = image.arguments(), _weights(weights), text.split(b"\n")
+    look_at("the weight of staying", stay, 2**32 - 1)
 
     def status(count: int) -> int:
         beginning = b"".join(line + b"\n" for line in lines[:count]) if count < len(lines) else text
         return int(
-            _check(*halves, paired, counts_by_id, table, beginning, len(beginning), byref(found))
+            _check(
+                *halves, paired, counts_by_id, table, stay, beginning, len(beginning), byref(found)
+            )
         )
 
     answer = status(len(lines))

@@ -123,6 +123,24 @@ def test_a_module_that_leaves_lane_counts_to_interface_ids() -> None:
     assert check(image, WEIGHTS, certificate) == Judgement("VR1", 1)
 
 
+def test_a_path_that_is_active_weighs_more() -> None:
+    weights = {0x11: 405, 0x0D: 101}
+    image = DR4.changed(page(0x11), 206, bytes([0x20, 0x20, 0x24, 0x24]))
+    assert plan(image, weights) == plan(DR4, weights, stay=1)
+    assert plan(image, weights).weight == 405
+    staying = plan(image, weights, stay=1)
+    assert (staying.weight, len(staying.paths)) == (406, 4)
+    text = "stay = 1\n" + table(weights)
+    certificate = "\n".join(cmisctl("plan --now", image.to_text(), text))
+    assert check(image, weights, certificate, stay=1) == Judgement(None, 0)
+    assert check(image, weights, certificate) == Judgement("VR3", 0)
+    bare = image.without(page(0x11))
+    assert plan(bare, weights) == plan(image, weights)
+    assert str(fault_of(plan, bare, weights, (), False, False, 1)) == "AD4 upper A0 00 11"
+    with pytest.raises(ValueError):
+        plan(image, weights, stay=2**32)
+
+
 def test_a_fault_has_the_program_s_values() -> None:
     images = [
         DR4.without(LOWER),

@@ -84,7 +84,7 @@ static bool find_plan(struct port *port) {
     uint32_t weights[256] = {0};
     if (!read_weights(port->weights, weights) || !read_module(port, false)) return false;
     uint32_t status = dovecounter_plan(port->reading.halves, port->reading.count, !port->unpaired, port->counts_by_id,
-                                       weights, port->kept, port->kept_count, &port->plan);
+                                       weights, 0, port->kept, port->kept_count, &port->plan);
     if (status == DOVECOUNTER_DONE && bytes_at(port, ACTIVE) == NULL) status = DOVECOUNTER_ENDED;
     if (status != DOVECOUNTER_DONE) return refuse(port, status), false;
     print_plan(port);

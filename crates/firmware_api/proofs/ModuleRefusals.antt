@@ -7,12 +7,12 @@ use Rattle.std.proofs.lemmas.Bool.{ltb-true, ltb-false}
 use Rattle.paged_memory.specs.Images.{Memory}
 use Rattle.applications.specs.Advertised.{Advertised, advertised_by, advertised_under}
 use Rattle.applications.specs.declared.conventions.Conventions.{Conventions}
-use Rattle.applications.specs.Refusals.{advert_fault}
+use Rattle.applications.specs.Refusals.{advert_fault_under}
 use Rattle.applications.specs.declared.fault.AdvertFault.{AdvertFault}
 use Rattle.firmware_api.specs.declared.half.HalfBytes.{HalfBytes}
 use Rattle.firmware_api.specs.declared.status.Refusal.{Refusal}
 use Rattle.firmware_api.specs.declared.status.Refusal.TheVariants.{TooManyHalves, NoPlace, Advert}
-use Rattle.firmware_api.specs.Halves.{advert_of, has_place, memory_of, module_refusal}
+use Rattle.firmware_api.specs.Halves.{advert_of, as_it_stands, has_place, memory_of, module_refusal, refusal_under}
 use Rattle.firmware_api.specs.Statuses.{advert_status, status_of}
 
 is_below : (m n : ℕ) (b : Bool) → nat_lt m n ≡ b → m < n → nat_lt m n ≡ true
@@ -23,18 +23,18 @@ is_not_below : (m n : ℕ) (b : Bool) → nat_lt m n ≡ b → n ≤ m → nat_l
 is_not_below m n true e over = absurd (omega (arith, over, ltb-true m n e))
 is_not_below m n false e over = e
 
-pub too_many : (halves : List HalfBytes) → 16 < length halves → module_refusal halves ≡ Some TooManyHalves
-unfolding module_refusal
-too_many halves more = rw (is_below 16 (length halves) _ refl more) refl
+pub too_many : (conventions : Conventions) (halves : List HalfBytes) → 16 < length halves → refusal_under conventions halves ≡ Some TooManyHalves
+unfolding refusal_under
+too_many conventions halves more = rw (is_below 16 (length halves) _ refl more) refl
 
-pub no_place : (halves : List HalfBytes) → length halves ≤ 16 → list_all has_place halves ≡ false → module_refusal halves ≡ Some NoPlace
-unfolding module_refusal
-no_place halves few some = rw (is_not_below 16 (length halves) _ refl few, some) refl
+pub no_place : (conventions : Conventions) (halves : List HalfBytes) → length halves ≤ 16 → list_all has_place halves ≡ false → refusal_under conventions halves ≡ Some NoPlace
+unfolding refusal_under
+no_place conventions halves few some = rw (is_not_below 16 (length halves) _ refl few, some) refl
 
-pub placed : (halves : List HalfBytes) → length halves ≤ 16 → list_all has_place halves ≡ true →
-    module_refusal halves ≡ option_map Advert (advert_fault (memory_of halves))
-unfolding module_refusal
-placed halves few all = rw (is_not_below 16 (length halves) _ refl few, all) refl
+pub placed : (conventions : Conventions) (halves : List HalfBytes) → length halves ≤ 16 → list_all has_place halves ≡ true →
+    refusal_under conventions halves ≡ option_map Advert (advert_fault_under conventions (memory_of halves))
+unfolding refusal_under
+placed conventions halves few all = rw (is_not_below 16 (length halves) _ refl few, all) refl
 
 -- what the module says, or the status of its fault
 abbrev pub passed : Result Advertised AdvertFault → Result Advertised ℕ
@@ -48,19 +48,19 @@ passes_on None read advert answers = ap passed answers
 passes_on (Some fault) read advert answers = ap passed answers
 
 abbrev pub IsRead : Conventions → Result Advertised AdvertFault → Memory → Type 0
-IsRead conventions read memory = MatchOption (advert_fault memory) (read ≡ Ok (advertised_under conventions memory)) (λ fault. read ≡ Err fault)
+IsRead conventions read memory = MatchOption (advert_fault_under conventions memory) (read ≡ Ok (advertised_under conventions memory)) (λ fault. read ≡ Err fault)
 
 abbrev pub IsPassed : Conventions → Result Advertised ℕ → List HalfBytes → Type 0
-IsPassed conventions told halves = MatchOption (module_refusal halves) (told ≡ Ok (advert_of halves conventions)) (λ refusal. told ≡ Err (status_of refusal))
+IsPassed conventions told halves = MatchOption (refusal_under conventions halves) (told ≡ Ok (advert_of halves conventions)) (λ refusal. told ≡ Err (status_of refusal))
 
 pub reads : (conventions : Conventions) (halves : List HalfBytes) (memory : Memory) (read : Result Advertised AdvertFault) → length halves ≤ 16 → list_all has_place halves ≡ true →
     memory ≡ memory_of halves → IsRead conventions read memory → IsPassed conventions (passed read) halves
 reads conventions halves memory read few all same is =
-    rw (placed halves few all) (passes_on (advert_fault (memory_of halves)) read (advert_of halves conventions) (subst (IsRead conventions read) same is))
+    rw (placed conventions halves few all) (passes_on (advert_fault_under conventions (memory_of halves)) read (advert_of halves conventions) (subst (IsRead conventions read) same is))
 
 few : (halves : List HalfBytes) → module_refusal halves ≡ None → length halves ≤ 16
-unfolding module_refusal
-few halves none = by (nat_lt 16 (length halves)) (if not (list_all has_place halves) then Some NoPlace else option_map Advert (advert_fault (memory_of halves))) refl none where
+unfolding refusal_under
+few halves none = by (nat_lt 16 (length halves)) (if not (list_all has_place halves) then Some NoPlace else option_map Advert (advert_fault_under as_it_stands (memory_of halves))) refl none where
   by : (many : Bool) (later : Option Refusal) → nat_lt 16 (length halves) ≡ many → (if many then Some TooManyHalves else later) ≡ None → length halves ≤ 16
   by true later e none = absurd (let same = none in cc)
   by false later e none = ltb-false 16 (length halves) e

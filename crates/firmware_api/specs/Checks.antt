@@ -21,7 +21,7 @@ use Rattle.firmware_api.specs.declared.checking.Judgement.{Judgement}
 use Rattle.firmware_api.specs.declared.half.HalfBytes.{HalfBytes}
 use Rattle.firmware_api.specs.declared.status.Refusal.{Refusal}
 use Rattle.firmware_api.specs.declared.status.Refusal.TheVariants.{Certificate}
-use Rattle.firmware_api.specs.Halves.{advert_of, module_refusal}
+use Rattle.firmware_api.specs.Halves.{advert_of, refusal_under}
 use Rattle.firmware_api.specs.Plans.{path_weights}
 use Rattle.firmware_api.specs.Statuses.{done, status_of}
 
@@ -53,13 +53,13 @@ IsTextJudgedBy advert weights text judged =
     (read : Result Claim CertificateFault) × IsAnswer most_states (lines_of text) read × (judged ≡ judgement_by advert weights read)
 
 -- the same by the weights that C hands over
-abbrev pub IsTextJudged : Advertised → TableWeights → List ℕ → Result Judgement Refusal → Type 0
-IsTextJudged advert weights text judged = IsTextJudgedBy advert (path_weights advert weights) text judged
+abbrev pub IsTextJudged : Advertised → TableWeights → ℕ → List ℕ → Result Judgement Refusal → Type 0
+IsTextJudged advert weights stay text judged = IsTextJudgedBy advert (path_weights advert weights stay) text judged
 
 -- refusals of the halves come first
-abbrev pub IsJudged : List HalfBytes → Conventions → TableWeights → List ℕ → Result Judgement Refusal → Type 0
-IsJudged halves conventions weights text judged =
-    MatchOption (module_refusal halves) (IsTextJudged (advert_of halves conventions) weights text judged) (λ refusal. judged ≡ Err refusal)
+abbrev pub IsJudged : List HalfBytes → Conventions → TableWeights → ℕ → List ℕ → Result Judgement Refusal → Type 0
+IsJudged halves conventions weights stay text judged =
+    MatchOption (refusal_under conventions halves) (IsTextJudged (advert_of halves conventions) weights stay text judged) (λ refusal. judged ≡ Err refusal)
 
 -- what C is told of a result: the judgement, or the refusal's number
 abbrev pub Tells : ℕ → Judgement → Result Judgement Refusal → Type 0
@@ -77,9 +77,9 @@ IsTextShownBestBy advert weights text =
     × IsBest advert weights certificate.kept certificate.paths
 
 -- the same by the weights that C hands over
-abbrev pub IsTextShownBest : Advertised → TableWeights → List ℕ → Type 0
-IsTextShownBest advert weights text = IsTextShownBestBy advert (path_weights advert weights) text
+abbrev pub IsTextShownBest : Advertised → TableWeights → ℕ → List ℕ → Type 0
+IsTextShownBest advert weights stay text = IsTextShownBestBy advert (path_weights advert weights stay) text
 
 -- the same for the module whose memory has these halves
-abbrev pub IsShownBest : List HalfBytes → Conventions → TableWeights → List ℕ → Type 0
-IsShownBest halves conventions weights text = IsTextShownBest (advert_of halves conventions) weights text
+abbrev pub IsShownBest : List HalfBytes → Conventions → TableWeights → ℕ → List ℕ → Type 0
+IsShownBest halves conventions weights stay text = IsTextShownBest (advert_of halves conventions) weights stay text

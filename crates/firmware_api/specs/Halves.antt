@@ -1,6 +1,6 @@
 -- The memory of a module whose halves are handed over, why its Applications are not read, and what it advertises.
 -- (docs/firmware.md, "Halves" and "Plans"; OIF-CMIS-05.0, "Management Memory Map")
-use Rattle.std.specs.Prelude.{◌==◌, ◌&&◌, ◌||◌, Bool, ℕ, not, nat_lt, List, length, map, Option, Some, if◌then◌else◌}
+use Rattle.std.specs.Prelude.{◌==◌, ◌&&◌, ◌||◌, Bool, false, ℕ, not, nat_lt, List, length, map, Option, Some, if◌then◌else◌}
 use Rattle.std.specs.List.{list_all}
 use Rattle.std.specs.Option.{option_map}
 use Rattle.std.specs.FinMap as finmap
@@ -11,7 +11,7 @@ use Rattle.paged_memory.specs.Keys.{lower_key, upper_key}
 use Rattle.paged_memory.specs.Images.{Memory, most_pages}
 use Rattle.applications.specs.Advertised.{Advertised, advertised_under}
 use Rattle.applications.specs.declared.conventions.Conventions.{Conventions}
-use Rattle.applications.specs.Refusals.{advert_fault}
+use Rattle.applications.specs.Refusals.{advert_fault_under}
 use Rattle.firmware_api.specs.declared.half.HalfBytes.{HalfBytes}
 use Rattle.firmware_api.specs.declared.status.Refusal.{Refusal}
 use Rattle.firmware_api.specs.declared.status.Refusal.TheVariants.{TooManyHalves, NoPlace, Advert}
@@ -33,16 +33,24 @@ key_of half = if half.upper == 0 then lower_key (device_of half) else upper_key 
 unfoldable pub memory_of : List HalfBytes → Memory
 memory_of halves = finmap.from_entries (map (λ half. (key_of half, half.bytes)) halves)
 
--- of the halves themselves, or of the module that has them: the first that applies
-unfoldable pub module_refusal : List HalfBytes → Option Refusal
-module_refusal halves =
+-- of the halves themselves, or of the module that has them, if a host reads it by these conventions: the first that applies
+unfoldable pub refusal_under : Conventions → List HalfBytes → Option Refusal
+refusal_under conventions halves =
     if nat_lt most_pages (length halves) then Some TooManyHalves
     else (if not (list_all has_place halves) then Some NoPlace
-    else option_map Advert (advert_fault (memory_of halves)))
+    else option_map Advert (advert_fault_under conventions (memory_of halves)))
 
--- how a host reads what the module advertises: each number but 0 says yes
-abbrev pub conventions_of : ℕ → ℕ → Conventions
-conventions_of paired counts_by_id = record { paired = not (paired == 0); counts_by_id = not (counts_by_id == 0) }
+-- it takes what the module advertises as it stands
+abbrev pub as_it_stands : Conventions
+as_it_stands = record { paired = false; counts_by_id = false; now = false }
+
+-- the same if a host reads it so
+abbrev pub module_refusal : List HalfBytes → Option Refusal
+module_refusal halves = refusal_under as_it_stands halves
+
+-- how a host reads what the module advertises: each number but 0 says yes, and what is active is looked at if staying weighs something
+abbrev pub conventions_of : ℕ → ℕ → ℕ → Conventions
+conventions_of paired counts_by_id stay = record { paired = not (paired == 0); counts_by_id = not (counts_by_id == 0); now = not (stay == 0) }
 
 -- what it advertises to such a host
 abbrev pub advert_of : List HalfBytes → Conventions → Advertised

@@ -17,7 +17,7 @@ use Rattle.firmware_api.specs.declared.half.HalfBytes.{HalfBytes}
 use Rattle.firmware_api.specs.declared.planning.LanePlan.{LanePlan}
 use Rattle.firmware_api.specs.declared.status.Refusal.{Refusal}
 use Rattle.firmware_api.specs.declared.status.Refusal.TheVariants.{KeptNotAdmissible, TooManyKept}
-use Rattle.firmware_api.specs.Halves.{advert_of, module_refusal}
+use Rattle.firmware_api.specs.Halves.{advert_of, refusal_under}
 
 -- there are more than a plan has, or the module can't carry them together
 abbrev pub kept_refusal : Advertised → List Path → Option Refusal
@@ -31,7 +31,7 @@ refusal_before None later = later
 
 -- refusals of the halves come first
 abbrev pub plan_refusal : List HalfBytes → Conventions → List Path → Option Refusal
-plan_refusal halves conventions kept = refusal_before (module_refusal halves) (kept_refusal (advert_of halves conventions) kept)
+plan_refusal halves conventions kept = refusal_before (refusal_under conventions halves) (kept_refusal (advert_of halves conventions) kept)
 
 -- what stands after the last path
 abbrev pub no_path : Path
@@ -40,9 +40,9 @@ no_path = record { app = 0; host = 0; media = 0 }
 abbrev pub paths_of : List Path → List Path
 paths_of paths = paths ++ replicate (most_paths - length paths) no_path
 
--- what paths weigh, by the weights of host interfaces that C hands over
-abbrev pub path_weights : Advertised → TableWeights → PathWeights
-path_weights advert weights = app_weights advert (weights_of_hosts weights)
+-- what paths weigh, by the weights of host interfaces and of staying that C hands over
+abbrev pub path_weights : Advertised → TableWeights → ℕ → PathWeights
+path_weights advert weights stay = app_weights advert (weights_of_hosts weights stay)
 
 -- these paths, with their weight, the lanes that they take, those that the kept ones leave, and their control bytes
 abbrev pub lane_plan : Advertised → PathWeights → List Path → List Path → LanePlan
@@ -63,5 +63,5 @@ pub record IsPlannedBy (advert : Advertised) (weights : PathWeights) (kept : Lis
   pub plan_is : plan ≡ lane_plan advert weights kept paths
 
 -- the same by the weights that C hands over
-abbrev pub IsPlanned : Advertised → TableWeights → List Path → LanePlan → Type 0
-IsPlanned advert weights kept plan = IsPlannedBy advert (path_weights advert weights) kept plan
+abbrev pub IsPlanned : Advertised → TableWeights → ℕ → List Path → LanePlan → Type 0
+IsPlanned advert weights stay kept plan = IsPlannedBy advert (path_weights advert weights stay) kept plan

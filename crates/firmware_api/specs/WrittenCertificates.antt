@@ -11,13 +11,13 @@ use Rattle.firmware_api.specs.Statuses.{status_by}
 use Rattle.firmware_api.specs.Texts.{text_refusal}
 
 -- the text of the certificate of the first best plan came into the buffer, or the buffer has no room for it and is as it was
-pub record IsTextPut (advert : Advertised) (weights : TableWeights) (kept : List Path) (before after : List ℕ) (len : ℕ) : Type 0 where
+pub record IsTextPut (advert : Advertised) (weights : TableWeights) (stay : ℕ) (kept : List Path) (before after : List ℕ) (len : ℕ) : Type 0 where
   pub text : List ℕ
-  pub is_text : IsPlanText advert (path_weights advert weights) kept text
+  pub is_text : IsPlanText advert (path_weights advert weights stay) kept text
   pub counted : len ≡ length text
   pub buffer : after ≡ buffer_with before text
 
 -- and the status says which
-pub record IsCertificatePut (advert : Advertised) (weights : TableWeights) (kept : List Path) (before : List ℕ) (status : ℕ) (after : List ℕ) (len : ℕ) : Type 0 where
-  pub put : IsTextPut advert weights kept before after len
+pub record IsCertificatePut (advert : Advertised) (weights : TableWeights) (stay : ℕ) (kept : List Path) (before : List ℕ) (status : ℕ) (after : List ℕ) (len : ℕ) : Type 0 where
+  pub put : IsTextPut advert weights stay kept before after len
   pub told : status ≡ status_by (text_refusal (Some put.text) (length before))

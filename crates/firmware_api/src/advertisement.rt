@@ -41,16 +41,17 @@ pub struct Advertisement {
 /// Puts into `advertisement` what the module whose memory has these halves advertises, with the lane counts that it has, or with
 /// those that the interface IDs imply where they are 0, unless `counts_by_id` is 0.
 #[unsafe(no_mangle)]
+#[tactic(auto, unfolding(crate::specs::Halves::refusal_under))]
 pub extern "C" fn dovecounter_advertisement(
     halves: &[HalfBytes],
     counts_by_id: u8,
     advertisement: &mut Advertisement,
 ) -> u32
     ensures status { result ≡ status_by (module_refusal halves.now) }
-    ensures done { result ≡ done → advertisement.new ≡ advertisement_of (advert_of halves.now (conventions_of 0 counts_by_id)) }
+    ensures done { result ≡ done → advertisement.new ≡ advertisement_of (advert_of halves.now (conventions_of 0 counts_by_id 0)) }
     ensures refused { result ≢ done → advertisement.new ≡ advertisement.old }
 {
-    match read_advert_under(conventions_of(0, counts_by_id), halves) {
+    match read_advert_under(conventions_of(0, counts_by_id, 0), halves) {
         Ok(advert) => {
             put_advertisement(&advert, advertisement);
             DONE

@@ -20,15 +20,16 @@ pub extern "C" fn dovecounter_certificate(
     paired: u8,
     counts_by_id: u8,
     weights: &[u32; 256],
+    stay: u32,
     kept: &[Path],
     buffer: &mut [u8],
     text_length: &mut usize,
 ) -> u32
-    ensures { MatchOption (plan_refusal halves.now (conventions_of paired counts_by_id) kept.now)
-        (IsCertificatePut (advert_of halves.now (conventions_of paired counts_by_id)) weights.now kept.now buffer.old result buffer.new text_length.new)
+    ensures { MatchOption (plan_refusal halves.now (conventions_of paired counts_by_id stay) kept.now)
+        (IsCertificatePut (advert_of halves.now (conventions_of paired counts_by_id stay)) weights.now stay kept.now buffer.old result buffer.new text_length.new)
         (λ refusal. (result ≡ status_of refusal) × (buffer.new ≡ buffer.old) × (text_length.new ≡ text_length.old)) }
 {
-    let advert = match read_advert_under(conventions_of(paired, counts_by_id), halves) {
+    let advert = match read_advert_under(conventions_of(paired, counts_by_id, stay), halves) {
         Ok(advert) => advert,
         Err(status) => return status,
     };
@@ -37,15 +38,26 @@ pub extern "C" fn dovecounter_certificate(
         Err(status) => return status,
     };
     let room = buffer.len();
-    *text_length = put_text(&advert, weights, &kept, buffer);
+    *text_length = put_text(&advert, weights, stay, &kept, buffer);
     if room < *text_length { TOO_SMALL } else { DONE }
 }
 
 // Not inlined, or the stack would hold the planner's tables while the advertisement is read.
 #[inline(never)]
-fn put_text(advert: &Advert, weights: &[u32; 256], kept: &Plan, buffer: &mut [u8]) -> usize
+fn put_text(
+    advert: &Advert,
+    weights: &[u32; 256],
+    stay: u32,
+    kept: &Plan,
+    buffer: &mut [u8],
+) -> usize
     requires { IsAdmissible advert.now kept.now }
-    ensures { IsTextPut advert.now weights.now kept.now buffer.old buffer.new result }
+    ensures { IsTextPut advert.now weights.now stay kept.now buffer.old buffer.new result }
 {
-    put_certificate(buffer, advert, &AppWeights::by_host(advert, weights), kept)
+    put_certificate(
+        buffer,
+        advert,
+        &AppWeights::by_host(advert, weights, stay),
+        kept,
+    )
 }

@@ -19,36 +19,44 @@ pub struct Judgement {
 }
 
 /// Puts into `judgement` what the certificate with this text is worth for the module whose memory has these halves, which
-/// pairs first lanes unless `paired` is 0, and whose lane counts of 0 are implied by the interface IDs unless `counts_by_id` is 0.
+/// pairs first lanes unless `paired` is 0, and whose lane counts of 0 are implied by the interface IDs unless `counts_by_id` is 0. A
+/// path that is in the Active Control Set weighs `stay` more; the set is looked at unless that is 0.
 #[unsafe(no_mangle)]
 pub extern "C" fn dovecounter_check(
     halves: &[HalfBytes],
     paired: u8,
     counts_by_id: u8,
     weights: &[u32; 256],
+    stay: u32,
     text: &[u8],
     judgement: &mut Judgement,
 ) -> u32
-    ensures told { IsTold (IsJudged halves.now (conventions_of paired counts_by_id) weights.now text.now) result judgement.new }
-    ensures best { result ≡ done → judgement.new.reason ≡ 0 → IsShownBest halves.now (conventions_of paired counts_by_id) weights.now text.now }
+    ensures told { IsTold (IsJudged halves.now (conventions_of paired counts_by_id stay) weights.now stay text.now) result judgement.new }
+    ensures best { result ≡ done → judgement.new.reason ≡ 0 → IsShownBest halves.now (conventions_of paired counts_by_id stay) weights.now stay text.now }
     ensures refused { result ≢ done → judgement.new ≡ judgement.old }
 {
-    match read_advert_under(conventions_of(paired, counts_by_id), halves) {
-        Ok(advert) => judge(&advert, weights, text, judgement),
+    match read_advert_under(conventions_of(paired, counts_by_id, stay), halves) {
+        Ok(advert) => judge(&advert, weights, stay, text, judgement),
         Err(status) => status,
     }
 }
 
 // Not inlined, or the stack would hold a certificate while the advertisement is read.
 #[inline(never)]
-fn judge(advert: &Advert, weights: &[u32; 256], text: &[u8], judgement: &mut Judgement) -> u32
-    ensures told { IsTold (IsTextJudged advert.now weights.now text.now) result judgement.new }
-    ensures best { result ≡ done → judgement.new.reason ≡ 0 → IsTextShownBest advert.now weights.now text.now }
+fn judge(
+    advert: &Advert,
+    weights: &[u32; 256],
+    stay: u32,
+    text: &[u8],
+    judgement: &mut Judgement,
+) -> u32
+    ensures told { IsTold (IsTextJudged advert.now weights.now stay text.now) result judgement.new }
+    ensures best { result ≡ done → judgement.new.reason ≡ 0 → IsTextShownBest advert.now weights.now stay text.now }
     ensures refused { result ≢ done → judgement.new ≡ judgement.old }
 {
     judge_by(
         advert,
-        &AppWeights::by_host(advert, weights),
+        &AppWeights::by_host(advert, weights, stay),
         text,
         judgement,
     )

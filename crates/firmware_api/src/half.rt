@@ -1,7 +1,7 @@
 ghost use Rattle.std.specs.Prelude.{◌≡◌, ◌≤◌, length, MatchOption, None, Ok, Err};
 ghost use Rattle.std.specs.List.{list_all};
 ghost use Rattle.applications.specs.Advertised.{advertised_by};
-ghost use Rattle.firmware_api.specs.Halves.{advert_of, conventions_of, has_place, key_of, memory_of, module_refusal};
+ghost use Rattle.firmware_api.specs.Halves.{advert_of, conventions_of, has_place, key_of, memory_of, module_refusal, refusal_under};
 ghost use Rattle.firmware_api.specs.SimulatedModules.{half_refusal};
 ghost use Rattle.firmware_api.specs.Statuses.{done, status_by, status_of};
 ghost use Rattle.paged_memory.specs.Images.{most_pages};
@@ -51,13 +51,15 @@ impl HalfBytes {
     }
 }
 
-/// How a host reads what a module advertises, by numbers of which those other than 0 say yes.
-pub fn conventions_of(paired: u8, counts_by_id: u8) -> Conventions
-    ensures { result ≡ conventions_of paired counts_by_id }
+/// How a host reads what a module advertises, by numbers of which those other than 0 say yes: what is active is looked at if staying
+/// weighs something.
+pub fn conventions_of(paired: u8, counts_by_id: u8, stay: u32) -> Conventions
+    ensures { result ≡ conventions_of paired counts_by_id stay }
 {
     Conventions {
         paired: paired != 0,
         counts_by_id: counts_by_id != 0,
+        now: stay != 0,
     }
 }
 
@@ -69,13 +71,14 @@ pub fn read_advert(halves: &[HalfBytes]) -> Result<Advert, u32>
     let as_it_stands = Conventions {
         paired: false,
         counts_by_id: false,
+        now: false,
     };
     read_advert_under(as_it_stands, halves)
 }
 
 /// What it advertises to a host that reads it by these conventions.
 pub fn read_advert_under(conventions: Conventions, halves: &[HalfBytes]) -> Result<Advert, u32>
-    ensures { MatchOption (module_refusal halves.now) (result ≡ Ok (advert_of halves.now conventions))
+    ensures { MatchOption (refusal_under conventions halves.now) (result ≡ Ok (advert_of halves.now conventions))
         (λ refusal. result ≡ Err (status_of refusal)) }
 {
     if halves.len() > MAX_PAGES {

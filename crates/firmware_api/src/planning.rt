@@ -32,21 +32,23 @@ pub struct LanePlan {
 
 /// Puts into `plan`, among the plans that hold the kept paths, the first of those that weigh most for the module whose
 /// memory has these halves, which pairs first lanes unless `paired` is 0, and whose lane counts of 0 are implied by the interface IDs
-/// unless `counts_by_id` is 0. There is a weight for each HostInterfaceID.
+/// unless `counts_by_id` is 0. There is a weight for each HostInterfaceID. A path that is in the Active Control Set weighs `stay` more;
+/// the set is looked at unless that is 0.
 #[unsafe(no_mangle)]
 pub extern "C" fn dovecounter_plan(
     halves: &[HalfBytes],
     paired: u8,
     counts_by_id: u8,
     weights: &[u32; 256],
+    stay: u32,
     kept: &[Path],
     plan: &mut LanePlan,
 ) -> u32
-    ensures status { result ≡ status_by (plan_refusal halves.now (conventions_of paired counts_by_id) kept.now) }
-    ensures done { result ≡ done → IsPlanned (advert_of halves.now (conventions_of paired counts_by_id)) weights.now kept.now plan.new }
+    ensures status { result ≡ status_by (plan_refusal halves.now (conventions_of paired counts_by_id stay) kept.now) }
+    ensures done { result ≡ done → IsPlanned (advert_of halves.now (conventions_of paired counts_by_id stay)) weights.now stay kept.now plan.new }
     ensures refused { result ≢ done → plan.new ≡ plan.old }
 {
-    let advert = match read_advert_under(conventions_of(paired, counts_by_id), halves) {
+    let advert = match read_advert_under(conventions_of(paired, counts_by_id, stay), halves) {
         Ok(advert) => advert,
         Err(status) => return status,
     };
@@ -54,7 +56,7 @@ pub extern "C" fn dovecounter_plan(
         Ok(kept) => kept,
         Err(status) => return status,
     };
-    put_best(&advert, weights, &kept, plan);
+    put_best(&advert, weights, stay, &kept, plan);
     DONE
 }
 
@@ -75,11 +77,16 @@ pub fn kept_plan(advert: &Advert, kept: &[Path]) -> Result<Plan, u32>
 
 // Not inlined, or the stack would hold the planner's tables while the advertisement is read.
 #[inline(never)]
-fn put_best(advert: &Advert, weights: &[u32; 256], kept: &Plan, plan: &mut LanePlan)
+fn put_best(advert: &Advert, weights: &[u32; 256], stay: u32, kept: &Plan, plan: &mut LanePlan)
     requires { IsAdmissible advert.now kept.now }
-    ensures { IsPlanned advert.now weights.now kept.now plan.new }
+    ensures { IsPlanned advert.now weights.now stay kept.now plan.new }
 {
-    put_plan(advert, &AppWeights::by_host(advert, weights), kept, plan);
+    put_plan(
+        advert,
+        &AppWeights::by_host(advert, weights, stay),
+        kept,
+        plan,
+    );
 }
 
 const NO_PATH: Path = Path {

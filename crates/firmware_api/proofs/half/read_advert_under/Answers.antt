@@ -3,11 +3,11 @@ use Rattle.firmware_api.proofs.ModuleRefusals.{no_place, reads, too_many}
 use Rattle.firmware_api.proofs.half.read_advert_under.Goals as goal
 
 pub returns-then-halves-gt-MAX_PAGES : goal.returns-then-halves-gt-MAX_PAGES
-returns-then-halves-gt-MAX_PAGES c = rw (too_many c.args.halves.now c.if-halves-gt-MAX_PAGES.true) refl
+returns-then-halves-gt-MAX_PAGES c = rw (too_many c.args.conventions c.args.halves.now c.if-halves-gt-MAX_PAGES.true) refl
 
 pub returns-then-not-all_have_places : goal.returns-then-not-all_have_places
 returns-then-not-all_have_places c =
-    rw (no_place c.args.halves.now c.if-halves-gt-MAX_PAGES.false (sym c.all_have_places.ensures ∙ c.if-not-all_have_places.true)) refl
+    rw (no_place c.args.conventions c.args.halves.now c.if-halves-gt-MAX_PAGES.false (sym c.all_have_places.ensures ∙ c.if-not-all_have_places.true)) refl
 
 pub returns-in-Ok : goal.returns-in-Ok
 returns-in-Ok c =
