@@ -1,4 +1,4 @@
-ghost use Rattle.std.specs.Prelude.{◌≡◌, Err, MatchOption, MatchResult};
+ghost use Rattle.std.specs.Prelude.{◌≡◌, Err, MatchOption};
 ghost use Rattle.plan_certificate.specs.Plans.{IsAdmissible};
 ghost use Rattle.firmware_api.specs.Halves.{advert_of, conventions_of};
 ghost use Rattle.firmware_api.specs.Plans.{plan_refusal};

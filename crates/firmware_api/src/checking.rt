@@ -1,4 +1,4 @@
-ghost use Rattle.std.specs.Prelude.{◌≡◌, ◌≢◌, IfOk};
+ghost use Rattle.std.specs.Prelude.{◌≡◌, ◌≢◌};
 ghost use Rattle.firmware_api.specs.Checks.{IsJudged, IsShownBest, IsTextJudged, IsTextJudgedBy, IsTextShownBest, IsTextShownBestBy, IsTold, judgement_of, reason_number};
 ghost use Rattle.firmware_api.specs.Halves.{conventions_of};
 ghost use Rattle.firmware_api.specs.Statuses.{done};

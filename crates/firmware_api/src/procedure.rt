@@ -1,4 +1,4 @@
-ghost use Rattle.std.specs.Prelude.{◌≡◌, ◌≢◌, ◌∷◌, [], IfOk, List, MatchOption, Ok, Err, Some, Result, ℕ};
+ghost use Rattle.std.specs.Prelude.{◌≡◌, ◌≢◌, ◌∷◌, [], List, Ok, Err, Some, Result, ℕ};
 ghost use Rattle.field_tables.specs.LaneSets.{lanes_in};
 ghost use Rattle.bus_model.specs.declared.operation.Op.{Op};
 ghost use Rattle.bus_model.specs.declared.operation.Reply.{Reply};
@@ -19,7 +19,7 @@ ghost use Rattle.firmware_api.specs.SavedProcedures.{IsAnswerTold, IsNextTold, I
 ghost use Rattle.firmware_api.specs.KeptProcedures.{next_of};
 ghost use Rattle.firmware_api.specs.Waits.{is_same_fetch, wait_for, wait_number, waits_after};
 ghost use Rattle.firmware_api.specs.Operations.{reply_of};
-ghost use Rattle.firmware_api.specs.Statuses.{done, status_in};
+ghost use Rattle.firmware_api.specs.Statuses.{done};
 
 use crate::kept::Kept;
 use crate::operation::{Operation, reply_of};

@@ -1,4 +1,4 @@
-ghost use Rattle.std.specs.Prelude.{◌≡◌, ◌≢◌, ◌≤◌, ◌<◌, ◌∷◌, [], IfOk, IsTrue, Some, ℕ, length};
+ghost use Rattle.std.specs.Prelude.{◌≡◌, ◌≢◌, ◌≤◌, ◌<◌, ◌∷◌, [], IsTrue, Some, ℕ, length};
 ghost use Rattle.bus_model.specs.declared.operation.Op.{Op};
 ghost use Rattle.bus_model.specs.declared.operation.Reply.{Reply};
 ghost use Rattle.control_sets.specs.Asking.{step_with};
@@ -11,7 +11,7 @@ ghost use Rattle.module_reading.specs.PieceReading as pieces;
 ghost use Rattle.firmware_api.specs.Halves.{has_place, key_of};
 ghost use Rattle.firmware_api.specs.Operations.{reply_of};
 ghost use Rattle.firmware_api.specs.SavedReadings.{HasHalf, IsFit, IsReadAt, IsReadingNextTold, IsReadingReplyTold, asked, is_refusal, piece_for, reading_in, size_refusal};
-ghost use Rattle.firmware_api.specs.Statuses.{done, status_by, status_in};
+ghost use Rattle.firmware_api.specs.Statuses.{done, status_by};
 
 mod numbers;
 

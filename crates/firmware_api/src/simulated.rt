@@ -5,7 +5,6 @@ ghost use Rattle.sim_module.specs.Lanes.{active_bytes};
 ghost use Rattle.sim_module.specs.Record.{moving_of};
 ghost use Rattle.sim_module.specs.SavedModules.{restored};
 ghost use Rattle.sim_module.specs.Ticks.{pinned, ticked};
-ghost use Rattle.firmware_api.specs.Halves.{memory_of};
 ghost use Rattle.firmware_api.specs.SimulatedModules as spec;
 ghost use Rattle.firmware_api.specs.Statuses.{by_status, done, status_by, status_in};
 
