@@ -1,4 +1,4 @@
-ghost use Rattle.std.specs.Prelude.{◌≡◌, ◌≢◌, ◌+◌, ◌≤◌, IsTrue};
+ghost use Rattle.std.specs.Prelude.{◌≡◌, ◌≢◌, ◌+◌, ◌*◌, ◌≤◌, IsTrue};
 ghost use Rattle.field_tables.specs.FieldRows.{row_of};
 ghost use Rattle.field_tables.specs.Readings.{is_of_bytes};
 ghost use Rattle.firmware_api.specs.Halves.{memory_of};
@@ -150,8 +150,8 @@ fn put_cmis_flags(image: &Image, flags: &mut ModuleFlags)
     *flags = NO_FLAGS;
     flags.family = family_number(Family::Cmis);
     flags.state = number(image, Field::CModuleState);
-    flags.temperature = past_limits(image, Field::CModuleFlag, 1);
-    flags.vcc = past_limits(image, Field::CModuleFlag, 5);
+    put_past_limits(image, Field::CModuleFlag, 1, &mut flags.temperature);
+    put_past_limits(image, Field::CModuleFlag, 5, &mut flags.vcc);
     if is_flat(image) {
         return;
     }
@@ -193,8 +193,8 @@ fn put_qsfp_flags(image: &Image, flags: &mut ModuleFlags)
     flags.tx_lol = four_lanes(image, Field::QTxLol);
     flags.rx_los = four_lanes(image, Field::QRxLos);
     flags.rx_lol = four_lanes(image, Field::QRxLol);
-    flags.temperature = past_limits(image, Field::QTempFlag, 1);
-    flags.vcc = past_limits(image, Field::QVccFlag, 1);
+    put_past_limits(image, Field::QTempFlag, 1, &mut flags.temperature);
+    put_past_limits(image, Field::QVccFlag, 1, &mut flags.vcc);
     let tx_power = &mut flags.tx_power;
     tx_power.high_alarm = four_lanes(image, Field::QTxPowerHighAlarm);
     tx_power.low_alarm = four_lanes(image, Field::QTxPowerLowAlarm);
@@ -220,43 +220,63 @@ fn put_sfp_flags(image: &Image, flags: &mut ModuleFlags)
     flags.lanes = 1;
     flags.tx_fault = lane_bit(image, Field::STxFault, 1, 1);
     flags.rx_los = lane_bit(image, Field::SRxLos, 1, 1);
-    flags.temperature = past_pairs(image, Field::SAlarms, Field::SWarnings, 1);
-    flags.vcc = past_pairs(image, Field::SAlarms, Field::SWarnings, 3);
-    flags.tx_power = past_pairs(image, Field::SAlarms, Field::SWarnings, 7);
-    flags.tx_bias = past_pairs(image, Field::SAlarms, Field::SWarnings, 5);
-    flags.rx_power = past_pairs(image, Field::SRxAlarms, Field::SRxWarnings, 1);
+    put_past_pairs(
+        image,
+        Field::SAlarms,
+        Field::SWarnings,
+        1,
+        &mut flags.temperature,
+    );
+    put_past_pairs(image, Field::SAlarms, Field::SWarnings, 3, &mut flags.vcc);
+    put_past_pairs(
+        image,
+        Field::SAlarms,
+        Field::SWarnings,
+        7,
+        &mut flags.tx_power,
+    );
+    put_past_pairs(
+        image,
+        Field::SAlarms,
+        Field::SWarnings,
+        5,
+        &mut flags.tx_bias,
+    );
+    put_past_pairs(
+        image,
+        Field::SRxAlarms,
+        Field::SRxWarnings,
+        1,
+        &mut flags.rx_power,
+    );
 }
 
-// Of the module itself: four flags of a field from the first on.
-fn past_limits(image: &Image, field: Field, first: u8) -> LevelFlags
+// Puts those of the module itself: four flags of a field from the first on.
+fn put_past_limits(image: &Image, field: Field, first: u8, levels: &mut LevelFlags)
     requires bytes { IsTrue (is_of_bytes (row_of field)) }
     requires first { 1 ≤ first }
     requires last { first + 3 ≤ (row_of field).count }
-    ensures { result ≡ spec.past_limits image.now field first }
+    ensures { levels.new ≡ spec.past_limits image.now field first }
 {
-    LevelFlags {
-        high_alarm: lane_bit(image, field, first, 1),
-        low_alarm: lane_bit(image, field, first + 1, 1),
-        high_warning: lane_bit(image, field, first + 2, 1),
-        low_warning: lane_bit(image, field, first + 3, 1),
-    }
+    levels.high_alarm = lane_bit(image, field, first, 1);
+    levels.low_alarm = lane_bit(image, field, first + 1, 1);
+    levels.high_warning = lane_bit(image, field, first + 2, 1);
+    levels.low_warning = lane_bit(image, field, first + 3, 1);
 }
 
-// Of the module, or of its one lane: two flags of a field of alarms and of one of warnings.
-fn past_pairs(image: &Image, alarms: Field, warnings: Field, first: u8) -> LevelFlags
+// Puts those of the module, or of its one lane: two flags of a field of alarms and of one of warnings.
+fn put_past_pairs(image: &Image, alarms: Field, warnings: Field, first: u8, levels: &mut LevelFlags)
     requires alarms { IsTrue (is_of_bytes (row_of alarms)) }
     requires warnings { IsTrue (is_of_bytes (row_of warnings)) }
     requires first { 1 ≤ first }
     requires last_alarm { first + 1 ≤ (row_of alarms).count }
     requires last_warning { first + 1 ≤ (row_of warnings).count }
-    ensures { result ≡ spec.past_pairs image.now alarms warnings first }
+    ensures { levels.new ≡ spec.past_pairs image.now alarms warnings first }
 {
-    LevelFlags {
-        high_alarm: lane_bit(image, alarms, first, 1),
-        low_alarm: lane_bit(image, alarms, first + 1, 1),
-        high_warning: lane_bit(image, warnings, first, 1),
-        low_warning: lane_bit(image, warnings, first + 1, 1),
-    }
+    levels.high_alarm = lane_bit(image, alarms, first, 1);
+    levels.low_alarm = lane_bit(image, alarms, first + 1, 1);
+    levels.high_warning = lane_bit(image, warnings, first, 1);
+    levels.low_warning = lane_bit(image, warnings, first + 1, 1);
 }
 
 fn four_lanes(image: &Image, field: Field) -> u8
@@ -265,10 +285,7 @@ fn four_lanes(image: &Image, field: Field) -> u8
     ensures value { result ≡ spec.four_lanes image.now field }
     ensures low { result ≤ 15 }
 {
-    lane_bit(image, field, 1, 1)
-        + lane_bit(image, field, 2, 2)
-        + lane_bit(image, field, 3, 4)
-        + lane_bit(image, field, 4, 8)
+    lane_bits(image, field, 1, 1)
 }
 
 fn eight_lanes(image: &Image, field: Field) -> u8
@@ -276,11 +293,23 @@ fn eight_lanes(image: &Image, field: Field) -> u8
     requires lanes { 8 ≤ (row_of field).count }
     ensures { result ≡ spec.eight_lanes image.now field }
 {
-    four_lanes(image, field)
-        + lane_bit(image, field, 5, 16)
-        + lane_bit(image, field, 6, 32)
-        + lane_bit(image, field, 7, 64)
-        + lane_bit(image, field, 8, 128)
+    lane_bits(image, field, 1, 1) + lane_bits(image, field, 5, 16)
+}
+
+// Four lanes from the first on, of which that has this weight, and each other one twice that of the one before.
+fn lane_bits(image: &Image, field: Field, first: u8, weight: u8) -> u8
+    requires bytes { IsTrue (is_of_bytes (row_of field)) }
+    requires first { 1 ≤ first }
+    requires last { first + 3 ≤ (row_of field).count }
+    requires weight { weight ≤ 16 }
+    ensures value { result ≡ spec.lane_bit image.now field first weight + spec.lane_bit image.now field (first + 1) (2 * weight)
+        + spec.lane_bit image.now field (first + 2) (4 * weight) + spec.lane_bit image.now field (first + 3) (8 * weight) }
+    ensures low { result ≤ 15 * weight }
+{
+    lane_bit(image, field, first, weight)
+        + lane_bit(image, field, first + 1, 2 * weight)
+        + lane_bit(image, field, first + 2, 4 * weight)
+        + lane_bit(image, field, first + 3, 8 * weight)
 }
 
 fn lane_bit(image: &Image, field: Field, index: u8, weight: u8) -> u8
