@@ -21,7 +21,7 @@
 extern "C" {
 #endif
 
-#define DOVECOUNTER_VERSION 5
+#define DOVECOUNTER_VERSION 6
 
 /* What a function answers. On any status but DOVECOUNTER_DONE it has written nothing, with two exceptions:
    dovecounter_certificate writes the text's length if the buffer is too small for it, and dovecounter_weights the
@@ -425,10 +425,10 @@ uint32_t dovecounter_check(const struct dovecounter_half *halves, size_t half_co
 
 /* Writes to the buffer the text of the certificate of the plan that dovecounter_plan gives for the same arguments:
    what the command plan of cmisctl prints, with --keep if paths are kept, with --paired if `paired` is not 0, with
-   --counts-by-id if `counts_by_id` is not 0 and with --now if `stay` is not 0, byte for byte, with the end of its last line and without a NUL. Writes
-   to *text_length how many bytes the text has, also if the buffer is too small; the buffer stays as it is then. The
-   bytes of the buffer after the text stay, too. dovecounter_check judges the certificate good for the same `paired`,
-   `counts_by_id` and `stay`.
+   --counts-by-id if `counts_by_id` is not 0 and with --now if `stay` is not 0, byte for byte, with the end of its last
+   line and without a NUL. Writes to *text_length how many bytes the text has, also if the buffer is too small; the
+   buffer stays as it is then. The bytes of the buffer after the text stay, too. dovecounter_check judges the
+   certificate good for the same `paired`, `counts_by_id` and `stay`.
 
    status   if
    1, 2     there are more than 16 halves, or one has no place

@@ -24,7 +24,7 @@ from ctypes import (
 )
 from typing import Any, Callable, Dict, List, Tuple
 
-VERSION = 5  # DOVECOUNTER_VERSION
+VERSION = 6  # DOVECOUNTER_VERSION
 TEXT_SIZE = 256  # DOVECOUNTER_TEXT_SIZE
 FILE = f"libdovecounter.so.{VERSION}"
 
