@@ -14,7 +14,8 @@ use Rattle.command_line.specs.declared.choice.part.Part.TheVariants.{Image, Weig
 abbrev pub lines_told : Part → List Text
 lines_told Image = codes "the image text of a module" ∷ []
 lines_told Weights =
-    codes "then, after a line '---', weights: '[host]', then lines such as '0Dh = 101', by HostInterfaceID"
+    codes "then, after a line '---', weights: '[host]', then lines such as '0Dh = 101', by HostInterfaceID;"
+    ∷ codes "  there may be '[media]', by MediaInterfaceID, '[app]', by number, and 'stay = 50' above all"
     ∷ []
 lines_told Kept =
     codes "with --keep then, after a line '---', data paths to keep: lines such as 'keep 2 3 2',"

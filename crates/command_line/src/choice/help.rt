@@ -21,7 +21,9 @@ macro_rules! end {
     };
     ([weights $($more:ident)*] [$($text:literal)*] $($rest:tt)*) => {
         end!([$($more)*]
-            [$($text)* "then, after a line '---', weights: '[host]', then lines such as '0Dh = 101', by HostInterfaceID"] $($rest)*)
+            [$($text)* "then, after a line '---', weights: '[host]', then lines such as '0Dh = 101', by HostInterfaceID;"
+                "  there may be '[media]', by MediaInterfaceID, '[app]', by number, and 'stay = 50' above all"]
+            $($rest)*)
     };
     ([kept $($more:ident)*] [$($text:literal)*] $($rest:tt)*) => {
         end!([$($more)*]

@@ -15,7 +15,7 @@ pub struct Warnings {
     unknown_media: [bool; 256],
     /// The same by the number of an Application.
     unknown_apps: [bool; 256],
-    /// Staying weighs something, and no data path is known to be active.
+    /// Staying weighs something, and no data path is known to be in the Active Control Set.
     stays_unused: bool,
     has_no_paths: bool,
 }
@@ -51,7 +51,7 @@ impl Warnings {
     }
 }
 
-// Whether the weight of staying counts for nothing, as no data path is known to be active.
+// Whether the weight of staying counts for nothing, as no data path is known to be in the Active Control Set.
 fn stays_unused(advert: &Advert, weights: &Weights) -> bool
     ensures { result ≡ stays_unused advert.now weights.now }
 {
@@ -131,7 +131,7 @@ impl fmt::Display for Warnings {
         if self.stays_unused {
             writeln!(
                 f,
-                "cmisctl: key stay: no data path is known to be active, so the weight of staying counts for nothing; '--now' looks at those of the image's Active Control Set"
+                "cmisctl: key stay: no data path is known to be in the Active Control Set, so the weight of staying counts for nothing; '--now' looks at that of the image"
             )?;
         }
         if self.has_no_paths {
