@@ -1,6 +1,6 @@
 -- Readings of a module's memory whose numbers C keeps: what they ask for, and what becomes of them. (docs/firmware.md, "Reading a
 -- module"; this project's own)
-use Rattle.std.specs.Prelude.{◌≡◌, ◌==◌, ◌&&◌, ◌≤◌, ◌*◌, ◌/◌, nat_le, nat_lt, ℕ, Bool, not, IsTrue, List, [], ◌∷◌, take, Option, Some, None, if◌then◌else◌}
+use Rattle.std.specs.Prelude.{◌≡◌, ◌⊎◌, ◌==◌, ◌&&◌, ◌≤◌, ◌*◌, ◌/◌, nat_le, nat_lt, ℕ, Bool, not, IsTrue, List, [], ◌∷◌, take, Option, Some, None, if◌then◌else◌}
 use Rattle.std.specs.FinMap as map
 use Rattle.std.specs.List.{list_all}
 use Rattle.std.specs.Option.{option_map}
@@ -36,6 +36,10 @@ piece_for most = 8 * ((if nat_lt most 128 then most else 128) / 8)
 -- the halves that were read, the newest first
 abbrev pub halves_in : SavedReading → List HalfBytes
 halves_in saved = take saved.count saved.halves
+
+-- the halves are those that were there, and a new one before them if there is one
+abbrev pub HasInFront : List HalfBytes → List HalfBytes → Type 0
+HasInFront before after = (after ≡ before) ⊎ ((half : HalfBytes) × (after ≡ half ∷ before))
 
 -- what stands in each reading: DCR1, in ASCII
 abbrev pub reading_magic : ℕ

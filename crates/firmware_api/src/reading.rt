@@ -10,7 +10,7 @@ ghost use Rattle.module_reading.specs.JoinedPieces.{HasJoinedOutcome};
 ghost use Rattle.module_reading.specs.PieceReading as pieces;
 ghost use Rattle.firmware_api.specs.Halves.{has_place, key_of};
 ghost use Rattle.firmware_api.specs.Operations.{reply_of};
-ghost use Rattle.firmware_api.specs.SavedReadings.{HasHalf, IsFit, IsReadAt, IsReadingNextTold, IsReadingReplyTold, asked, is_refusal, piece_for, reading_in, size_refusal};
+ghost use Rattle.firmware_api.specs.SavedReadings.{HasHalf, HasInFront, IsFit, IsReadAt, IsReadingNextTold, IsReadingReplyTold, asked, halves_in, is_refusal, piece_for, reading_in, size_refusal};
 ghost use Rattle.firmware_api.specs.Statuses.{done, status_by};
 
 mod numbers;
@@ -31,6 +31,7 @@ use paged_memory::{Key, PAGE_LEN};
 pub extern "C" fn dovecounter_read(most: u8, reading: &mut SavedReading) -> u32
     ensures status { result ≡ status_by (size_refusal most) }
     ensures begun { result ≡ done → IsReadAt (piece_for most) [] reading.new }
+    ensures halves { result ≡ done → halves_in reading.new ≡ [] }
     ensures refused { result ≢ done → reading.new ≡ reading.old }
 {
     if most < 8 {
@@ -76,6 +77,7 @@ pub extern "C" fn dovecounter_read_reply(reading: &mut SavedReading, reply: u8, 
     ensures taken { result ≡ done → (piece : ℕ) (history : History) (op : Op) (made : Reply) →
         IsReadAt piece history reading.old → asked reading.old ≡ Some (nexts.Do op) →
         reply_of reply bytes.now ≡ Some made → IsReadAt piece (step_with op made ∷ history) reading.new }
+    ensures halves { result ≡ done → HasInFront (halves_in reading.old) (halves_in reading.new) }
     ensures refused { result ≢ done → reading.new ≡ reading.old }
 {
     let Some(mut read) = restore(reading) else {
@@ -100,6 +102,7 @@ fn put_after(read: &mut PieceReading, reply: &Reply, reading: &mut SavedReading)
     ensures after { reading_in reading.new ≡ Some (pieces.after read.old reply.now) }
     ensures wait { reading.new.wait ≡ is_refusal reply.now }
     ensures answers { IsReplyTo (pieces.next read.old) reply.now }
+    ensures halves { HasInFront (halves_in reading.old) (halves_in reading.new) }
 {
     let half = half_by(read, reply);
     read.take(reply);

@@ -1,5 +1,5 @@
 // A reading as plain numbers: from a reading its numbers, and from them the reading.
-ghost use Rattle.std.specs.Prelude.{◌≡◌, ◌≤◌, ◌<◌, IfSome, IsTrue, Some, length, take};
+ghost use Rattle.std.specs.Prelude.{◌≡◌, ◌≤◌, ◌<◌, ◌∷◌, [], IfSome, IsTrue, Some, length, take};
 ghost use Rattle.std.specs.FinMap as map;
 ghost use Rattle.std.specs.List.{list_all};
 ghost use Rattle.control_sets.specs.SavedNumbers.{selected_numbered};
@@ -79,6 +79,7 @@ pub fn put_begun(piece: u8, saved: &mut SavedReading)
     requires { 0 < piece }
     ensures same { reading_in saved.new ≡ Some (pieces.begun piece) }
     ensures wait { saved.new.wait ≡ 0 }
+    ensures halves { halves_in saved.new ≡ [] }
 {
     *saved = NO_READING;
     saved.magic = READING;
@@ -90,6 +91,7 @@ pub fn put_without_half(read: &PieceReading, wait: bool, saved: &mut SavedReadin
     requires fit { IsFit saved.old read.now }
     ensures same { reading_in saved.new ≡ Some read.now }
     ensures wait { saved.new.wait ≡ wait_number wait }
+    ensures halves { halves_in saved.new ≡ halves_in saved.old }
 {
     put_numbers(read, wait, saved);
 }
@@ -104,6 +106,7 @@ pub fn put_with_half(read: &PieceReading, wait: bool, half: HalfBytes, saved: &m
     requires size { HasSize read.now }
     ensures same { reading_in saved.new ≡ Some read.now }
     ensures wait { saved.new.wait ≡ wait_number wait }
+    ensures halves { halves_in saved.new ≡ half ∷ halves_in saved.old }
 {
     let mut halves = [half; MAX_READ];
     halves[1..].copy_from_slice(&saved.halves[..4]);
@@ -122,6 +125,7 @@ fn put_numbers(read: &PieceReading, wait: bool, saved: &mut SavedReading)
     requires image { read.now.reading.image ≡ memory_of (halves_in saved.old) }
     ensures same { reading_in saved.new ≡ Some read.now }
     ensures wait { saved.new.wait ≡ wait_number wait }
+    ensures halves { halves_in saved.new ≡ halves_in saved.old }
 {
     let (selection, page) = numbers_of_selected(read.reading.selected);
     saved.magic = READING;

@@ -20,3 +20,9 @@ put_numbers-requires-clause-image c =
     let before = c.args.saved.now in
     c.requires.image ∙ grows c.args.half (take before.count before.halves)
     ∙ ap memory_of (sym (front c.args.half c.copy_from_slice.new.self before.halves before.count c.copy_from_slice.ensures.after (few c.requires.count c.requires.settled)))
+
+pub returns-clause-halves : goal.returns-clause-halves
+returns-clause-halves c =
+    let before = c.args.saved.now in
+    c.put_numbers.ensures.halves
+    ∙ front c.args.half c.copy_from_slice.new.self before.halves before.count c.copy_from_slice.ensures.after (few c.requires.count c.requires.settled)
