@@ -7,3 +7,5 @@ mod Padding
 mod HeldModules
 mod ReadingLaws
 mod RefusalTexts
+mod ShortTexts
+mod DecodersRefuse
