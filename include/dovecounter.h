@@ -94,7 +94,7 @@ enum dovecounter_status {
     DOVECOUNTER_NO_HOST_LINE = 92     /* WT2: there is no line `[host]` */
 };
 
-/* No text of the four functions below is longer (tested). */
+/* No text of the four functions below is longer. */
 #define DOVECOUNTER_TEXT_SIZE 256
 
 /* Writes to the buffer what a status means and what to do: ASCII, without an end of line and without a NUL. Writes to
@@ -574,7 +574,7 @@ struct dovecounter_reading {
     uint8_t read;
     uint8_t wait;
     uint8_t count;                     /* how many halves were read */
-    struct dovecounter_half halves[5]; /* those, the newest first (tested) */
+    struct dovecounter_half halves[5]; /* those, the newest first */
     uint8_t part[128];
 };
 
