@@ -111,6 +111,12 @@ def functions_proved(name, said):
     return set(told)
 
 
+def renamed(proof, function, twin):
+    """A function's proof as that of its twin."""
+    proof = proof.replace(f".proofs.{function.replace('::', '.')}.", f".proofs.{twin.replace('::', '.')}.")
+    return re.sub(rf"\b{function.rpartition('::')[2]}_spec\b", f"{twin.rpartition('::')[2]}_spec", proof)
+
+
 class Copy:
     """A copy of a crate in a scratch folder, and its functions by the paths that a check has for them."""
 
@@ -143,15 +149,17 @@ class Copy:
         with open(f"{folder}/Proof.antt", "w", encoding="utf-8") as file:
             file.write(OPEN_PROOF.format(crate=self.name, path=function.replace("::", "."), name=function.rpartition("::")[2]))
 
-    def give_proof(self, function):
-        """Has a function proved as the crate proves it."""
-        if not self.has_own_proof(function):
+    def give_proof(self, function, of):
+        """Has a function proved as the crate proves it, or a twin as the crate proves the function whose twin it is."""
+        if not self.has_own_proof(of):
             return
-        place = f"proofs/{function.replace('::', '/')}"
-        self.remove_proof(f"{self.folder}/{place}")
+        place, folder = f"{ROOT}/crates/{self.name}/proofs/{of.replace('::', '/')}", f"{self.folder}/proofs/{function.replace('::', '/')}"
+        self.remove_proof(folder)
         for it in PROOF_FILES:
-            if os.path.isfile(f"{ROOT}/crates/{self.name}/{place}/{it}"):
-                shutil.copy(f"{ROOT}/crates/{self.name}/{place}/{it}", f"{self.folder}/{place}")
+            if os.path.isfile(f"{place}/{it}"):
+                os.makedirs(folder, exist_ok=True)
+                with open(f"{folder}/{it}", "w", encoding="utf-8") as file:
+                    file.write(renamed(read(f"{place}/{it}"), of, function))
 
     @staticmethod
     def remove_proof(folder):
@@ -164,16 +172,19 @@ class Copy:
             with open(f"{self.folder}/{path}", "w", encoding="utf-8") as file:
                 file.write(text)
 
-    def check(self, texts, functions):
-        """What a check says of these functions with these files in the place of the crate's own; None if it does not read them."""
+    def check(self, texts, functions, twins):
+        """What a check says of these functions with these files in the place of the crate's own; None if it does not read them. Of a twin
+        it is given whose twin it is."""
         for it in functions:
-            self.give_proof(it)
+            self.give_proof(it, twins.get(it, it))
         own = {path: read(f"{self.folder}/{path}") for path in texts}
         self.write(texts)
         said = self.said(["--allow-holes", *(word for it in sorted(functions) for word in ("--only", it))])
         self.write(own)
-        for it in functions:
+        for it in functions - twins.keys():
             self.leave_open(it)
+        for it in twins:
+            shutil.rmtree(f"{self.folder}/proofs/{it.replace('::', '/')}", ignore_errors=True)
         if re.search(r"^(\./)?(src|specs)/\S+:\d+:\d+: error(\[|: [^`])", said, re.M):
             return None
         broken = re.search(r"^\./proofs/\S+/Proof\.antt:\d+:\d+: error.*$", said, re.M)

@@ -69,12 +69,14 @@ def outside_of_bodies(text, functions):
     return [text[places[i]:places[i + 1]] for i in range(0, len(places), 2)]
 
 
-def with_bodies(text, bodies):
-    """The text with other bodies in the place of its own, given by the functions' places."""
-    functions = functions_of(text)
-    for place in sorted(bodies, reverse=True):
-        text = text[:functions[place].begin] + bodies[place] + text[functions[place].end:]
-    return text
+def twin_of(text, function, name, body):
+    """A function once more, with what stands right above it, under another name and with another body."""
+    lines, above = text[:function.header].split("\n"), 0
+    while re.match(r" *(#\[|///)", lines[-2 - above]):
+        above += 1
+    begin = function.header - sum(len(it) + 1 for it in lines[len(lines) - 1 - above:-1])
+    head = re.sub(rf"\bfn {function.name}\b", f"fn {name}", text[begin:function.begin], count=1)
+    return f"\n\n{head}{body}"
 
 
 def changed_bodies(before, after):

@@ -2,7 +2,7 @@
 import os
 import re
 import time
-from functions import ROOT, BadEdit, edit_of, functions_of, read, sources, with_bodies
+from functions import ROOT, BadEdit, edit_of, functions_of, read, sources, twin_of
 
 REFUSED, PROVED, WAITS, UNREADABLE, NAMES = "refused", "proved", "waits", "does not compile", "refused for a name alone"
 
@@ -80,50 +80,116 @@ def verdict_of(said, function, path, lines, is_alone):
     return REFUSED if any(it == "not proved" or is_alone and it.startswith("not proved") for it in told) else WAITS
 
 
-def judged(crate, edit, said, texts, is_alone):
+class Round:
+    """Edits that are tried under one check. Of those that change the same function the first changes it in its place, and each other a
+    twin of it: the same function once more, under another name, which the same answers have to prove."""
+
+    def __init__(self, crate):
+        self.crate, self.edits, self.bodies, self.twins = crate, [], {}, {}
+
+    def take(self, edit):
+        """Takes an edit if it can be tried with those that are taken."""
+        if edit.by or self.edits and self.edits[0].by:
+            taken = not self.edits
+        elif not edit.bodies.keys() & self.bodies.keys():
+            taken = True
+            self.bodies.update(edit.bodies)
+        else:
+            taken = self.take_twin(edit)
+        if taken:
+            self.edits.append(edit)
+        return taken
+
+    def take_twin(self, edit):
+        """Takes an edit of one function that may have a twin: one with a proof of its own that is of no trait and does not call itself."""
+        if len(edit.bodies) > 1:
+            return False
+        [((path, place), body)] = edit.bodies.items()
+        text = read(f"{self.crate.copy.folder}/{path}")
+        function = functions_of(text)[place]
+        if function.trait or re.search(rf"\b{function.name}\(", text[function.begin:function.end]):
+            return False
+        if not self.crate.copy.has_own_proof(judges_of(self.crate, edit)[0][0]):
+            return False
+        self.twins.setdefault((path, place), []).append((edit, body))
+        return True
+
+    def texts(self, is_right):
+        """The crate's files with what these edits change, or with the twins that they need alone. An edit that changes more than bodies
+        stands alone."""
+        if self.edits[0].by:
+            return {} if is_right else self.edits[0].texts
+        texts = {}
+        for path in {it for it, _ in [*self.bodies, *self.twins]}:
+            text = read(f"{self.crate.copy.folder}/{path}")
+            functions = functions_of(text)
+            for place in range(len(functions) - 1, -1, -1):
+                function = functions[place]
+                own = text[function.begin:function.end]
+                body = own if is_right else self.bodies.get((path, place), own)
+                twins = [
+                    twin_of(text, function, twin_name(function.name, number), own if is_right else wrong)
+                    for number, (_, wrong) in enumerate(self.twins.get((path, place), []))
+                ]
+                text = text[:function.begin] + body + "".join(twins) + text[function.end:]
+            texts[path] = text
+        return texts
+
+    def judges(self, edit):
+        """The functions that judge an edit, by their paths, each with its file and the name and the place that it has there."""
+        judges = judges_of(self.crate, edit)
+        for (path, place), twins in self.twins.items():
+            number = next((it for it, (twin, _) in enumerate(twins) if twin is edit), None)
+            if number is not None:
+                name = judges[0][0]
+                return [(twin_name(name, number), path, place, number + 1)]
+        return [(name, path, place, 0) for name, path, place in judges]
+
+    def place_in(self, path, place, number):
+        """Which function of a changed file it is, since twins stand after the function whose twins they are."""
+        return place + number + sum(len(them) for (file, of), them in self.twins.items() if file == path and of < place)
+
+    def said(self, texts):
+        """What a check says of the functions that judge these edits, with these files."""
+        twins = {name: judges_of(self.crate, it)[0][0] for it in self.edits for name, _, _, number in self.judges(it) if number}
+        return self.crate.copy.check(texts, {name for it in self.edits for name, _, _, _ in self.judges(it)}, twins)
+
+
+def twin_name(name, number):
+    return f"{name}_twin{number + 1}"
+
+
+def judged(crate, tried, edit, said, texts):
     """What a check says of an edit: it is refused if one of the functions that judge it is, and proved if all are."""
     verdicts = set()
-    for name, path, place in judges_of(crate, edit):
+    for name, path, place, number in tried.judges(edit):
         text = texts.get(path) or read(f"{crate.copy.folder}/{path}")
-        function = functions_of(text)[place]
+        function = functions_of(text)[tried.place_in(path, place, number)]
         first, last = (text.count("\n", 0, it) + 1 for it in (function.header, function.end))
-        verdicts.add(verdict_of(said, name, path, range(first, last + 1), is_alone))
+        verdicts.add(verdict_of(said, name, path, range(first, last + 1), len(tried.edits) == 1))
     return next((it for it in (REFUSED, NAMES) if it in verdicts), PROVED if verdicts == {PROVED} else WAITS)
 
 
-def texts_of(crate, edits):
-    """The crate's files with what these edits change; an edit that changes more than bodies stands alone."""
-    if any(it.by for it in edits):
-        return edits[0].texts
-    bodies = {}
-    for edit in edits:
-        for (path, place), body in edit.bodies.items():
-            bodies.setdefault(path, {})[place] = body
-    return {path: with_bodies(read(f"{crate.copy.folder}/{path}"), them) for path, them in bodies.items()}
-
-
 def judge_together(crate, edits):
-    """Tries edits of different functions under one check, or parted if that does not read them."""
-    texts = texts_of(crate, edits)
-    said = crate.copy.check(texts, {name for it in edits for name, _, _ in judges_of(crate, it)})
+    """Tries edits under one check, or parted if that does not read them, or if one of them can't be tried with the others."""
+    tried = Round(crate)
+    left = [it for it in edits if not tried.take(it)]
+    texts = tried.texts(False)
+    said = tried.said(texts)
     if said is not None:
-        return {it.name: judged(crate, it, said, texts, len(edits) == 1) for it in edits}
-    if len(edits) == 1:
-        return {edits[0].name: UNREADABLE}
-    half = len(edits) // 2
-    return {**judge_together(crate, edits[:half]), **judge_together(crate, edits[half:])}
+        shown = {it.name: judged(crate, tried, it, said, texts) for it in tried.edits}
+    elif len(tried.edits) == 1:
+        shown = {edits[0].name: UNREADABLE}
+    else:
+        half = len(tried.edits) // 2
+        shown = {**judge_together(crate, tried.edits[:half]), **judge_together(crate, tried.edits[half:])}
+    return {**shown, **(judge_together(crate, left) if left else {})}
 
 
-def next_round(edits):
-    """As many edits as there are that change different functions; one alone if it changes more than bodies."""
-    if edits[0].by:
-        return edits[:1]
-    taken, chosen = set(), []
-    for it in edits:
-        if not it.by and not taken & it.bodies.keys():
-            chosen.append(it)
-            taken |= it.bodies.keys()
-    return chosen
+def next_round(crate, edits):
+    """As many edits as can be tried together; one alone if it changes more than bodies."""
+    tried = Round(crate)
+    return [it for it in edits if tried.take(it)]
 
 
 def try_in_rounds(crate, edits):
@@ -131,7 +197,7 @@ def try_in_rounds(crate, edits):
     number, alone = 0, []
     while edits or alone:
         number += 1
-        chosen = next_round(edits) if edits else alone[:1]
+        chosen = next_round(crate, edits) if edits else alone[:1]
         shown = judge_together(crate, chosen)
         waiting = [it for it in chosen if shown[it.name] == WAITS and len(chosen) > 1]
         crate.verdicts.update({name: it for name, it in shown.items() if it != WAITS or len(chosen) == 1})
@@ -158,10 +224,13 @@ def read_edits(crate):
 
 
 def try_right(crate, edits):
-    """Tries the functions that judge edits as they stand."""
-    judges = {name for it in edits for name, _, _ in judges_of(crate, it)}
-    said = crate.copy.check({}, judges) or ""
-    for it in sorted(judges):
-        found = verdict_of(said, it, "", range(0), False)
-        crate.verdicts[it] = REFUSED if found == PROVED else f"is not let through as it stands ({found})"
-    crate.say(f"{len(judges)} functions as they stand")
+    """Tries the functions that judge edits, and the twins that these need, as they stand."""
+    while edits:
+        tried = Round(crate)
+        left = [it for it in edits if not tried.take(it)]
+        said = tried.said(tried.texts(True)) or ""
+        for name in sorted({name for it in tried.edits for name, _, _, _ in tried.judges(it)}):
+            found = verdict_of(said, name, "", range(0), False)
+            crate.verdicts[name] = REFUSED if found == PROVED else f"is not let through as it stands ({found})"
+        edits = left
+    crate.say(f"{len(crate.verdicts)} functions as they stand")
