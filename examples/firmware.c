@@ -107,17 +107,20 @@ static uint8_t transact(struct module *module, const struct dovecounter_operatio
     return operation->kind == DOVECOUNTER_STORE ? DOVECOUNTER_STORED : DOVECOUNTER_FETCHED;
 }
 
-/* Does what the procedure asks for until it has ended; answers the digit of its fault, 0 for success. */
+enum { NO_ANSWER = 255 };
+
+/* Does what the procedure asks for until it has ended; answers the digit of its fault, 0 for success, or NO_ANSWER if the bus said what
+   the operation can't have. This module follows at once: on a real one pause before an operation whose `wait` is 1, as main_loop.c does. */
 static uint8_t carry_out(struct module *module, struct dovecounter_procedure *procedure) {
     struct dovecounter_operation operation;
     struct dovecounter_answer answer;
     while (dovecounter_next(procedure, &operation) == DOVECOUNTER_DONE) {
         uint8_t bytes[8];
         uint8_t outcome = transact(module, &operation, bytes);
-        dovecounter_reply(procedure, outcome, bytes, outcome == DOVECOUNTER_FETCHED ? operation.count : 0);
+        size_t count = outcome == DOVECOUNTER_FETCHED ? operation.count : 0;
+        if (dovecounter_reply(procedure, outcome, bytes, count) != DOVECOUNTER_DONE) break;
     }
-    dovecounter_answer(procedure, &answer);
-    return answer.fault.code;
+    return dovecounter_answer(procedure, &answer) == DOVECOUNTER_DONE ? answer.fault.code : NO_ANSWER;
 }
 
 static void print_plan(const struct dovecounter_plan *plan) {

@@ -1,9 +1,10 @@
 /* The part of a firmware's main loop that puts a plan into the Active Control Set and brings its data paths up. It never waits: the
-   bus tells by an interrupt that a transaction is over, and the main loop calls `poll` as often as it comes by.
+   bus tells by an interrupt that a transaction is over, and the main loop calls `poll_module` as often as it comes by.
 
    The board has i2c_start and milliseconds, its interrupt calls i2c_over, and nobody else uses the module meanwhile. */
 #include "dovecounter.h"
 
+#include <stdatomic.h>
 #include <stdbool.h>
 #include <string.h>
 
@@ -17,7 +18,10 @@ uint32_t milliseconds(void);
 /* An operation whose member `wait` is 1 comes after a pause: a state is awaited, or the bus refused. PAUSE is the shortest, in
    milliseconds: the 4096 operations of a procedure then last almost seven minutes. If the module may take longer for a state, pauses
    are longer, but LONGEST_PAUSE at most. */
-enum { PAUSE = 100, LONGEST_PAUSE = 1000, MOST_BEGINNINGS = 3 };
+enum { PAUSE = 100, LONGEST_PAUSE = 1000 };
+
+/* How often a stage is begun, with at least so many milliseconds before it is begun again. */
+enum { MOST_BEGINNINGS = 3, BEFORE_AGAIN = 500 };
 
 enum stage { IDLE, PROVISIONING, ACTIVATING, UP, FAILED };
 
@@ -29,9 +33,10 @@ static uint32_t module_pause = PAUSE;
 static uint8_t bytes[8];               /* of a fetch */
 static unsigned beginnings;            /* of this stage */
 static uint32_t ended_at;              /* when the last transaction was over */
+static bool rests;                     /* a stage is begun again, after a pause */
 static bool under_way;                 /* a transaction is */
-static volatile bool over;             /* set by the interrupt, */
-static volatile uint8_t outcome;       /* with what came of the transaction */
+static atomic_bool over;               /* set by the interrupt, which may run on another processor, */
+static uint8_t outcome;                /* once it has written what came of the transaction */
 static struct dovecounter_fault fault; /* why it failed, */
 static uint32_t status;                /* or the status of the call that failed */
 
@@ -42,7 +47,8 @@ void i2c_over(uint8_t what) {
 }
 
 static void begin(enum stage wanted) {
-    beginnings = wanted == stage ? beginnings + 1 : 1;
+    rests = wanted == stage;
+    beginnings = rests ? beginnings + 1 : 1;
     stage = wanted;
     if (wanted == PROVISIONING)
         dovecounter_provision(plan.control, plan.outside, &procedure);
@@ -72,7 +78,7 @@ bool carry_out(const struct dovecounter_plan *wanted, const struct dovecounter_d
 }
 
 /* The procedure has ended. After PV4 the module may only have been slow, and after PV3 it may have told of an earlier apply; so the
-   procedure is begun again. */
+   procedure is begun again, after a pause. */
 static void end(void) {
     struct dovecounter_answer answer;
     status = dovecounter_answer(&procedure, &answer);
@@ -90,6 +96,10 @@ static void end(void) {
     }
 }
 
+static uint32_t pause_before(const struct dovecounter_operation *next) {
+    return rests ? BEFORE_AGAIN : next->wait != 0 ? module_pause : 0;
+}
+
 /* Starts the next transaction, unless it has to wait or there is none. */
 static void go_on(void) {
     struct dovecounter_operation next;
@@ -98,7 +108,8 @@ static void go_on(void) {
         end();
     } else if (status != DOVECOUNTER_DONE) {
         stage = FAILED;
-    } else if (next.wait == 0 || milliseconds() - ended_at >= module_pause) {
+    } else if (milliseconds() - ended_at >= pause_before(&next)) {
+        rests = false;
         operation = next;
         over = false;
         under_way = true;
@@ -107,7 +118,7 @@ static void go_on(void) {
 }
 
 /* Called by the main loop; says how far it has come. */
-enum stage poll(void) {
+enum stage poll_module(void) {
     if (stage != PROVISIONING && stage != ACTIVATING) return stage;
     if (under_way && !over) return stage;
     if (under_way) {

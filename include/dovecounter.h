@@ -513,7 +513,8 @@ enum dovecounter_kind { DOVECOUNTER_FETCH = 0, DOVECOUNTER_STORE = 1 };
 /* What to do on the bus. */
 struct dovecounter_operation {
     uint8_t kind;     /* DOVECOUNTER_FETCH or DOVECOUNTER_STORE */
-    uint8_t device;   /* the address on the bus in its 8-bit form, 0xA0; in the 7-bit form 0x50 */
+    uint8_t device;   /* the address on the bus in its 8-bit form, 0xA0, and for a reading also 0xA2; in the 7-bit form
+                         0x50 or 0x51 */
     uint8_t offset;   /* the address of the first byte */
     uint8_t count;    /* how many bytes to fetch or to store: 1 to 8; for a reading up to 128 */
     uint8_t bytes[8]; /* those to store; zeros after them, and for a fetch */
@@ -538,7 +539,8 @@ enum dovecounter_outcome {
    asked for (of another outcome no bytes are looked at); writes to *procedure. A refused operation is asked for
    again, up to 4096 operations in all. A module may take seconds to minutes for a state that is awaited, and at 400
    kHz 4096 operations are over much sooner: pause before an operation whose `wait` is 1, so long that 4096 pauses
-   last longer than the longest of dovecounter_durations. After PV3 and PV4 the procedure may be begun again.
+   last twice as long as the longest of dovecounter_durations, since a wait may span two states. After PV3, half a
+   second later, and after PV4 the procedure may be begun again.
 
    status   if
    31       the numbers are none of a procedure

@@ -1,6 +1,7 @@
-/* Runs the main loop of examples/main_loop.c on a bus and a clock in software. A transaction is over three calls of `poll` after it
-   began; the module takes `delay` milliseconds for a state of its data paths. Each run ends as it should, no transaction begins
-   during another one, and none that is asked for again, or comes after a refusal, begins before its pause is over. */
+/* Runs the main loop of examples/main_loop.c on a bus and a clock in software. A transaction is over three calls of `poll_module`
+   after it began; the module takes `delay` milliseconds for a state of its data paths, and `apply_delay` until it applies what was
+   staged, while it shows the success of an earlier time. Each run ends as it should, no transaction begins during another one, and
+   none that is asked for again, or comes after a refusal, begins before its pause is over. */
 #include "../../examples/main_loop.c"
 
 #include <stdio.h>
@@ -9,14 +10,17 @@
 static uint32_t clock_now;
 
 static struct {
-    uint8_t page, state;  /* selected; ModuleState, as byte 3 has it */
-    uint8_t control[128]; /* page 10h, from byte 128 on */
-    uint8_t active[8];
-    uint8_t down, down_before; /* DPDeinit, and what it was until `due` */
-    uint32_t due, delay;       /* when the path states follow DPDeinit, and after how long they do */
-    unsigned refuse_each;      /* every so many transactions one is refused */
-    bool lies;                 /* the driver says stored, whatever was asked */
+    uint8_t page, state;           /* selected; ModuleState, as byte 3 has it */
+    uint8_t control[128];          /* page 10h, from byte 128 on */
+    uint8_t active[8], applied[8]; /* the active bytes; those that they become */
+    uint32_t apply_due;            /* and when they do */
+    uint8_t down, down_before;     /* DPDeinit, and what it was until `due` */
+    uint32_t due, delay;           /* when the path states follow DPDeinit, and after how long they do */
+    unsigned refuse_each;          /* every so many transactions one is refused */
+    bool lies;                     /* the driver says stored, whatever was asked */
 } module;
+
+static uint32_t apply_delay;
 
 static struct dovecounter_operation asked, asked_before;
 static uint8_t *wanted_bytes;
@@ -47,6 +51,13 @@ void i2c_start(const struct dovecounter_operation *operation, uint8_t bytes[8]) 
 
 static uint8_t path_states(void) { return clock_now - module.due < 1u << 31 ? module.down : module.down_before; }
 
+/* Whether no apply is under way; what was applied is active then. */
+static bool is_applied(void) {
+    bool is_over = clock_now - module.apply_due < 1u << 31;
+    if (is_over) memcpy(module.active, module.applied, 8);
+    return is_over;
+}
+
 static uint8_t fetch_byte(uint8_t address) {
     if (address < 128) return address == 3 ? module.state : address == 127 ? module.page : 0;
     if (module.page == 0x10) return module.control[address - 128];
@@ -55,6 +66,7 @@ static uint8_t fetch_byte(uint8_t address) {
         return (uint8_t)((both & 1 ? 1 : 4) | (both & 2 ? 1 : 4) << 4);
     }
     if (address >= 202 && address < 206) return 0x11; /* ConfigSuccess */
+    is_applied();
     return address >= 206 && address < 214 ? module.active[address - 206] : 0;
 }
 
@@ -67,8 +79,9 @@ static void store_byte(uint8_t address, uint8_t byte) {
         module.down = byte;
         module.due = clock_now + module.delay;
     }
+    if (address == 143 && is_applied()) module.apply_due = clock_now + apply_delay;
     for (int lane = 0; address == 143 && lane < 8; lane++)
-        if (byte >> lane & 1) module.active[lane] = module.control[145 - 128 + lane];
+        if (byte >> lane & 1) module.applied[lane] = module.control[145 - 128 + lane];
 }
 
 static uint8_t transact(void) {
@@ -111,14 +124,14 @@ static void run(const char *name, uint8_t state, uint32_t delay, unsigned refuse
     transactions = 0;
     was_refused = false;
     memset(&asked_before, 0, sizeof asked_before);
-    clock_now = UINT32_MAX - 5000; /* it starts anew on the way */
+    module.apply_due = clock_now = UINT32_MAX - 5000; /* it starts anew on the way */
     if (!carry_out(&pairs, &durations)) fail("a plan was not begun");
     if (carry_out(&pairs, &durations)) fail("a plan was begun during another one");
     enum stage found = stage;
     for (uint32_t passed = 0; passed < 7200000 && (found == PROVISIONING || found == ACTIVATING); passed++) {
         clock_now++;
         interrupt();
-        found = poll();
+        found = poll_module();
     }
     if (found != end_wanted || fault.code != fault_wanted ||
         (found == FAILED && fault.code == 0 && status != status_wanted)) {
@@ -146,6 +159,10 @@ int main(void) {
     run("a bus that refuses all", 3 << 1, 0, 1, false, FAILED, 4, 0);
     if (transactions != MOST_BEGINNINGS * 4096) fail("a procedure was begun too often");
     run("a module of low power", 1 << 1, 0, 0, false, FAILED, 6, 0);
+    apply_delay = 700;
+    run("a module that shows an earlier success", 3 << 1, 0, 0, false, UP, 0, 0);
+    if (transactions <= 16 + 10) fail("no procedure was begun again after an earlier success");
+    apply_delay = 0;
     run("a driver that says stored of a fetch", 3 << 1, 0, 0, true, FAILED, 0, DOVECOUNTER_NO_REPLY);
     run("the same once more, of a driver that does not", 3 << 1, 0, 0, false, UP, 0, 0);
     printf("firmware: the main loop of the example carries a plan out, on modules fast and slow\n");

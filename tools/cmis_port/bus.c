@@ -14,6 +14,7 @@
 #include <unistd.h>
 
 enum { SILENCE = 1000, LONGEST_PAUSE = 32 }; /* milliseconds */
+enum { SILENT_AFTER = 3 };                   /* transactions, since an adapter may take a second to give one up */
 
 int64_t now(void) {
     struct timespec time;
@@ -21,7 +22,13 @@ int64_t now(void) {
     return (int64_t)time.tv_sec * 1000 + time.tv_nsec / 1000000;
 }
 
+/* On a terminal a message may follow what show_progress wrote. */
+void clear_progress(void) {
+    if (isatty(STDERR_FILENO)) fputs("\033[K", stderr);
+}
+
 void stop(struct port *port, const char *why) {
+    clear_progress();
     warnx("%s: %s", port->name, why);
     port->ending = STOPPED;
 }
@@ -29,7 +36,9 @@ void stop(struct port *port, const char *why) {
 /* Waits, unless a signal comes that ends the program. */
 void pause_ms(struct port *port, int64_t ms) {
     struct timespec time = {ms / 1000, ms % 1000 * 1000000};
-    if (sigtimedwait(&port->signals, NULL, &time) > 0) stop(port, "interrupted");
+    if (sigtimedwait(&port->signals, NULL, &time) <= 0) return;
+    while (sigtimedwait(&port->signals, NULL, &(struct timespec){0}) > 0) continue; /* those that came with it */
+    stop(port, "interrupted");
 }
 
 /* Holds signals back, but for those that are ignored, as nohup has it. */
@@ -141,7 +150,8 @@ static void take_refusal(struct port *port, const struct dovecounter_operation *
     }
     if (port->refused++ == 0) port->refused_at = began;
     pause_ms(port, port->refused < 5 ? 1 << port->refused : LONGEST_PAUSE);
-    if (port->ending != GOES_ON || now() - port->refused_at <= SILENCE) return;
+    if (port->ending != GOES_ON || port->refused < SILENT_AFTER || now() - port->refused_at <= SILENCE) return;
+    clear_progress();
     warnx("%s: the module does not answer: %s", port->name, strerror(error));
     port->ending = SILENT;
 }

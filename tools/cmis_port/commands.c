@@ -101,14 +101,17 @@ static void say_lanes(FILE *out, const char *before, unsigned lanes, const char 
 /* What stands against provisioning, and on which lanes; NULL if nothing does. */
 static const char *hindrance(const struct port *port, unsigned *lanes) {
     const uint8_t *active = bytes_at(port, ACTIVE), *states = bytes_at(port, PATH_STATES);
-    unsigned other = 0, up = 0;
+    unsigned other = 0, up = 0, down = 0;
     for (unsigned lane = 0; lane < 8; lane++) {
         bool kept = !(port->plan.outside >> lane & 1);
         if (kept && active[lane] != port->plan.control[lane]) other |= 1U << lane;
         if (!kept && code_of(states, lane) != DEACTIVATED) up |= 1U << lane;
+        if (kept && code_of(states, lane) == DEACTIVATED) down |= 1U << lane;
     }
-    *lanes = other != 0 ? other : port->plan.count > 0 ? up : 0;
+    if (port->force || port->activate || is_held(port)) down = 0;
+    *lanes = other != 0 ? other : down != 0 ? down : port->plan.count > 0 ? up : 0;
     if (other != 0) return " hold other control bytes than the paths that are to be kept";
+    if (down != 0) return " are to be kept, but are down, and would come up: say --activate, or --force";
     if (port->force) return NULL;
     if (port->plan.count == 0) return " the plan has no path: say --force to take down all others";
     return up != 0 && !is_held(port) ? " are up: keep their paths, or take them down with --force" : NULL;

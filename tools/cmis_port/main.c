@@ -15,7 +15,7 @@ static const char usage[] =
     "  state           prints the states of the module and its lanes, and the active control bytes\n"
     "  plan            prints the best plan, and what stands against provisioning it\n"
     "  provision       puts the best plan into the module\n"
-    "  --keep A,H,M    leaves a data path alone: its Application, first host lane, first media lane\n"
+    "  --keep A,H,M    leaves a data path alone that is up: its Application, first host lane, first media lane\n"
     "  --unpaired      lets any first host lane go with any first media lane, and not only those of one place\n"
     "  --counts-by-id  takes a lane count of 0 as the one that the interface ID implies\n"
     "  --activate      brings the plan's data paths up\n"
@@ -81,6 +81,11 @@ static const struct command *read_words(int count, char **words, struct port *po
     return NULL;
 }
 
+static void close_log(struct port *port) {
+    bool is_whole = !ferror(port->log);
+    if (fclose(port->log) != 0 || !is_whole) warnx("%s: not each operation could be written there", port->log_name);
+}
+
 int main(int count, char **words) {
     struct port port = {.file = -1, .most = 128};
     const struct command *command = read_words(count, words, &port);
@@ -88,9 +93,9 @@ int main(int count, char **words) {
     if (command == NULL) return port.help ? DONE : COMMAND_LINE;
     hold_signals(&port.signals);
     enum status status = open_port(&port) ? command->run(&port) : REFUSED;
-    if (port.log != NULL && (ferror(port.log) | fclose(port.log)) != 0) warn("%s", port.log_name);
+    if (port.log != NULL) close_log(&port);
     if (port.file >= 0) close(port.file);
     if (fflush(stdout) == 0 && !ferror(stdout)) return (int)status;
     warn("standard output");
-    return NOT_WRITTEN;
+    return status == DONE ? NOT_WRITTEN : (int)status;
 }

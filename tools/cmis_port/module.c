@@ -72,15 +72,16 @@ unsigned carry_out(struct port *port, begin_procedure *begin, uint8_t lanes, con
     while (port->ending == GOES_ON && dovecounter_next(&procedure, &operation) == DOVECOUNTER_DONE) {
         if (!operation.wait)
             began = now();
+        else if (now() - began > longest)
+            stop(port, "the module takes longer than it advertises");
         else if (outcome != DOVECOUNTER_REFUSED)
             pause_ms(port, PAUSE + (now() - began) / 100); /* so hours take less than a thousand operations */
-        if (now() - began > longest) stop(port, "the module takes longer than it advertises");
         if (port->ending != GOES_ON) break;
         outcome = transact(port, &operation, bytes);
         dovecounter_reply(&procedure, outcome, bytes, outcome == DOVECOUNTER_FETCHED ? operation.count : 0);
         show_progress(what, port->made - before, outcome == DOVECOUNTER_FETCHED ? operation.offset : 0, bytes);
     }
-    if (isatty(STDERR_FILENO)) fputs("\033[K", stderr);
+    clear_progress();
     if (dovecounter_answer(&procedure, &answer) != DOVECOUNTER_DONE) return NO_ANSWER;
     if (answer.fault.code != 0)
         say_fault(port->name, answer.fault);

@@ -48,6 +48,7 @@ struct port {
 
 /* bus.c */
 int64_t now(void); /* in milliseconds */
+void clear_progress(void);
 void stop(struct port *port, const char *why);
 void pause_ms(struct port *port, int64_t ms);
 void hold_signals(sigset_t *signals);
