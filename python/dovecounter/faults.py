@@ -97,6 +97,22 @@ def look_at(what: str, number: int, most: int, least: int = 0) -> int:
     return number
 
 
+def look_at_choice(what: str, choice: bool) -> bool:
+    """The choice; refuses a number, of which ctypes would take the last byte alone."""
+    if not isinstance(choice, bool):
+        raise TypeError(f"{what} is {choice!r}, and neither True nor False")
+    return choice
+
+
+def look_at_text(what: str, text: Union[str, bytes]) -> bytes:
+    """The bytes of a text; refuses what is none, such as the name of a file as a path."""
+    if isinstance(text, str):
+        return text.encode("utf-8", "surrogateescape")
+    if not isinstance(text, (bytes, bytearray)):
+        raise TypeError(f"{what} is {text!r}, and no text")
+    return bytes(text)
+
+
 def look_at_bytes(what: str, data: bytes, count: int) -> bytes:
     """The bytes; refuses others than so many."""
     if not isinstance(data, (bytes, bytearray)):

@@ -8,7 +8,7 @@ from dataclasses import dataclass
 from typing import Callable, Dict, List, Mapping, Tuple, Union
 
 from . import library
-from .faults import CODES, Fault, look_at, look_at_bytes
+from .faults import CODES, Fault, look_at, look_at_bytes, look_at_choice, look_at_text
 from .reports import (
     Advertisement,
     Application,
@@ -26,7 +26,7 @@ from .reports import (
 HALF = 128  # bytes
 MOST_HALVES = 16
 
-_CMIS = (0x18, 0x19, 0x1E)
+_CMIS = (0x18, 0x19, 0x1B, *range(0x1E, 0x26))
 _SFF_8636 = (0x0C, 0x0D, 0x11)
 _SFF_8472 = (0x03,)
 
@@ -60,6 +60,7 @@ class Key:
     def __post_init__(self) -> None:
         if self.device not in (0xA0, 0xA2):
             raise ValueError(f"the device is {self.device}, and neither 0xA0 nor 0xA2")
+        look_at_choice("upper", self.upper)
         for what, number in (("the bank", self.bank), ("the page", self.page)):
             look_at(what, number, 255 if self.upper else 0)
 
@@ -132,9 +133,7 @@ class Image:
     @classmethod
     def from_text(cls, text: Union[str, bytes]) -> Image:
         """Reads the text of an image. Raises a Fault of IM1 to IM6."""
-        lines = (text.encode("utf-8", "surrogateescape") if isinstance(text, str) else text).split(
-            b"\n"
-        )
+        lines = look_at_text("the text of an image", text).split(b"\n")
         if lines[-1] == b"":
             lines.pop()
         if lines[:1] != [_HEADER]:
@@ -189,6 +188,7 @@ class Image:
     def advertisement(self, counts_by_id: bool = False) -> Advertisement:
         """What the module advertises, with the lane counts that it has, or with those by which
         `plan` goes with `counts_by_id`. Raises a Fault of AD1 to AD6."""
+        look_at_choice("counts_by_id", counts_by_id)
         found = library.Advertisement()
         self.take(_advertisement(*self.arguments(), counts_by_id, byref(found)))
         return advertisement_of(found)

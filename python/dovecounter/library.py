@@ -231,6 +231,8 @@ def _opened() -> ctypes.CDLL:
     the system finds."""
     beside = pathlib.Path(__file__).with_name(FILE)
     name = os.environ.get("DOVECOUNTER_LIBRARY") or (str(beside) if beside.exists() else FILE)
+    if pathlib.Path(name).resolve().name != FILE:
+        raise ImportError(f"DOVECOUNTER_LIBRARY names {name}, and this package needs {FILE}")
     try:
         return ctypes.CDLL(name)
     except OSError as error:

@@ -6,7 +6,15 @@ from dataclasses import dataclass
 from typing import Any, Dict, Mapping, Optional, Sequence, Tuple, Union
 
 from . import library
-from .faults import CODES, Fault, first_refused, look_at, sentence_of
+from .faults import (
+    CODES,
+    Fault,
+    first_refused,
+    look_at,
+    look_at_choice,
+    look_at_text,
+    sentence_of,
+)
 from .image import Image
 
 _plan = library.function("plan")
@@ -76,7 +84,7 @@ def read_weights(text: Union[str, bytes]) -> Dict[int, int]:
     """How much each HostInterfaceID is worth, as the lines of a text say: `[host]`, and after it
     lines such as `0Dh = 101`, comments and empty lines (docs/firmware.md, "Weights"). IDs that
     weigh nothing are left out. Raises ValueError, with the number of the line, for another text."""
-    written = text.encode("utf-8", "surrogateescape") if isinstance(text, str) else bytes(text)
+    written = look_at_text("the text of weights", text)
     found, line = library.Weights(), c_size_t()
     status = int(_read_weights(written, len(written), found, byref(line)))
     if status:
@@ -87,11 +95,19 @@ def read_weights(text: Union[str, bytes]) -> Dict[int, int]:
 
 def _kept(paths: Sequence[DataPath]) -> Any:
     for path in paths:
+        if not isinstance(path, DataPath):
+            raise TypeError(f"{path!r} is kept, and no DataPath")
         for what in ("application", "host", "media"):
             look_at(f"{what} of {path}", getattr(path, what), 255)
     return (library.Path * len(paths))(
         *(library.Path(path.application, path.host, path.media) for path in paths)
     )
+
+
+def _look_at_conventions(paired: bool, counts_by_id: bool, stay: int) -> None:
+    look_at_choice("paired", paired)
+    look_at_choice("counts_by_id", counts_by_id)
+    look_at("the weight of staying", stay, 2**32 - 1)
 
 
 def plan(
@@ -113,7 +129,7 @@ def plan(
     Raises a Fault of AD1 to AD6, KP2 or KP3; ValueError for a number that is out of range."""
     found = library.Plan()
     halves, table = image.arguments(), _weights(weights)
-    look_at("the weight of staying", stay, 2**32 - 1)
+    _look_at_conventions(paired, counts_by_id, stay)
 
     def status(count: int) -> int:
         kept = _kept(keep[:count])
@@ -145,14 +161,10 @@ def check(
     was made only `counts_by_id` says, and how much staying weighed only `stay`: they have to be as
     they were for `plan`. Raises a Fault of AD1 to
     AD6 or CT1 to CT4; ValueError for a number that is out of range."""
-    text = (
-        certificate.encode("utf-8", "surrogateescape")
-        if isinstance(certificate, str)
-        else bytes(certificate)
-    )
+    text = look_at_text("the certificate", certificate)
     found = library.Judgement()
     halves, table, lines = image.arguments(), _weights(weights), text.split(b"\n")
-    look_at("the weight of staying", stay, 2**32 - 1)
+    _look_at_conventions(paired, counts_by_id, stay)
 
     def status(count: int) -> int:
         beginning = b"".join(line + b"\n" for line in lines[:count]) if count < len(lines) else text

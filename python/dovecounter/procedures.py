@@ -1,6 +1,7 @@
 """Reading, provisioning and activating a module over a bus of the caller's (docs/bus.md)."""
 from __future__ import annotations
 
+import copy
 from ctypes import byref
 from dataclasses import dataclass
 from typing import Any, Callable, Dict, Optional, TypeVar, Union
@@ -47,6 +48,7 @@ class Operation:
 
     @property
     def is_store(self) -> bool:
+        """Whether it is a store. Type checkers follow `data is not None`."""
         return self.data is not None
 
 
@@ -56,12 +58,13 @@ Transact = Callable[[Operation], Reply]
 class Procedure:
     """An iterator of operations. Tell each its reply once before you ask for the next; one that was
     not told is given again. A refused operation is asked for again, up to 4096 operations in all.
-    Nobody else may use the module meanwhile.
+    Nobody else may use the module meanwhile. It is for one run: after its end it gives no operation,
+    and raises its fault again; to begin again, make another one.
 
         for operation in procedure:
             procedure.reply(bus(operation))
 
-    Pause before an operation whose `wait` is set, so long that 4096 pauses last longer than the
+    Pause before an operation whose `wait` is set, so long that 4096 pauses last twice as long as the
     longest of `image.durations()`."""
 
     _next = staticmethod(library.function("next"))
@@ -69,6 +72,9 @@ class Procedure:
 
     def __init__(self, saved: Any) -> None:
         self._saved = saved
+
+    def __copy__(self: _Self) -> _Self:
+        return copy.deepcopy(self)
 
     def __iter__(self: _Self) -> _Self:
         return self
@@ -143,7 +149,7 @@ class _OfPlan(_Change):
 class Provisioning(_OfPlan):
     """Puts a plan into the Active Control Set, and leaves kept data paths alone. After a success
     its other lanes are DPDeactivated until an Activation. Raises a Fault of PV1 to PV7 while it is
-    iterated; after PV3 and PV4 it may be begun again."""
+    iterated; after PV3, half a second later, and after PV4 make a new one to begin again."""
 
     _begin = staticmethod(library.function("provision"))
 

@@ -43,6 +43,7 @@ class SimulatedModule:
     def __init__(self, image: Image, delays: Delays = Delays()) -> None:
         for name, delay in vars(delays).items():
             look_at(f"the delay {name}", delay, 2**16 - 1)
+        self._image = image
         self._halves = image.arguments()
         self._saved = library.Module()
         numbers = library.Delays(*astuple(delays))
@@ -65,9 +66,18 @@ class SimulatedModule:
     def copy(self) -> SimulatedModule:
         """Another module, in the same state."""
         other = SimulatedModule.__new__(SimulatedModule)
-        other._halves = self._halves
-        other._saved = library.Module.from_buffer_copy(self._saved)
+        other.__setstate__(self.__getstate__())
         return other
+
+    __copy__ = copy
+
+    def __getstate__(self) -> Tuple[Image, bytes]:
+        return self._image, bytes(self._saved)
+
+    def __setstate__(self, state: Tuple[Image, bytes]) -> None:
+        self._image, saved = state
+        self._halves = self._image.arguments()
+        self._saved = library.Module.from_buffer_copy(saved)
 
     def fetch(self, device: int, offset: int, count: int) -> Optional[bytes]:
         """1 to 128 bytes of one half, or None if the module refuses. A flag that is read becomes 0.
@@ -82,6 +92,8 @@ class SimulatedModule:
         """Stores 1 to 8 bytes in one half, one after the other, and says whether the module took
         them. A store that is cut short is a store of its first bytes. Raises ValueError as `fetch`
         does."""
+        if not isinstance(data, (bytes, bytearray)):
+            raise TypeError(f"the bytes are {data!r}, and no bytes")
         look_at("the number of bytes", len(data), 8, least=1)
         _look_at_place(device, offset)
         return _is_taken(

@@ -101,6 +101,9 @@ def test_each_function_is_declared_as_in_the_header() -> None:
         for found, argument in zip(taken, arguments):
             assert is_declared_as(found, argument), f"{name}: {argument}"
         library.function(name)
+    weights, lanes = str(len(library.Weights())), str(len(library.Lanes()))
+    assert set(re.findall(r"uint32_t \w+\[(\w+)\]", HEADER)) == {weights}
+    assert set(re.findall(r"uint8_t (?:control|active)\[(\w+)\]", HEADER)) == {lanes}
 
 
 def test_numbers_are_those_of_the_header() -> None:

@@ -1,6 +1,7 @@
 """Images, plans, certificates and faults, against the program and the pages."""
 from __future__ import annotations
 
+import array
 import copy
 import operator
 import pathlib
@@ -291,8 +292,42 @@ def test_numbers_out_of_range_are_refused_and_not_cut() -> None:
         lambda: plan(DR4, {"11h": 1}),  # type: ignore[dict-item]
         lambda: Provisioning(changed(control="12345678")),
         lambda: module.fetch(0xA0, 0, None),  # type: ignore[arg-type]
+        lambda: module.store(0xA0, 26, array.array("H", [1, 2])),  # type: ignore[arg-type]
+        lambda: plan(DR4, WEIGHTS, paired=256),  # type: ignore[arg-type]
+        lambda: plan(DR4, WEIGHTS, counts_by_id=None),  # type: ignore[arg-type]
+        lambda: plan(DR4, WEIGHTS, [(2, 1, 1)]),  # type: ignore[list-item]
+        lambda: check(DR4, WEIGHTS, "", paired=256),  # type: ignore[arg-type]
+        lambda: check(DR4, WEIGHTS, pathlib.Path("x")),  # type: ignore[arg-type]
+        lambda: DR4.advertisement(256),  # type: ignore[arg-type]
+        lambda: read_weights(pathlib.Path("x")),  # type: ignore[arg-type]
+        lambda: Image.from_text(None),  # type: ignore[arg-type]
+        lambda: Key(0xA0, 0x11),  # type: ignore[arg-type]
     ):
         pytest.raises(TypeError, call)
+
+
+def test_copies_go_their_own_way() -> None:
+    module, procedure = SimulatedModule(DR4), Provisioning(plan(DR4, WEIGHTS))
+    copies = copy.copy(module), copy.deepcopy(module), pickle.loads(pickle.dumps(module))
+    left = copy.copy(procedure)
+    procedure.run(module.transact)
+    assert module.active != DR4.halves[page(0x11)][206 - 128 : 214 - 128]
+    for each in copies:
+        assert each.active == DR4.halves[page(0x11)][206 - 128 : 214 - 128]
+        Provisioning(plan(DR4, WEIGHTS)).run(each.transact)
+        assert each.active == module.active
+    assert left.steps is None and next(left).wait is False
+    assert list(procedure) == []
+
+
+def test_a_dump_of_any_module_of_cmis_is_read() -> None:
+    lower = DR4.halves[LOWER]
+    for identifier in (0x18, 0x19, 0x1B, *range(0x1E, 0x26)):
+        dump = bytes([identifier]) + lower[1:] + bytes(128)
+        assert Image.from_dump(dump).halves[LOWER][0] == identifier
+    for identifier in (0x1A, 0x1C, 0x1D, 0x26):
+        with pytest.raises(ValueError):
+            Image.from_dump(bytes([identifier]) + lower[1:] + bytes(128))
 
 
 def test_weights_are_read_from_lines() -> None:
@@ -322,7 +357,7 @@ def test_sentences_are_those_of_the_page() -> None:
             re.MULTILINE,
         )
     )
-    numbered = [("IM", 6), ("PV", 7), ("VR", 9)]
+    numbered = [("IM", 6), ("PV", 7), ("VR", 10)]
     codes = {f"{kind}{number}" for kind, most in numbered for number in range(1, most + 1)}
     codes |= set(CODES.values()) - {"RP3"}
     assert {code: sentence_of(code) for code in codes} == {code: rows[code] for code in codes}

@@ -158,6 +158,9 @@ static const char *judge(const struct run *run, int status) {
     /* between a selection and its store another module may come, which has page 00h selected */
     if (module->astray != 0 && shim.swap == 0) return "a store went astray";
     if (!run->force && module->left_activated != 0) return "a lane went down without --force";
+    for (unsigned lane = 0; lane < 8 && shim.swap == 0 && !run->force && !run->activate; lane++)
+        if (kept >> lane & 1 && shim.fresh.path[lane] == DEACTIVATED && module->path[lane] != DEACTIVATED)
+            return "a kept lane came up unasked";
     if (status == 1 && (module->deinit | module->applies) != 0) return "stored, and refused";
     if (shim.made == shim.swap) return NULL; /* by the last transaction, after which nobody can notice */
     if (status == 0 && memcmp(active, plan.control, 8) != 0) return "another plan is active";
