@@ -1,4 +1,4 @@
-//! Tests over the public calls of several crates, and a device that lies. No program uses this crate.
+//! Tests over the public calls of the crates below reports, and a device that lies. No program uses this crate.
 #![tactic(auto)]
 
 mod lying_device;

@@ -1,6 +1,5 @@
 // Images that are read over a bus from windows of modules.
-use super::plans::bus_of;
-use bus_model::BusFault;
+use bus_model::{BusFault, Script, ScriptBus};
 use paged_memory::{Dev, Image, Key, Window};
 use reports::{ReportFault, fetch_image};
 use sample_modules::{QSFP_DD, QSFP28, SFP, only};
@@ -14,7 +13,7 @@ fn fetched(
     script: &[u8],
     room: usize,
 ) -> Result<(usize, Result<Image, ReportFault>), Fail> {
-    let mut bus = bus_of(alloc, Window::<16>::of(image)?, script, room)?;
+    let mut bus = ScriptBus::new(alloc, Window::<16>::of(image)?, Script::read(script)?, room)?;
     let answer = fetch_image(&mut bus);
     Ok((bus.steps().len(), answer))
 }
