@@ -103,6 +103,7 @@ static void make_run(struct run *run, uint64_t number, const char *file) {
     take_halves(run);
     make_active(run);
     memset(shim.module.status, (int)below(run, 2), sizeof shim.module.status);
+    if (below(run, 4) == 0) shim.module.pages[0x10][0] = (uint8_t)below(run, 256); /* DPDeinit */
     power_up(&shim.module);
     shim.fresh = shim.module;
     switch (below(run, 12)) {
