@@ -3,10 +3,10 @@ ghost use Rattle.std.specs.Prelude.{◌<◌};
 
 use super::modules::{PAIRS, image};
 use super::plans::{FOUR_PAIRS, bus_of, plan_of, provisioned};
-use crate::LyingDevice;
 use applications::Advert;
 use bus_model::{Op, Reply, Step};
 use control_sets::{ProvisionFault, Provisioned};
+use sample_modules::LyingDevice;
 use std::test::Fail;
 
 fn address_of(step: &Step) -> u8 {

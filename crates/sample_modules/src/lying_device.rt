@@ -15,7 +15,7 @@ pub struct LyingDevice {
 
 impl LyingDevice {
     ghost use Rattle.std.specs.Prelude.{◌≡◌, ◌≤◌, length};
-    ghost use Rattle.trials.specs.Lies as spec;
+    ghost use Rattle.sample_modules.specs.Lies as spec;
 
     fn refuses(&self) -> bool
         ensures { result ≡ spec.refuses self.now }
@@ -53,7 +53,7 @@ impl LyingDevice {
 }
 
 ghost use Rattle.std.specs.Prelude.{◌≡◌};
-ghost use Rattle.trials.specs.Lies as spec;
+ghost use Rattle.sample_modules.specs.Lies as spec;
 
 fn lie(number: u32, place: u8) -> u8
     ensures { result ≡ spec.lie number place }
@@ -83,7 +83,7 @@ fn pleasing(number: u32, address: u8, place: u8) -> u8
 
 /// Neither a refusal nor an answer changes anything: time does.
 impl Device for LyingDevice {
-    ghost use Rattle.trials.specs.Lies.{lying_conduct};
+    ghost use Rattle.sample_modules.specs.Lies.{lying_conduct};
 
     type State = LyingDevice;
 

@@ -3,7 +3,7 @@
 use Rattle.std.specs.Prelude.{ℕ, ◌+◌, ◌*◌, ◌/◌, ◌%◌, ◌==◌, Bool, not, if◌then◌else◌, nat_lt, List, Option, Some, None, map}
 use Rattle.std.specs.List.{range_with_len}
 use Rattle.bus_model.specs.Conduct.{Conduct}
-use Rattle.trials.specs.declared.lying_device.LyingDevice.{LyingDevice}
+use Rattle.sample_modules.specs.declared.lying_device.LyingDevice.{LyingDevice}
 
 -- the number drawn after another (the "minimal standard" generator of Park and Miller)
 abbrev pub drawn : ℕ → ℕ

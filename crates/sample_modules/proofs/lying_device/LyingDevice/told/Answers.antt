@@ -1,7 +1,7 @@
 use Rattle.std.proofs.Common.{◌+◌, ◌∷◌, [], ◌++◌, length, sym, ap, arith, ◌∙◌, length-append}
 use Rattle.std.proofs.lemmas.List.FromFn.{map-range_with_len_more}
-use Rattle.trials.specs.Lies.{told_at}
-use Rattle.trials.proofs.lying_device.LyingDevice.told.Goals as goal
+use Rattle.sample_modules.specs.Lies.{told_at}
+use Rattle.sample_modules.proofs.lying_device.LyingDevice.told.Goals as goal
 
 pub loop-place-preserved : goal.loop-place-preserved
 loop-place-preserved c =

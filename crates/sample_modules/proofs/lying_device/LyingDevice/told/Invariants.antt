@@ -1,6 +1,6 @@
 use Rattle.std.proofs.Common.{◌≡◌, length}
-use Rattle.trials.specs.Lies.{told}
-use Rattle.trials.proofs.lying_device.LyingDevice.told.Given as goal
+use Rattle.sample_modules.specs.Lies.{told}
+use Rattle.sample_modules.proofs.lying_device.LyingDevice.told.Given as goal
 
 -- the bytes so far
 abbrev pub invariant-loop-place : goal.invariant-loop-place
