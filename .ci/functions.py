@@ -2,7 +2,8 @@
 
 An edit is a wrong body: a file NAME.edit with a line 'file: src/PATH' and then pairs of lines 'old: TEXT' and 'new: TEXT', whose old
 text stands once in the file; or once in one function, if a line 'in: FUNCTION' stands before. It is in a crate's folder must-fail,
-whose edits `rt ci` tries (it doesn't know 'in:'), or in its folder wrong-bodies, whose edits `.ci/wrong_bodies` tries."""
+whose edits `rt ci` tries (it doesn't know 'in:'), or in its folder wrong-bodies, whose edits `.ci/wrong_bodies` tries. The value of a
+private constant that one function alone reads, such as the rows of a table, is changed as that function's body is."""
 import os
 import re
 from collections import namedtuple
@@ -11,15 +12,19 @@ ROOT = os.path.dirname(os.path.dirname(os.path.abspath(__file__)))
 FOLDERS = ("must-fail", "wrong-bodies")
 
 HEADER = re.compile(r'^( *)(pub |pub\([a-z]+\) )?(?:const |final |unsafe |extern "C" )*fn (\w+)', re.M)
+CONSTANT = re.compile(r"^const (\w+): [^=\n]*= ", re.M)
 IMPL = re.compile(r"^impl(?:<[^{]*?>)? (?:([\w:]+)(?:<[^{]*?>)? for )?(\w+)|^(?:pub )?trait (\w+)", re.M)
 
 # What a function is called in its file (its type, its trait if it is of one, and its name), what makes it public, and its place
 # in the text: where its header begins, and where its body begins and ends.
 Function = namedtuple("Function", "owner trait name public header begin end")
 
-# What an edit makes of its files: of each function that it changes, by file and place among the file's functions, the wrong body.
-# `texts` are the files as it leaves them. If it changes anything else it has no bodies, and `by` are the functions that have to refuse it.
-Edit = namedtuple("Edit", "name bodies texts by")
+# The value of a constant that one function alone reads: that function's place, and where the value begins and ends.
+Constant = namedtuple("Constant", "name place begin end")
+
+# What an edit makes of its files: of each function that it changes, by file and place among the file's functions, the wrong body, or the
+# wrong values of constants, by their names.
+Edit = namedtuple("Edit", "name bodies values")
 
 
 class BadEdit(Exception):
@@ -63,9 +68,33 @@ def functions_of(text):
     return found
 
 
-def outside_of_bodies(text, functions):
-    """What stands outside of the functions' bodies."""
-    places = [0, *(place for it in functions for place in (it.begin, it.end)), len(text)]
+def without_comments(text):
+    """The text with spaces in the place of comments."""
+    return re.sub(r"//.*", lambda it: " " * len(it[0]), text)
+
+
+def constants_in(text):
+    """The private constants of a file, in order: the name of each, where that stands, and where the value begins and ends."""
+    code = without_comments(text)
+    for header in CONSTANT.finditer(code):
+        end = re.compile(r"^(?:const .*|\S*);$", re.M).search(code, header.start()).end() - 1
+        yield header[1], header.start(1), header.end(), end
+
+
+def constants_of(text, functions):
+    """The private constants of a file that one of its functions alone reads, in order."""
+    code, found = without_comments(text), []
+    for name, at, begin, end in constants_in(text):
+        places = [it.start() for it in re.finditer(rf"\b{name}\b", code) if it.start() != at]
+        readers = {next((place for place, it in enumerate(functions) if it.begin <= read_at < it.end), None) for read_at in places}
+        if len(readers) == 1 and None not in readers:
+            found.append(Constant(name, readers.pop(), begin, end))
+    return found
+
+
+def outside_of(text, parts):
+    """What stands outside of these parts of a text."""
+    places = [0, *(place for it in sorted(parts, key=lambda it: it.begin) for place in (it.begin, it.end)), len(text)]
     return [text[places[i]:places[i + 1]] for i in range(0, len(places), 2)]
 
 
@@ -79,13 +108,23 @@ def twin_of(text, function, name, body):
     return f"\n\n{head}{body}"
 
 
-def changed_bodies(before, after):
-    """Of each function whose body differs, by its place, the body; None if anything else differs."""
+def changed_parts(before, after):
+    """Of each function whose body differs, by its place, the body, and of each whose constants differ their values, by name; None if
+    anything else differs."""
     old, new = functions_of(before), functions_of(after)
-    if outside_of_bodies(before, old) != outside_of_bodies(after, new):
+    old_constants = constants_of(before, old)
+    names = {it.name: it.place for it in old_constants}
+    new_constants = [Constant(name, names[name], begin, end) for name, _, begin, end in constants_in(after) if name in names]
+    if outside_of(before, [*old, *old_constants]) != outside_of(after, [*new, *new_constants]):
         return None
-    pairs = [(before[a.begin:a.end], after[b.begin:b.end]) for a, b in zip(old, new)]
-    return {place: wrong for place, (right, wrong) in enumerate(pairs) if right != wrong}
+    bodies, values = {}, {}
+    for place, (right, wrong) in enumerate(zip(old, new)):
+        if before[right.begin:right.end] != after[wrong.begin:wrong.end]:
+            bodies[place] = after[wrong.begin:wrong.end]
+    for right, wrong in zip(old_constants, new_constants):
+        if before[right.begin:right.end] != after[wrong.begin:wrong.end]:
+            values.setdefault(right.place, {})[right.name] = after[wrong.begin:wrong.end]
+    return bodies, values
 
 
 def replaced(text, function, old, new):
@@ -125,17 +164,13 @@ def changed_texts(crate, edit):
 
 def edit_of(crate, path):
     """An edit of a crate, read from its file."""
-    text, name = read(path), os.path.basename(path)
-    texts, by = changed_texts(crate, text), re.findall(r"^by: (\S+)$", text, re.M)
-    changed = {file: changed_bodies(read(f"{crate}/{file}"), it) for file, it in texts.items()}
+    changed = {file: changed_parts(read(f"{crate}/{file}"), it) for file, it in changed_texts(crate, read(path)).items()}
     if None in changed.values():
-        if not by and f"/{FOLDERS[1]}/" in path:
-            raise BadEdit("it changes more than bodies, and has no line 'by:'")
-        return Edit(name, None, texts, by)
-    bodies = {(file, place): body for file, them in changed.items() for place, body in them.items()}
-    if by or not bodies:
-        raise BadEdit("it changes bodies alone, which judge it: no line 'by:' is needed" if by else "it changes nothing")
-    return Edit(name, bodies, texts, [])
+        raise BadEdit("it changes more than bodies and constants that one function alone reads")
+    bodies, values = ({(file, place): it for file, parts in changed.items() for place, it in parts[kind].items()} for kind in (0, 1))
+    if not bodies and not values:
+        raise BadEdit("it changes nothing")
+    return Edit(os.path.basename(path), bodies, values)
 
 
 def sources(crate):

@@ -2,7 +2,7 @@
 import os
 import re
 import time
-from functions import ROOT, BadEdit, edit_of, functions_of, read, sources, twin_of
+from functions import ROOT, BadEdit, constants_of, edit_of, functions_of, read, sources, twin_of
 
 REFUSED, PROVED, WAITS, UNREADABLE, NAMES = "refused", "proved", "waits", "does not compile", "refused for a name alone"
 
@@ -34,16 +34,11 @@ def path_of(functions, path, function):
 
 
 def judges_of(crate, edit):
-    """The functions that judge an edit, by their paths, each with its file and its place there; None in place of an uncertain path."""
-    if not edit.by:
-        places = [(path, place, functions_of(read(f"{crate.copy.folder}/{path}"))[place]) for path, place in edit.bodies]
-        return [(path_of(crate.copy.functions, path, it), path, place) for path, place, it in places]
-    named = [
-        (path_of(crate.copy.functions, path, it), path, place)
-        for path in sources(crate.copy.folder)
-        for place, it in enumerate(functions_of(read(f"{crate.copy.folder}/{path}")))
-    ]
-    return [next((it for it in named if it[0] == name), (None, None, None)) for name in edit.by]
+    """The functions that an edit changes and that judge it, by their paths, each with its file and its place there; None in place of an
+    uncertain path."""
+    changed = sorted({*edit.bodies, *edit.values})
+    places = [(path, place, functions_of(read(f"{crate.copy.folder}/{path}"))[place]) for path, place in changed]
+    return [(path_of(crate.copy.functions, path, it), path, place) for path, place, it in places]
 
 
 def is_own(path, function):
@@ -82,18 +77,18 @@ def verdict_of(said, function, path, lines, is_alone):
 
 class Round:
     """Edits that are tried under one check. Of those that change the same function the first changes it in its place, and each other a
-    twin of it: the same function once more, under another name, which the same answers have to prove."""
+    twin of it: the same function once more, under another name, which the same answers have to prove. A twin reads the same constants, so
+    a function whose constants are changed has none."""
 
     def __init__(self, crate):
-        self.crate, self.edits, self.bodies, self.twins = crate, [], {}, {}
+        self.crate, self.edits, self.bodies, self.values, self.twins = crate, [], {}, {}, {}
 
     def take(self, edit):
         """Takes an edit if it can be tried with those that are taken."""
-        if edit.by or self.edits and self.edits[0].by:
-            taken = not self.edits
-        elif not edit.bodies.keys() & self.bodies.keys():
+        if not {*edit.bodies, *edit.values} & {*self.bodies, *self.values}:
             taken = True
             self.bodies.update(edit.bodies)
+            self.values.update(edit.values)
         else:
             taken = self.take_twin(edit)
         if taken:
@@ -102,12 +97,12 @@ class Round:
 
     def take_twin(self, edit):
         """Takes an edit of one function that may have a twin: one with a proof of its own that is of no trait and does not call itself."""
-        if len(edit.bodies) > 1:
+        if len(edit.bodies) != 1 or edit.values or edit.bodies.keys() & self.values.keys():
             return False
         [((path, place), body)] = edit.bodies.items()
         text = read(f"{self.crate.copy.folder}/{path}")
         function = functions_of(text)[place]
-        if function.trait or re.search(rf"\b{function.name}\(", text[function.begin:function.end]):
+        if function.trait or re.search(rf"(?<!::)\b(?:[Ss]elf::)?{function.name}\(", text[function.begin:function.end]):
             return False
         if not self.crate.copy.has_own_proof(judges_of(self.crate, edit)[0][0]):
             return False
@@ -115,25 +110,26 @@ class Round:
         return True
 
     def texts(self, is_right):
-        """The crate's files with what these edits change, or with the twins that they need alone. An edit that changes more than bodies
-        stands alone."""
-        if self.edits[0].by:
-            return {} if is_right else self.edits[0].texts
-        texts = {}
-        for path in {it for it, _ in [*self.bodies, *self.twins]}:
-            text = read(f"{self.crate.copy.folder}/{path}")
-            functions = functions_of(text)
-            for place in range(len(functions) - 1, -1, -1):
-                function = functions[place]
-                own = text[function.begin:function.end]
-                body = own if is_right else self.bodies.get((path, place), own)
-                twins = [
-                    twin_of(text, function, twin_name(function.name, number), own if is_right else wrong)
-                    for number, (_, wrong) in enumerate(self.twins.get((path, place), []))
-                ]
-                text = text[:function.begin] + body + "".join(twins) + text[function.end:]
-            texts[path] = text
-        return texts
+        """The crate's files with what these edits change, or with the twins that they need alone."""
+        paths = {it for it, _ in [*self.bodies, *self.values, *self.twins]}
+        return {path: self.text(path, read(f"{self.crate.copy.folder}/{path}"), is_right) for path in paths}
+
+    def text(self, path, text, is_right):
+        """A file, whose text is given, with what these edits change in it, or with the twins that they need alone."""
+        functions, changes = functions_of(text), []
+        for place, function in enumerate(functions):
+            own = text[function.begin:function.end]
+            body = own if is_right else self.bodies.get((path, place), own)
+            twins = [
+                twin_of(text, function, twin_name(function.name, number), own if is_right else wrong)
+                for number, (_, wrong) in enumerate(self.twins.get((path, place), []))
+            ]
+            changes.append((function.begin, function.end, body + "".join(twins)))
+        for it in [] if is_right else constants_of(text, functions):
+            changes.append((it.begin, it.end, self.values.get((path, it.place), {}).get(it.name, text[it.begin:it.end])))
+        for begin, end, new in sorted(changes, reverse=True):
+            text = text[:begin] + new + text[end:]
+        return text
 
     def judges(self, edit):
         """The functions that judge an edit, by their paths, each with its file and the name and the place that it has there."""
@@ -187,7 +183,7 @@ def judge_together(crate, edits):
 
 
 def next_round(crate, edits):
-    """As many edits as can be tried together; one alone if it changes more than bodies."""
+    """As many edits as can be tried together."""
     tried = Round(crate)
     return [it for it in edits if tried.take(it)]
 
