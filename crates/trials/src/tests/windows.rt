@@ -97,8 +97,8 @@ fn selects_a_bank_and_a_page(rt: HostRuntime) -> Result<(), Fail> {
 }
 
 #[test]
-fn selects_a_page_alone_or_nothing(rt: HostRuntime) -> Result<(), Fail> {
-    let sff_8636 = image(&[
+fn an_sff_8636_module_selects_a_page_alone(rt: HostRuntime) -> Result<(), Fail> {
+    let module = image(&[
         (Key::lower(Dev::A0), 0x11),
         (Key::upper(Dev::A0, 0, 0x00), 0xa0),
         (Key::upper(Dev::A0, 0, 0x03), 0xa3),
@@ -109,25 +109,24 @@ fn selects_a_page_alone_or_nothing(rt: HostRuntime) -> Result<(), Fail> {
         (126, &[0x01], Some([0x00, 0x03, 0xa3])),
         (127, &[0x02], Some([0x00, 0x00, 0xa0])),
     ];
-    assert_eq!(rt; first_wrong(rt.alloc(), &sff_8636, rows)?, None);
+    assert_eq!(rt; first_wrong(rt.alloc(), &module, rows)?, None);
+    Ok(())
+}
 
-    let sff_8472 = image(&[
+#[test]
+fn device_a0_of_an_sfp_selects_nothing(rt: HostRuntime) -> Result<(), Fail> {
+    let module = image(&[
         (Key::lower(Dev::A0), 0x03),
         (Key::upper(Dev::A0, 0, 0x00), 0xa0),
         (Key::upper(Dev::A0, 0, 0x02), 0xa2),
     ])?;
     let rows: &[Row] = &[(126, &[0x00, 0x02], Some([0x00, 0x00, 0xa0]))];
-    assert_eq!(rt; first_wrong(rt.alloc(), &sff_8472, rows)?, None);
+    assert_eq!(rt; first_wrong(rt.alloc(), &module, rows)?, None);
+    Ok(())
+}
 
-    // An identifier that is neither one's selects a bank and a page.
-    let unknown = image(&[
-        (Key::lower(Dev::A0), 0x0b),
-        (Key::upper(Dev::A0, 0, 0x00), 0xa0),
-        (Key::upper(Dev::A0, 1, 0x02), 0xc2),
-    ])?;
-    let rows: &[Row] = &[(126, &[0x01, 0x02], Some([0x01, 0x02, 0xc2]))];
-    assert_eq!(rt; first_wrong(rt.alloc(), &unknown, rows)?, None);
-
+#[test]
+fn device_a2_selects_nothing_without_device_a0(rt: HostRuntime) -> Result<(), Fail> {
     let diagnostics = image(&[
         (Key::lower(Dev::A2), 0x00),
         (Key::upper(Dev::A2, 0, 0x00), 0xe0),
@@ -137,10 +136,27 @@ fn selects_a_page_alone_or_nothing(rt: HostRuntime) -> Result<(), Fail> {
     assert_eq!(rt; window.store(Dev::A2, 127, &[0x02]), true);
     let shown = window.fetch(Dev::A2, 128, 1);
     assert_eq!(rt; shown, ArrayVec::try_from([0xe0].as_slice()).ok());
+    Ok(())
+}
 
-    let no_lower_half = image(&[(Key::upper(Dev::A0, 0, 0x00), 0xa0)])?;
+// An identifier that is neither one's.
+#[test]
+fn an_unknown_module_selects_a_bank_and_a_page(rt: HostRuntime) -> Result<(), Fail> {
+    let module = image(&[
+        (Key::lower(Dev::A0), 0x0b),
+        (Key::upper(Dev::A0, 0, 0x00), 0xa0),
+        (Key::upper(Dev::A0, 1, 0x02), 0xc2),
+    ])?;
+    let rows: &[Row] = &[(126, &[0x01, 0x02], Some([0x01, 0x02, 0xc2]))];
+    assert_eq!(rt; first_wrong(rt.alloc(), &module, rows)?, None);
+    Ok(())
+}
+
+#[test]
+fn without_a_lower_half_nothing_is_taken(rt: HostRuntime) -> Result<(), Fail> {
+    let module = image(&[(Key::upper(Dev::A0, 0, 0x00), 0xa0)])?;
     let rows: &[Row] = &[(127, &[0x00], None)];
-    assert_eq!(rt; first_wrong(rt.alloc(), &no_lower_half, rows)?, None);
+    assert_eq!(rt; first_wrong(rt.alloc(), &module, rows)?, None);
     Ok(())
 }
 
