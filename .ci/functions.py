@@ -77,7 +77,9 @@ def constants_in(text):
     """The private constants of a file, in order: the name of each, where that stands, and where the value begins and ends."""
     code = without_comments(text)
     for header in CONSTANT.finditer(code):
-        end = re.compile(r"^(?:const .*|\S*);$", re.M).search(code, header.start()).end() - 1
+        # a value that opens a bracket at its first line's end closes it at a line's beginning
+        is_open = code[:code.index("\n", header.end())].endswith(("{", "[", "("))
+        end = re.compile(r"^\S*;$" if is_open else r";$", re.M).search(code, header.end()).end() - 1
         yield header[1], header.start(1), header.end(), end
 
 
