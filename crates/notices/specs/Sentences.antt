@@ -16,7 +16,7 @@ sentences =
     record { code = codes "memory"; text = codes "memory ran out: raise the limits of the process (ulimit -v, its control group), and call again" }
     ∷ record { code = codes "IO"; text = codes "standard input could not be read, or did not end: give a file by '< FILE', or a pipe that ends" }
     ∷ record { code = codes "output"; text = codes "standard output could not be written whole, so the answer may be cut off: is the disk full, or the other end of a pipe closed?" }
-    ∷ record { code = codes "PT1"; text = codes "the command takes another number of parts, between lines '---': inventory, apps, monitors and flags 1, plan 2, check, provision and trace 3; with --keep one more" }
+    ∷ record { code = codes "PT1"; text = codes "the command takes another number of parts, between lines '---': reports 1, plan and draw 2, check, provision and trace 3; with --keep one more" }
     ∷ record { code = codes "PT2"; text = codes "the input is longer than 1048576 bytes, and no input of a module is: is it the right file?" }
     ∷ record { code = codes "IM1"; text = codes "the image does not begin with the line 'module-image 1': if it is a dump of a module, 'tools/module-image FILE' makes an image of it" }
     ∷ record { code = codes "IM1 empty"; text = codes "nothing came on standard input: give an image by '< FILE', as 'tools/module-image' makes it of a port or of a dump" }

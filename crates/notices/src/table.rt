@@ -25,7 +25,7 @@ pub fn sentences() -> &'static [Sentence]
         "memory" "memory ran out: raise the limits of the process (ulimit -v, its control group), and call again";
         "IO" "standard input could not be read, or did not end: give a file by '< FILE', or a pipe that ends";
         "output" "standard output could not be written whole, so the answer may be cut off: is the disk full, or the other end of a pipe closed?";
-        "PT1" "the command takes another number of parts, between lines '---': inventory, apps, monitors and flags 1, plan 2, check, provision and trace 3; with --keep one more";
+        "PT1" "the command takes another number of parts, between lines '---': reports 1, plan and draw 2, check, provision and trace 3; with --keep one more";
         "PT2" "the input is longer than 1048576 bytes, and no input of a module is: is it the right file?";
         "IM1" "the image does not begin with the line 'module-image 1': if it is a dump of a module, 'tools/module-image FILE' makes an image of it";
         "IM1 empty" "nothing came on standard input: give an image by '< FILE', as 'tools/module-image' makes it of a port or of a dump";
