@@ -2,7 +2,7 @@
 import os
 import re
 import time
-from functions import ROOT, BadEdit, constants_of, edit_of, functions_of, read, sources, twin_of
+from functions import ROOT, BadEdit, constants_of, edit_of, functions_of, read, twin_of
 
 REFUSED, PROVED, WAITS, UNREADABLE, NAMES = "refused", "proved", "waits", "does not compile", "refused for a name alone"
 
