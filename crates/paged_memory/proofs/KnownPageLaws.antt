@@ -48,7 +48,7 @@ pub reads_itself : (addressing : PageAddressing) → same_op (read_selection add
 reads_itself BankAndPage = refl
 reads_itself PageAlone = refl
 
-reads_alone : (addressing : PageAddressing) → may_select addressing (read_selection addressing) ≡ false
+pub reads_alone : (addressing : PageAddressing) → may_select addressing (read_selection addressing) ≡ false
 reads_alone BankAndPage = refl
 reads_alone PageAlone = refl
 
