@@ -5,7 +5,15 @@ docs/python.md has a first page. The package touches no bus by itself; only `Ima
 a file."""
 from .faults import Fault
 from .image import LOWER, Image, Key, page
-from .planning import DataPath, Judgement, Plan, check, plan, read_weights
+from .planning import (
+    DataPath,
+    Judgement,
+    KeptPathNotActive,
+    Plan,
+    check,
+    plan,
+    read_weights,
+)
 from .procedures import (
     Activation,
     Operation,
@@ -48,6 +56,7 @@ __all__ = [
     "Image",
     "Inventory",
     "Judgement",
+    "KeptPathNotActive",
     "Key",
     "LaneValues",
     "Levels",

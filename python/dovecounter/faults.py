@@ -1,11 +1,14 @@
 """Why there is no answer: the faults that the program cmisctl prints too (docs/faults.md)."""
 from __future__ import annotations
 
-from typing import Callable, Tuple, Union
+from typing import Any, Callable, Mapping, Tuple, Type, TypeVar, Union
 
 from . import library
 
 Value = Union[int, str]
+
+_Kind = TypeVar("_Kind")
+_MappingOf = TypeVar("_MappingOf", bound=Mapping[Any, Any])
 
 # By the statuses of the library (include/dovecounter.h).
 CODES = {
@@ -95,6 +98,20 @@ def look_at(what: str, number: int, most: int, least: int = 0) -> int:
     if not least <= number <= most:
         raise ValueError(f"{what} is {number}, and not from {least} to {most}")
     return number
+
+
+def look_at_type(what: str, value: _Kind, kind: Type[_Kind]) -> _Kind:
+    """The value; refuses one of another type."""
+    if not isinstance(value, kind):
+        raise TypeError(f"{what} is {value!r}, and no {kind.__name__}")
+    return value
+
+
+def look_at_mapping(what: str, values: _MappingOf) -> _MappingOf:
+    """The mapping; refuses a list, say."""
+    if not isinstance(values, Mapping):
+        raise TypeError(f"{what} are {values!r}, and no mapping, such as a dict")
+    return values
 
 
 def look_at_choice(what: str, choice: bool) -> bool:

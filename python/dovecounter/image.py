@@ -8,7 +8,16 @@ from dataclasses import dataclass
 from typing import Callable, Dict, List, Mapping, Tuple, Union
 
 from . import library
-from .faults import CODES, Fault, look_at, look_at_bytes, look_at_choice, look_at_text
+from .faults import (
+    CODES,
+    Fault,
+    look_at,
+    look_at_bytes,
+    look_at_choice,
+    look_at_mapping,
+    look_at_text,
+    look_at_type,
+)
 from .reports import (
     Advertisement,
     Application,
@@ -97,6 +106,8 @@ class Image:
     """At most 16 halves of 128 bytes, each under its key. An image never changes."""
 
     def __init__(self, halves: Mapping[Key, bytes]) -> None:
+        for key in look_at_mapping("the halves", halves):
+            look_at_type("the key of a half", key, Key)
         if len(halves) > MOST_HALVES:
             raise ValueError(
                 f"there are {len(halves)} halves, and an image has at most {MOST_HALVES}"
@@ -154,10 +165,14 @@ class Image:
 
     @classmethod
     def from_dump(cls, dump: bytes) -> Image:
-        """The image of an eeprom file, the bytes of a module in a row, as the driver optoe and
-        `ethtool -m PORT raw on` have them (docs/formats.md, "Dumps"); tools/module-image reads
-        other forms too. Takes the halves of the module's family that are there. Raises ValueError
-        if it is no dump of a module that is read."""
+        """The image of the bytes of an eeprom file, which has a module's halves in a row, as the
+        driver optoe and `ethtool -m PORT raw on` have them (docs/formats.md, "Dumps");
+        tools/module-image reads other forms too. Takes the halves of the module's family that are
+        there. Raises ValueError if it is no dump of a module that is read, and TypeError for the
+        name of a file."""
+        if not isinstance(dump, (bytes, bytearray)):
+            raise TypeError(f"the dump is {dump!r}, and no bytes: read the file first")
+        dump = bytes(dump)
         if not dump or len(dump) % HALF:
             raise ValueError(
                 f"a dump has whole halves of {HALF} bytes, and this one has {len(dump)} bytes"

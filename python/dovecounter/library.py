@@ -247,7 +247,14 @@ _SHARED = _opened()
 
 def function(name: str) -> Callable[..., Any]:
     """A function of the header, by its name without `dovecounter_`."""
-    found = getattr(_SHARED, f"dovecounter_{name}")
+    try:
+        found = getattr(_SHARED, f"dovecounter_{name}")
+    except AttributeError as error:
+        raise ImportError(
+            f"{_SHARED._name} has no dovecounter_{name}, so it is of another version than this"
+            f" package, which needs {VERSION}: build the library again by"
+            " tools/build-shared-library, or name another in DOVECOUNTER_LIBRARY"
+        ) from error
     found.restype, found.argtypes = FUNCTIONS[name]
     return found  # type: ignore[no-any-return]
 

@@ -1,6 +1,7 @@
 """Plans of a module's lanes, and what a certificate of one is worth (docs/planning.md)."""
 from __future__ import annotations
 
+import warnings
 from ctypes import Array, byref, c_size_t, c_uint32
 from dataclasses import dataclass
 from typing import Any, Dict, Mapping, Optional, Sequence, Tuple, Union
@@ -12,14 +13,26 @@ from .faults import (
     first_refused,
     look_at,
     look_at_choice,
+    look_at_mapping,
     look_at_text,
+    look_at_type,
     sentence_of,
 )
-from .image import Image
+from .image import HALF, Image, page
 
 _plan = library.function("plan")
 _check = library.function("check")
 _read_weights = library.function("weights")
+
+
+_ACTIVE = 206 - HALF  # where page 11h has the Active Control Set
+
+
+class KeptPathNotActive(UserWarning):
+    """A path is to be kept, but the module doesn't have it: its Active Control Set has other control
+    bytes for the path's lanes. A Provisioning of such a plan ends in a fault, most often PV1 or PV3,
+    and only after it has taken down all lanes that aren't kept. With them goes each data path that
+    has one of these lanes and one of the kept path's."""
 
 
 @dataclass(frozen=True)
@@ -74,7 +87,7 @@ class Judgement:
 
 def _weights(weights: Mapping[int, int]) -> Array[c_uint32]:
     found = library.Weights()
-    for host_id, weight in weights.items():
+    for host_id, weight in look_at_mapping("the weights", weights).items():
         look_at("a HostInterfaceID", host_id, 255)
         found[host_id] = look_at(f"the weight of 0x{host_id:02X}", weight, 2**32 - 1)
     return found
@@ -95,8 +108,7 @@ def read_weights(text: Union[str, bytes]) -> Dict[int, int]:
 
 def _kept(paths: Sequence[DataPath]) -> Any:
     for path in paths:
-        if not isinstance(path, DataPath):
-            raise TypeError(f"{path!r} is kept, and no DataPath")
+        look_at_type("a kept path", path, DataPath)
         for what in ("application", "host", "media"):
             look_at(f"{what} of {path}", getattr(path, what), 255)
     return (library.Path * len(paths))(
@@ -126,7 +138,9 @@ def plan(
     lane count of 0 is the one that the interface ID implies, as far as that is known; else an
     Application without a lane count is not planned. `stay` is what a path weighs more if the module
     has it already, by its Active Control Set (page 11h), 0 to 4294967295.
-    Raises a Fault of AD1 to AD6, KP2 or KP3; ValueError for a number that is out of range."""
+    Raises a Fault of AD1 to AD6, KP2 or KP3; ValueError for a number that is out of range. Warns by
+    KeptPathNotActive of each kept path that the module doesn't have, if the image has page 11h."""
+    look_at_type("the image", image, Image)
     found = library.Plan()
     halves, table = image.arguments(), _weights(weights)
     _look_at_conventions(paired, counts_by_id, stay)
@@ -144,7 +158,22 @@ def plan(
     paths = tuple(
         DataPath(path.application, path.host, path.media) for path in found.paths[: found.count]
     )
-    return Plan(found.weight, paths, bytes(found.control), found.lanes, found.outside)
+    best = Plan(found.weight, paths, bytes(found.control), found.lanes, found.outside)
+    for path in _not_active(image, best, keep):
+        told = f"{path} is to be kept, but the module's Active Control Set doesn't have it"
+        warnings.warn(told, KeptPathNotActive, stacklevel=2)
+    return best
+
+
+def _not_active(image: Image, best: Plan, keep: Sequence[DataPath]) -> Tuple[DataPath, ...]:
+    """The kept paths that the Active Control Set lacks; none if the image doesn't have it."""
+    half = image.halves.get(page(0x11))
+    if half is None:
+        return ()
+    other = {
+        byte for byte, active in zip(best.control, half[_ACTIVE : _ACTIVE + 8]) if byte != active
+    }
+    return tuple(path for path in keep if best.control[path.host - 1] in other)
 
 
 def check(
@@ -161,6 +190,7 @@ def check(
     was made only `counts_by_id` says, and how much staying weighed only `stay`: they have to be as
     they were for `plan`. Raises a Fault of AD1 to
     AD6 or CT1 to CT4; ValueError for a number that is out of range."""
+    look_at_type("the image", image, Image)
     text = look_at_text("the certificate", certificate)
     found = library.Judgement()
     halves, table, lines = image.arguments(), _weights(weights), text.split(b"\n")

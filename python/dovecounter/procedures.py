@@ -7,7 +7,7 @@ from dataclasses import dataclass
 from typing import Any, Callable, Dict, Optional, TypeVar, Union
 
 from . import library
-from .faults import Fault, look_at, look_at_bytes
+from .faults import Fault, look_at, look_at_bytes, look_at_type
 from .image import HALF, Image, Key
 from .planning import Plan
 
@@ -41,6 +41,13 @@ class Operation:
     """whether to pause before it, since the operation before was refused, or showed that a state of
     the module is awaited"""
 
+    def __repr__(self) -> str:
+        data = None if self.data is None else f"bytes.fromhex('{self.data.hex(' ')}')"
+        return (
+            f"Operation(device=0x{self.device:02X}, offset=0x{self.offset:02X}, count={self.count},"
+            f" data={data}, wait={self.wait})"
+        )
+
     @property
     def address(self) -> int:
         """The address on the bus in its 7-bit form, as Linux and smbus2 take it."""
@@ -72,6 +79,13 @@ class Procedure:
 
     def __init__(self, saved: Any) -> None:
         self._saved = saved
+
+    def __repr__(self) -> str:
+        return f"<{type(self).__name__} after {self._made()} operations>"
+
+    def _made(self) -> int:
+        """How many operations were told their replies."""
+        return int(self._saved.steps)
 
     def __copy__(self: _Self) -> _Self:
         return copy.deepcopy(self)
@@ -128,6 +142,9 @@ class _Change(Procedure):
     def __init__(self) -> None:
         super().__init__(library.Procedure())
 
+    def _made(self) -> int:
+        return int(self._saved.saved.steps)
+
     def _end(self) -> None:
         answer = library.Answer()
         _expect_done(_answer(byref(self._saved), byref(answer)))
@@ -140,10 +157,15 @@ class _Change(Procedure):
 
 
 class _OfPlan(_Change):
-    def __init__(self, begin: Callable[..., None], control: bytes, lanes: int) -> None:
+    def __init__(self, begin: Callable[..., None], plan: Plan, lanes: int) -> None:
         super().__init__()
-        bytes_of_lanes = library.Lanes(*look_at_bytes("the control bytes", control, 8))
+        self._control = plan.control
+        bytes_of_lanes = library.Lanes(*look_at_bytes("the control bytes", plan.control, 8))
         begin(bytes_of_lanes, look_at("the byte of lanes", lanes, 255), byref(self._saved))
+
+    def __repr__(self) -> str:
+        name, control = type(self).__name__, self._control.hex(" ")
+        return f"<{name} of {control} after {self._made()} operations>"
 
 
 class Provisioning(_OfPlan):
@@ -154,7 +176,7 @@ class Provisioning(_OfPlan):
     _begin = staticmethod(library.function("provision"))
 
     def __init__(self, plan: Plan) -> None:
-        super().__init__(self._begin, plan.control, plan.outside)
+        super().__init__(self._begin, look_at_type("the plan", plan, Plan), plan.outside)
 
 
 class Activation(_OfPlan):
@@ -165,7 +187,7 @@ class Activation(_OfPlan):
     _begin = staticmethod(library.function("activate"))
 
     def __init__(self, plan: Plan) -> None:
-        super().__init__(self._begin, plan.control, plan.lanes)
+        super().__init__(self._begin, look_at_type("the plan", plan, Plan), plan.lanes)
 
 
 class Waking(_Change):

@@ -6,7 +6,7 @@ from dataclasses import astuple, dataclass
 from typing import Optional, Tuple
 
 from . import library
-from .faults import CODES, Fault, first_refused, look_at
+from .faults import CODES, Fault, first_refused, look_at, look_at_type
 from .image import Image, page
 from .procedures import Operation, Reply
 from .states import ConfigStatus, ModuleState, PathState
@@ -41,7 +41,8 @@ class SimulatedModule:
     AD1 to AD6, SM3 or SM4 if there is no such module."""
 
     def __init__(self, image: Image, delays: Delays = Delays()) -> None:
-        for name, delay in vars(delays).items():
+        look_at_type("the image", image, Image)
+        for name, delay in vars(look_at_type("the delays", delays, Delays)).items():
             look_at(f"the delay {name}", delay, 2**16 - 1)
         self._image = image
         self._halves = image.arguments()
@@ -62,6 +63,11 @@ class SimulatedModule:
         if CODES.get(answer) == "SM4":
             raise Fault("SM4", first_refused(8, is_wrong))
         image.take(answer)
+
+    def __repr__(self) -> str:
+        states = " ".join(state.name for state in self.path_states)
+        active = self.active.hex(" ")
+        return f"<SimulatedModule in {self.state.name}, active {active}, lanes {states}>"
 
     def copy(self) -> SimulatedModule:
         """Another module, in the same state."""

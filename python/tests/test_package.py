@@ -1,16 +1,13 @@
 """Images, plans, certificates and faults, against the program and the pages."""
 from __future__ import annotations
 
-import array
 import copy
 import operator
 import pathlib
 import pickle
 import random
 import re
-import subprocess
-import sys
-from typing import Any, List
+from typing import List
 
 import pytest
 
@@ -27,19 +24,15 @@ from shared import (
 )
 from dovecounter import (
     LOWER,
-    Activation,
     ConfigStatus,
     DataPath,
     Delays,
     Fault,
     Image,
     Judgement,
-    Key,
     ModuleState,
     PathState,
-    Plan,
     Provisioning,
-    Reading,
     SimulatedModule,
     check,
     page,
@@ -192,120 +185,6 @@ def test_a_changed_certificate_is_judged_as_by_the_program() -> None:
     assert {"good", "CT1", "CT2", "CT4", "VR3", "VR5", "VR6"} <= found
 
 
-def test_texts_that_are_no_image() -> None:
-    lines = DR4.to_text().splitlines()
-    texts = [
-        "",
-        "x\n",
-        "module-image 1\nx\n",
-        "\n".join(lines[:-1]),
-        "\n".join([*lines, ""]) + "\n",
-        "\n".join([*lines[:3], lines[1]]),
-        "\n".join(
-            [
-                "module-image 1",
-                *(f"upper A0 00 {number:02x} {'0' * 256}" for number in range(17)),
-                "end",
-            ]
-        ),
-        DR4.to_text().upper(),
-        DR4.to_text().replace("\n", "\r\n"),
-        "module-image 1\n\udcff\n",
-    ]
-    for text in texts:
-        if "\udcff" not in text:
-            assert [f"fault {fault_of(Image.from_text, text)}"] == cmisctl("inventory", text)
-        else:
-            assert fault_of(Image.from_text, text) == "IM2 2"
-    assert Image.from_text(DR4.to_text().rstrip("\n")) == DR4
-
-
-@pytest.mark.parametrize("path", IMAGES, ids=operator.attrgetter("name"))
-def test_a_dump_and_a_port_give_the_image(path: pathlib.Path, tmp_path: pathlib.Path) -> None:
-    tool = [sys.executable, str(ROOT / "tools/module-image")]
-    text = image_of(path).to_text()
-    dump = subprocess.run(
-        [*tool, "--binary"], input=text.encode(), capture_output=True, check=True
-    ).stdout
-    file = tmp_path / "eeprom"
-    file.write_bytes(dump)
-    by_tool = subprocess.run([*tool, str(file)], capture_output=True, text=True, check=True).stdout
-    assert Image.from_dump(dump).to_text() == by_tool
-    assert Image.from_port(file).to_text() == by_tool
-    for count in range(128, len(dump), 128):
-        file.write_bytes(dump[:count])
-        by_tool = subprocess.run(
-            [*tool, str(file)], capture_output=True, text=True, check=True
-        ).stdout
-        assert Image.from_dump(dump[:count]).to_text() == by_tool
-
-
-def test_dumps_that_are_none() -> None:
-    for dump in (b"", bytes(127), bytes(128), b"\x18" * 200):
-        pytest.raises(ValueError, Image.from_dump, dump)
-    pytest.raises(OSError, Image.from_port, ROOT / "no such file")
-
-
-def test_numbers_out_of_range_are_refused_and_not_cut() -> None:
-    module, best = SimulatedModule(DR4), plan(DR4, WEIGHTS)
-
-    def changed(**members: Any) -> Plan:
-        return Plan(**{**vars(best), **members})
-
-    for call in (
-        lambda: plan(DR4, {0x111: 1}),
-        lambda: plan(DR4, {-1: 1}),
-        lambda: plan(DR4, {0x11: 2**32}),
-        lambda: plan(DR4, {0x11: -1}),
-        lambda: plan(DR4, WEIGHTS, [DataPath(258, 1, 1)]),
-        lambda: plan(DR4, WEIGHTS, [DataPath(2, 257, 1)]),
-        lambda: plan(DR4, WEIGHTS, [DataPath(2, 1, -255)]),
-        lambda: check(DR4, {0x11: 2**32}, ""),
-        lambda: SimulatedModule(DR4, Delays(init=65537)),
-        lambda: SimulatedModule(DR4, Delays(apply=-1)),
-        lambda: module.fetch(0x1A0, 0, 1),
-        lambda: module.fetch(0xA0, 256, 1),
-        lambda: module.fetch(0xA0, 0, 0),
-        lambda: module.fetch(0xA0, 0, 129),
-        lambda: module.fetch(0xA0, 120, 9),
-        lambda: module.fetch(0xA1, 0, 1),
-        lambda: module.store(0xA0, 0, bytes(9)),
-        lambda: module.store(0xA0, 0, b""),
-        lambda: module.store(0x1A0, 0, b"1"),
-        lambda: module.store(0xA0, 256 + 26, b"1"),
-        lambda: module.tick(-1),
-        lambda: Reading(7),
-        lambda: Reading(256 + 8),
-        lambda: Provisioning(changed(outside=256)),
-        lambda: Provisioning(changed(control=bytes(9))),
-        lambda: Activation(changed(lanes=-1)),
-        lambda: Image({LOWER: bytes(127)}),
-        lambda: Key(0xA1),
-        lambda: Key(0xA0, page=1),
-        lambda: page(256),
-        lambda: page(-1),
-        lambda: Image({page(number): bytes(128) for number in range(17)}),
-    ):
-        pytest.raises(ValueError, call)
-    for call in (
-        lambda: plan(DR4, {0x11: 1.5}),  # type: ignore[dict-item]
-        lambda: plan(DR4, {"11h": 1}),  # type: ignore[dict-item]
-        lambda: Provisioning(changed(control="12345678")),
-        lambda: module.fetch(0xA0, 0, None),  # type: ignore[arg-type]
-        lambda: module.store(0xA0, 26, array.array("H", [1, 2])),  # type: ignore[arg-type]
-        lambda: plan(DR4, WEIGHTS, paired=256),  # type: ignore[arg-type]
-        lambda: plan(DR4, WEIGHTS, counts_by_id=None),  # type: ignore[arg-type]
-        lambda: plan(DR4, WEIGHTS, [(2, 1, 1)]),  # type: ignore[list-item]
-        lambda: check(DR4, WEIGHTS, "", paired=256),  # type: ignore[arg-type]
-        lambda: check(DR4, WEIGHTS, pathlib.Path("x")),  # type: ignore[arg-type]
-        lambda: DR4.advertisement(256),  # type: ignore[arg-type]
-        lambda: read_weights(pathlib.Path("x")),  # type: ignore[arg-type]
-        lambda: Image.from_text(None),  # type: ignore[arg-type]
-        lambda: Key(0xA0, 0x11),  # type: ignore[arg-type]
-    ):
-        pytest.raises(TypeError, call)
-
-
 def test_copies_go_their_own_way() -> None:
     module, procedure = SimulatedModule(DR4), Provisioning(plan(DR4, WEIGHTS))
     copies = copy.copy(module), copy.deepcopy(module), pickle.loads(pickle.dumps(module))
@@ -318,16 +197,6 @@ def test_copies_go_their_own_way() -> None:
         assert each.active == module.active
     assert left.steps is None and next(left).wait is False
     assert list(procedure) == []
-
-
-def test_a_dump_of_any_module_of_cmis_is_read() -> None:
-    lower = DR4.halves[LOWER]
-    for identifier in (0x18, 0x19, 0x1B, *range(0x1E, 0x26)):
-        dump = bytes([identifier]) + lower[1:] + bytes(128)
-        assert Image.from_dump(dump).halves[LOWER][0] == identifier
-    for identifier in (0x1A, 0x1C, 0x1D, 0x26):
-        with pytest.raises(ValueError):
-            Image.from_dump(bytes([identifier]) + lower[1:] + bytes(128))
 
 
 def test_weights_are_read_from_lines() -> None:

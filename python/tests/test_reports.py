@@ -196,3 +196,38 @@ def test_a_fault_names_the_half_that_is_absent() -> None:
     ):
         compare(image)
     assert said(Image.flags, flag_lines, sfp.without(Key(0xA2))) == ["fault SF3 lower A2"]
+
+
+# The codes of "Durations Advertising" (page 01h, bytes 144, 167 and 168): the end of each range, in
+# milliseconds. 13 to 15 are reserved, and nothing bounds them.
+ENDS = (1, 5, 10, 50, 100, 500, 1000, 5000, 10000, 60000, 300000, 600000, 3000000)
+
+
+def test_durations_are_those_of_their_codes() -> None:
+    def at(address: int, byte: int) -> Image:
+        image = DR4.changed(page(0x01), address, bytes([byte]))
+        half = image.halves[page(0x01)]
+        return image.changed(page(0x01), 255, bytes([sum(half[2:127]) % 256]))
+
+    for code in range(16):
+        end = ENDS[code] if code < len(ENDS) else None
+        for address, low, high in (
+            (144, "path_init", "path_deinit"),
+            (167, "module_power_up", "module_power_down"),
+            (168, "path_tx_turn_on", "path_tx_turn_off"),
+        ):
+            assert getattr(at(address, code).durations(), low) == end
+            assert getattr(at(address, code << 4).durations(), high) == end
+            assert getattr(at(address, code << 4).durations(), low) == 1
+
+
+def test_the_sum_of_page_00h_has_each_of_its_bytes() -> None:
+    for address in (128, 129, 200, 220, 221):
+        half = DR4.halves[page(0x00)]
+        byte = half[address - 128] + 7 & 255
+        wrong = DR4.changed(page(0x00), address, bytes([byte]))
+        right_sum = bytes([half[222 - 128] + 7 & 255])
+        mended = wrong.changed(page(0x00), 222, right_sum).changed(page(0x01), 255, b"\0")
+        for image, told in ((wrong, "AD5 0"), (mended, "AD5 1")):
+            assert said(Image.advertisement, lambda _: [], image) == [f"fault {told}"]
+            assert cmisctl("apps", image.to_text()) == [f"fault {told}"]

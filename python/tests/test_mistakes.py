@@ -1,0 +1,203 @@
+"""What the package refuses, and how its objects look."""
+from __future__ import annotations
+
+import array
+import os
+import pathlib
+import shutil
+import subprocess
+import sys
+import warnings
+from typing import Any, Callable, List, Tuple
+
+import pytest
+
+from shared import ROOT, WEIGHTS, example, fault_of
+from dovecounter import (
+    LOWER,
+    Activation,
+    DataPath,
+    Delays,
+    Image,
+    Key,
+    KeptPathNotActive,
+    Operation,
+    Plan,
+    Provisioning,
+    Reading,
+    SimulatedModule,
+    Waking,
+    check,
+    library,
+    page,
+    plan,
+    read_weights,
+)
+
+DR4 = example("qsfp_dd_400g_dr4.txt")
+
+
+def test_numbers_out_of_range_are_refused_and_not_cut() -> None:
+    module, best = SimulatedModule(DR4), plan(DR4, WEIGHTS)
+
+    def changed(**members: Any) -> Plan:
+        return Plan(**{**vars(best), **members})
+
+    for call in (
+        lambda: plan(DR4, {0x111: 1}),
+        lambda: plan(DR4, {-1: 1}),
+        lambda: plan(DR4, {0x11: 2**32}),
+        lambda: plan(DR4, {0x11: -1}),
+        lambda: plan(DR4, WEIGHTS, [DataPath(258, 1, 1)]),
+        lambda: plan(DR4, WEIGHTS, [DataPath(2, 257, 1)]),
+        lambda: plan(DR4, WEIGHTS, [DataPath(2, 1, -255)]),
+        lambda: check(DR4, {0x11: 2**32}, ""),
+        lambda: SimulatedModule(DR4, Delays(init=65537)),
+        lambda: SimulatedModule(DR4, Delays(apply=-1)),
+        lambda: module.fetch(0x1A0, 0, 1),
+        lambda: module.fetch(0xA0, 256, 1),
+        lambda: module.fetch(0xA0, 0, 0),
+        lambda: module.fetch(0xA0, 0, 129),
+        lambda: module.fetch(0xA0, 120, 9),
+        lambda: module.fetch(0xA1, 0, 1),
+        lambda: module.store(0xA0, 0, bytes(9)),
+        lambda: module.store(0xA0, 0, b""),
+        lambda: module.store(0x1A0, 0, b"1"),
+        lambda: module.store(0xA0, 256 + 26, b"1"),
+        lambda: module.tick(-1),
+        lambda: Reading(7),
+        lambda: Reading(256 + 8),
+        lambda: Provisioning(changed(outside=256)),
+        lambda: Provisioning(changed(control=bytes(9))),
+        lambda: Activation(changed(lanes=-1)),
+        lambda: Image({LOWER: bytes(127)}),
+        lambda: Key(0xA1),
+        lambda: Key(0xA0, page=1),
+        lambda: page(256),
+        lambda: page(-1),
+        lambda: Image({page(number): bytes(128) for number in range(17)}),
+    ):
+        pytest.raises(ValueError, call)
+    for call in (
+        lambda: plan(DR4, {0x11: 1.5}),  # type: ignore[dict-item]
+        lambda: plan(DR4, {"11h": 1}),  # type: ignore[dict-item]
+        lambda: Provisioning(changed(control="12345678")),
+        lambda: module.fetch(0xA0, 0, None),  # type: ignore[arg-type]
+        lambda: module.store(0xA0, 26, array.array("H", [1, 2])),  # type: ignore[arg-type]
+        lambda: plan(DR4, WEIGHTS, paired=256),  # type: ignore[arg-type]
+        lambda: plan(DR4, WEIGHTS, counts_by_id=None),  # type: ignore[arg-type]
+        lambda: plan(DR4, WEIGHTS, [(2, 1, 1)]),  # type: ignore[list-item]
+        lambda: check(DR4, WEIGHTS, "", paired=256),  # type: ignore[arg-type]
+        lambda: check(DR4, WEIGHTS, pathlib.Path("x")),  # type: ignore[arg-type]
+        lambda: DR4.advertisement(256),  # type: ignore[arg-type]
+        lambda: read_weights(pathlib.Path("x")),  # type: ignore[arg-type]
+        lambda: Image.from_text(None),  # type: ignore[arg-type]
+        lambda: Key(0xA0, 0x11),  # type: ignore[arg-type]
+    ):
+        pytest.raises(TypeError, call)
+
+
+def test_values_of_the_wrong_type_are_refused_where_they_come_in() -> None:
+    half = bytes(128)
+    refused: Tuple[Tuple[Callable[[], object], str], ...] = (
+        (lambda: plan(DR4, [1, 2]), "the weights are"),  # type: ignore[arg-type]
+        (lambda: check(DR4, None, ""), "the weights are"),  # type: ignore[arg-type]
+        (lambda: plan(DR4.to_text(), WEIGHTS), "the image is"),  # type: ignore[arg-type]
+        (lambda: check("x", WEIGHTS, ""), "the image is"),  # type: ignore[arg-type]
+        (lambda: Provisioning("x"), "the plan is 'x', and no Plan"),  # type: ignore[arg-type]
+        (lambda: Activation(None), "the plan is None, and no Plan"),  # type: ignore[arg-type]
+        (lambda: SimulatedModule("x"), "the image is"),  # type: ignore[arg-type]
+        (lambda: SimulatedModule(DR4, 4), "the delays are 4"),  # type: ignore[arg-type]
+        (lambda: Image({None: half}), "the key of a half is None"),  # type: ignore[dict-item]
+        (lambda: Image({0x11: half}), "the key of a half is 17"),  # type: ignore[dict-item]
+        (lambda: Image([half]), "the halves are"),  # type: ignore[arg-type]
+        (lambda: Image({LOWER: "x" * 128}), "lower A0 are"),  # type: ignore[dict-item]
+        (lambda: Image.from_dump("/nonexistent"), "the dump is"),  # type: ignore[arg-type]
+        (lambda: Image.from_dump(ROOT), "the dump is"),  # type: ignore[arg-type]
+    )
+    for call, told in refused:
+        with pytest.raises(TypeError, match=f"^{told}"):
+            call()
+    assert Image.from_dump(bytearray(b"\x03" + bytes(127))).halves == {LOWER: b"\x03" + bytes(127)}
+
+
+def imported(file: pathlib.Path) -> List[str]:
+    """What Python says when it imports the package over a library."""
+    run = subprocess.run(
+        [sys.executable, "-c", "import dovecounter"],
+        capture_output=True,
+        text=True,
+        check=False,
+        env={**os.environ, "PYTHONPATH": str(ROOT / "python"), "DOVECOUNTER_LIBRARY": str(file)},
+    )
+    assert run.returncode == 1
+    return run.stderr.splitlines()
+
+
+def test_a_library_of_another_version_or_none_is_refused_with_a_sentence(
+    tmp_path: pathlib.Path,
+) -> None:
+    file = tmp_path / library.FILE
+    assert imported(file)[-1].startswith("ImportError: ")
+    assert imported(tmp_path / "libdovecounter.so")[-1].startswith("ImportError: ")
+    compiler = os.environ.get("CC", "cc")
+    if shutil.which(compiler) is None:
+        pytest.skip("there is no C compiler")
+    source = tmp_path / "other.c"
+    source.write_text("int dovecounter_status_text(void) { return 0; }\n")
+    subprocess.run([compiler, "-shared", "-fPIC", "-o", file, source], check=True)
+    told = imported(file)[-1]
+    assert told.startswith(f"ImportError: {file} has no dovecounter_")
+    assert "of another version" in told
+
+
+def test_a_kept_path_that_is_not_active_is_warned_of() -> None:
+    image = DR4.changed(page(0x11), 206, bytes.fromhex("20 20 24 24 28 28 2c 2c"))
+    active, other = DataPath(2, 3, 2), DataPath(2, 5, 1)
+    with warnings.catch_warnings():
+        warnings.simplefilter("error")
+        assert active in plan(image, WEIGHTS, [active]).paths
+        assert plan(image.without(page(0x11)), WEIGHTS, [other])
+        assert other in plan(image, WEIGHTS, [other]).paths
+    for active_bytes in ("20 20 24 24 00 28 2c 2c", "20 20 24 24 28 29 2c 2c", "10 " * 8):
+        image = DR4.changed(page(0x11), 206, bytes.fromhex(active_bytes))
+        with pytest.warns(KeptPathNotActive) as told:
+            best = plan(image, WEIGHTS, [other, DataPath(2, 1, 3)])
+        named = [str(one.message).partition(" is to be")[0] for one in told]
+        assert named == [str(other), str(DataPath(2, 1, 3))][: 1 + (active_bytes[:2] == "10")]
+        assert told[0].filename == __file__
+        fault = fault_of(Provisioning(best).run, SimulatedModule(image).transact)
+        assert fault[:3] in ("PV1", "PV3")
+
+
+def test_objects_show_what_they_are() -> None:
+    best, module = plan(DR4, WEIGHTS), SimulatedModule(DR4)
+    operation = Operation(0xA0, 126, 2, b"\x00\x10", False)
+    shown = "Operation(device=0xA0, offset=0x7E, count=2, data=bytes.fromhex('00 10'), wait=False)"
+    assert repr(operation) == shown and eval(shown) == operation
+    fetch = Operation(0xA0, 3, 1, None, True)
+    assert eval(repr(fetch)) == fetch and "data=None, wait=True" in repr(fetch)
+    provisioning, control = Provisioning(best), best.control.hex(" ")
+    assert repr(provisioning) == f"<Provisioning of {control} after 0 operations>"
+    provisioning.run(module.transact)
+    assert provisioning.steps
+    made = f"after {provisioning.steps} operations>"
+    assert repr(provisioning) == f"<Provisioning of {control} {made}"
+    assert repr(Activation(best)) == f"<Activation of {control} after 0 operations>"
+    waking, reading = Waking(), Reading()
+    for procedure in (waking, reading):
+        procedure.reply(module.transact(next(procedure)))
+    assert repr(waking) == "<Waking after 1 operations>"
+    assert repr(reading) == "<Reading after 1 operations>"
+    lanes = " ".join(["DPDeactivated"] * 8)
+    assert repr(module) == f"<SimulatedModule in ModuleReady, active {control}, lanes {lanes}>"
+
+
+def test_a_plan_s_members_are_looked_at() -> None:
+    best = plan(DR4, WEIGHTS)
+
+    def changed(**members: Any) -> Plan:
+        return Plan(**{**vars(best), **members})
+
+    pytest.raises(TypeError, lambda: Activation(changed(control=[0] * 8)))
+    pytest.raises(TypeError, lambda: Activation(changed(lanes=None)))
