@@ -118,14 +118,19 @@ def renamed(proof, function, twin):
 
 
 class Copy:
-    """A copy of a crate in a scratch folder, and its functions by the paths that a check has for them."""
+    """Two copies of a crate in a scratch folder: its own files, which stay, and those that are checked; and its functions by the paths that
+    a check has for them."""
 
-    def __init__(self, name, folder, libraries):
-        self.name, self.folder, self.functions, self.libraries, self.checks = name, folder, set(), libraries, 0
-        for it in PARTS:
+    def __init__(self, name, top, libraries):
+        self.name, self.functions, self.libraries, self.checks = name, set(), libraries, 0
+        self.own, self.folder = f"{top}/own", f"{top}/tried"
+        for it in (*PARTS, "wrong-bodies"):
             if os.path.isdir(f"{ROOT}/crates/{name}/{it}"):
-                shutil.copytree(f"{ROOT}/crates/{name}/{it}", f"{folder}/{it}")
-        os.makedirs(f"{folder}/out")
+                shutil.copytree(f"{ROOT}/crates/{name}/{it}", f"{self.own}/{it}")
+        for it in PARTS:
+            if os.path.isdir(f"{self.own}/{it}"):
+                shutil.copytree(f"{self.own}/{it}", f"{self.folder}/{it}")
+        os.makedirs(f"{self.folder}/out")
 
     def take_by_contracts(self, functions):
         """Takes all functions of the crate, whose paths are given, by their contracts."""
@@ -153,7 +158,7 @@ class Copy:
         """Has a function proved as the crate proves it, or a twin as the crate proves the function whose twin it is."""
         if not self.has_own_proof(of):
             return
-        place, folder = f"{ROOT}/crates/{self.name}/proofs/{of.replace('::', '/')}", f"{self.folder}/proofs/{function.replace('::', '/')}"
+        place, folder = f"{self.own}/proofs/{of.replace('::', '/')}", f"{self.folder}/proofs/{function.replace('::', '/')}"
         self.remove_proof(folder)
         for it in PROOF_FILES:
             if os.path.isfile(f"{place}/{it}"):

@@ -1,17 +1,17 @@
 """The edits of a crate, tried in rounds, and what is said of them."""
-import os
 import re
 import time
-from functions import ROOT, BadEdit, constants_of, edit_of, functions_of, read, twin_of
+from functions import BadEdit, constants_of, edit_of, functions_of, read, twin_of
 
 REFUSED, PROVED, WAITS, UNREADABLE, NAMES = "refused", "proved", "waits", "does not compile", "refused for a name alone"
 
 
 class Tried:
-    """A crate, the files of its edits that are tried, and what is said of them."""
+    """A crate, the names of its edits that are judged, how many of them an earlier run did, the sum of its sources as this
+    began, and what is said of each edit."""
 
     def __init__(self, name, files):
-        self.name, self.files, self.copy, self.began, self.verdicts = name, files, None, 0, {}
+        self.name, self.files, self.copy, self.began, self.kept, self.first, self.verdicts = name, files, None, 0, 0, "", {}
 
     def say(self, words):
         print(f"{self.name}: {words}, {time.monotonic() - self.began:.0f} s", flush=True)
@@ -206,16 +206,16 @@ def try_in_rounds(crate, edits):
 
 
 def read_edits(crate):
-    """The edits of a crate that can be tried."""
+    """The edits of a crate that have no verdict and can be tried."""
     edits = []
-    for path in crate.files:
+    for name in [it for it in crate.files if it not in crate.verdicts]:
         try:
-            edit = edit_of(f"{ROOT}/crates/{crate.name}", path)
+            edit = edit_of(crate.copy.own, f"{crate.copy.own}/wrong-bodies/{name}")
             if any(name is None for name, _, _ in judges_of(crate, edit)):
                 raise BadEdit("it is not certain what a check calls a function that judges it")
             edits.append(edit)
         except BadEdit as why:
-            crate.verdicts[os.path.basename(path)] = f"can't be tried: {why}"
+            crate.verdicts[name] = f"can't be tried: {why}"
     return edits
 
 
