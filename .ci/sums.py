@@ -31,6 +31,15 @@ def bytes_of(path):
         return file.read()
 
 
+def sum_of_file(path):
+    """A sum of a file that may be large."""
+    found = hashlib.sha256()
+    with open(path, "rb") as file:
+        while part := file.read(1 << 20):
+            found.update(part)
+    return found.hexdigest()
+
+
 def files_in(folder):
     """The files in a folder, by their paths there, in order."""
     return sorted(os.path.relpath(f"{at}/{it}", folder) for at, _, files in os.walk(folder) for it in files)
