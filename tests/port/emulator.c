@@ -103,10 +103,20 @@ static uint8_t rejection(const struct emulator *module, int lane, unsigned mask)
     return ((lanes | active_path(module, lane)) & ~mask) != 0 ? PARTIAL_PATH : 0;
 }
 
+/* Whether an apply only gets a status, whatever is staged. */
+static bool only_tells(struct emulator *module, uint8_t mask) {
+    uint8_t told = module->reject != 0 ? module->reject : SUCCESS;
+    if (module->reject == 0 && module->ignored == 0) return false;
+    for (int lane = 0; lane < 8; lane++)
+        if (mask >> lane & 1) module->status[lane] = told;
+    if (module->reject == 0) module->ignored--;
+    return true;
+}
+
 static void apply(struct emulator *module, uint8_t mask) {
     uint8_t reasons[8] = {0};
     bool good = true;
-    if (mask == 0 || module->applying != 0) return;
+    if (mask == 0 || module->applying != 0 || only_tells(module, mask)) return;
     for (int lane = 0; lane < 8; lane++)
         if (mask >> lane & 1) good = (reasons[lane] = rejection(module, lane, mask)) == 0 && good;
     for (int lane = 0; lane < 8; lane++) {
@@ -154,9 +164,9 @@ void store_byte(struct emulator *module, uint8_t address, uint8_t byte) {
     } else if (at == APPLY_DP_INIT) {
         module->applies |= byte;
         apply(module, byte);
-    } else if (at >= STAGED && at < STAGED + 8)
-        page[at] = byte;
-    else
+    } else if (at >= STAGED && at < STAGED + 8) {
+        if (at - STAGED + 1U != module->unstaged) page[at] = byte;
+    } else
         module->astray++;
 }
 

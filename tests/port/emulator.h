@@ -33,6 +33,11 @@ struct emulator {
     int stuck;        /* the page that is selected for good, or -1 */
     uint64_t random;
 
+    /* what few modules do */
+    unsigned ignored;  /* so many applies are told to have succeeded, and change nothing */
+    uint8_t reject;    /* the status of each apply, which changes nothing; 0 for what it would be */
+    unsigned unstaged; /* the lane, from 1 on, whose staged byte is not kept; 0 for none */
+
     /* what a test looks at */
     uint8_t left_activated;  /* lanes */
     uint8_t deinit, applies; /* bits that were stored to DPDeinit and ApplyDPInit */

@@ -46,10 +46,30 @@ int sigtimedwait(const sigset_t *set, siginfo_t *info, const struct timespec *ti
 
 /* ---- what the environment says ---- */
 
+static void read_byte(const char *word) {
+    struct shim_byte *byte = &shim.bytes[shim.byte_count++];
+    if (shim.byte_count > 64 || sscanf(word, "byte=%2x.%2x=%2x", &byte->page, &byte->address, &byte->byte) != 3)
+        abort();
+}
+
+/* Words of what few adapters and modules do. */
+static void read_rare_word(const char *word, unsigned value) {
+    sscanf(word, "hold=%255s", shim.hold);
+    if (strncmp(word, "byte=", 5) == 0) read_byte(word);
+    if (strncmp(word, "too-long=", 9) == 0) shim.too_long = (int)value;
+    if (strncmp(word, "answers=", 8) == 0) shim.answers = value;
+    if (strncmp(word, "mute=", 5) == 0) shim.mute = value;
+    if (strncmp(word, "takes=", 6) == 0) shim.takes = value;
+    if (strncmp(word, "ignored=", 8) == 0) shim.module.ignored = value;
+    if (strncmp(word, "reject=", 7) == 0) shim.module.reject = (uint8_t)value;
+    if (strncmp(word, "unstaged=", 9) == 0) shim.module.unstaged = value;
+}
+
 static void read_word(const char *word) {
     unsigned value = 0;
     const char *after = strchr(word, '=');
     if (after != NULL) value = (unsigned)strtoul(after + 1, NULL, 0);
+    read_rare_word(word, value);
     sscanf(word, "image=%255s", shim.image);
     sscanf(word, "out=%255s", shim.out);
     sscanf(word, "driver=%31s", shim.driver);
@@ -68,13 +88,29 @@ static void read_word(const char *word) {
     if (strcmp(word, "real-time") == 0) shim.real_time = true;
 }
 
-/* MaxDurationDPDeinit and DPInit in byte 144 of page 01h, those of the transmitter in byte 168, and the sum in byte 255. */
+/* In byte 222 of page 00h that of bytes 128 to 221, and in byte 255 of page 01h that of bytes 130 to 254. */
+static void write_sum(unsigned number) {
+    uint8_t *page = shim.module.pages[number];
+    unsigned sum = 0, first = number == 0 ? 128 : 130, place = number == 0 ? 222 : 255;
+    for (unsigned at = first; at < place; at++) sum += page[at - 128];
+    page[place - 128] = (uint8_t)sum;
+}
+
+/* MaxDurationDPDeinit and DPInit in byte 144 of page 01h, those of the transmitter in byte 168. */
 static void advertise_durations(void) {
     uint8_t *page = shim.module.pages[1];
-    unsigned sum = 0;
     page[144 - 128] = page[168 - 128] = shim.durations;
-    for (unsigned at = 130; at < 255; at++) sum += page[at - 128];
-    page[255 - 128] = (uint8_t)sum;
+    write_sum(1);
+}
+
+/* A sum is right again after each byte but itself. */
+static void change_bytes(void) {
+    for (const struct shim_byte *each = shim.bytes; each < shim.bytes + shim.byte_count; each++) {
+        bool upper = each->address >= 128;
+        uint8_t *half = upper ? shim.module.pages[each->page] : shim.module.lower;
+        half[each->address % 128] = (uint8_t)each->byte;
+        if (upper && each->page < 2 && each->address != (each->page == 0 ? 222 : 255)) write_sum(each->page);
+    }
 }
 
 static void load_image(const char *name) {
@@ -95,6 +131,7 @@ static void begin(void) {
     shim.module.random += shim.random;
     load_image(shim.image);
     if (shim.durations != 0) advertise_durations();
+    change_bytes();
     power_up(&shim.module);
     shim.fresh = shim.module;
     shim.lived = microseconds() / 1000;
@@ -110,9 +147,22 @@ __attribute__((destructor)) static void tell(void) {
 
 /* ---- the module behind both ---- */
 
+static void wait_for_removal(const char *name) {
+    FILE *file = fopen(name, "w");
+    if (file == NULL) abort();
+    fclose(file);
+    while (access(name, F_OK) == 0) usleep(1000);
+}
+
+static bool is_muted(void) {
+    if (shim.made == 20) shim.muted = microseconds() + 1000 * (int64_t)shim.mute;
+    return microseconds() < shim.muted || (shim.answers != 0 && shim.made % shim.answers != 0);
+}
+
 /* Whether the next transaction reaches the module; else errno says why. */
 static bool reaches(void) {
     shim.made++;
+    if (shim.made == 10 && shim.hold[0] != 0) wait_for_removal(shim.hold);
     shim.microseconds += 300; /* of the transaction */
     if (shim.made == shim.swap) shim.module = shim.fresh;
     if (shim.made == shim.interrupt) kill(getpid(), SIGINT);
@@ -120,8 +170,9 @@ static bool reaches(void) {
     errno = shim.error;
     if (shim.unplug != 0 && shim.made > shim.unplug)
         errno = ENXIO;
-    else
-        return next_random(&shim.random) % 100 >= shim.refuse;
+    else if (!is_muted() && next_random(&shim.random) % 100 >= shim.refuse)
+        return true;
+    shim.microseconds += 1000 * (int64_t)shim.takes;
     return false;
 }
 
@@ -137,7 +188,8 @@ static void store_bytes(uint8_t address, size_t count, const uint8_t *bytes) {
 
 static int transfer(const struct i2c_rdwr_ioctl_data *data) {
     for (unsigned i = 0; i < data->nmsgs; i++)
-        if (shim.longest != 0 && data->msgs[i].len > shim.longest) return errno = EOPNOTSUPP, -1;
+        if (shim.longest != 0 && data->msgs[i].len > shim.longest)
+            return errno = shim.too_long != 0 ? shim.too_long : EOPNOTSUPP, -1;
     bool reached = reaches();
     for (unsigned i = 0; i < data->nmsgs; i++) {
         struct i2c_msg *message = &data->msgs[i];

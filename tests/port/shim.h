@@ -24,6 +24,18 @@ struct shim {
     int file;
     bool in_a_row;   /* it is that of optoe */
     uint8_t pointer; /* the address from which a fetch reads */
+
+    /* what few adapters and modules do */
+    int too_long;     /* the error of a message that is too long; 0 for EOPNOTSUPP */
+    unsigned answers; /* each transaction of this number is answered, and no other; 0 for all */
+    unsigned mute;    /* from the twentieth on, none is answered for so many milliseconds */
+    int64_t muted;    /* microseconds: until then */
+    unsigned takes;   /* milliseconds until one that isn't answered is given up */
+    char hold[256];   /* a file that is made at the tenth transaction, which waits until it is gone */
+    struct shim_byte {
+        unsigned page, address, byte;
+    } bytes[64]; /* in place of those of the memory; an address below 80h is in the lower half */
+    size_t byte_count;
 };
 
 extern struct shim shim;
