@@ -55,6 +55,7 @@ static void read_byte(const char *word) {
 /* Words of what few adapters and modules do. */
 static void read_rare_word(const char *word, unsigned value) {
     sscanf(word, "hold=%255s", shim.hold);
+    sscanf(word, "other=%255s", shim.other);
     if (strncmp(word, "byte=", 5) == 0) read_byte(word);
     if (strncmp(word, "too-long=", 9) == 0) shim.too_long = (int)value;
     if (strncmp(word, "answers=", 8) == 0) shim.answers = value;
@@ -113,11 +114,11 @@ static void change_bytes(void) {
     }
 }
 
-static void load_image(const char *name) {
+static void load_image(struct emulator *module, const char *name) {
     char line[400];
     FILE *file = fopen(name, "r");
     if (file == NULL) abort();
-    while (fgets(line, sizeof line, file)) load_line(&shim.module, line);
+    while (fgets(line, sizeof line, file)) load_line(module, line);
     fclose(file);
 }
 
@@ -129,11 +130,13 @@ static void begin(void) {
     for (char *word = strtok_r(copy, " ", &rest); word != NULL; word = strtok_r(NULL, " ", &rest)) read_word(word);
     free(copy);
     shim.module.random += shim.random;
-    load_image(shim.image);
+    load_image(&shim.module, shim.image);
     if (shim.durations != 0) advertise_durations();
     change_bytes();
     power_up(&shim.module);
     shim.fresh = shim.module;
+    if (shim.other[0] != 0) load_image(&shim.fresh, shim.other);
+    power_up(&shim.fresh);
     shim.lived = microseconds() / 1000;
 }
 
