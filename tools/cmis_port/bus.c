@@ -8,7 +8,6 @@
 #include <linux/i2c-dev.h>
 #include <linux/i2c.h>
 #include <string.h>
-#include <sys/file.h>
 #include <sys/ioctl.h>
 #include <time.h>
 #include <unistd.h>
@@ -108,10 +107,7 @@ static bool open_bus(struct port *port) {
     port->file = open(port->name, O_RDWR | O_CLOEXEC);
     if (port->file < 0) warn("%s", port->name);
     if (port->file < 0 || !is_bus(port)) return false;
-    if (flock(port->file, LOCK_EX | LOCK_NB) != 0) {
-        warn("%s: another program has locked it (fuser -v names it)", port->name);
-        return false;
-    }
+    if (!lock_bus(port)) return false;
     if (port->carry == transact_i2c) name_driver(port);
     return true;
 }

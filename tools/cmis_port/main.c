@@ -94,6 +94,7 @@ int main(int count, char **words) {
     hold_signals(&port.signals);
     enum status status = open_port(&port) ? command->run(&port) : REFUSED;
     if (port.log != NULL) close_log(&port);
+    unlock_bus();
     if (port.file >= 0) close(port.file);
     if (fflush(stdout) == 0 && !ferror(stdout)) return (int)status;
     warn("standard output");

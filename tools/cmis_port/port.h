@@ -55,6 +55,10 @@ void hold_signals(sigset_t *signals);
 bool open_port(struct port *port);
 uint8_t transact(struct port *port, const struct dovecounter_operation *operation, uint8_t bytes[128]);
 
+/* lock.c */
+bool lock_bus(const struct port *port);
+void unlock_bus(void);
+
 /* simulated.c */
 bool open_simulated(struct simulated *simulated, const char *names);
 bool transact_simulated(struct port *port, const struct dovecounter_operation *operation, uint8_t *bytes);

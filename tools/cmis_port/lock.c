@@ -1,0 +1,75 @@
+/* The lock of a bus. Root's is a file where nobody else can open it: who can open a file can lock it. */
+#include "port.h"
+
+#include <err.h>
+#include <errno.h>
+#include <fcntl.h>
+#include <sys/file.h>
+#include <sys/stat.h>
+#include <unistd.h>
+
+static const char folder[] = "/run/dovecounter";
+static char path[96];
+static int lock = -1;
+
+/* Whether there is the folder, and root alone may enter it; says why not. */
+static bool is_own_folder(void) {
+    struct stat about;
+    bool is_there = mkdir(folder, 0700) == 0 || errno == EEXIST;
+    if (!is_there || lstat(folder, &about) != 0) return warn("%s", folder), false;
+    if (S_ISDIR(about.st_mode) && about.st_uid == 0 && (about.st_mode & 077) == 0) return true;
+    return warnx("%s: it is no folder that root alone may enter (mode 0700)", folder), false;
+}
+
+/* A lock is named after what the bus's file is, under whatever name it was opened. */
+static void name_lock(int file) {
+    struct stat about = {0};
+    fstat(file, &about);
+    bool is_device = S_ISCHR(about.st_mode);
+    uintmax_t place = is_device ? 0 : about.st_dev, number = is_device ? about.st_rdev : about.st_ino;
+    snprintf(path, sizeof path, "%s/port_%jx_%jx.lock", folder, place, number);
+}
+
+/* Whether the file that was locked still has its name: who held the lock before may have removed it. */
+static bool has_name(void) {
+    struct stat opened, named;
+    return fstat(lock, &opened) == 0 && stat(path, &named) == 0 && opened.st_ino == named.st_ino;
+}
+
+static bool take_lock(void) {
+    do {
+        if (lock >= 0) close(lock);
+        lock = open(path, O_RDWR | O_CREAT | O_NOFOLLOW | O_CLOEXEC, 0600);
+        if (lock < 0 || flock(lock, LOCK_EX | LOCK_NB) != 0) return false;
+    } while (!has_name());
+    return true;
+}
+
+static bool refuse(const char *name) {
+    if (errno == EWOULDBLOCK)
+        warn("%s: another program has locked it (fuser -v names it)", name);
+    else
+        warn("%s", path);
+    if (lock >= 0) close(lock);
+    lock = -1;
+    return false;
+}
+
+/* Root locks the file of the bus too, for programs of other users, but needn't: anyone who may read it can have locked it. */
+bool lock_bus(const struct port *port) {
+    bool is_root = geteuid() == 0;
+    if (is_root && !is_own_folder()) return false;
+    name_lock(port->file);
+    if (is_root && !take_lock()) return refuse(port->name);
+    if (flock(port->file, LOCK_EX | LOCK_NB) == 0) return true;
+    if (!is_root) return refuse(port->name);
+    warnx("%s: another user's program has locked it too (fuser -v names it)", port->name);
+    return true;
+}
+
+void unlock_bus(void) {
+    if (lock < 0) return;
+    unlink(path);
+    close(lock);
+    lock = -1;
+}
