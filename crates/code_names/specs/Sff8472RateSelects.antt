@@ -12,4 +12,5 @@ sff8472_rate_select_names =
     ∷ name 0x08 (codes "16/8/4G Rx rate select (FC-PI-5)")
     ∷ name 0x0A (codes "16/8/4G independent Rx and Tx rate select (FC-PI-5)")
     ∷ name 0x0C (codes "32/16/8G independent Rx and Tx rate select (FC-PI-6)")
+    ∷ name 0x0E (codes "10/8G Rx and Tx rate select")
     ∷ []

@@ -14,6 +14,7 @@ const ROWS: &[Row] = rows! {
     0x08 "16/8/4G Rx rate select (FC-PI-5)";
     0x0a "16/8/4G independent Rx and Tx rate select (FC-PI-5)";
     0x0c "32/16/8G independent Rx and Tx rate select (FC-PI-6)";
+    0x0e "10/8G Rx and Tx rate select";
 };
 
 pub fn sff8472_rate_select_names() -> &'static [Row]

@@ -55,6 +55,12 @@ const ROWS: &[Row] = rows! {
     0x32 "8R1-4D1F";
     0x33 "8I1-4D1F";
     0x34 "100G CWDM4-OCP";
+    0x38 "10G-SR";
+    0x39 "10G-LR";
+    0x3a "25G-SR";
+    0x3b "25G-LR";
+    0x3c "10G-LR-BiDi";
+    0x3d "25G-LR-BiDi";
     0x3e "400ZR, DWDM, amplified";
     0x3f "400ZR, single wavelength, unamplified";
     0x40 "50GBASE-ER";
