@@ -4,6 +4,7 @@ import time
 from functions import BadEdit, constants_of, edit_of, functions_of, read, twin_of
 
 REFUSED, PROVED, WAITS, UNREADABLE, NAMES = "refused", "proved", "waits", "does not compile", "refused for a name alone"
+SHAPE = "(a term of another shape)"
 
 
 class Tried:
@@ -55,8 +56,24 @@ def errors_of(said, function, path, lines):
 
 
 def is_of_name(error):
-    """Whether an error only says that what a proof names is not there, or that it rests on such a proof."""
-    return bool(re.search(r"\bhas no\b|is not in scope|was not admitted|which was rejected", re.sub(r"`[^`]*`", "", error)))
+    """Whether an error only says that what a proof names is not there, that a term of it has another shape, or that it rests on such a
+    proof."""
+    words = rf"\bhas no\b|is not in scope|was not admitted|which was rejected|{re.escape(SHAPE)}$"
+    return bool(re.search(words, re.sub(r"`[^`]*`", "", error)))
+
+
+def with_shapes(said, folder_of):
+    """What a check says, with a word at each error of an answer written by hand by which only a term of it has another shape than what it
+    has to prove: that the two types differ. Not so at `refl`, which names no term, so both sides were computed. A function tells where
+    the answers are, by what the check calls their folder."""
+
+    def marked(error):
+        folder, name, line, column = error.groups()
+        text = read(f"{folder_of(folder)}/{name}").split("\n")[int(line) - 1][int(column) - 1:]
+        return error[0] if re.match(r"refl\b", text) else f"{error[0]} {SHAPE}"
+
+    differ = r"^\./proofs/([\w/]+)/((?:Answers|Invariants)\.antt):(\d+):(\d+): error: .*\bthe two types (?:first )?differ\b.*$"
+    return re.sub(differ, marked, said, flags=re.M)
 
 
 def verdict_of(said, function, path, lines, is_alone):
@@ -148,7 +165,9 @@ class Round:
     def said(self, texts):
         """What a check says of the functions that judge these edits, with these files."""
         twins = {name: judges_of(self.crate, it)[0][0] for it in self.edits for name, _, _, number in self.judges(it) if number}
-        return self.crate.copy.check(texts, {name for it in self.edits for name, _, _, _ in self.judges(it)}, twins)
+        said = self.crate.copy.check(texts, {name for it in self.edits for name, _, _, _ in self.judges(it)}, twins)
+        own = {twin.replace("::", "/"): it.replace("::", "/") for twin, it in twins.items()}
+        return said and with_shapes(said, lambda it: f"{ROOT}/crates/{self.crate.name}/proofs/{own.get(it, it)}")
 
 
 def twin_name(name, number):
