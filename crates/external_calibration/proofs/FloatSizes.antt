@@ -1,6 +1,6 @@
 -- How a float's exponent bounds its size.
 use Rattle.std.proofs.Common.{◌≡◌, ◌∙◌, sym, ap, zero, suc, inl, inr, arith}
-use Rattle.std.specs.Prelude.{ℕ, ◌+◌, ◌-◌, ◌*◌, ◌^◌, ◌≤◌, ◌<◌, ◌==◌, nat_le, nat_lt, if◌then◌else◌}
+use Rattle.std.specs.Prelude.{ℕ, Bool, ◌+◌, ◌-◌, ◌*◌, ◌^◌, ◌≤◌, ◌<◌, ◌==◌, nat_le, nat_lt, if◌then◌else◌}
 use Rattle.std.proofs.Math.Nat.{pow-le-pow_right, mul-le-mul_right}
 use Rattle.std.proofs.lemmas.Nat.{pow-add, shl_below}
 use Rattle.std.proofs.lemmas.Bool.{cases_lt, cond-false, le-leb, lt-leb, lt-ltb, le-ltb, ne_eqb}
@@ -39,3 +39,7 @@ below_by_exponent (suc k) fraction power small room =
       | inl less ↦ lt-leb (suc k + 23) power less ∙ (sym (le-ltb ((2 ^ 23 + fraction) * 2 ^ k) (2 ^ power) (exceeds k fraction power less)) ∙ whole)
       | inr more ↦ le-leb (suc k + 23) power more ∙ (sym (lt-ltb ((2 ^ 23 + fraction) * 2 ^ k) (2 ^ power) (fits k fraction power small more)) ∙ whole)
     ]
+
+-- by a test that says the same
+pub below_as : (test : Bool) (exponent fraction power : ℕ) → fraction < 2 ^ 23 → 23 ≤ power → test ≡ nat_le (exponent + 23) power → test ≡ nat_lt (size_by exponent fraction) (2 ^ power)
+below_as test exponent fraction power small room same = same ∙ below_by_exponent exponent fraction power small room
