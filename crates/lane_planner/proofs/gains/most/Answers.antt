@@ -1,10 +1,10 @@
-use Rattle.std.proofs.Common.{◌≡◌, ℕ, ◌++◌, [], Bool, List, get_or, take, sym, subst, ap, ◌∙◌, arith}
+use Rattle.std.proofs.Common.{◌≡◌, ℕ, ◌++◌, [], Bool, List, take, true, false, sym, subst, arith}
 use Rattle.std.proofs.lemmas.List.Elements.{All-get_or}
 use Rattle.plan_certificate.specs.declared.moves.Move.{Move}
 use Rattle.plan_certificate.specs.declared.state.State.{State}
 use Rattle.plan_certificate.specs.declared.state.Decision.{Decision}
 use Rattle.plan_certificate.specs.States.{free_decision, free_decisions, state_place}
-use Rattle.plan_certificate.specs.Moves.{LeadsOn, move_decision, decisions_by}
+use Rattle.plan_certificate.specs.Moves.{LeadsOn, decisions_by, is_open, move_decision}
 use Rattle.lane_planner.specs.Tables.{IsMost, gain_at}
 use Rattle.lane_planner.proofs.MoreMoves.{no_decision_more, one_decision_more}
 use Rattle.lane_planner.proofs.MostGained.{most_of_none, most_kept, most_of_one, most_risen}
@@ -21,8 +21,8 @@ loop-one-init c =
     elim c.if-may_stay_free.branch [
       | then-may_stay_free w ↦
           let decision : Decision = free_decision state in
-          let place : w.place.result ≡ state_place decision.end = w.place.ensures ∙ ap (λ (s : Decision). state_place s.end) w.free_decision-free.ensures in
-          let rest : most ≡ gain_at table decision.end = w.most-is ∙ w.at-most.ensures ∙ ap (λ (n : ℕ). get_or table n 0) place in
+          let place : w.place.result ≡ state_place decision.end = cc in
+          let rest : most ≡ gain_at table decision.end = cc in
           let small = small_in table decision.end c.requires.table (omega (arith, c.requires.open)) in
           record {
             most = subst Most (sym w.if-may_stay_free.true) (most_of_one table decision most (omega (arith, rest)));
@@ -49,18 +49,20 @@ loop-one-preserved c =
     let small = small_in table decision.end c.requires.table leads.within in
     elim c.if-is_open.branch [
       | then-is_open+then-most-through w ↦
-          let more = one_decision_more free state moves index move c.loop-one-test.true c.one-item.is (sym c.is_open.ensures ∙ w.if-is_open.true) in
-          let place : w.place-then-is_open.result ≡ state_place decision.end = w.place-then-is_open.ensures ∙ ap (λ (s : Decision). state_place s.end) w.decision.ensures in
-          let rest : w.at.result ≡ gain_at table decision.end = w.at.ensures ∙ ap (λ (n : ℕ). get_or table n 0) place in
+          let open_there : is_open state move ≡ true = cc in
+          let more = one_decision_more free state moves index move c.loop-one-test.true c.one-item.is open_there in
+          let place : w.place-then-is_open.result ≡ state_place decision.end = cc in
+          let rest : w.at.result ≡ gain_at table decision.end = cc in
           let new = most_risen table before decision c.loop-one.most most c.loop-one.invariant.most (omega (arith, w.most-is, rest)) (omega (arith, w.if-most-through.true, w.most-is)) in
           record {
             most = subst (λ (decisions : List Decision). IsMost table decisions most) (sym more) new;
             small = omega (arith, w.most-is, rest, small, leads.further, leads.within, leads.light);
           }
       | then-is_open+else-most-through w ↦
-          let more = one_decision_more free state moves index move c.loop-one-test.true c.one-item.is (sym c.is_open.ensures ∙ w.if-is_open.true) in
-          let place : w.place-then-is_open.result ≡ state_place decision.end = w.place-then-is_open.ensures ∙ ap (λ (s : Decision). state_place s.end) w.decision.ensures in
-          let rest : w.at.result ≡ gain_at table decision.end = w.at.ensures ∙ ap (λ (n : ℕ). get_or table n 0) place in
+          let open_there : is_open state move ≡ true = cc in
+          let more = one_decision_more free state moves index move c.loop-one-test.true c.one-item.is open_there in
+          let place : w.place-then-is_open.result ≡ state_place decision.end = cc in
+          let rest : w.at.result ≡ gain_at table decision.end = cc in
           let same : c.loop-one.most ≡ most = sym w.most-is in
           let new = most_kept table before decision most (subst (IsMost table before) same c.loop-one.invariant.most) (omega (arith, w.if-most-through.false, same, rest)) in
           record {
@@ -68,7 +70,8 @@ loop-one-preserved c =
             small = omega (arith, same, c.loop-one.invariant.small);
           }
       | else-is_open w ↦
-          let more = no_decision_more free state moves index move c.loop-one-test.true c.one-item.is (sym c.is_open.ensures ∙ w.if-is_open.false) in
+          let shut : is_open state move ≡ false = cc in
+          let more = no_decision_more free state moves index move c.loop-one-test.true c.one-item.is shut in
           let same : c.loop-one.most ≡ most = sym w.most-is in
           record {
             most = subst (λ (decisions : List Decision). IsMost table decisions most) (sym more) (subst (IsMost table before) same c.loop-one.invariant.most);
