@@ -42,7 +42,7 @@ class SimulatedModule:
 
     def __init__(self, image: Image, delays: Delays = Delays()) -> None:
         look_at_type("the image", image, Image)
-        for name, delay in vars(look_at_type("the delays", delays, Delays)).items():
+        for name, delay in vars(look_at_type("the record of delays", delays, Delays)).items():
             look_at(f"the delay {name}", delay, 2**16 - 1)
         self._image = image
         self._halves = image.arguments()

@@ -2,6 +2,7 @@
 from __future__ import annotations
 
 import operator
+import os
 import pathlib
 import subprocess
 import sys
@@ -134,6 +135,25 @@ def test_a_port_leaves_out_what_can_t_be_read(tmp_path: pathlib.Path) -> None:
     pytest.raises(OSError, Image.from_port, file)
     file.write_bytes(b"\xff" + dump[1:])
     assert pages_of(Image.from_port(file)) == ["lower A0"]
+
+
+def test_a_page_that_the_driver_refuses_is_left_out(
+    tmp_path: pathlib.Path, monkeypatch: pytest.MonkeyPatch
+) -> None:
+    file, pread = tmp_path / "eeprom", os.pread
+    file.write_bytes(DR4.halves[LOWER] + bytes(20 * 128))
+    refused = [128 * 3]
+
+    def refusing(descriptor: int, count: int, offset: int) -> bytes:
+        if offset in refused:
+            raise OSError(5, "Input/output error")
+        return pread(descriptor, count, offset)
+
+    monkeypatch.setattr(os, "pread", refusing)
+    read = ["lower A0", *(f"upper A0 00 {number}" for number in ("00", "01", "10", "11"))]
+    assert pages_of(Image.from_port(file)) == read
+    refused.append(0)
+    pytest.raises(OSError, Image.from_port, file)
 
 
 def test_a_bank_is_part_of_a_key() -> None:

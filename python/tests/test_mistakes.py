@@ -107,7 +107,7 @@ def test_values_of_the_wrong_type_are_refused_where_they_come_in() -> None:
         (lambda: Provisioning("x"), "the plan is 'x', and no Plan"),  # type: ignore[arg-type]
         (lambda: Activation(None), "the plan is None, and no Plan"),  # type: ignore[arg-type]
         (lambda: SimulatedModule("x"), "the image is"),  # type: ignore[arg-type]
-        (lambda: SimulatedModule(DR4, 4), "the delays are 4"),  # type: ignore[arg-type]
+        (lambda: SimulatedModule(DR4, 4), "the record of delays is 4"),  # type: ignore[arg-type]
         (lambda: Image({None: half}), "the key of a half is None"),  # type: ignore[dict-item]
         (lambda: Image({0x11: half}), "the key of a half is 17"),  # type: ignore[dict-item]
         (lambda: Image([half]), "the halves are"),  # type: ignore[arg-type]
@@ -159,7 +159,7 @@ def test_a_kept_path_that_is_not_active_is_warned_of() -> None:
         assert active in plan(image, WEIGHTS, [active]).paths
         assert plan(image.without(page(0x11)), WEIGHTS, [other])
         assert other in plan(image, WEIGHTS, [other]).paths
-    for active_bytes in ("20 20 24 24 00 28 2c 2c", "20 20 24 24 28 29 2c 2c", "10 " * 8):
+    for active_bytes in ("20 20 24 24 00 00 2c 2c", "20 20 24 24 29 29 2c 2c", "10 " * 8):
         image = DR4.changed(page(0x11), 206, bytes.fromhex(active_bytes))
         with pytest.warns(KeptPathNotActive) as told:
             best = plan(image, WEIGHTS, [other, DataPath(2, 1, 3)])

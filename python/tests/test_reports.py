@@ -222,12 +222,13 @@ def test_durations_are_those_of_their_codes() -> None:
 
 
 def test_the_sum_of_page_00h_has_each_of_its_bytes() -> None:
+    images = []
     for address in (128, 129, 200, 220, 221):
         half = DR4.halves[page(0x00)]
-        byte = half[address - 128] + 7 & 255
-        wrong = DR4.changed(page(0x00), address, bytes([byte]))
-        right_sum = bytes([half[222 - 128] + 7 & 255])
-        mended = wrong.changed(page(0x00), 222, right_sum).changed(page(0x01), 255, b"\0")
-        for image, told in ((wrong, "AD5 0"), (mended, "AD5 1")):
-            assert said(Image.advertisement, lambda _: [], image) == [f"fault {told}"]
-            assert cmisctl("apps", image.to_text()) == [f"fault {told}"]
+        wrong = DR4.changed(page(0x00), address, bytes([half[address - 128] + 7 & 255]))
+        right = wrong.changed(page(0x00), 222, bytes([half[222 - 128] + 7 & 255]))
+        images += [(wrong, "AD5 0"), (right.changed(page(0x01), 255, b"\0"), "AD5 1")]
+    for image, told in images:
+        assert said(Image.advertisement, lambda _: [], image) == [f"fault {told}"]
+    for image, told in images:
+        assert cmisctl("apps", image.to_text()) == [f"fault {told}"]
