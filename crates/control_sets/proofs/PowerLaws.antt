@@ -1,41 +1,41 @@
 -- Waking a module up and putting it to sleep: each stage makes the steps that it may, and the answer is the outcome's.
-use Rattle.std.proofs.Common.{◌≡◌, ◌≢◌, ◌⊎◌, ℕ, ◌+◌, ◌<◌, ◌≤◌, Bool, true, false, cond, nat_lt, List, [], ◌∷◌, length, reverse, Option, Some, None, Result, Ok, Err, IfOk, get_or, arith, refl, sym, subst, ap, inl, inr, ◌∙◌}
+use Rattle.std.proofs.Common.{◌≡◌, ◌≢◌, ℕ, ◌<◌, ◌≤◌, Bool, cond, List, [], ◌∷◌, length, Option, Some, None, Ok, Err, IfOk, arith, refl, sym, subst, ap, inl, inr, ◌∙◌}
 use Rattle.std.proofs.lemmas.Bool.{cases_lt, lt-ltb, le-ltb}
 use Rattle.arrayvec.specs.ArrayVec.{ArrayVec}
 use Rattle.bus_model.specs.declared.bus.BusFault.{BusFault}
-use Rattle.bus_model.specs.declared.bus.BusFault.TheVariants.{BadShape, TraceFull}
+use Rattle.bus_model.specs.declared.bus.BusFault.TheVariants.{TraceFull}
 use Rattle.bus_model.specs.declared.operation.Op.{Op}
 use Rattle.bus_model.specs.declared.operation.Reply.{Reply}
 use Rattle.bus_model.specs.declared.operation.Reply.TheVariants.{Bytes, Refused}
 use Rattle.bus_model.specs.declared.operation.Reply.TheVariants as replies
 use Rattle.bus_model.specs.declared.operation.Step.{Step}
 use Rattle.bus_model.specs.Operations.{Answers}
-use Rattle.bus_model.specs.Runs.{IsFull, Ran, Rules, Seen}
-use Rattle.module_states.specs.declared.state.ModuleState.{ModuleState as State}
-use Rattle.module_states.specs.declared.state.ModuleState.TheVariants.{LowPwr, PwrUp, Ready, PwrDn, Fault}
+use Rattle.module_states.specs.declared.state.ModuleState.TheVariants.{Fault}
 use Rattle.module_states.specs.Codes.{state_at}
 use Rattle.control_sets.specs.declared.fault.ProvisionFault.{ProvisionFault}
 use Rattle.control_sets.specs.declared.fault.ProvisionFault.TheVariants.{Rejected, StagedDiffers, ActiveDiffers, GaveUp, Bus, ModuleState, Reserved}
-use Rattle.control_sets.specs.declared.procedures.judgement.ReplyJudgement.{ReplyJudgement}
 use Rattle.control_sets.specs.declared.procedures.judgement.ReplyJudgement.TheVariants.{Met, NotYet, Fails}
-use Rattle.control_sets.specs.declared.procedures.next.ProcedureNext.{ProcedureNext}
-use Rattle.control_sets.specs.declared.procedures.next.ProcedureNext.TheVariants.{Do, Done}
+use Rattle.conversations.specs.declared.next.Next.{Next}
+use Rattle.conversations.specs.declared.next.Next.TheVariants.{Do, End}
+use Rattle.conversations.specs.declared.within.Spent.{Spent}
+use Rattle.conversations.specs.declared.within.Within.{Within}
+use Rattle.conversations.specs.Budgets.{HasEnded, HasSpent, next_within}
+use Rattle.conversations.specs.Events.{Events, steps_of}
 use Rattle.control_sets.specs.declared.procedures.power.Power.{Power}
 use Rattle.control_sets.specs.declared.procedures.power.Power.TheVariants.{Awake, Asleep}
 use Rattle.control_sets.specs.declared.procedures.power.PowerChange.{PowerChange}
 use Rattle.control_sets.specs.declared.procedures.power.PowerStage.{PowerStage}
 use Rattle.control_sets.specs.declared.procedures.power.PowerStage.TheVariants as stage
-use Rattle.control_sets.specs.Asking.{IsReplyTo, step_with}
 use Rattle.control_sets.specs.Pages.{EachStep, History}
-use Rattle.control_sets.specs.Procedures.{MakesHistory}
-use Rattle.control_sets.specs.OutcomeSteps.{Gives, IsAnswered, IsRefused, Stands, StandsAfter, StandsAfterNo}
+use Rattle.control_sets.specs.OutcomeSteps.{Gives, IsAnswered, Stands}
 use Rattle.control_sets.specs.OutcomeOperations.{read_module_state}
 use Rattle.control_sets.specs.OutcomeCodes.{module_code}
-use Rattle.control_sets.specs.OutcomeAnswers.{Answer, IsAnswer, NoneEnds, most_steps}
+use Rattle.control_sets.specs.OutcomeAnswers.{Answer, NoneEnds, most_steps}
 use Rattle.control_sets.specs.OutcomeOfProvisioning.{IsStore}
 use Rattle.control_sets.specs.OutcomeOfPower.{EndsPower, IsPowerChange, IsPowerOrder, IsPowerStep, IsTaken}
 use Rattle.control_sets.specs.PowerControls.{read_controls, set_controls, wanted_controls, wanted_state}
-use Rattle.control_sets.specs.PowerProgress.{HasComeTo, IsAtStage, IsEnded, IsFound, IsPowerAt, IsStored, IsUnread, IsWaiting, judged_asleep, judged_awake, judged_power, next_by, next_op, operation_at, power_next, stage_after, stage_judged, taken, with_stage}
+use Rattle.paged_memory.proofs.KnownPageLaws.{step_of}
+use Rattle.control_sets.specs.PowerProgress.{GoesOnAt, HasComeTo, IsAtStage, IsEnded, IsEndedIn, IsFound, IsPowerAt, IsStored, IsUnread, answer_at, answer_of, judged_asleep, judged_awake, judged_power, operation_at, power_wants, wants_by}
 
 -- ---- operations differ
 
@@ -192,132 +192,83 @@ module _ (power : Power) where
       counts (Ok steps) c = c steps refl
       counts (Err fault) c = tt
 
-  -- what a stage that isn't the last shows
-  pub record GoesOnAt (history : History) : Type 0 where
-    pub shape : EachStep (IsPowerStep power) history
-    pub order : IsPowerOrder history
-    pub none : NoneEnds (EndsPower power) history
-
-  pub goes_on : (now : PowerStage) (history : History) (op : Op) → operation_at power now ≡ Some op → IsAtStage power now history → GoesOnAt history
+  pub goes_on : (now : PowerStage) (history : History) (op : Op) → operation_at power now ≡ Some op → IsAtStage power now history → GoesOnAt power history
   goes_on stage.Unread history op is at = record { shape = unread_shape history at; order = unread_order history at; none = unread_none history at }
   goes_on (stage.Found byte) history op is at = record { shape = found_shape byte history at; order = found_order byte history at; none = found_none byte history at }
   goes_on stage.Stored history op is at = record { shape = stored_shape history at; order = stored_order history at; none = stored_none history at }
   goes_on stage.Met history op is at = absurd cc
 
-  pub gives_up : (full : Type 0) (history : History) → GoesOnAt history → length history ≡ most_steps → IsPowerChange power full history (Err GaveUp)
+  pub gives_up : (full : Type 0) (history : History) → GoesOnAt power history → length history ≡ most_steps → IsPowerChange power full history (Err GaveUp)
   gives_up full history on all = record {
     shape = on.shape;
     order = on.order;
     answered = record { at_most = omega (arith, all); counted = tt; answered = inr (inl (record { fault = refl; all = all; none = on.none })) };
   }
 
--- ---- what is asked for
+-- ---- what a conversation that was carried out is
 
-next_do : (fault : Option ProvisionFault) (steps : ℕ) (wanted : Option Op) (op : Op) → next_by fault steps wanted ≡ Do op → (fault ≡ None) × (wanted ≡ Some op) × (steps < most_steps)
-next_do (Some fault) steps wanted op e = absurd cc
-next_do None steps None op e = absurd cc
-next_do None steps (Some other) op e = elim (cases_lt steps most_steps) [
-  | inl fewer ↦
-      let same : Do other ≡ Do op = sym (ap (λ (b : Bool). cond b (Do other) (Done (Err GaveUp))) (lt-ltb _ _ fewer)) ∙ e in
-      (refl, cc, fewer)
-  | inr all ↦
-      let no : Done (Err GaveUp) ≡ Do op = sym (ap (λ (b : Bool). cond b (Do other) (Done (Err GaveUp))) (le-ltb _ _ all)) ∙ e in
-      absurd cc
-]
+pub ended_is : (power : Power) (full : Type 0) (steps : ℕ) (events : Events) (end : Option (Option ProvisionFault)) → steps ≡ length (steps_of events) → length (steps_of events) ≤ most_steps
+    → HasEnded most_steps (λ events. GoesOnAt power (steps_of events)) (λ events fault. IsEndedIn power fault (steps_of events)) events end → IsPowerChange power full (steps_of events) (answer_at steps end)
+ended_is power full steps events None counted few ended = gives_up power full (steps_of events) ended.1 ended.0
+ended_is power full steps events (Some None) counted few ended =
+    subst (λ n. IsPowerChange power full (steps_of events) (Ok n)) (sym counted) (ended_is_change power full (steps_of events) (Ok (length (steps_of events))) ended few (λ n e. cc))
+ended_is power full steps events (Some (Some fault)) counted few ended = ended_is_change power full (steps_of events) (Err fault) ended few (λ n e. absurd cc)
 
-answers_by : (fault : Option ProvisionFault) (steps : ℕ) (wanted : Option Op) (op : Op) (read : Reply) → IsReplyTo (next_by fault steps wanted) read → wanted ≡ Some op → Answers op read
-answers_by (Some fault) steps wanted op read replies_to e = absurd replies_to
-answers_by None steps None op read replies_to e = absurd cc
-answers_by None steps (Some other) op read replies_to e =
-    let By : Bool → Type 0 = λ b. IsReplyTo (cond b (Do other) (Done (Err GaveUp))) read in
-    elim (cases_lt steps most_steps) [
-      | inl fewer ↦ let same : other ≡ op = cc in subst (λ (o : Op). Answers o read) same (subst By (lt-ltb _ _ fewer) replies_to)
-      | inr all ↦ absurd (subst By (le-ltb _ _ all) replies_to)
-    ]
-
-pub answers_asked : (change : PowerChange) (op : Op) (read : Reply) → IsReplyTo (power_next change) read → operation_at change.power change.stage ≡ Some op → Answers op read
-answers_asked change op read replies_to wanted = answers_by change.fault change.steps (operation_at change.power change.stage) op read replies_to wanted
-
-done_at_last : (steps : ℕ) (op : Op) (answer : Answer) → next_op steps (Some op) ≡ Done answer → (answer ≡ Err GaveUp) × (most_steps ≤ steps)
-done_at_last steps op answer e = elim (cases_lt steps most_steps) [
-  | inl fewer ↦
-      let no : Do op ≡ Done answer = sym (ap (λ (b : Bool). cond b (Do op) (Done (Err GaveUp))) (lt-ltb _ _ fewer)) ∙ e in
-      absurd cc
-  | inr all ↦
-      let same : Done (Err GaveUp) ≡ Done answer = sym (ap (λ (b : Bool). cond b (Do op) (Done (Err GaveUp))) (le-ltb _ _ all)) ∙ e in
-      (cc, all)
-]
-
-gave_up : (power : Power) (now : PowerStage) (steps : ℕ) (history : History) (op : Op) (answer : Answer) (full : Type 0) → operation_at power now ≡ Some op → length history ≡ steps → steps ≤ most_steps
-    → IsAtStage power now history → next_op steps (Some op) ≡ Done answer → IsPowerChange power full history answer
-gave_up power now steps history op answer full is counted few at asks =
-    let (same, all) = done_at_last steps op answer asks in
-    subst (IsPowerChange power full history) (sym same) (gives_up power full history (goes_on power now history op is at) (omega (arith, counted, few, all)))
-
-ends_by : (power : Power) (now : PowerStage) (steps : ℕ) (fault : Option ProvisionFault) (history : History) (answer : Answer) (full : Type 0) → length history ≡ steps → steps ≤ most_steps
-    → HasComeTo power now fault history → next_by fault steps (operation_at power now) ≡ Done answer → IsPowerChange power full history answer
-ends_by power now steps (Some fault) history answer full counted few come asks =
-    let same : answer ≡ Err fault = cc in
-    subst (IsPowerChange power full history) (sym same) (ended_is_change power full history (Err fault) come (omega (arith, counted, few)) (λ s e. absurd cc))
-ends_by power stage.Met steps None history answer full counted few come asks =
-    let same : answer ≡ Ok (length history) = let e : Done (Ok (length history)) ≡ Done answer = ap (λ n. Done (Ok n)) counted ∙ asks in cc in
-    subst (IsPowerChange power full history) (sym same) (ended_is_change power full history (Ok (length history)) come (omega (arith, counted, few)) (λ s e. cc))
-ends_by power stage.Unread steps None history answer full counted few come asks = gave_up power stage.Unread steps history _ answer full refl counted few come asks
-ends_by power (stage.Found byte) steps None history answer full counted few come asks = gave_up power (stage.Found byte) steps history _ answer full refl counted few come asks
-ends_by power stage.Stored steps None history answer full counted few come asks = gave_up power stage.Stored steps history _ answer full refl counted few come asks
-
-pub ends : (change : PowerChange) (history : History) (answer : Answer) (made room : ℕ) → IsPowerAt history change → power_next change ≡ Done answer → IsPowerChange change.power (made ≡ room) history answer
-ends change history answer made room at asks =
-    ends_by change.power change.stage change.steps change.fault history answer (made ≡ room) at.counted at.few at.come asks
+pub spent_is : (power : Power) (full : Type 0) (events : Events) (spent : Spent (Option ProvisionFault))
+    → HasSpent most_steps (λ events. GoesOnAt power (steps_of events)) (λ events fault. IsEndedIn power fault (steps_of events)) events spent → IsPowerChange power full (steps_of events) (answer_of spent)
+spent_is power full events spent has = ended_is power full spent.steps events spent.end has.counted has.few has.ended
 
 -- a bus that is full before the end
-pub fills : (change : PowerChange) (history : History) (op : Op) (made room : ℕ) → IsPowerAt history change → power_next change ≡ Do op → made ≡ room → IsPowerChange change.power (made ≡ room) history (Err (Bus TraceFull))
-fills change history op made room at asks is_full =
-    let (fault, wanted, fewer) = next_do change.fault change.steps (operation_at change.power change.stage) op asks in
-    let on = goes_on change.power change.stage history op wanted (subst (λ f. HasComeTo change.power change.stage f history) fault at.come) in
-    record {
-      shape = on.shape;
-      order = on.order;
-      answered = record {
-        at_most = omega (arith, at.counted, fewer);
-        counted = tt;
-        answered = inr (inr (record { fault = refl; is_full = is_full; fewer = omega (arith, at.counted, fewer); none = on.none }));
-      };
-    }
+pub fills : (power : Power) (full : Type 0) (history : History) → GoesOnAt power history → length history < most_steps → full → IsPowerChange power full history (Err (Bus TraceFull))
+fills power full history on fewer is_full = record {
+  shape = on.shape;
+  order = on.order;
+  answered = record { at_most = omega (arith, fewer); counted = tt; answered = inr (inr (record { fault = refl; is_full = is_full; fewer = fewer; none = on.none })) };
+}
 
--- a bus that makes no more transactions
-pub bus_fails : {S : Type 0} (rules : Rules S) (old now new : Seen S) (change : PowerChange) (power : Power) (history : History) (op : Op) (fault : BusFault) → change.power ≡ power
-    → Ran rules old now (reverse history) → IsPowerAt history change → power_next change ≡ Do op → (fault ≡ TraceFull → IsFull now) → fault ≢ BadShape → new ≡ now
-    → MakesHistory rules old new (λ h. IsPowerChange power (IsFull new) h (Err (Bus fault)))
-bus_fails {S} rules old now new change power history op TraceFull same ran at asks full shaped is = (
-  history,
-  subst (λ (s : Seen S). Ran rules old s (reverse history)) (sym is) ran,
-  subst (λ (s : Seen S). IsPowerChange power (IsFull s) history (Err (Bus TraceFull))) (sym is)
-      (subst (λ (p : Power). IsPowerChange p (IsFull now) history (Err (Bus TraceFull))) same (fills change history op (length now.steps) now.room at asks (full refl))),
-)
-bus_fails rules old now new change power history op BadShape same ran at asks full shaped is = absurd (shaped refl)
+pub fills_by : (power : Power) (full : Type 0) (history : History) (fault : BusFault) → fault ≡ TraceFull → GoesOnAt power history → length history < most_steps → full
+    → IsPowerChange power full history (Err (Bus fault))
+fills_by power full history fault is on fewer is_full = subst (λ (f : BusFault). IsPowerChange power full history (Err (Bus f))) (sym is) (fills power full history on fewer is_full)
+
+-- a conversation that was driven by hand
+pub driven_is : (within : Within PowerChange) (full : Type 0) (history : History) (spent : Spent (Option ProvisionFault)) → IsPowerAt history within
+    → next_within within.steps within.limit (power_wants within.conversation) ≡ End spent → IsPowerChange within.conversation.power full history (answer_of spent)
+driven_is within full history spent at asks =
+    go within.conversation.power within.conversation.stage within.conversation.fault within.steps within.limit at.limit at.counted at.few at.come asks
+  where
+    gives : (power : Power) (now : PowerStage) (steps limit : ℕ) (op : Op) → limit ≡ most_steps → length history ≡ steps → steps ≤ most_steps → operation_at power now ≡ Some op
+        → IsAtStage power now history → next_within {E = Option ProvisionFault} steps limit (Do op) ≡ End spent → IsPowerChange power full history (answer_of spent)
+    gives power now steps limit op most counted few wanted at asks =
+        let go : Next (Spent (Option ProvisionFault)) = Do op in
+        let gave : Spent (Option ProvisionFault) = record { steps = steps; end = None } in
+        elim (cases_lt steps limit) [
+          | inl fewer ↦
+              let none : go ≡ End spent = sym (ap (λ (b : Bool). cond b go (End gave)) (lt-ltb _ _ fewer)) ∙ asks in
+              absurd cc
+          | inr all ↦
+              let ends : End gave ≡ End spent = sym (ap (λ (b : Bool). cond b go (End gave)) (le-ltb _ _ all)) ∙ asks in
+              let same : gave ≡ spent = cc in
+              subst (λ (s : Spent (Option ProvisionFault)). IsPowerChange power full history (answer_of s)) same
+              (gives_up power full history (goes_on power now history op wanted at) (omega (arith, counted, few, all, most)))
+        ]
+
+    go : (power : Power) (now : PowerStage) (fault : Option ProvisionFault) (steps limit : ℕ) → limit ≡ most_steps → length history ≡ steps → steps ≤ most_steps
+        → HasComeTo power now fault history → next_within steps limit (wants_by fault (operation_at power now)) ≡ End spent → IsPowerChange power full history (answer_of spent)
+    go power now (Some fault) steps limit most counted few come asks =
+        let ended : Spent (Option ProvisionFault) = record { steps = steps; end = Some (Some fault) } in
+        let same : ended ≡ spent = cc in
+        subst (λ (s : Spent (Option ProvisionFault)). IsPowerChange power full history (answer_of s)) same
+        (ended_is_change power full history (Err fault) come (omega (arith, counted, few)) (λ n e. absurd cc))
+    go power stage.Met None steps limit most counted few come asks =
+        let ended : Spent (Option ProvisionFault) = record { steps = steps; end = Some None } in
+        let same : ended ≡ spent = cc in
+        subst (λ (s : Spent (Option ProvisionFault)). IsPowerChange power full history (answer_of s)) same
+        (subst (λ n. IsPowerChange power full history (Ok n)) counted (ended_is_change power full history (Ok (length history)) come (omega (arith, counted, few)) (λ n e. cc)))
+    go power stage.Unread None steps limit most counted few come asks = gives power stage.Unread steps limit _ most counted few refl come asks
+    go power (stage.Found byte) None steps limit most counted few come asks = gives power (stage.Found byte) steps limit _ most counted few refl come asks
+    go power stage.Stored None steps limit most counted few come asks = gives power stage.Stored steps limit _ most counted few refl come asks
 
 -- ---- what the state says
-
-met_awake : (code : ℕ) (state : Option State) → judged_awake code state ≡ Met → state ≡ Some Ready
-met_awake code None e = absurd cc
-met_awake code (Some Ready) e = refl
-met_awake code (Some Fault) e = absurd cc
-met_awake code (Some LowPwr) e = absurd cc
-met_awake code (Some PwrUp) e = absurd cc
-met_awake code (Some PwrDn) e = absurd cc
-
-met_asleep : (code : ℕ) (state : Option State) → judged_asleep code state ≡ Met → state ≡ Some LowPwr
-met_asleep code None e = absurd cc
-met_asleep code (Some Ready) e = absurd cc
-met_asleep code (Some Fault) e = absurd cc
-met_asleep code (Some LowPwr) e = refl
-met_asleep code (Some PwrUp) e = absurd cc
-met_asleep code (Some PwrDn) e = absurd cc
-
-met_says : (power : Power) (code : ℕ) → judged_power power code ≡ Met → state_at code ≡ Some (wanted_state power)
-met_says Awake code e = met_awake code (state_at code) e
-met_says Asleep code e = met_asleep code (state_at code) e
 
 wanted_says : (power : Power) (code : ℕ) → state_at code ≡ Some (wanted_state power) → judged_power power code ≡ Met
 wanted_says Awake code e = ap (judged_awake code) e
@@ -331,30 +282,6 @@ reserved_says : (power : Power) (code : ℕ) → state_at code ≡ None → judg
 reserved_says Awake code e = ap (judged_awake code) e
 reserved_says Asleep code e = ap (judged_asleep code) e
 
--- the fault is one of the two
-abbrev FailsBy : ℕ → Option State → ProvisionFault → Type 0
-FailsBy code state fault = ((fault ≡ Reserved code) × (state ≡ None)) ⊎ ((fault ≡ ModuleState code) × (state ≡ Some Fault))
-
-fails_awake : (code : ℕ) (state : Option State) (fault : ProvisionFault) → judged_awake code state ≡ Fails fault → FailsBy code state fault
-fails_awake code None fault e = inl (cc, refl)
-fails_awake code (Some Ready) fault e = absurd cc
-fails_awake code (Some Fault) fault e = inr (cc, refl)
-fails_awake code (Some LowPwr) fault e = absurd cc
-fails_awake code (Some PwrUp) fault e = absurd cc
-fails_awake code (Some PwrDn) fault e = absurd cc
-
-fails_asleep : (code : ℕ) (state : Option State) (fault : ProvisionFault) → judged_asleep code state ≡ Fails fault → FailsBy code state fault
-fails_asleep code None fault e = inl (cc, refl)
-fails_asleep code (Some Ready) fault e = absurd cc
-fails_asleep code (Some Fault) fault e = inr (cc, refl)
-fails_asleep code (Some LowPwr) fault e = absurd cc
-fails_asleep code (Some PwrUp) fault e = absurd cc
-fails_asleep code (Some PwrDn) fault e = absurd cc
-
-fails_says : (power : Power) (code : ℕ) (fault : ProvisionFault) → judged_power power code ≡ Fails fault → FailsBy code (state_at code) fault
-fails_says Awake code fault e = fails_awake code (state_at code) fault e
-fails_says Asleep code fault e = fails_asleep code (state_at code) fault e
-
 -- ---- one step more
 
 abbrev pub items_in : Reply → List ℕ
@@ -362,16 +289,11 @@ items_in (Bytes bytes) = bytes.items
 items_in replies.Done = []
 items_in Refused = []
 
-single : (bytes : List ℕ) → length bytes ≡ 1 → bytes ≡ get_or bytes 0 0 ∷ []
-single [] e = absurd (omega (arith, e))
-single (byte ∷ []) e = refl
-single (byte ∷ next ∷ bytes) e = absurd (omega (arith, e))
-
 -- the code that a step with these bytes ends in
 same_code : (op : Op) (read : Reply) (bytes : List ℕ) → read ≡ Bytes (record { items = bytes }) → module_code (items_in read) ≡ module_code bytes
 same_code op read bytes gave = ap (λ r. module_code (items_in r)) gave
 
-pub waits : (power : Power) (op : Op) (read : Reply) → judged_power power (module_code (items_in read)) ≡ NotYet → (answer : Answer) → ¬ (EndsPower power answer (step_with op read))
+pub waits : (power : Power) (op : Op) (read : Reply) → judged_power power (module_code (items_in read)) ≡ NotYet → (answer : Answer) → ¬ (EndsPower power answer (step_of op read))
 waits power op read not_yet (Ok steps) (bytes, (is, gave), holds) =
     let met = wanted_says power (module_code bytes) holds in
     let same = ap (judged_power power) (same_code op read bytes gave) in
@@ -390,16 +312,6 @@ waits power op read not_yet (Err (ActiveDiffers lane)) ends = ends
 waits power op read not_yet (Err GaveUp) ends = ends
 waits power op read not_yet (Err (Bus fault)) ends = ends
 
-refusal_ends_nothing : (power : Power) (op : Op) (answer : Answer) → ¬ (EndsPower power answer (step_with op Refused))
-refusal_ends_nothing power op (Ok steps) (bytes, (is, gave), holds) = absurd cc
-refusal_ends_nothing power op (Err (ModuleState code)) (bytes, (is, gave), holds) = absurd cc
-refusal_ends_nothing power op (Err (Reserved code)) (bytes, (is, gave), holds) = absurd cc
-refusal_ends_nothing power op (Err (Rejected lane code)) ends = ends
-refusal_ends_nothing power op (Err (StagedDiffers lane)) ends = ends
-refusal_ends_nothing power op (Err (ActiveDiffers lane)) ends = ends
-refusal_ends_nothing power op (Err GaveUp) ends = ends
-refusal_ends_nothing power op (Err (Bus fault)) ends = ends
-
 -- a reply to a fetch of one byte
 pub one_of_controls : (power : Power) (now : PowerStage) (read : Reply) (bytes : ArrayVec ℕ) → now ≡ stage.Unread → read ≡ Bytes bytes
     → ((op : Op) → operation_at power now ≡ Some op → Answers op read) → length bytes.items ≡ 1
@@ -408,62 +320,3 @@ one_of_controls power now read bytes is reads fits = subst (λ r. Answers read_c
 pub one_of_state : (power : Power) (now : PowerStage) (read : Reply) (bytes : ArrayVec ℕ) → now ≡ stage.Stored → read ≡ Bytes bytes
     → ((op : Op) → operation_at power now ≡ Some op → Answers op read) → length bytes.items ≡ 1
 one_of_state power now read bytes is reads fits = subst (λ r. Answers read_module_state r) reads (fits read_module_state (ap (operation_at power) is))
-
--- these steps have come to the stage, or ended in the fault
-abbrev Comes : Power → Result PowerStage ProvisionFault → History → Type 0
-Comes power (Ok now) history = IsAtStage power now history
-Comes power (Err fault) history = IsEnded power (Err fault) history
-
-judged_comes : (power : Power) (history : History) (op : Op) (bytes : ArrayVec ℕ) (judgement : ReplyJudgement) → op ≡ read_module_state → judged_power power (module_code bytes.items) ≡ judgement
-    → IsStored power history → Comes power (stage_judged judgement) (step_with op (Bytes bytes) ∷ history)
-judged_comes power history op bytes Met is judged stored = ((bytes.items, (is, refl), met_says power (module_code bytes.items) judged), is, stored)
-judged_comes power history op bytes NotYet is judged stored = inl ((is, waits power op (Bytes bytes) judged), stored)
-judged_comes power history op bytes (Fails fault) is judged stored =
-    let code = module_code bytes.items in
-    elim (fails_says power code fault judged) [
-      | inl reserved ↦
-          let Ends : ProvisionFault → Type 0 = λ f. IsEnded power (Err f) (step_with op (Bytes bytes) ∷ history) in
-          subst Ends (sym reserved.0) ((bytes.items, (is, refl), (refl, reserved.1)), is, stored)
-      | inr faulty ↦
-          let Ends : ProvisionFault → Type 0 = λ f. IsEnded power (Err f) (step_with op (Bytes bytes) ∷ history) in
-          subst Ends (sym faulty.0) ((bytes.items, (is, refl), (refl, faulty.1)), is, stored)
-    ]
-
-same_op : (op other : Op) → Some other ≡ Some op → op ≡ other
-same_op op other e = cc
-
-comes_more : (power : Power) (now : PowerStage) (history : History) (op : Op) (read : Reply) → operation_at power now ≡ Some op → Answers op read → IsAtStage power now history
-    → Comes power (stage_after power now read) (step_with op read ∷ history)
-comes_more power stage.Unread history op (Bytes bytes) wanted answers at =
-    let is = same_op op read_controls wanted in
-    let one : bytes.items ≡ get_or bytes.items 0 0 ∷ [] = single bytes.items (subst (λ o. Answers o (Bytes bytes)) is answers) in
-    inr ((is, ap (λ (items : List ℕ). Bytes (record { items = items })) one), at)
-comes_more power stage.Unread history op replies.Done wanted answers at = absurd (subst (λ o. Answers o replies.Done) (same_op op read_controls wanted) answers)
-comes_more power stage.Unread history op Refused wanted answers at = ((same_op op read_controls wanted, refl), at)
-comes_more power (stage.Found byte) history op (Bytes bytes) wanted answers at =
-    absurd (subst (λ o. Answers o (Bytes bytes)) (same_op op (set_controls (wanted_controls power byte)) wanted) answers)
-comes_more power (stage.Found byte) history op replies.Done wanted answers at = inr (byte, (same_op op (set_controls (wanted_controls power byte)) wanted, refl), at)
-comes_more power (stage.Found byte) history op Refused wanted answers at = inl ((same_op op (set_controls (wanted_controls power byte)) wanted, refl), at)
-comes_more power stage.Stored history op (Bytes bytes) wanted answers at =
-    judged_comes power history op bytes (judged_power power (module_code bytes.items)) (same_op op read_module_state wanted) refl at
-comes_more power stage.Stored history op replies.Done wanted answers at = absurd (subst (λ o. Answers o replies.Done) (same_op op read_module_state wanted) answers)
-comes_more power stage.Stored history op Refused wanted answers at =
-    let is = same_op op read_module_state wanted in inl ((is, refusal_ends_nothing power op), at)
-comes_more power stage.Met history op read wanted answers at = absurd cc
-
-comes_at : (change : PowerChange) (history : History) (after : Result PowerStage ProvisionFault) → change.fault ≡ None → length history ≡ change.steps + 1 → change.steps < most_steps
-    → Comes change.power after history → IsPowerAt history (with_stage change after)
-comes_at change history (Ok now) fault counted fewer comes = record {
-  counted = counted;
-  few = omega (arith, fewer);
-  come = subst (λ f. HasComeTo change.power now f history) (sym fault) comes;
-}
-comes_at change history (Err failed) fault counted fewer comes = record { counted = counted; few = omega (arith, fewer); come = comes }
-
-pub told : (change : PowerChange) (history : History) (op : Op) (read : Reply) → IsPowerAt history change → power_next change ≡ Do op → Answers op read
-    → IsPowerAt (step_with op read ∷ history) (taken change read)
-told change history op read at asks answers =
-    let (fault, wanted, fewer) = next_do change.fault change.steps (operation_at change.power change.stage) op asks in
-    let come = subst (λ f. HasComeTo change.power change.stage f history) fault at.come in
-    comes_at change (step_with op read ∷ history) (stage_after change.power change.stage read) fault (omega (arith, at.counted)) fewer
-    (comes_more change.power change.stage history op read wanted answers come)

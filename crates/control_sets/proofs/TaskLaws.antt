@@ -1,11 +1,9 @@
--- No task's operation is on the page selection, and what is asked for is judged as what was kept says.
+-- No task's operation is on the page selection, and a step is judged by its reply on its page alone.
 use Rattle.std.proofs.Common.{◌≡◌, ℕ, ◌&&◌, Bool, true, false, refl, sym, ap, ◌∙◌, if◌then◌else◌}
 use Rattle.control_sets.specs.declared.procedures.task.Task.{Task}
 use Rattle.control_sets.specs.declared.procedures.task.Task.TheVariants.{FindReady, Deinitialize, AwaitDeactivated, Stage, CheckStaged, Apply, AwaitApplied, CheckActive, AwaitActivated}
 use Rattle.bus_model.specs.SameOperation.{same_op}
 use Rattle.bus_model.proofs.SameOperations.{ops_same}
-use Rattle.paged_memory.specs.declared.page_addressing.PageAddressing.TheVariants.{BankAndPage}
-use Rattle.paged_memory.specs.KnownPages.{IsApart}
 use Rattle.control_sets.specs.Pages.{History, may_select, read_selection, selection}
 use Rattle.bus_model.specs.declared.operation.Step.{Step}
 use Rattle.control_sets.specs.declared.procedures.judgement.ReplyJudgement.TheVariants.{NotYet}
@@ -34,9 +32,6 @@ not_reading_back (Apply bits) = refl
 not_reading_back (AwaitApplied lanes) = refl
 not_reading_back (CheckActive control) = refl
 not_reading_back (AwaitActivated lanes) = refl
-
-pub apart : (task : Task) → IsApart BankAndPage (operation task)
-apart task = record { not_selecting = not_selecting task; not_reading_back = not_reading_back task }
 
 pub no_read_back : (task : Task) → same_op (operation task) read_selection ≡ false
 no_read_back FindReady = refl

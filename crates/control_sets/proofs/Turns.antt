@@ -1,210 +1,381 @@
--- What a procedure asks for, and what a reply makes of it.
-use Rattle.std.proofs.Common.{◌≡◌, ℕ, zero, suc, ◌+◌, ◌<◌, ◌≤◌, Bool, true, false, List, [], ◌∷◌, ◌++◌, length, take, drop, get_or, Option, Some, None, Err, refl, sym, ap, subst, ◌∙◌, inl, inr, if◌then◌else◌, nat_lt, add-one, arith}
+-- What a task list was told of its own steps says of all steps of its procedure, selections and all.
+use Rattle.std.proofs.Common.{◌≡◌, ◌≤◌, ◌<◌, ℕ, zero, suc, ◌+◌, ◌&&◌, ◌||◌, Bool, true, false, not, List, [], ◌∷◌, ◌++◌, length, take, drop, get_or, Option, Some, None, Ok, Err, refl, sym, ap, subst, ◌∙◌, inl, inr, if◌then◌else◌, nat_lt, add-one, arith}
 use Rattle.std.specs.List.{slice_get}
-use Rattle.std.specs.Option.{option_map}
+use Rattle.std.specs.Prelude.{Result}
 use Rattle.std.proofs.lemmas.List.{drop_all, take_more}
 use Rattle.std.proofs.lemmas.Option.{get_or_from_slice_get, slice_get_within}
+use Rattle.std.specs.Option.{option_map}
 use Rattle.std.proofs.lemmas.Bool.{ltb-true, ltb-false}
 use Rattle.std.proofs.Math.Seq.{drop-cons}
+use Rattle.bus_model.specs.declared.bus.BusFault.{BusFault}
 use Rattle.bus_model.specs.declared.operation.Op.{Op}
 use Rattle.bus_model.specs.declared.operation.Reply.{Reply}
 use Rattle.bus_model.specs.declared.operation.Step.{Step}
-use Rattle.control_sets.specs.declared.procedures.page_tracker.PageTracker.{PageTracker}
+use Rattle.bus_model.specs.Operations.{Answers}
+use Rattle.bus_model.specs.Runs.{IsFull, Seen}
+use Rattle.bus_model.specs.SameOperation.{same_op}
 use Rattle.paged_memory.specs.declared.page_addressing.PageAddressing.TheVariants.{BankAndPage}
+use Rattle.paged_memory.specs.declared.page_addressing.KnownPage.{KnownPage}
 use Rattle.paged_memory.specs.declared.page_addressing.KnownPage.TheVariants.{Unknown}
-use Rattle.paged_memory.specs.KnownPages.{Tells}
+use Rattle.paged_memory.specs.KnownPages.{Tells, is_known, missing_page, selecting_first, wanted}
+use Rattle.paged_memory.specs.PageAddressing.{is_read}
 use Rattle.paged_memory.proofs.KnownPageLaws.{tells_nothing}
+use Rattle.conversations.specs.declared.event.Event.TheVariants.{Made, Waited, Lacked}
+use Rattle.conversations.specs.declared.next.Next.{Next}
+use Rattle.conversations.specs.declared.next.Next.TheVariants.{Do, End}
+use Rattle.conversations.specs.declared.within.Spent.{Spent}
+use Rattle.conversations.specs.Budgets as budget
+use Rattle.conversations.specs.Budgets.{HasSpent, next_within}
+use Rattle.conversations.specs.Carried as carried
+use Rattle.conversations.specs.Carried.{IsCarriedOut}
+use Rattle.conversations.specs.Events.{Events, made, steps_of}
+use Rattle.conversations.specs.Selecting.{AddsSelections, IsSelecting, next_on}
+use Rattle.conversations.specs.Selecting as selecting
+use Rattle.conversations.specs.Wanted.{IsReplyTo}
 use Rattle.control_sets.specs.declared.procedures.task.Task.{Task}
 use Rattle.control_sets.specs.declared.procedures.judgement.ReplyJudgement.{ReplyJudgement}
 use Rattle.control_sets.specs.declared.procedures.judgement.ReplyJudgement.TheVariants.{Met, NotYet, Fails}
 use Rattle.control_sets.specs.declared.fault.ProvisionFault.{ProvisionFault}
-use Rattle.control_sets.specs.declared.fault.ProvisionFault.TheVariants.{GaveUp}
-use Rattle.control_sets.specs.declared.procedures.next.ProcedureNext.{ProcedureNext}
-use Rattle.control_sets.specs.declared.procedures.next.ProcedureNext.TheVariants.{Do, Done}
-use Rattle.control_sets.specs.declared.procedures.procedure.Procedure.{Procedure}
-use Rattle.bus_model.specs.Operations.{Answers}
-use Rattle.control_sets.specs.Pages.{History}
+use Rattle.control_sets.specs.declared.fault.ProvisionFault.TheVariants.{Bus}
+use Rattle.control_sets.specs.declared.procedures.procedure.TaskList.{TaskList}
+use Rattle.control_sets.specs.declared.procedures.procedure.Work.{Work}
+use Rattle.control_sets.specs.declared.procedures.procedure.Work.TheVariants.{Provisioning, Activation}
+use Rattle.control_sets.specs.Pages.{History, is_open, may_select, read_selection, selection}
 use Rattle.control_sets.specs.OutcomeAnswers.{most_steps}
-use Rattle.control_sets.specs.Procedures.{all_apart, judgement_at, next_operation}
-use Rattle.control_sets.specs.Selections.{judgement_by, operation_by, selection_after}
-use Rattle.control_sets.specs.Asking.{IsReplyTo, next_after, next_for, next_with, step_with}
-use Rattle.control_sets.specs.Progress.{Follows, HasCome, IsAt, UnderWay, next, tasks_of}
-use Rattle.control_sets.proofs.UnderWayLaws.{IsNext, all_met, begun, each_next, ends, goes_on, hand, moves, stays}
-use Rattle.control_sets.proofs.SelectionLaws.{judged_made, next_made}
-use Rattle.control_sets.proofs.Silence.{silent_next}
+use Rattle.control_sets.specs.PowerProgress.{answer_at, answer_of}
+use Rattle.control_sets.specs.Procedures.{EachAnswers, EachGoesOn, EachIsNext, EndsFirst, HasEnded, IsOutcome, all_apart, is_on, next_operation, operation_on}
+use Rattle.control_sets.specs.Progress.{EachIsWanted, EndsList, Follows, GoesOnList, IsAt, IsTold, Procedure, Standing, ToldProcedure, after_reply, hand_after, hand as hand_of, list_at, procedure_of, judged_at, needed_after, page_by, standing, task_at, tasks_of, told_at, WithOwn, wants, wants_by}
+use Rattle.control_sets.specs.Judgements.{judgement}
+use Rattle.control_sets.specs.Tasks.{operation, page_of}
+use Rattle.control_sets.proofs.UnderWayLaws.{IsNext, UnderWay, all_met, begun, each_next, ends, goes_on, hand, moves, stays}
+use Rattle.control_sets.proofs.Silence.{earlier_silent, read_back_silent, rest_silent, selection_silent}
+use Rattle.control_sets.proofs.TaskLaws.{judged_own, judged_read_back, judged_selection, not_reading_back, not_selecting}
 
-here : (tasks : List Task) (met : ℕ) (d : Task) (tracker : PageTracker) (history : History) → met < length tasks → UnderWay tasks (take met tasks) (drop met tasks) tracker history →
-    UnderWay tasks (take met tasks) (get_or tasks met d ∷ drop (suc met) tasks) tracker history
-here tasks met d tracker history more u = subst (λ later. UnderWay tasks (take met tasks) later tracker history) (drop-cons tasks met d more) u
+-- one reply more
+pub told_more : (old new : TaskList) (op : Op) (reply : Reply) (own : History) → new ≡ after_reply old reply → IsReplyTo (wants old) reply → wants old ≡ Do op → IsTold own old → IsTold (record { op = op; reply = reply } ∷ own) new
+told_more old new op reply own is answers asked told =
+    let tasks = tasks_of old.work in
+    let step : Step = record { op = op; reply = reply } in
+    subst (IsTold (step ∷ own)) (sym is) (record {
+      stands = ap (λ (s : Standing). told_at (task_at tasks s.0 s.1) s reply) told.stands;
+      each = (
+        ap (λ (s : Standing). wants_by s.1 (task_at tasks s.0 s.1)) told.stands ∙ asked,
+        subst (λ (n : Next (Option ProvisionFault)). IsReplyTo n reply) asked answers,
+        told.each,
+      );
+    })
 
-moved : (tasks : List Task) (met : ℕ) (d : Task) (tracker : PageTracker) (history : History) → met < length tasks → UnderWay tasks (take met tasks ++ get_or tasks met d ∷ []) (drop (suc met) tasks) tracker history →
-    UnderWay tasks (take (met + 1) tasks) (drop (met + 1) tasks) tracker history
-moved tasks met d tracker history more u =
-    subst (λ (n : ℕ). UnderWay tasks (take (met + 1) tasks) (drop n tasks) tracker history) (sym (add-one met))
-    (subst (λ earlier. UnderWay tasks earlier (drop (suc met) tasks) tracker history) (sym (take_more tasks met d more)) u)
+-- the steps end in the fault, and no fewer of them end in any
+pub record HasFailed (tasks : List Task) (history : History) (fault : ProvisionFault) : Type 0 where
+  pub each : EachIsNext tasks history
+  pub answers : EachAnswers history
+  pub ends : EndsFirst tasks history (Err fault)
 
-pub at_start : (tasks : List Task) → UnderWay tasks [] tasks (record { steps = 0; selection = Unknown }) []
-at_start tasks = begun tasks (record { steps = 0; selection = Unknown }) refl (tells_nothing BankAndPage)
+abbrev pub HasCome : List Task → History → ℕ → Option ProvisionFault → Type 0
+HasCome tasks history met None = UnderWay tasks (take met tasks) (drop met tasks) history
+HasCome tasks history met (Some fault) = HasFailed tasks history fault
 
--- where a reply is taken, there is a task in hand, and a step left
-pub record Awaits (tasks : List Task) (met : ℕ) (tracker : PageTracker) (fault : Option ProvisionFault) (reply : Reply) (task : Task) : Type 0 where
-  pub working : fault ≡ None
-  pub more : met < length tasks
-  pub fewer : tracker.steps < most_steps
-  pub answers : Answers (operation_by tracker.selection task) reply
-  pub asks : next_after fault tracker (slice_get tasks met) ≡ Do (operation_by tracker.selection task)
+-- the tasks have come so far, and no read back is awaited where none is in hand
+pub record Stands (tasks : List Task) (history : History) (met : ℕ) (fault : Option ProvisionFault) : Type 0 where
+  pub come : HasCome tasks history met fault
+  pub closed : task_at tasks met fault ≡ None → is_open history ≡ false
 
-awaits_for : (tracker : PageTracker) (task : Task) (reply : Reply) (few : Bool) → nat_lt tracker.steps most_steps ≡ few → IsReplyTo (if few then Do (operation_by tracker.selection task) else Done (Err GaveUp)) reply →
-    (tracker.steps < most_steps) × Answers (operation_by tracker.selection task) reply × (next_for tracker task ≡ Do (operation_by tracker.selection task))
-awaits_for tracker task reply true e answers = (ltb-true _ _ e, answers, ap (λ (b : Bool). if b then Do (operation_by tracker.selection task) else Done (Err GaveUp)) e)
-awaits_for tracker task reply false e answers = absurd answers
+same_on : (page : Option ℕ) (before : History) → selecting.is_on BankAndPage page before ≡ true → is_on page before ≡ true
+same_on None before on = refl
+same_on (Some page) before on = on
 
-awaits_with : (tasks : List Task) (met : ℕ) (d : Task) (tracker : PageTracker) (fault : Option ProvisionFault) (reply : Reply) (found : Option Task) → slice_get tasks met ≡ found → IsReplyTo (next_after fault tracker found) reply →
-    Awaits tasks met tracker fault reply (get_or tasks met d)
-awaits_with tasks met d tracker (Some fault) reply found e answers = absurd answers
-awaits_with tasks met d tracker None reply None e answers = absurd answers
-awaits_with tasks met d tracker None reply (Some task) e answers =
-    let same : get_or tasks met d ≡ task = get_or_from_slice_get tasks met task d e in
-    let parts = awaits_for tracker task reply (nat_lt tracker.steps most_steps) refl answers in
-    record {
-      working = refl;
-      more = slice_get_within tasks met task e;
-      fewer = parts.0;
-      answers = subst (λ task. Answers (operation_by tracker.selection task) reply) (sym same) parts.1;
-      asks = ap (next_with tracker) e ∙ parts.2 ∙ ap (λ task. Do (operation_by tracker.selection task)) (sym same);
+module _ (tasks : List Task) (apart : all_apart tasks ≡ true) (history : History) (step : Step) (answers : Answers step.op step.reply) (met : ℕ) (task : Task) (found : slice_get tasks met ≡ Some task)
+    (come : UnderWay tasks (take met tasks) (drop met tasks) history) where
+  more : met < length tasks
+  more = slice_get_within tasks met task found
+
+  same : get_or tasks met task ≡ task
+  same = get_or_from_slice_get tasks met task task found
+
+  -- the task in hand is the first of the later ones
+  later_is : drop met tasks ≡ task ∷ drop (suc met) tasks
+  later_is = drop-cons tasks met task more ∙ ap (λ (t : Task). t ∷ drop (suc met) tasks) same
+
+  pub under_way : UnderWay tasks (take met tasks) (task ∷ drop (suc met) tasks) history
+  under_way = subst (λ later. UnderWay tasks (take met tasks) later history) later_is come
+
+  split_apart : all_apart (take met tasks ++ task ∷ drop (suc met) tasks) ≡ true
+  split_apart = subst (λ tasks. all_apart tasks ≡ true) under_way.split apart
+
+  back : UnderWay tasks (take met tasks) (task ∷ drop (suc met) tasks) (step ∷ history) → UnderWay tasks (take met tasks) (drop met tasks) (step ∷ history)
+  back u = subst (λ later. UnderWay tasks (take met tasks) later (step ∷ history)) (sym later_is) u
+
+  -- a selection, or its read back, leaves all as it is
+  pub selects : IsSelecting BankAndPage (page_of task) step.op history → UnderWay tasks (take met tasks) (drop met tasks) (step ∷ history)
+  selects (inl (awaited, reads)) =
+      let next : next_operation history task ≡ step.op = ap (λ (b : Bool). if b then read_selection else operation_on history task (page_of task)) awaited ∙ sym reads in
+      back (stays tasks (take met tasks) (drop (suc met) tasks) task history step under_way
+      (record { done = next; answers = answers; silent_before = read_back_silent step history (take met tasks) reads; silent_after = read_back_silent step history (drop (suc met) tasks) reads })
+      (judged_read_back task step history reads))
+  selects (inr (closed, (page, needs, unconfirmed, selected))) =
+      let next : next_operation history task ≡ step.op =
+      ap (λ (b : Bool). if b then read_selection else operation_on history task (page_of task)) closed
+      ∙ ap (operation_on history task) needs
+      ∙ ap (λ (b : Bool). if b then operation task else selection page) unconfirmed
+      ∙ sym selected in
+      back (stays tasks (take met tasks) (drop (suc met) tasks) task history step under_way
+      (record { done = next; answers = answers; silent_before = selection_silent step history page (take met tasks) selected; silent_after = selection_silent step history page (drop (suc met) tasks) selected })
+      (judged_selection task step history page selected))
+
+  module _ (own : step.op ≡ operation task) (closed : is_open history ≡ false) (on : is_on (page_of task) history ≡ true) where
+    on_page : (page : Option ℕ) → is_on page history ≡ true → operation_on history task page ≡ operation task
+    on_page None on = refl
+    on_page (Some page) on = ap (λ (b : Bool). if b then operation task else selection page) on
+
+    is_next : IsNext (take met tasks) (drop (suc met) tasks) task step history
+    is_next = record {
+      done = ap (λ (b : Bool). if b then read_selection else operation_on history task (page_of task)) closed ∙ on_page (page_of task) on ∙ sym own;
+      answers = answers;
+      silent_before = earlier_silent step history task own (take met tasks) (drop (suc met) tasks) split_apart;
+      silent_after = rest_silent step history task own (take met tasks) (drop (suc met) tasks) split_apart;
     }
 
-pub awaits : (procedure : Procedure) (d : Task) (reply : Reply) → IsReplyTo (next procedure) reply → Awaits (tasks_of procedure.work) procedure.met procedure.tracker procedure.fault reply (get_or (tasks_of procedure.work) procedure.met d)
-awaits procedure d reply answers = awaits_with (tasks_of procedure.work) procedure.met d procedure.tracker procedure.fault reply (slice_get (tasks_of procedure.work) procedure.met) refl answers
-
-next_of : (tasks earlier later : List Task) (task : Task) (old new : PageTracker) (step : Step) (before : History) → Tells BankAndPage old.selection before → tasks ≡ earlier ++ task ∷ later → all_apart tasks ≡ true → old.steps < most_steps → Answers step.op step.reply →
-    step.op ≡ operation_by old.selection task → new.steps ≡ old.steps + 1 → new.selection ≡ selection_after old.selection step → IsNext earlier later task old new step before
-next_of tasks earlier later task old new step before told split apart more answers done count selection =
-    let silent = silent_next old.selection step before task earlier later told (subst (λ tasks. all_apart tasks ≡ true) split apart) done in
-    record { done = done; selection = selection; count = count; more = more; answers = answers; silent_before = silent.0; silent_after = silent.1 }
-
-module _ (tasks : List Task) (history : History) (met : ℕ) (d : Task) (tracker tracker' : PageTracker) (step : Step) (apart : all_apart tasks ≡ true) (more : met < length tasks) (fewer : tracker.steps < most_steps)
-    (answers : Answers step.op step.reply)
-    (come : UnderWay tasks (take met tasks) (drop met tasks) tracker history)
-    (done : step.op ≡ operation_by tracker.selection (get_or tasks met d)) (count : tracker'.steps ≡ tracker.steps + 1) (selection : tracker'.selection ≡ selection_after tracker.selection step) where
-  under_way : UnderWay tasks (take met tasks) (get_or tasks met d ∷ drop (suc met) tasks) tracker history
-  under_way = here tasks met d tracker history more come
-
-  is_next : IsNext (take met tasks) (drop (suc met) tasks) (get_or tasks met d) tracker tracker' step history
-  is_next = next_of tasks (take met tasks) (drop (suc met) tasks) (get_or tasks met d) tracker tracker' step history come.told under_way.split apart fewer answers done count selection
-
-  told_not_yet : judgement_at (get_or tasks met d) step history ≡ NotYet → HasCome tasks (step ∷ history) met tracker' None
-  told_not_yet e =
-      subst (λ later. UnderWay tasks (take met tasks) later tracker' (step ∷ history)) (sym (drop-cons tasks met d more))
-      (stays tasks (take met tasks) (drop (suc met) tasks) (get_or tasks met d) tracker tracker' history step under_way is_next e)
-
-  told_met : judgement_at (get_or tasks met d) step history ≡ Met → HasCome tasks (step ∷ history) (met + 1) tracker' None
-  told_met e =
-      moved tasks met d tracker' (step ∷ history) more
-      (moves tasks (take met tasks) (drop (suc met) tasks) (get_or tasks met d) tracker tracker' history step under_way is_next e)
-
-  told_fault : (fault : ProvisionFault) → judgement_at (get_or tasks met d) step history ≡ Fails fault → HasCome tasks (step ∷ history) met tracker' (Some fault)
-  told_fault fault e = record {
-    each = each_next tasks (take met tasks) (drop (suc met) tasks) (get_or tasks met d) tracker tracker' history step under_way is_next;
-    answers = (answers, come.answers);
-    few = omega (arith, come.count, fewer);
-    ends = ends tasks (take met tasks) (drop (suc met) tasks) (get_or tasks met d) tracker tracker' history step under_way is_next fault e;
-  }
-
--- what the judgement of a reply makes of the tasks that were met, and of the fault
-abbrev pub met_after : ReplyJudgement → ℕ → ℕ
-met_after Met met = met + 1
-met_after NotYet met = met
-met_after (Fails fault) met = met
-
-abbrev pub fault_told : ReplyJudgement → Option ProvisionFault
-fault_told Met = None
-fault_told NotYet = None
-fault_told (Fails fault) = Some fault
-
-told_with : (tasks : List Task) (history : History) (met : ℕ) (d : Task) (tracker tracker' : PageTracker) (step : Step) (judged : ReplyJudgement) → judged ≡ judgement_at (get_or tasks met d) step history →
-    all_apart tasks ≡ true → met < length tasks → tracker.steps < most_steps → Answers step.op step.reply → UnderWay tasks (take met tasks) (drop met tasks) tracker history →
-    step.op ≡ operation_by tracker.selection (get_or tasks met d) → tracker'.steps ≡ tracker.steps + 1 → tracker'.selection ≡ selection_after tracker.selection step →
-    HasCome tasks (step ∷ history) (met_after judged met) tracker' (fault_told judged)
-told_with tasks history met d tracker tracker' step Met e apart more fewer answers come done count selection = told_met tasks history met d tracker tracker' step apart more fewer answers come done count selection (sym e)
-told_with tasks history met d tracker tracker' step NotYet e apart more fewer answers come done count selection = told_not_yet tasks history met d tracker tracker' step apart more fewer answers come done count selection (sym e)
-told_with tasks history met d tracker tracker' step (Fails fault) e apart more fewer answers come done count selection = told_fault tasks history met d tracker tracker' step apart more fewer answers come done count selection fault (sym e)
-
-abbrev op_in : Op → ProcedureNext → Op
-op_in d (Do op) = op
-op_in d (Done answer) = d
-
-pub told : (old : Procedure) (d : Task) (tracker' : PageTracker) (reply : Reply) (judged : ReplyJudgement) → IsReplyTo (next old) reply →
-    let task = get_or (tasks_of old.work) old.met d in
-    let made = step_with (operation_by old.tracker.selection task) reply in
-    judged ≡ judgement_by old.tracker.selection task reply → tracker'.steps ≡ old.tracker.steps + 1 → tracker'.selection ≡ selection_after old.tracker.selection made →
-    (tasks : List Task) (history : History) (op : Op) → IsAt tasks history old → next old ≡ Do op →
-    IsAt tasks (step_with op reply ∷ history) (record { work = old.work; met = met_after judged old.met; tracker = tracker'; fault = fault_told judged })
-told old d tracker' reply judged answers judgement count selection tasks history op at asked =
-    let wants = awaits old d reply answers in
-    let same : op ≡ operation_by old.tracker.selection (get_or (tasks_of old.work) old.met d) = ap (op_in op) (sym asked ∙ wants.asks) in
-    let come = subst (λ fault. HasCome (tasks_of old.work) history old.met old.tracker fault) wants.working (subst (λ tasks. HasCome tasks history old.met old.tracker old.fault) (sym at.has) at.come) in
-    record {
-      has = at.has;
-      apart = at.apart;
-      come = subst (λ tasks. HasCome tasks (step_with op reply ∷ history) (met_after judged old.met) tracker' (fault_told judged)) at.has
-          (told_with (tasks_of old.work) history old.met d old.tracker tracker' (step_with op reply) judged
-          (judgement ∙ sym (judged_made old.tracker.selection (get_or (tasks_of old.work) old.met d) (step_with op reply) history come.told same))
-          (subst (λ tasks. all_apart tasks ≡ true) (sym at.has) at.apart) wants.more wants.fewer (subst (λ op. Answers op reply) (sym same) wants.answers) come same count
-          (selection ∙ ap (λ op. selection_after old.tracker.selection (step_with op reply)) (sym same)));
+    -- the task's own step moves the list on as its reply says
+    pub works : (judged : ReplyJudgement) → judgement task step.reply ≡ judged → let s = judged_at (met, None) judged in HasCome tasks (step ∷ history) s.0 s.1
+    works NotYet e = back (stays tasks (take met tasks) (drop (suc met) tasks) task history step under_way is_next (judged_own task step history own on ∙ e))
+    works Met e =
+        let u = moves tasks (take met tasks) (drop (suc met) tasks) task history step under_way is_next (judged_own task step history own on ∙ e) in
+        let earlier_is : take (met + 1) tasks ≡ take met tasks ++ task ∷ [] = take_more tasks met task more ∙ ap (λ (t : Task). take met tasks ++ t ∷ []) same in
+        subst (λ (n : ℕ). UnderWay tasks (take (met + 1) tasks) (drop n tasks) (step ∷ history)) (sym (add-one met))
+        (subst (λ earlier. UnderWay tasks earlier (drop (suc met) tasks) (step ∷ history)) (sym earlier_is) u)
+    works (Fails fault) e = record {
+      each = each_next tasks (take met tasks) (drop (suc met) tasks) task history step under_way is_next;
+      answers = (answers, come.answers);
+      ends = ends tasks (take met tasks) (drop (suc met) tasks) task history step under_way is_next fault (judged_own task step history own on ∙ e);
     }
 
--- the same, for the task as it is found
-pub told_by : (old : Procedure) (task : Task) (tracker' : PageTracker) (reply : Reply) (judged : ReplyJudgement) → Some task ≡ slice_get (tasks_of old.work) old.met → IsReplyTo (next old) reply →
-    let made = step_with (operation_by old.tracker.selection task) reply in
-    judged ≡ judgement_by old.tracker.selection task reply → tracker'.steps ≡ old.tracker.steps + 1 → tracker'.selection ≡ selection_after old.tracker.selection made →
-    (tasks : List Task) (history : History) (op : Op) → IsAt tasks history old → next old ≡ Do op →
-    IsAt tasks (step_with op reply ∷ history) (record { work = old.work; met = met_after judged old.met; tracker = tracker'; fault = fault_told judged })
-told_by old task tracker' reply judged e answers judgement count selection =
-    let same : task ≡ get_or (tasks_of old.work) old.met task = sym (get_or_from_slice_get (tasks_of old.work) old.met task task (sym e)) in
-    told old task tracker' reply judged answers
-    (judgement ∙ ap (λ (t : Task). judgement_by old.tracker.selection t reply) same)
-    count
-    (selection ∙ ap (λ (t : Task). selection_after old.tracker.selection (step_with (operation_by old.tracker.selection t) reply)) same)
+    -- and leaves no read back awaited
+    pub stays_closed : is_open (step ∷ history) ≡ false
+    stays_closed =
+        ap (λ (op : Op). may_select op || (same_op read_selection op && not (is_read step.reply))) own
+        ∙ (λ i. not_selecting task i || (not_reading_back task i && not (is_read step.reply)))
 
--- what is known of the task as it is found
-pub awaits_by : (old : Procedure) (task : Task) (reply : Reply) → Some task ≡ slice_get (tasks_of old.work) old.met → IsReplyTo (next old) reply → Awaits (tasks_of old.work) old.met old.tracker old.fault reply task
-awaits_by old task reply e answers =
-    subst (λ (t : Task). Awaits (tasks_of old.work) old.met old.tracker old.fault reply t) (get_or_from_slice_get (tasks_of old.work) old.met task task (sym e)) (awaits old task reply answers)
+pub at_start : (tasks : List Task) → Stands tasks [] 0 None
+at_start tasks = record { come = begun tasks; closed = λ none. refl }
 
-follows_for : (tasks : List Task) (history : History) (met : ℕ) (task : Task) (tracker : PageTracker) (few : Bool) → nat_lt tracker.steps most_steps ≡ few →
-    UnderWay tasks (take met tasks) (task ∷ drop (suc met) tasks) tracker history → Follows tasks history (if few then Do (operation_by tracker.selection task) else Done (Err GaveUp))
-follows_for tasks history met task tracker true e u = record {
-  each = u.each;
-  answers = u.answers;
-  next = ap (option_map (next_operation history)) (hand tasks (take met tasks) (drop (suc met) tasks) task tracker history u) ∙ ap (λ op. Some op) (next_made tracker.selection task history u.told);
-  goes_on = goes_on tasks (take met tasks) (drop (suc met) tasks) task tracker history u;
-  fewer = omega (arith, u.count, ltb-true _ _ e);
+not_both : (b : Bool) → b ≡ true → b ≡ false → ⊥
+not_both true e h = cc
+not_both false e h = cc
+
+-- one step more, for the selection
+pub selected : (tasks : List Task) → all_apart tasks ≡ true → (history : History) (step : Step) → Answers step.op step.reply → (met : ℕ) (fault : Option ProvisionFault) (found : Option Task) → task_at tasks met fault ≡ found →
+    IsSelecting BankAndPage (page_by found) step.op history → Stands tasks history met fault → Stands tasks (step ∷ history) met fault
+selected tasks apart history step answers met fault None e (inl (awaited, reads)) at = absurd (not_both (is_open history) awaited (at.closed e))
+selected tasks apart history step answers met fault None e (inr (closed, (page, needs, unconfirmed, is))) at = absurd cc
+selected tasks apart history step answers met (Some fault) (Some task) e selecting at = absurd cc
+selected tasks apart history step answers met None (Some task) e selecting at = record {
+  come = selects tasks apart history step answers met task e at.come selecting;
+  closed = λ none. absurd cc;
 }
-follows_for tasks history met task tracker false e u = record {
-  each = u.each;
-  answers = u.answers;
-  few = omega (arith, u.count, u.few);
-  answered = inr (record { fault = refl; all = omega (arith, u.count, u.few, ltb-false _ _ e); goes_on = goes_on tasks (take met tasks) (drop (suc met) tasks) task tracker history u });
-}
+
+-- and one of a task
+worked : (tasks : List Task) → all_apart tasks ≡ true → (history : History) (step : Step) → Answers step.op step.reply → (met : ℕ) (fault : Option ProvisionFault) (found : Option Task) → task_at tasks met fault ≡ found →
+    wants_by fault found ≡ Do step.op → is_open history ≡ false → selecting.is_on BankAndPage (page_by found) history ≡ true → Stands tasks history met fault →
+    let s = told_at found (met, fault) step.reply in Stands tasks (step ∷ history) s.0 s.1
+worked tasks apart history step answers met fault None e asked closed on at = absurd cc
+worked tasks apart history step answers met (Some fault) (Some task) e asked closed on at = absurd cc
+worked tasks apart history step answers met None (Some task) e asked closed on at =
+    let own : step.op ≡ operation task = cc in
+    let there = same_on (page_of task) history on in
+    record {
+      come = works tasks apart history step answers met task e at.come own closed there (judgement task step.reply) refl;
+      closed = λ none. stays_closed tasks apart history step answers met task e at.come own closed there;
+    }
+
+abbrev pub StandsBy : List Task → History → History → Type 0
+StandsBy tasks history own = Stands tasks history (standing tasks own).0 (standing tasks own).1
+
+-- the bridge: from own steps to all of them
+pub stands : (tasks : List Task) → all_apart tasks ≡ true → (events own : Events) → AddsSelections false BankAndPage (λ own. needed_after tasks (steps_of own)) own events → EachIsWanted tasks (steps_of own) →
+    StandsBy tasks (steps_of events) (steps_of own)
+stands tasks apart [] own none each =
+    subst (λ (own : Events). StandsBy tasks [] (steps_of own)) (sym none) (at_start tasks)
+stands tasks apart (Made step ∷ before) own (inl (selecting, none, answers, adds)) each =
+    let at = stands tasks apart before own adds each in
+    selected tasks apart (steps_of before) step answers (standing tasks (steps_of own)).0 (standing tasks (steps_of own)).1 (hand_after tasks (steps_of own)) refl selecting at
+stands tasks apart (Made step ∷ before) own (inr (inr (page, earlier, is, may, needs, shows, answers, adds))) each = absurd cc
+stands tasks apart (Made step ∷ before) own (inr (inl (earlier, is, closed, on, adds))) each =
+    let wanted = subst (λ (own : Events). EachIsWanted tasks (steps_of own)) is each in
+    let at = stands tasks apart before earlier adds wanted.2 in
+    let s = standing tasks (steps_of earlier) in
+    subst (λ (own : Events). StandsBy tasks (step ∷ steps_of before) (steps_of own)) (sym is)
+    (worked tasks apart (steps_of before) step wanted.1 s.0 s.1 (hand_after tasks (steps_of earlier)) refl wanted.0 closed on at)
+stands tasks apart (Waited time ∷ before) own (earlier, is, adds) each =
+    let wanted = subst (λ (own : Events). EachIsWanted tasks (steps_of own)) is each in
+    subst (λ (own : Events). StandsBy tasks (steps_of before) (steps_of own)) (sym is) (stands tasks apart before earlier adds wanted)
+stands tasks apart (Lacked page ∷ before) own none each = absurd none
+
+-- ---- the end
 
 past : (tasks : List Task) (met : ℕ) → slice_get tasks met ≡ None → length tasks ≤ met
 past [] met e = omega arith
 past (task ∷ tasks) zero e = cc
 past (task ∷ tasks) (suc met) e = let all = past tasks met e in omega (arith, all)
 
-follows_with : (tasks : List Task) (history : History) (met : ℕ) (tracker : PageTracker) (fault : Option ProvisionFault) (found : Option Task) → slice_get tasks met ≡ found →
-    HasCome tasks history met tracker fault → Follows tasks history (next_after fault tracker found)
-follows_with tasks history met tracker (Some fault) found e failed = record { each = failed.each; answers = failed.answers; few = failed.few; answered = inl failed.ends }
-follows_with tasks history met tracker None (Some task) e u =
-    follows_for tasks history met task tracker (nat_lt tracker.steps most_steps) refl
-    (subst (λ task. UnderWay tasks (take met tasks) (task ∷ drop (suc met) tasks) tracker history) (get_or_from_slice_get tasks met task task e) (here tasks met task tracker history (slice_get_within tasks met task e) u))
-follows_with tasks history met tracker None None e u =
-    let u' : UnderWay tasks (take met tasks) [] tracker history = subst (λ later. UnderWay tasks (take met tasks) later tracker history) (drop_all met tasks (past tasks met e)) u in
-    record { each = u'.each; answers = u'.answers; few = omega (arith, u'.count, u'.few); answered = inl (all_met tasks (take met tasks) tracker history u') }
+module _ (tasks : List Task) (history : History) (few : length history ≤ most_steps) where
+  pub ended_at : (met : ℕ) (fault : Option ProvisionFault) → task_at tasks met fault ≡ None → Stands tasks history met fault → HasEnded tasks history (answer_at (length history) (Some fault))
+  ended_at met None e at =
+      let u : UnderWay tasks (take met tasks) [] history = subst (λ later. UnderWay tasks (take met tasks) later history) (drop_all met tasks (past tasks met e)) at.come in
+      record { each = u.each; answers = u.answers; few = few; answered = inl (all_met tasks (take met tasks) history u) }
+  ended_at met (Some fault) e at = record { each = at.come.each; answers = at.come.answers; few = few; answered = inl at.come.ends }
 
-pub follows : (procedure : Procedure) (tasks : List Task) (history : History) → IsAt tasks history procedure → Follows tasks history (next procedure)
-follows procedure tasks history at =
-    subst (λ tasks. Follows tasks history (next procedure)) at.has
-    (follows_with (tasks_of procedure.work) history procedure.met procedure.tracker procedure.fault (slice_get (tasks_of procedure.work) procedure.met) refl
-    (subst (λ tasks. HasCome tasks history procedure.met procedure.tracker procedure.fault) (sym at.has) at.come))
+record GoesOnAt (tasks : List Task) (history : History) : Type 0 where
+  pub each : EachIsNext tasks history
+  pub answers : EachAnswers history
+  pub goes_on : EachGoesOn tasks history
+
+-- the task in hand is the first of the later ones
+begins : (tasks : List Task) (history : History) (met : ℕ) (task : Task) → slice_get tasks met ≡ Some task → UnderWay tasks (take met tasks) (drop met tasks) history → UnderWay tasks (take met tasks) (task ∷ drop (suc met) tasks) history
+begins tasks history met task found come =
+    subst (λ later. UnderWay tasks (take met tasks) later history) (drop-cons tasks met task (slice_get_within tasks met task found) ∙ ap (λ (t : Task). t ∷ drop (suc met) tasks) (get_or_from_slice_get tasks met task task found)) come
+
+goes_on_at : (tasks : List Task) (history : History) (met : ℕ) (fault : Option ProvisionFault) (task : Task) → all_apart tasks ≡ true → task_at tasks met fault ≡ Some task → Stands tasks history met fault → GoesOnAt tasks history
+goes_on_at tasks history met (Some fault) task apart e at = absurd cc
+goes_on_at tasks history met None task apart e at =
+    let u = begins tasks history met task e at.come in
+    record { each = u.each; answers = u.answers; goes_on = goes_on tasks (take met tasks) (drop (suc met) tasks) task history u }
+
+pub works_apart : (work : Work) → all_apart (tasks_of work) ≡ true
+works_apart (Provisioning control lanes) = refl
+works_apart (Activation control lanes) = refl
+
+-- how a procedure ends that was driven
+abbrev pub Ends : Work → Events → Option ProvisionFault → Type 0
+Ends work events fault = WithOwn work (λ own. EndsList (tasks_of work) (steps_of own) fault) events
+
+abbrev pub GoesOn : Work → Events → Type 0
+GoesOn work events = WithOwn work (λ own. GoesOnList (tasks_of work) (steps_of own)) events
+
+on_all : (work : Work) (events : Events) → GoesOn work events → GoesOnAt (tasks_of work) (steps_of events)
+on_all work events (own, adds, on) =
+    let tasks = tasks_of work in
+    let s = standing tasks (steps_of own) in
+    goes_on_at tasks (steps_of events) s.0 s.1 on.task (works_apart work) on.some (stands tasks (works_apart work) events own adds on.each)
+
+ended_in : (work : Work) (steps : ℕ) (events : Events) (end : Option (Option ProvisionFault)) → steps ≡ length (steps_of events) → length (steps_of events) ≤ most_steps → budget.HasEnded most_steps (GoesOn work) (Ends work) events end →
+    HasEnded (tasks_of work) (steps_of events) (answer_at steps end)
+ended_in work steps events None counted few (all, on) =
+    let at = on_all work events on in
+    record { each = at.each; answers = at.answers; few = few; answered = inr (record { fault = refl; all = all; goes_on = at.goes_on }) }
+ended_in work steps events (Some fault) counted few (own, adds, ends) =
+    let tasks = tasks_of work in
+    let s = standing tasks (steps_of own) in
+    let ended = ended_at tasks (steps_of events) few s.0 s.1 ends.none (stands tasks (works_apart work) events own adds ends.each) in
+    subst (λ (steps : ℕ). HasEnded tasks (steps_of events) (answer_at steps (Some fault))) (sym counted)
+    (subst (λ (fault : Option ProvisionFault). HasEnded tasks (steps_of events) (answer_at (length (steps_of events)) (Some fault))) ends.fault ended)
+
+pub spent_is : (work : Work) (events : Events) (spent : Spent (Option ProvisionFault)) → HasSpent most_steps (GoesOn work) (Ends work) events spent → HasEnded (tasks_of work) (steps_of events) (answer_of spent)
+spent_is work events spent has = ended_in work spent.steps events spent.end has.counted has.few has.ended
+
+-- and on a bus
+abbrev pub CarriesOut : {S : Type 0} → Procedure → Seen S → Events → Result (Spent (Option ProvisionFault)) BusFault → Type 0
+CarriesOut procedure after events answer =
+    IsCarriedOut procedure.limit (GoesOn procedure.conversation.conversation.work) (Ends procedure.conversation.conversation.work) (IsFull after) events answer
+
+module _ {S : Type 0} (work : Work) (procedure : Procedure) (after : Seen S) (events : Events) (is : procedure ≡ procedure_of (list_at work (0, None)) Unknown 0) where
+  pub carried_out : (spent : Spent (Option ProvisionFault)) → CarriesOut procedure after events (Ok spent) → IsOutcome (tasks_of work) after (steps_of events) (answer_of spent)
+  carried_out spent has =
+      let has' : HasSpent most_steps (GoesOn work) (Ends work) events spent = subst (λ (p : Procedure). CarriesOut p after events (Ok spent)) is has in
+      inl (spent_is work events spent has')
+
+  pub filled : (fault : BusFault) → CarriesOut procedure after events (Err fault) → IsOutcome (tasks_of work) after (steps_of events) (Err (Bus fault))
+  filled fault out =
+      let out' : carried.RunsOut most_steps (GoesOn work) (IsFull after) events fault = subst (λ (p : Procedure). CarriesOut p after events (Err fault)) is out in
+      let at = on_all work events out'.goes_on in
+      inr (record { each = at.each; answers = at.answers; fault = ap (λ (f : BusFault). Err (Bus f)) out'.fault; full = out'.is_full; fewer = out'.fewer; goes_on = at.goes_on })
+
+-- ---- a procedure that is driven by hand
+
+selected_first : (selected : KnownPage) (task : Task) (history : History) (page : Option ℕ) → Tells BankAndPage selected history → operation_on history task page ≡ selecting_first BankAndPage (operation task) (missing_page selected page)
+selected_first selected task history None tells = refl
+selected_first selected task history (Some page) tells =
+    ap (λ (b : Bool). if b then operation task else selection page) (tells.known page)
+    ∙ elim (is_known selected page) as (λ b. (if b then operation task else selection page) ≡ selecting_first BankAndPage (operation task) (if b then None else Some page)) [ true ↦ refl | false ↦ refl ]
+
+-- what is asked for by what is known comes next
+next_made : (selected : KnownPage) (task : Task) (history : History) → Tells BankAndPage selected history → next_operation history task ≡ wanted BankAndPage selected (page_of task) (operation task)
+next_made selected task history tells = (λ i. if tells.awaited i then read_selection else selected_first selected task history (page_of task) tells i)
+
+module _ (tasks : List Task) (apart : all_apart tasks ≡ true) (history : History) (steps : ℕ) (count : length history ≡ steps) (few : steps ≤ most_steps) (selected : KnownPage) (tells : Tells BankAndPage selected history) where
+  follows_by : (met : ℕ) (task : Task) → slice_get tasks met ≡ Some task → Stands tasks history met None → (fewer : Bool) → nat_lt steps most_steps ≡ fewer →
+      Follows tasks history (if fewer then Do (wanted BankAndPage selected (page_of task) (operation task)) else End (record { steps = steps; end = None }))
+  follows_by met task found at true e =
+      let on = goes_on_at tasks history met None task apart found at in
+      let hand_is = hand tasks (take met tasks) (drop (suc met) tasks) task history (begins tasks history met task found at.come) in
+      record {
+        each = on.each;
+        answers = on.answers;
+        next = ap (option_map (next_operation history)) hand_is ∙ ap (λ op. Some op) (next_made selected task history tells);
+        goes_on = on.goes_on;
+        fewer = omega (arith, count, ltb-true _ _ e);
+      }
+  follows_by met task found at false e =
+      let on = goes_on_at tasks history met None task apart found at in
+      record {
+        each = on.each;
+        answers = on.answers;
+        few = omega (arith, count, few);
+        answered = inr (record { fault = refl; all = omega (arith, count, few, ltb-false _ _ e); goes_on = on.goes_on });
+      }
+
+  follows_at : (met : ℕ) (fault : Option ProvisionFault) (found : Option Task) → task_at tasks met fault ≡ found → Stands tasks history met fault →
+      Follows tasks history (next_within steps most_steps (next_on BankAndPage selected (page_by found) (wants_by fault found)))
+  follows_at met fault None e at =
+      subst (λ (n : ℕ). HasEnded tasks history (answer_at n (Some fault))) count (ended_at tasks history (omega (arith, count, few)) met fault e at)
+  follows_at met (Some fault) (Some task) e at = absurd cc
+  follows_at met None (Some task) e at = follows_by met task e at (nat_lt steps most_steps) refl
+
+pub begun_at : (work : Work) → IsAt (tasks_of work) [] (procedure_of (list_at work (0, None)) Unknown 0)
+begun_at work = record {
+  has = refl;
+  limit = refl;
+  events = [];
+  made = refl;
+  told = (((λ none. refl, (tells_nothing BankAndPage, record { was = λ page e. absurd cc; is = λ may. absurd cc })), ([], refl, record { stands = refl; each = tt })), refl, omega arith);
+}
+
+follows_in : (list : TaskList) (selected : KnownPage) (steps : ℕ) (events : Events) → Tells BankAndPage selected (steps_of events) → WithOwn list.work (λ own. IsTold (steps_of own) list) events →
+    length (steps_of events) ≡ steps → steps ≤ most_steps → Follows (tasks_of list.work) (steps_of events) (next_within steps most_steps (next_on BankAndPage selected (page_by (hand_of list)) (wants list)))
+follows_in list selected steps events tells (own, adds, told) count few =
+    let tasks = tasks_of list.work in
+    let at = stands tasks (works_apart list.work) events own adds told.each in
+    follows_at tasks (works_apart list.work) (steps_of events) steps count few selected tells list.met list.fault (hand_of list) refl
+    (subst (λ (s : Standing). Stands tasks (steps_of events) s.0 s.1) told.stands at)
+
+pub follows : (tasks : List Task) (history : History) (procedure : Procedure) → IsAt tasks history procedure →
+    Follows tasks history (next_within procedure.steps procedure.limit (next_on BankAndPage procedure.conversation.selection (page_by (hand_of procedure.conversation.conversation)) (wants procedure.conversation.conversation)))
+follows tasks history procedure at =
+    let list = procedure.conversation.conversation in
+    let wanted_by : ℕ → Next (Spent (Option ProvisionFault)) = λ limit. next_within procedure.steps limit (next_on BankAndPage procedure.conversation.selection (page_by (hand_of list)) (wants list)) in
+    let few = subst (λ (n : ℕ). procedure.steps ≤ n) at.limit at.told.2 in
+    let here = follows_in list procedure.conversation.selection procedure.steps at.events at.told.0.0.1.0 at.told.0.1 at.told.1 few in
+    subst (λ (tasks : List Task). Follows tasks history (wanted_by procedure.limit)) at.has
+    (subst (λ (history : History). Follows (tasks_of list.work) history (wanted_by procedure.limit)) at.made
+    (subst (λ (n : ℕ). Follows (tasks_of list.work) (steps_of at.events) (wanted_by n)) (sym at.limit) here))
+
+-- one step more
+pub told_step : (tasks : List Task) (history : History) (old new : Procedure) (op : Op) (reply : Reply) →
+    ◌≡◌ {A = ℕ × Work} (new.limit, new.conversation.conversation.work) (old.limit, old.conversation.conversation.work) →
+    ((events : Events) → ToldProcedure events old → ToldProcedure (made op reply ∷ events) new) → IsAt tasks history old → IsAt tasks (record { op = op; reply = reply } ∷ history) new
+told_step tasks history old new op reply same takes at = record {
+  has = ap (λ (t : ℕ × Work). tasks_of t.1) same ∙ at.has;
+  limit = ap (λ (t : ℕ × Work). t.0) same ∙ at.limit;
+  events = made op reply ∷ at.events;
+  made = ap (λ (history : History). record { op = op; reply = reply } ∷ history) at.made;
+  told = takes at.events at.told;
+}
+
+-- as it is restored
+pub kept_at : (tasks : List Task) (history : History) (procedure : Procedure) → IsAt tasks history procedure → IsAt tasks history (procedure_of procedure.conversation.conversation procedure.conversation.selection procedure.steps)
+kept_at tasks history procedure at = record {
+  has = at.has;
+  limit = refl;
+  events = at.events;
+  made = at.made;
+  told = (((at.told.0.0.0, (at.told.0.0.1.0, record { was = λ page e. absurd cc; is = λ may. absurd cc })), at.told.0.1), at.told.1, subst (λ (n : ℕ). procedure.steps ≤ n) at.limit at.told.2);
+}

@@ -8,10 +8,6 @@ pub mod RegisterOperations
 pub mod Tasks
 pub mod Judgements
 pub mod Procedures
-pub mod Selections
-pub mod Asking
-pub mod Progress
-pub mod SavedNumbers
 pub mod Answers
 pub mod FaultWords
 pub mod OutcomeSteps
@@ -26,4 +22,6 @@ pub mod StoredBits
 pub mod PowerControls
 pub mod OutcomeOfPower
 pub mod PowerProgress
+pub mod Progress
+pub mod SavedNumbers
 pub mod SavedPower

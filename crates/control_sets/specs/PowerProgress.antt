@@ -1,6 +1,6 @@
 -- How far waking a module up, or putting it to sleep, has come. Steps stand with the newest first. (docs/bus.md, "Waking and
 -- sleeping"; this project's own)
-use Rattle.std.specs.Prelude.{◌≡◌, ◌⊎◌, ◌+◌, ◌≤◌, ℕ, nat_lt, if◌then◌else◌, [], ◌∷◌, length, Option, Some, None, Result, Ok, Err, slice_index}
+use Rattle.std.specs.Prelude.{◌≡◌, ◌⊎◌, ◌≤◌, ℕ, [], ◌∷◌, length, Option, Some, None, Result, Ok, Err, slice_index}
 use Rattle.bus_model.specs.declared.operation.Op.{Op}
 use Rattle.bus_model.specs.declared.operation.Reply.{Reply}
 use Rattle.bus_model.specs.declared.operation.Reply.TheVariants.{Bytes, Refused}
@@ -13,19 +13,21 @@ use Rattle.control_sets.specs.declared.fault.ProvisionFault.{ProvisionFault}
 use Rattle.control_sets.specs.declared.fault.ProvisionFault.TheVariants.{GaveUp, ModuleState, Reserved}
 use Rattle.control_sets.specs.declared.procedures.judgement.ReplyJudgement.{ReplyJudgement}
 use Rattle.control_sets.specs.declared.procedures.judgement.ReplyJudgement.TheVariants.{Met, NotYet, Fails}
-use Rattle.control_sets.specs.declared.procedures.next.ProcedureNext.{ProcedureNext}
-use Rattle.control_sets.specs.declared.procedures.next.ProcedureNext.TheVariants.{Do, Done}
+use Rattle.conversations.specs.declared.next.Next.{Next}
+use Rattle.conversations.specs.declared.next.Next.TheVariants.{Do, End}
+use Rattle.conversations.specs.declared.within.Spent.{Spent}
+use Rattle.conversations.specs.declared.within.Within.{Within}
 use Rattle.control_sets.specs.declared.procedures.power.Power.{Power}
 use Rattle.control_sets.specs.declared.procedures.power.Power.TheVariants.{Awake, Asleep}
 use Rattle.control_sets.specs.declared.procedures.power.PowerChange.{PowerChange}
 use Rattle.control_sets.specs.declared.procedures.power.PowerStage.{PowerStage}
 use Rattle.control_sets.specs.declared.procedures.power.PowerStage.TheVariants as stage
-use Rattle.control_sets.specs.Pages.{History}
+use Rattle.control_sets.specs.Pages.{EachStep, History}
 use Rattle.control_sets.specs.OutcomeSteps.{Gives, IsAccepted, IsRefused}
 use Rattle.control_sets.specs.OutcomeOperations.{read_module_state}
-use Rattle.control_sets.specs.OutcomeAnswers.{Answer, most_steps}
+use Rattle.control_sets.specs.OutcomeAnswers.{Answer, NoneEnds, most_steps}
 use Rattle.control_sets.specs.OutcomeCodes.{module_code}
-use Rattle.control_sets.specs.OutcomeOfPower.{EndsPower}
+use Rattle.control_sets.specs.OutcomeOfPower.{EndsPower, IsPowerOrder, IsPowerStep}
 use Rattle.control_sets.specs.PowerControls.{read_controls, set_controls, wanted_controls}
 
 -- what is done at a stage; nothing more if the state was found
@@ -35,17 +37,23 @@ operation_at power (stage.Found byte) = Some (set_controls (wanted_controls powe
 operation_at power stage.Stored = Some read_module_state
 operation_at power stage.Met = None
 
-abbrev pub next_op : ℕ → Option Op → ProcedureNext
-next_op steps None = Done (Ok steps)
-next_op steps (Some op) = if nat_lt steps most_steps then Do op else Done (Err GaveUp)
+abbrev pub wants_by : Option ProvisionFault → Option Op → Next (Option ProvisionFault)
+wants_by (Some fault) op = End (Some fault)
+wants_by None None = End None
+wants_by None (Some op) = Do op
 
-abbrev pub next_by : Option ProvisionFault → ℕ → Option Op → ProcedureNext
-next_by None steps op = next_op steps op
-next_by (Some fault) steps op = Done (Err fault)
+-- what is wanted next
+abbrev pub power_wants : PowerChange → Next (Option ProvisionFault)
+power_wants change = wants_by change.fault (operation_at change.power change.stage)
 
--- what is asked for next
-abbrev pub power_next : PowerChange → ProcedureNext
-power_next change = next_by change.fault change.steps (operation_at change.power change.stage)
+abbrev pub answer_at : ℕ → Option (Option ProvisionFault) → Answer
+answer_at steps None = Err GaveUp
+answer_at steps (Some None) = Ok steps
+answer_at steps (Some (Some fault)) = Err fault
+
+-- what is answered by how it ended
+abbrev pub answer_of : Spent (Option ProvisionFault) → Answer
+answer_of spent = answer_at spent.steps spent.end
 
 abbrev pub judged_awake : ℕ → Option State → ReplyJudgement
 judged_awake code None = Fails (Reserved code)
@@ -87,13 +95,6 @@ stage_after power stage.Stored replies.Done = Ok stage.Stored
 stage_after power stage.Stored Refused = Ok stage.Stored
 stage_after power stage.Met reply = Ok stage.Met
 
-abbrev pub with_stage : PowerChange → Result PowerStage ProvisionFault → PowerChange
-with_stage change (Ok stage) = record { power = change.power; stage = stage; steps = change.steps + 1; fault = change.fault }
-with_stage change (Err fault) = record { power = change.power; stage = change.stage; steps = change.steps + 1; fault = Some fault }
-
-abbrev pub taken : PowerChange → Reply → PowerChange
-taken change reply = with_stage change (stage_after change.power change.stage reply)
-
 -- each read of the controls was refused
 abbrev pub IsUnread : History → Type 0
 IsUnread [] = Unit {0}
@@ -132,8 +133,20 @@ abbrev pub HasComeTo : Power → PowerStage → Option ProvisionFault → Histor
 HasComeTo power stage None history = IsAtStage power stage history
 HasComeTo power stage (Some fault) history = IsEnded power (Err fault) history
 
+-- a step ended it, without a fault or in one
+abbrev pub IsEndedIn : Power → Option ProvisionFault → History → Type 0
+IsEndedIn power None history = IsEnded power (Ok (length history)) history
+IsEndedIn power (Some fault) history = IsEnded power (Err fault) history
+
+-- what a stage that isn't the last shows
+pub record GoesOnAt (power : Power) (history : History) : Type 0 where
+  pub shape : EachStep (IsPowerStep power) history
+  pub order : IsPowerOrder history
+  pub none : NoneEnds (EndsPower power) history
+
 -- the change of power was told these steps
-pub record IsPowerAt (history : History) (change : PowerChange) : Type 0 where
+pub record IsPowerAt (history : History) (change : Within PowerChange) : Type 0 where
+  pub limit : change.limit ≡ most_steps
   pub counted : length history ≡ change.steps
   pub few : change.steps ≤ most_steps
-  pub come : HasComeTo change.power change.stage change.fault history
+  pub come : HasComeTo change.conversation.power change.conversation.stage change.conversation.fault history

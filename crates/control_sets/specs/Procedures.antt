@@ -1,6 +1,6 @@
 -- Procedures: tasks in order, each worked at until it is met. What may come next, and how a procedure ends.
 -- Steps stand with the newest first. (docs/bus.md, "Procedures"; this project's own)
-use Rattle.std.specs.Prelude.{◌≡◌, ◌≢◌, ℕ, ◌<◌, ◌≤◌, ◌⊎◌, ◌==◌, ◌&&◌, ◌||◌, not, Bool, true, false, List, [], ◌∷◌, length, Option, Some, None, if◌then◌else◌, find, Result, Ok, Err, reverse}
+use Rattle.std.specs.Prelude.{◌≡◌, ◌≢◌, ℕ, ◌<◌, ◌≤◌, ◌⊎◌, ◌&&◌, ◌||◌, not, Bool, true, false, List, [], ◌∷◌, length, Option, Some, None, if◌then◌else◌, find, Result, Ok, Err, reverse}
 use Rattle.std.specs.List.{AllByRecursion, list_all}
 use Rattle.std.specs.Option.{option_map}
 use Rattle.bus_model.specs.declared.bus.BusFault.TheVariants.{TraceFull}
@@ -104,15 +104,9 @@ abbrev pub EndsFirst : List Task → History → Result ℕ ProvisionFault → T
 EndsFirst tasks [] answer = EndsTasks tasks [] answer
 EndsFirst tasks (step ∷ before) answer = EndsTasks tasks (step ∷ before) answer × EachGoesOn tasks before
 
--- two pages are needed, and they differ
-abbrev pub are_other_pages : Option ℕ → Option ℕ → Bool
-are_other_pages (Some page) (Some other) = not (page == other)
-are_other_pages (Some page) None = false
-are_other_pages None other = false
-
--- no step can be the operation of both on its page
+-- no operation is that of both
 abbrev pub are_apart : Task → Task → Bool
-are_apart task other = not (same_op (operation task) (operation other)) || are_other_pages (page_of task) (page_of other)
+are_apart task other = not (same_op (operation task) (operation other))
 
 abbrev pub all_apart : List Task → Bool
 all_apart [] = true

@@ -13,7 +13,7 @@ use Rattle.control_sets.specs.declared.procedures.procedure.saved.SavedProcedure
 use Rattle.control_sets.specs.declared.procedures.saved_fault.SavedFault.{SavedFault}
 use Rattle.control_sets.specs.declared.procedures.procedure.Work.{Work}
 use Rattle.control_sets.specs.declared.procedures.procedure.Work.TheVariants.{Provisioning, Activation}
-use Rattle.control_sets.specs.declared.procedures.procedure.Procedure.{Procedure}
+use Rattle.control_sets.specs.Progress.{Procedure, procedure_of}
 
 -- 1 for provisioning, 2 for activation
 abbrev pub work_numbered : ℕ → List ℕ → ℕ → Option Work
@@ -80,12 +80,11 @@ abbrev pub saved_fault : Option ProvisionFault → SavedFault
 saved_fault None = numbers 0 0 0
 saved_fault (Some fault) = numbers_of fault
 
-abbrev pub procedure_of : SavedProcedure → Option Work → Option KnownPage → Option (Option ProvisionFault) → Option Procedure
-procedure_of saved (Some work) (Some selected) (Some fault) =
-    Some (record { work = work; met = saved.met; tracker = record { steps = saved.steps; selection = selected }; fault = fault })
-procedure_of saved work selected fault = None
+abbrev pub numbered : SavedProcedure → Option Work → Option KnownPage → Option (Option ProvisionFault) → Option Procedure
+numbered saved (Some work) (Some selected) (Some fault) = Some (procedure_of (record { work = work; met = saved.met; fault = fault }) selected saved.steps)
+numbered saved work selected fault = None
 
 -- the procedure that has these numbers; none if those of its work, its selection or its fault stand for nothing
 unfoldable pub restored : SavedProcedure → Option Procedure
 restored saved =
-    procedure_of saved (work_numbered saved.work saved.control saved.lanes) (selected_numbered saved.selection saved.page) (fault_in saved.fault)
+    numbered saved (work_numbered saved.work saved.control saved.lanes) (selected_numbered saved.selection saved.page) (fault_in saved.fault)

@@ -8,6 +8,8 @@ use Rattle.control_sets.specs.declared.procedures.power.Power.TheVariants.{Awake
 use Rattle.control_sets.specs.declared.procedures.power.PowerChange.{PowerChange}
 use Rattle.control_sets.specs.declared.procedures.power.PowerStage.{PowerStage}
 use Rattle.control_sets.specs.declared.procedures.power.PowerStage.TheVariants.{Unread, Found, Stored, Met}
+use Rattle.conversations.specs.declared.within.Within.{Within}
+use Rattle.control_sets.specs.OutcomeAnswers.{most_steps}
 use Rattle.control_sets.specs.SavedNumbers.{fault_in, saved_fault}
 
 -- the works 3 and 4; 1 and 2 are provisioning and activation
@@ -23,12 +25,12 @@ stage_numbered met found =
     else (if met == 3 then Some Met
     else None)))
 
-abbrev pub change_of : ℕ → Option Power → Option PowerStage → Option (Option ProvisionFault) → Option PowerChange
-change_of steps (Some power) (Some stage) (Some fault) = Some (record { power = power; stage = stage; steps = steps; fault = fault })
+abbrev pub change_of : ℕ → Option Power → Option PowerStage → Option (Option ProvisionFault) → Option (Within PowerChange)
+change_of steps (Some power) (Some stage) (Some fault) = Some (record { conversation = record { power = power; stage = stage; fault = fault }; steps = steps; limit = most_steps })
 change_of steps power stage fault = None
 
 -- the change of power that has these numbers; none if those of its work, of what is done or of its fault stand for nothing
-unfoldable pub restored_power : SavedProcedure → Option PowerChange
+unfoldable pub restored_power : SavedProcedure → Option (Within PowerChange)
 restored_power saved =
     change_of saved.steps (power_numbered saved.work) (stage_numbered saved.met (slice_index saved.control 0)) (fault_in saved.fault)
 
@@ -44,14 +46,14 @@ numbers_of_stage Stored = (2, 0)
 numbers_of_stage Met = (3, 0)
 
 -- the numbers that a change of power is saved as; those that stand for nothing in it are 0
-abbrev pub saved_power : PowerChange → SavedProcedure
-saved_power change = record {
-  met = (numbers_of_stage change.stage).0;
-  steps = change.steps;
-  work = number_of_power change.power;
+abbrev pub saved_power : Within PowerChange → SavedProcedure
+saved_power within = record {
+  met = (numbers_of_stage within.conversation.stage).0;
+  steps = within.steps;
+  work = number_of_power within.conversation.power;
   lanes = 0;
-  control = (numbers_of_stage change.stage).1 ∷ replicate 7 0;
+  control = (numbers_of_stage within.conversation.stage).1 ∷ replicate 7 0;
   selection = 0;
   page = 0;
-  fault = saved_fault change.fault;
+  fault = saved_fault within.conversation.fault;
 }

@@ -1,6 +1,6 @@
 //! What holds of control bytes, over all plans. Each function is a theorem: its contract says it, and its body is empty. In those over
 //! histories, `made` is the length of the whole list of steps that the bus keeps, and `room` how many steps that list takes.
-ghost use Rattle.std.specs.Prelude.{◌≡◌, ◌≢◌, ℕ, ◌<◌, ◌≤◌, List, None, All, Any, IsTrue, length, ◌+◌, [], ◌∷◌, Ok, Err, false};
+ghost use Rattle.std.specs.Prelude.{◌≡◌, ◌≢◌, ℕ, ◌<◌, ◌≤◌, List, Option, None, All, Any, IsTrue, length, ◌+◌, [], ◌∷◌, Ok, Err, false};
 ghost use Rattle.std.specs.List.{AllByRecursion};
 ghost use Rattle.applications.specs.Advertised.{Advertised, InOrder};
 ghost use Rattle.plan_certificate.specs.declared.path.Path.{Path};
@@ -28,12 +28,26 @@ ghost use Rattle.datapath_states.specs.Lanes.{code_in};
 ghost use Rattle.control_sets.specs.OutcomeOfPower.{IsPowerChange};
 ghost use Rattle.control_sets.specs.OutcomeSuccess.{ReadsActive};
 ghost use Rattle.control_sets.specs.PowerControls.{set_controls, read_controls};
-ghost use Rattle.control_sets.specs.PowerProgress.{IsPowerAt, power_next};
-ghost use Rattle.control_sets.specs.declared.procedures.next.ProcedureNext.TheVariants.{Done};
+ghost use Rattle.control_sets.specs.declared.fault.ProvisionFault.{ProvisionFault};
+ghost use Rattle.conversations.specs.declared.within.Within.{Within};
+ghost use Rattle.conversations.specs.declared.within.Spent.{Spent};
+ghost use Rattle.conversations.specs.declared.next.Next.TheVariants.{End};
+ghost use Rattle.conversations.specs.Budgets.{next_within};
+ghost use Rattle.conversations.specs.Events.{Events, made};
+ghost use Rattle.bus_model.specs.declared.operation.Op.{Op};
+ghost use Rattle.bus_model.specs.declared.operation.Reply.{Reply};
+ghost use Rattle.paged_memory.specs.declared.page_addressing.KnownPage.TheVariants.{Unknown};
+ghost use Rattle.control_sets.specs.Progress.{Follows, IsAt, Procedure, list_at, procedure_of, tasks_of};
+ghost use Rattle.control_sets.specs.declared.procedures.task.Task.{Task};
+ghost use Rattle.control_sets.specs.declared.procedures.procedure.Work.{Work};
+ghost use Rattle.control_sets.specs.PowerProgress.{IsPowerAt, answer_of, power_wants};
 ghost use Rattle.control_sets.specs.declared.procedures.power.Power.{Power};
 ghost use Rattle.control_sets.specs.declared.procedures.power.Power.TheVariants.{Asleep, Awake};
 ghost use Rattle.control_sets.specs.declared.procedures.power.PowerChange.{PowerChange};
 ghost use Rattle.control_sets.specs.StoredBits.{HasBitsOf, LeavesOthers};
+
+use crate::procedures::Procedure;
+use conversations::Conversation;
 
 /// A control byte says the same in Staged Control Set 0 and in the Active Control Set.
 pub fn both_sets_have_the_same_bits()
@@ -85,7 +99,9 @@ pub fn operations_are_at_registers()
         IsPowerChange power (made ≡ room) history answer → EachStep IsAtRegister history }
 {}
 
-/// Procedures that were told their replies, without a bus, have the outcomes of provisioning, activation and changes of power.
+/// Procedures that were told their replies, without a bus, have the outcomes of provisioning, activation and changes of power. A
+/// procedure asks for what comes next after the steps that it was told, and a reply that it takes is one step more; it does so
+/// too once its numbers were saved and restored.
 pub fn procedures_have_their_outcomes()
     ensures provisioning { (control : List ℕ) (lanes : Lanes) (made room : ℕ) (history : History) (answer : Answer) →
         length control ≡ 8 → HasEnded (provisioning control lanes) history answer →
@@ -93,9 +109,18 @@ pub fn procedures_have_their_outcomes()
     ensures activation { (control : List ℕ) (lanes : Lanes) (made room : ℕ) (history : History) (answer : Answer) →
         length control ≡ 8 → HasEnded (activation control lanes) history answer →
         IsActivation control lanes (made ≡ room) history answer }
-    ensures power { (change : PowerChange) (made room : ℕ) (history : History) (answer : Answer) →
-        IsPowerAt history change → power_next change ≡ Done answer →
-        IsPowerChange change.power (made ≡ room) history answer }
+    ensures begun { (work : Work) → IsAt (tasks_of work) [] (procedure_of (list_at work (0, None)) Unknown 0) }
+    ensures follows { (tasks : List Task) (history : History) (procedure : Procedure) → IsAt tasks history procedure →
+        Follows tasks history (⟦<Procedure as Conversation>⟧.wants procedure) }
+    ensures told { (tasks : List Task) (history : History) (old new : Procedure) (op : Op) (reply : Reply) →
+        ⟦<Procedure as Conversation>⟧.topic new ≡ ⟦<Procedure as Conversation>⟧.topic old →
+        ((events : Events) → ⟦<Procedure as Conversation>⟧.told events old → ⟦<Procedure as Conversation>⟧.told (made op reply ∷ events) new) →
+        IsAt tasks history old → IsAt tasks (record { op = op; reply = reply } ∷ history) new }
+    ensures kept { (tasks : List Task) (history : History) (procedure : Procedure) → IsAt tasks history procedure →
+        IsAt tasks history (procedure_of procedure.conversation.conversation procedure.conversation.selection procedure.steps) }
+    ensures power { (change : Within PowerChange) (made room : ℕ) (history : History) (spent : Spent (Option ProvisionFault)) →
+        IsPowerAt history change → next_within change.steps change.limit (power_wants change.conversation) ≡ End spent →
+        IsPowerChange change.conversation.power (made ≡ room) history (answer_of spent) }
 {}
 
 /// Steps and answers that look right, but are no provisioning, whatever the control bytes, the lanes and the bus.

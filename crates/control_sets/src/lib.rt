@@ -16,6 +16,7 @@ pub use fault::{ControlFault, ProvisionFault};
 pub use host_path::{HostPath, agree, control_at, paths_of};
 pub use plan_bytes::{bytes_of, lanes_of, lanes_outside};
 pub use procedures::{
-    Activated, MAX_STEPS, Power, PowerChange, PowerStage, Procedure, ProcedureNext, Provisioned,
-    SavedFault, SavedProcedure, activate, can_have, change_power, provision, provision_keeping,
+    Activated, MAX_STEPS, Power, PowerChange, PowerStage, Procedure, Provisioned, SavedFault,
+    SavedProcedure, TaskList, Work, activate, activate_pausing, answer_of, change_power,
+    change_power_pausing, provision, provision_keeping, provision_pausing,
 };

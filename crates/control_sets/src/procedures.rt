@@ -1,17 +1,16 @@
 //! Procedures on a bus: provisioning and activation.
 
 mod judgement;
-mod next;
-mod page_tracker;
 mod power;
 mod procedure;
 mod runner;
 mod saved_fault;
 mod task;
 
-pub use next::ProcedureNext;
-pub use page_tracker::MAX_STEPS;
-pub use power::{Power, PowerChange, PowerStage, change_power};
-pub use procedure::{Procedure, SavedProcedure, can_have};
-pub use runner::{Activated, Provisioned, activate, provision, provision_keeping};
+pub use power::{Power, PowerChange, PowerStage, answer_of, change_power, change_power_pausing};
+pub use procedure::{MAX_STEPS, Procedure, SavedProcedure, TaskList, Work};
+pub use runner::{
+    Activated, Provisioned, activate, activate_pausing, provision, provision_keeping,
+    provision_pausing,
+};
 pub use saved_fault::SavedFault;

@@ -1,13 +1,13 @@
 -- The reading of a module from its first step to its end.
-use Rattle.std.proofs.Common.{◌≡◌, ◌<◌, ◌≤◌, ◌+◌, ℕ, Bool, true, false, List, [], ◌∷◌, ◌++◌, length, drop, Option, Some, None, refl, sym, ap, subst, ◌∙◌, inl, inr, if◌then◌else◌, cond, nat_lt, arith}
-use Rattle.std.specs.Prelude.{◌-◌, IsTrue, MatchOption, is_some}
+use Rattle.std.proofs.Common.{◌≡◌, ◌≤◌, ◌+◌, ℕ, zero, suc, ◌==◌, ◌&&◌, ◌||◌, not, eq-eqb, Bool, true, false, List, [], ◌∷◌, ◌++◌, length, drop, Option, Some, None, refl, sym, ap, subst, ◌∙◌, inl, inr, if◌then◌else◌, cond, nat_lt, arith}
+use Rattle.std.specs.Prelude.{◌⊎◌, IsTrue, MatchOption, is_some}
 use Rattle.std.specs.FinMap as map
 use Rattle.std.specs.List.{AllByRecursion, slice_get}
 use Rattle.std.specs.Ordering.{eq_by_cmp}
 use Rattle.std.specs.Cmp.{eq_by_cmp_equiv}
-use Rattle.std.proofs.lemmas.Bool.{cases_Bool, ltb-false, ltb-true}
+use Rattle.std.proofs.lemmas.Bool.{cases_Bool, eqb-true, false_from_ne_true, ltb-false, true≢false}
 use Rattle.std.proofs.lemmas.List.{length-append}
-use Rattle.std.proofs.lemmas.Option.{slice_get_past, slice_get_within}
+use Rattle.std.proofs.lemmas.Option.{slice_get_past}
 use Rattle.arrayvec.specs.ArrayVec.{ArrayVec}
 use Rattle.bus_model.specs.declared.device.Dev.TheVariants.{A0}
 use Rattle.bus_model.specs.declared.operation.Op.{Op}
@@ -16,29 +16,41 @@ use Rattle.bus_model.specs.declared.operation.Reply.{Reply}
 use Rattle.bus_model.specs.declared.operation.Reply.TheVariants.{Bytes, Done, Refused}
 use Rattle.bus_model.specs.declared.operation.Step.{Step}
 use Rattle.bus_model.specs.Operations.{Answers}
+use Rattle.bus_model.specs.SameOperation.{same_op}
+use Rattle.conversations.specs.declared.event.Event.{Event}
+use Rattle.conversations.specs.declared.event.Event.TheVariants.{Made, Waited, Lacked}
+use Rattle.conversations.specs.declared.next.Next.{Next}
+use Rattle.conversations.specs.declared.next.Next.TheVariants.{Do, Wait, End}
+use Rattle.conversations.specs.declared.within.Spent.{Spent}
+use Rattle.conversations.specs.Budgets.{next_within}
+use Rattle.conversations.specs.Events.{Events, steps_of}
+use Rattle.conversations.specs.Selecting.{AddsSelections, ByAddressing, Knows, IsSelecting, LacksNone, ShowsNone, chosen, is_on, next_on}
+use Rattle.paged_memory.specs.declared.page_addressing.PageAddressing.TheVariants.{BankAndPage}
+use Rattle.module_reading.specs.ImageReading.{IsTold, Reading, put_in}
+use Rattle.module_reading.specs.ReadingRuns.{HasOutcome, WithOwn}
+use Rattle.module_reading.proofs.HalvesLaws.{known_later, steady}
 use Rattle.paged_memory.specs.declared.key.Key.{Key}
 use Rattle.paged_memory.specs.declared.page_addressing.PageAddressing.{PageAddressing}
 use Rattle.paged_memory.specs.declared.page_addressing.KnownPage.{KnownPage}
 use Rattle.paged_memory.specs.declared.page_addressing.KnownPage.TheVariants.{Unknown}
-use Rattle.paged_memory.specs.Images.{Memory}
+use Rattle.paged_memory.specs.Images.{Memory, most_pages}
 use Rattle.paged_memory.specs.KeyOrder.{key_cmp}
 use Rattle.paged_memory.specs.Keys.{lower_key}
-use Rattle.paged_memory.specs.KnownPages.{Tells, is_awaited, missing_page, selected_after, wanted}
-use Rattle.paged_memory.specs.PageAddressing.{EachStep, History}
+use Rattle.paged_memory.specs.KnownPages.{Tells, selected_after, wanted}
+use Rattle.paged_memory.specs.PageAddressing.{EachStep, History, is_open, is_page, is_read, may_select, read_selection}
 use Rattle.paged_memory.proofs.KeyLaws.{keys_total}
-use Rattle.paged_memory.proofs.KnownPageLaws.{after_work, step_of, tells_next, tells_nothing}
+use Rattle.paged_memory.proofs.KnownPageLaws.{after_work, reads_alone, reads_itself, step_of, tells_next, tells_nothing}
 use Rattle.control_sets.specs.OutcomeAnswers.{most_steps}
-use Rattle.module_reading.specs.declared.reading.ReadingNext.TheVariants.{Do, Complete, GiveUp}
-use Rattle.module_reading.specs.declared.reading.Reading.{Reading}
+use Rattle.module_reading.specs.declared.halves.Halves.{Halves}
 use Rattle.module_reading.specs.declared.region.Region.{Region}
 use Rattle.module_reading.specs.declared.region.Region.TheVariants.{Lower, FirstPage, Page}
 use Rattle.module_reading.specs.Regions.{operation, page_of, addressing_of, regions_of}
 use Rattle.module_reading.specs.ImageReading as reader
 use Rattle.module_reading.specs.ReadImages.{IsFetch, IsGivenUp, IsImageOf, IsLeftOut, IsRead, IsReading, IsUnfinished, StoresNothing, WasSelected}
-use Rattle.module_reading.proofs.RegionLaws.{all_other, all_others, asked_of_nothing, at_most_five, begins_lower, is_other, keys_are}
+use Rattle.module_reading.proofs.RegionLaws.{all_other, all_others, asked_of_nothing, begins_lower, is_other, keys_are}
 use Rattle.module_reading.proofs.FetchSteps.{IsUnselected, IsUntouched, leaves_selection, no_selection, other_reads}
 use Rattle.module_reading.proofs.FetchUnderWay.{HasSettled, IsAt, IsBeginning, IsDone, IsRefusal, IsUnderWay, beginning_is_unfinished, done_gives, working_is_unfinished}
-use Rattle.module_reading.proofs.FetchTurns.{at_place, goes_on, of_later, turn}
+use Rattle.module_reading.proofs.FetchTurns.{at_place, goes_on, lacking_turn, of_later, own_turn, selecting_turn}
 
 abbrev given_by : Reply → List ℕ
 given_by (Bytes bytes) = bytes.items
@@ -102,41 +114,38 @@ all_untouched addressing history (region ∷ regions) all others = (untouched_ye
 
 -- ---- the lower half is read
 
-module _ (reading : Reading) (history : History) (begins : IsBeginning reading history) (more : reading.steps < most_steps) where
-  refused : IsAt (reader.counted reading) (step_of (Fetch A0 0 128) Refused ∷ history)
+module _ (halves : Halves) (history : History) (begins : IsBeginning halves history) where
+  refused : IsAt halves (step_of (Fetch A0 0 128) Refused ∷ history)
   refused = inl (record {
     image = begins.image;
     place = begins.place;
-    selected = begins.selected;
-    count = omega (arith, begins.count);
-    few = omega (arith, more);
     brief = (beginning_is_unfinished history begins.refused, begins.brief);
     refused = ((refl, refl), begins.refused);
   })
 
   module _ (bytes : ArrayVec ℕ) where
     abbrev image : Memory
-    image = map.insert reading.image (lower_key A0) bytes.items
+    image = map.insert halves.image (lower_key A0) bytes.items
 
     abbrev step : Step
     step = step_of (Fetch A0 0 128) (Bytes bytes)
 
-    gets : (key : Key) → map.get image key ≡ cond (eq_by_cmp key_cmp key (lower_key A0)) (Some bytes.items) (map.get reading.image key)
-    gets key = map.get-insert keys_total reading.image (lower_key A0) bytes.items key
+    gets : (key : Key) → map.get image key ≡ cond (eq_by_cmp key_cmp key (lower_key A0)) (Some bytes.items) (map.get halves.image key)
+    gets key = map.get-insert keys_total halves.image (lower_key A0) bytes.items key
 
     held : map.get image (lower_key A0) ≡ Some bytes.items
-    held = gets (lower_key A0) ∙ ap (λ (b : Bool). cond b (Some bytes.items) (map.get reading.image (lower_key A0))) ((eq_by_cmp_equiv keys_total).refl (lower_key A0))
+    held = gets (lower_key A0) ∙ ap (λ (b : Bool). cond b (Some bytes.items) (map.get halves.image (lower_key A0))) ((eq_by_cmp_equiv keys_total).refl (lower_key A0))
 
     nothing_else : (key : Key) → IsTrue (map.contains_key image key) → key ≡ lower_key A0
     nothing_else key there = elim (cases_Bool (eq_by_cmp key_cmp key (lower_key A0))) [
       | inl same ↦ keys_are key (lower_key A0) same
       | inr differs ↦
           let none : map.get image key ≡ None =
-          gets key ∙ ap (λ (b : Bool). cond b (Some bytes.items) (map.get reading.image key)) differs ∙ ap (λ (memory : Memory). map.get memory key) begins.image ∙ map.get-empty key_cmp key in
+          gets key ∙ ap (λ (b : Bool). cond b (Some bytes.items) (map.get halves.image key)) differs ∙ ap (λ (memory : Memory). map.get memory key) begins.image ∙ map.get-empty key_cmp key in
           absurd (let lacks : is_some (map.get image key) ≡ false = ap is_some none in cc)
     ]
 
-    nothing_held : map.len reading.image ≡ 0
+    nothing_held : map.len halves.image ≡ 0
     nothing_held = ap (λ (memory : Memory). map.len memory) begins.image ∙ map.len-empty key_cmp (List ℕ)
 
     one_at_most : (b : Bool) (n : ℕ) → n ≡ 0 → cond b n (n + 1) ≤ 1
@@ -154,15 +163,17 @@ module _ (reading : Reading) (history : History) (begins : IsBeginning reading h
       none (step ∷ before) refused (inl now) = let reply = sym refused.0.1 ∙ now.0.1 in cc
       none (step ∷ before) refused (inr earlier) = none before refused.1 earlier
 
-    settled : HasSettled (Lower A0 ∷ []) (drop 1 (regions_of image)) (reader.keeping (reader.counted reading) (Lower A0) bytes.items) (step ∷ history)
+    abbrev next_halves : Halves
+    next_halves = record { image = image; settled = halves.settled + 1 }
+
+    settled : HasSettled (Lower A0 ∷ []) (drop 1 (regions_of image)) next_halves (step ∷ history)
     settled = record {
       regions = begins_lower image;
       lower_first = refl;
       place = omega (arith, begins.place);
-      count = omega (arith, begins.count);
-      few = omega (arith, more);
-      room = subst (λ (n : ℕ). n ≤ 1) (sym (map.len-insert keys_total reading.image (lower_key A0) bytes.items)) (one_at_most (map.contains_key reading.image (lower_key A0)) (map.len reading.image) nothing_held);
-      told = subst (λ (known : KnownPage). Tells (addressing_of image) known (step ∷ history)) (sym begins.selected) (quiet (addressing_of image) (step ∷ history) fetches);
+      room = subst (λ (n : ℕ). n ≤ 1) (sym (map.len-insert keys_total halves.image (lower_key A0) bytes.items)) (one_at_most (map.contains_key halves.image (lower_key A0)) (map.len halves.image) nothing_held);
+      known = Unknown;
+      told = quiet (addressing_of image) (step ∷ history) fetches;
       brief = (beginning_is_unfinished history begins.refused, begins.brief);
       settled = (subst (λ (half : Option (List ℕ)). MatchOption half (IsLeftOut (addressing_of image) (Lower A0) (step ∷ history)) (λ bytes. IsRead (addressing_of image) (Lower A0) bytes (step ∷ history))) (sym held) (inl ((refl, refl), tt)), tt);
       only = λ key there. inl (nothing_else key there);
@@ -172,41 +183,34 @@ module _ (reading : Reading) (history : History) (begins : IsBeginning reading h
     others : AllByRecursion (λ region. is_other (Lower A0) region ≡ true) (drop 1 (regions_of image))
     others = of_later [] (Lower A0) (drop 1 (regions_of image)) (subst (λ regions. all_other regions ≡ true) (begins_lower image) (all_others image))
 
-    read : IsAt (reader.keeping (reader.counted reading) (Lower A0) bytes.items) (step ∷ history)
-    read = goes_on (Lower A0 ∷ []) (drop 1 (regions_of image)) (reader.keeping (reader.counted reading) (Lower A0) bytes.items) (step ∷ history) settled
-        (all_untouched (addressing_of image) (step ∷ history) (drop 1 (regions_of image)) fetches others) (ap is_awaited begins.selected)
+    read : IsAt next_halves (step ∷ history)
+    read = goes_on (Lower A0 ∷ []) (drop 1 (regions_of image)) next_halves (step ∷ history) settled (all_untouched (addressing_of image) (step ∷ history) (drop 1 (regions_of image)) fetches others)
 
-  begin_by : (reply : Reply) → Answers (Fetch A0 0 128) reply → IsAt (reader.after_fetch (reader.counted reading) (Lower A0) reply) (step_of (Fetch A0 0 128) reply ∷ history)
-  begin_by (Bytes bytes) answers = read bytes
+    put_is : image ≡ put_in halves.image (lower_key A0) bytes.items
+    put_is =
+        let not_full : (map.len halves.image == most_pages) ≡ false = false_from_ne_true (map.len halves.image == most_pages) (λ full. (let same = eqb-true (map.len halves.image) most_pages full in absurd (omega (arith, same, nothing_held)))) in
+        sym (ap (λ (b : Bool). if b && not (map.contains_key halves.image (lower_key A0)) then halves.image else image) not_full)
+
+  begin_by : (reply : Reply) → Answers (Fetch A0 0 128) reply → IsAt (reader.after_fetch (Some (Lower A0)) halves reply) (step_of (Fetch A0 0 128) reply ∷ history)
+  begin_by (Bytes bytes) answers = subst (λ (m : Memory). IsAt (record { image = m; settled = halves.settled + 1 }) (step_of (Fetch A0 0 128) (Bytes bytes) ∷ history)) (put_is bytes) (read bytes)
   begin_by Done answers = absurd answers
   begin_by Refused answers = refused
 
-  -- what is asked for and what comes of it, where nothing is known of the selection
-  fetch_by : (selected : KnownPage) → selected ≡ Unknown → wanted (addressing_of reading.image) selected None (Fetch A0 0 128) ≡ Fetch A0 0 128
-  fetch_by selected e = ap (λ (s : KnownPage). wanted (addressing_of reading.image) s None (Fetch A0 0 128)) e
+  begin : (step : Step) → step.op ≡ Fetch A0 0 128 → Answers step.op step.reply → IsAt (reader.after_fetch (Some (Lower A0)) halves step.reply) (step ∷ history)
+  begin step own answers =
+      subst (λ (s : Step). IsAt (reader.after_fetch (Some (Lower A0)) halves step.reply) (s ∷ history)) (λ i. step_of (sym own i) step.reply) (begin_by step.reply (subst (λ (o : Op). Answers o step.reply) own answers))
 
-  after_by : (selected : KnownPage) (reply : Reply) → selected ≡ Unknown →
-      (if is_awaited selected then reader.after_read_back (reader.counted reading) (Lower A0) reply else reader.after_fetch (reader.counted reading) (Lower A0) reply) ≡ reader.after_fetch (reader.counted reading) (Lower A0) reply
-  after_by selected reply e = ap (λ (s : KnownPage). if is_awaited s then reader.after_read_back (reader.counted reading) (Lower A0) reply else reader.after_fetch (reader.counted reading) (Lower A0) reply) e
+-- ---- which half is in hand
 
-  begin : (reply : Reply) → Answers (reader.wanted_for reading (Lower A0)) reply → IsAt (reader.after_for (reader.counted reading) (Lower A0) reply) (step_of (reader.wanted_for reading (Lower A0)) reply ∷ history)
-  begin reply answers =
-      let op = fetch_by reading.selected begins.selected in
-      subst (λ (op : Op). IsAt (reader.after_for (reader.counted reading) (Lower A0) reply) (step_of op reply ∷ history)) (sym op)
-      (subst (λ (after : Reading). IsAt after (step_of (Fetch A0 0 128) reply ∷ history)) (sym (after_by reading.selected reply begins.selected))
-      (begin_by reply (subst (λ (op : Op). Answers op reply) op answers)))
-
--- ---- at each step
-
-begin_hand : (reading : Reading) (history : History) → IsBeginning reading history → reader.in_hand reading ≡ Some (Lower A0)
-begin_hand reading history begins =
+begin_hand : (halves : Halves) (history : History) → IsBeginning halves history → reader.in_hand halves ≡ Some (Lower A0)
+begin_hand halves history begins =
     (λ i. slice_get (regions_of (begins.image i)) (begins.place i)) ∙ ap (λ (regions : List Region). slice_get regions 0) asked_of_nothing
 
-way_hand : (earlier : List Region) (hand : Region) (later : List Region) (reading : Reading) (history : History) → IsUnderWay earlier hand later reading history → reader.in_hand reading ≡ Some hand
-way_hand earlier hand later reading history way = (λ i. slice_get (way.has.regions i) (way.has.place i)) ∙ at_place earlier hand later
+way_hand : (earlier : List Region) (hand : Region) (later : List Region) (halves : Halves) (history : History) → IsUnderWay earlier hand later halves history → reader.in_hand halves ≡ Some hand
+way_hand earlier hand later halves history way = (λ i. slice_get (way.has.regions i) (way.has.place i)) ∙ at_place earlier hand later
 
-done_hand : (reading : Reading) (history : History) → IsDone reading history → reader.in_hand reading ≡ None
-done_hand reading history (earlier, has) =
+done_hand : (halves : Halves) (history : History) → IsDone halves history → reader.in_hand halves ≡ None
+done_hand halves history (earlier, has) =
     (λ i. slice_get (has.regions i) (has.place i)) ∙ slice_get_past (earlier ++ []) (length earlier) (omega (arith, length-append earlier []))
 
 some_not_none : {region : Region} → Some region ≡ None → ⊥
@@ -215,137 +219,261 @@ some_not_none e = cc
 same_some : (region other : Region) → Some region ≡ Some other → region ≡ other
 same_some region other e = cc
 
--- with a half in hand
-told_for : (reading : Reading) (history : History) (region : Region) (reply : Reply) → IsAt reading history → reader.in_hand reading ≡ Some region → reading.steps < most_steps → Answers (reader.wanted_for reading region) reply →
-    IsAt (reader.after_for (reader.counted reading) region reply) (step_of (reader.wanted_for reading region) reply ∷ history)
-told_for reading history region reply (inl begins) hand more =
-    let is = same_some (Lower A0) region (sym (begin_hand reading history begins) ∙ hand) in
-    subst (λ (region : Region). Answers (reader.wanted_for reading region) reply → IsAt (reader.after_for (reader.counted reading) region reply) (step_of (reader.wanted_for reading region) reply ∷ history)) is
-    (begin reading history begins more reply)
-told_for reading history region reply (inr (inl (earlier, first, later, way))) hand more =
-    let is = same_some first region (sym (way_hand earlier first later reading history way) ∙ hand) in
-    subst (λ (region : Region). Answers (reader.wanted_for reading region) reply → IsAt (reader.after_for (reader.counted reading) region reply) (step_of (reader.wanted_for reading region) reply ∷ history)) is
-    (turn earlier first later reading history way more reply)
-told_for reading history region reply (inr (inr done)) hand more = absurd (some_not_none (sym hand ∙ done_hand reading history done))
+none_needed : (halves : Halves) (page : ℕ) → reader.in_hand halves ≡ None → reader.page_by (reader.in_hand halves) ≡ Some page → ⊥
+none_needed halves page none needs = let never = sym (ap reader.page_by none) ∙ needs in cc
 
-pub asks_for : (reading : Reading) (region : Region) (op : Op) (few : Bool) → nat_lt reading.steps most_steps ≡ few → (if few then Do (reader.wanted_for reading region) else GiveUp) ≡ Do op →
-    (reading.steps < most_steps) × (op ≡ reader.wanted_for reading region)
-asks_for reading region op true e asks = (ltb-true _ _ e, (let same = asks in cc))
-asks_for reading region op false e asks = absurd (let same = asks in cc)
+lower_needs_none : (halves : Halves) (page : ℕ) → reader.in_hand halves ≡ Some (Lower A0) → reader.page_by (reader.in_hand halves) ≡ Some page → ⊥
+lower_needs_none halves page hand needs = let never = sym (ap reader.page_by hand) ∙ needs in cc
 
-told_by : (reading : Reading) (history : History) (op : Op) (reply : Reply) → IsAt reading history → (found : Option Region) → reader.in_hand reading ≡ found → reader.next_for reading found ≡ Do op → Answers op reply →
-    IsAt (reader.after_in found reading reply) (step_of op reply ∷ history)
-told_by reading history op reply at None hand asks answers = absurd (let same = asks in cc)
-told_by reading history op reply at (Some region) hand asks answers =
-    let parts = asks_for reading region op (nat_lt reading.steps most_steps) refl asks in
-    subst (λ (op : Op). IsAt (reader.after_for (reader.counted reading) region reply) (step_of op reply ∷ history)) (sym parts.1)
-    (told_for reading history region reply at hand parts.0 (subst (λ (op : Op). Answers op reply) parts.1 answers))
+starts : IsAt reader.begun []
+starts = inl (record { image = refl; place = refl; brief = tt; refused = tt })
 
--- one step more
-pub told : (reading : Reading) (history : History) (op : Op) (reply : Reply) → IsAt reading history → reader.next reading ≡ Do op → Answers op reply → IsAt (reader.after reading reply) (step_of op reply ∷ history)
-told reading history op reply at asks answers = told_by reading history op reply at (reader.in_hand reading) refl asks answers
+-- ---- one event more
 
--- ---- the room for it
+-- where no page was needed yet, and none is, no read back is awaited
+abbrev Closed : PageAddressing → Halves → History → Type 0
+Closed addressing halves history = (halves.settled ≡ 0 → is_open addressing history ≡ false) × (reader.in_hand halves ≡ None → is_open addressing history ≡ false)
 
-unfinished_at : (reading : Reading) (history : History) (region : Region) → IsAt reading history → reader.in_hand reading ≡ Some region → IsUnfinished history
-unfinished_at reading history region (inl begins) hand = beginning_is_unfinished history begins.refused
-unfinished_at reading history region (inr (inl (earlier, first, later, way))) hand = working_is_unfinished earlier first later reading history way
-unfinished_at reading history region (inr (inr done)) hand = absurd (some_not_none (sym hand ∙ done_hand reading history done))
+not_both : (b : Bool) → b ≡ true → b ≡ false → ⊥
+not_both true e h = cc
+not_both false e h = cc
 
-done_at : (reading : Reading) (history : History) → IsAt reading history → reader.in_hand reading ≡ None → IsDone reading history
-done_at reading history (inl begins) none = absurd (some_not_none (sym (begin_hand reading history begins) ∙ none))
-done_at reading history (inr (inl (earlier, first, later, way))) none = absurd (some_not_none (sym (way_hand earlier first later reading history way) ∙ none))
-done_at reading history (inr (inr done)) none = done
+-- the way that pages are selected, once it is known
+abbrev Fits : PageAddressing → Halves → Type 0
+Fits addressing halves = (halves.settled ≡ 0 → ⊥) → addressing_of halves.image ≡ addressing
 
--- what it keeps of the steps
-pub record Counts (reading : Reading) (history : History) : Type 0 where
-  pub count : length history ≡ reading.steps
-  pub few : reading.steps ≤ most_steps
-  pub brief : EachStep (λ step before. IsUnfinished before) history
-  pub room : map.len reading.image ≤ reading.settled
+record Comes (addressing : PageAddressing) (halves : Halves) (history : History) : Type 0 where
+  pub at : IsAt halves history
+  pub closed : Closed addressing halves history
 
-pub counts : (reading : Reading) (history : History) → IsAt reading history → Counts reading history
-counts reading history (inl begins) = record {
-  count = begins.count;
-  few = begins.few;
-  brief = begins.brief;
-  room = omega (arith, ap (λ (memory : Memory). map.len memory) begins.image ∙ map.len-empty key_cmp (List ℕ));
-}
-counts reading history (inr (inl (earlier, hand, later, way))) = record { count = way.has.count; few = way.has.few; brief = way.has.brief; room = omega (arith, way.has.room, way.has.place) }
-counts reading history (inr (inr (earlier, has))) = record { count = has.count; few = has.few; brief = has.brief; room = omega (arith, has.room, has.place) }
+later_place : (earlier : List Region) (hand : Region) (later : List Region) (halves : Halves) (history : History) → IsUnderWay earlier hand later halves history → halves.settled ≡ 0 → ⊥
+later_place earlier hand later halves history way none =
+    let one : length earlier ≡ length (Lower A0 ∷ drop 1 earlier) = ap (λ (regions : List Region). length regions) way.has.lower_first in
+    omega (arith, way.has.place, none, one)
 
-place_by : (reading : Reading) (op : Op) (found : Option Region) → reader.in_hand reading ≡ found → reader.next_for reading found ≡ Do op → reading.settled < 5
-place_by reading op None hand asks = absurd (let same = asks in cc)
-place_by reading op (Some region) hand asks =
-    let within = slice_get_within (regions_of reading.image) reading.settled region hand in
-    omega (arith, within, at_most_five reading.image)
+selecting_step : (addressing : PageAddressing) (halves : Halves) (history : History) (step : Step) → Fits addressing halves → IsSelecting addressing (reader.page_by (reader.in_hand halves)) step.op history →
+    LacksNone true addressing (reader.page_by (reader.in_hand halves)) step history → Comes addressing halves history → Comes addressing halves (step ∷ history)
+selecting_step addressing halves history step fits selecting none comes = by comes.at where
+  no_first : halves.settled ≡ 0 → reader.in_hand halves ≡ Some (Lower A0) → ⊥
+  no_first first hand = refuse selecting where
+    refuse : IsSelecting addressing (reader.page_by (reader.in_hand halves)) step.op history → ⊥
+    refuse (inl (awaited, reads)) = not_both (is_open addressing history) awaited (comes.closed.0 first)
+    refuse (inr (closed, (page, needs, unconfirmed, chosen))) = lower_needs_none halves page hand needs
 
-pub place : (reading : Reading) (op : Op) → reader.next reading ≡ Do op → reading.settled < 5
-place reading op asks = place_by reading op (reader.in_hand reading) refl asks
+  no_end : reader.in_hand halves ≡ None → ⊥
+  no_end ended = refuse selecting where
+    refuse : IsSelecting addressing (reader.page_by (reader.in_hand halves)) step.op history → ⊥
+    refuse (inl (awaited, reads)) = not_both (is_open addressing history) awaited (comes.closed.1 ended)
+    refuse (inr (closed, (page, needs, unconfirmed, chosen))) = none_needed halves page ended needs
+
+  by : IsAt halves history → Comes addressing halves (step ∷ history)
+  by (inl begins) = absurd (no_first begins.place (begin_hand halves history begins))
+  by (inr (inr done)) = absurd (no_end (done_hand halves history done))
+  by (inr (inl (earlier, hand, later, way))) =
+      let in_hand_is = way_hand earlier hand later halves history way in
+      let not_first = later_place earlier hand later halves history way in
+      let same = fits not_first in
+      record {
+        at = selecting_turn earlier hand later halves history way step
+            (subst (λ (a : PageAddressing). IsSelecting a (page_of hand) step.op history) (sym same) (subst (λ (r : Option Region). IsSelecting addressing (reader.page_by r) step.op history) in_hand_is selecting))
+            (subst (λ (a : PageAddressing). LacksNone true a (page_of hand) step history) (sym same) (subst (λ (r : Option Region). LacksNone true addressing (reader.page_by r) step history) in_hand_is none));
+        closed = (λ first. absurd (not_first first), λ ended. absurd (some_not_none (sym in_hand_is ∙ ended)));
+      }
+
+own_closed : (addressing : PageAddressing) (region : Region) (step : Step) (history : History) → step.op ≡ operation region → is_open addressing (step ∷ history) ≡ false
+own_closed addressing region step history own =
+    let apart = leaves_selection addressing region in
+    ap (λ (o : Op). may_select addressing o || (same_op (read_selection addressing) o && not (is_read step.reply))) own
+    ∙ (λ i. apart.not_selecting i || (apart.not_reading_back i && not (is_read step.reply)))
+
+own_step : (addressing : PageAddressing) (halves : Halves) (history : History) (step : Step) → Fits addressing halves → reader.wants halves ≡ Do step.op → Answers step.op step.reply → is_open addressing history ≡ false →
+    is_on addressing (reader.page_by (reader.in_hand halves)) history ≡ true → Comes addressing halves history → Comes addressing (reader.after_reply halves step.reply) (step ∷ history)
+own_step addressing halves history step fits wants answers closed on comes = by comes.at where
+  op_is : (region : Region) → reader.in_hand halves ≡ Some region → step.op ≡ operation region
+  op_is region hand = let same = sym wants ∙ ap reader.wants_by hand in cc
+
+  at_hand : (region : Region) → reader.in_hand halves ≡ Some region → IsAt (reader.after_fetch (Some region) halves step.reply) (step ∷ history) → Comes addressing (reader.after_reply halves step.reply) (step ∷ history)
+  at_hand region hand at = record {
+    at = subst (λ (r : Option Region). IsAt (reader.after_fetch r halves step.reply) (step ∷ history)) (sym hand) at;
+    closed = (λ first. own_closed addressing region step history (op_is region hand), λ ended. own_closed addressing region step history (op_is region hand));
+  }
+
+  by : IsAt halves history → Comes addressing (reader.after_reply halves step.reply) (step ∷ history)
+  by (inl begins) =
+      let hand = begin_hand halves history begins in
+      at_hand (Lower A0) hand (begin halves history begins step (op_is (Lower A0) hand) answers)
+  by (inr (inr done)) = let never = sym wants ∙ ap reader.wants_by (done_hand halves history done) in absurd cc
+  by (inr (inl (earlier, hand, later, way))) =
+      let in_hand_is = way_hand earlier hand later halves history way in
+      let same = fits (later_place earlier hand later halves history way) in
+      at_hand hand in_hand_is (own_turn earlier hand later halves history way step (op_is hand in_hand_is) answers
+      (ap (λ (a : PageAddressing). is_open a history) same ∙ closed)
+      (ap (λ (a : PageAddressing). is_on a (page_of hand) history) same ∙ ap (λ (r : Option Region). is_on addressing (reader.page_by r) history) (sym in_hand_is) ∙ on))
+
+lacking_step : (addressing : PageAddressing) (halves : Halves) (history : History) (step : Step) (page : ℕ) → Fits addressing halves → reader.page_by (reader.in_hand halves) ≡ Some page → ShowsNone addressing page step history → Answers step.op step.reply →
+    Comes addressing halves history → Comes addressing (reader.after_lack halves) (step ∷ history)
+lacking_step addressing halves history step page fits needs shows answers comes = by comes.at where
+  answered : (reply : Reply) → is_page addressing 0 reply ≡ true → is_read reply ≡ true
+  answered (Bytes bytes) e = refl
+  answered Done e = absurd cc
+  answered Refused e = absurd cc
+
+  closes : is_open addressing (step ∷ history) ≡ false
+  closes =
+      ap (λ (o : Op). may_select addressing o || (same_op (read_selection addressing) o && not (is_read step.reply))) shows.reads
+      ∙ (λ i. reads_alone addressing i || (reads_itself addressing i && not (is_read step.reply)))
+      ∙ ap not (answered step.reply shows.shows)
+
+  by : IsAt halves history → Comes addressing (reader.after_lack halves) (step ∷ history)
+  by (inl begins) = absurd (lower_needs_none halves page (begin_hand halves history begins) needs)
+  by (inr (inr done)) = absurd (none_needed halves page (done_hand halves history done) needs)
+  by (inr (inl (earlier, hand, later, way))) =
+      let in_hand_is = way_hand earlier hand later halves history way in
+      let same = fits (later_place earlier hand later halves history way) in
+      record {
+        at = subst (λ (r : Option Region). IsAt (reader.leaving_out r halves) (step ∷ history)) (sym in_hand_is)
+            (lacking_turn earlier hand later halves history way page step (sym (ap reader.page_by in_hand_is) ∙ needs) (subst (λ (a : PageAddressing). ShowsNone a page step history) (sym same) shows));
+        closed = (λ first. closes, λ ended. closes);
+      }
+
+-- ---- from own events to all of them
+
+fits_before : (addressing : PageAddressing) (event : Event) (own : Events) → Fits addressing (reader.halves_after (event ∷ own)) → Fits addressing (reader.halves_after own)
+fits_before addressing event own fits not_first =
+    let known = known_from (reader.halves_after own) not_first in
+    let later = steady event own (addressing_of (reader.halves_after own).image) known in
+    let there = from_known (reader.halves_after (event ∷ own)) (addressing_of (reader.halves_after own).image) later in
+    sym there.1 ∙ fits there.0
+  where
+    known_from : (halves : Halves) → (halves.settled ≡ 0 → ⊥) → reader.addressing halves ≡ Some (addressing_of halves.image)
+    known_from halves not_first = ap (λ (b : Bool). if b then None else Some (addressing_of halves.image)) (false_from_ne_true (halves.settled == 0) (λ e. not_first (eqb-true halves.settled 0 e)))
+
+    from_known : (halves : Halves) (by : PageAddressing) → reader.addressing halves ≡ Some by → (halves.settled ≡ 0 → ⊥) × (addressing_of halves.image ≡ by)
+    from_known halves by e = with_test (halves.settled == 0) refl e where
+      with_test : (b : Bool) → (halves.settled == 0) ≡ b → (if b then None else Some (addressing_of halves.image)) ≡ Some by → (halves.settled ≡ 0 → ⊥) × (addressing_of halves.image ≡ by)
+      with_test true t e = absurd cc
+      with_test false t e = (λ zero_is. true≢false (sym (eq-eqb halves.settled 0 zero_is) ∙ t), cc)
+
+comes : (addressing : PageAddressing) (events own : Events) → AddsSelections true addressing reader.needed_after own events → reader.EachIsWanted own → Fits addressing (reader.halves_after own) → Comes addressing (reader.halves_after own) (steps_of events)
+comes addressing [] own none each fits =
+    subst (λ (own : Events). Comes addressing (reader.halves_after own) []) (sym none) (record { at = starts; closed = (λ first. refl, λ ended. refl) })
+comes addressing (Made step ∷ before) own (inl (selecting, none, answers, adds)) each fits =
+    selecting_step addressing (reader.halves_after own) (steps_of before) step fits selecting none (comes addressing before own adds each fits)
+comes addressing (Made step ∷ before) own (inr (inl (earlier, is, closed, on, adds))) each fits =
+    let wanted = subst reader.EachIsWanted is each in
+    let fits' = subst (λ (own : Events). Fits addressing (reader.halves_after own)) is fits in
+    let earlier_fits = fits_before addressing (Made step) earlier fits' in
+    subst (λ (own : Events). Comes addressing (reader.halves_after own) (step ∷ steps_of before)) (sym is)
+    (own_step addressing (reader.halves_after earlier) (steps_of before) step earlier_fits wanted.0 wanted.1 closed on (comes addressing before earlier adds wanted.2 earlier_fits))
+comes addressing (Made step ∷ before) own (inr (inr (page, earlier, is, may, needs, shows, answers, adds))) each fits =
+    let wanted = subst reader.EachIsWanted is each in
+    let fits' = subst (λ (own : Events). Fits addressing (reader.halves_after own)) is fits in
+    let earlier_fits = fits_before addressing (Lacked page) earlier fits' in
+    subst (λ (own : Events). Comes addressing (reader.halves_after own) (step ∷ steps_of before)) (sym is)
+    (lacking_step addressing (reader.halves_after earlier) (steps_of before) step page earlier_fits needs shows answers (comes addressing before earlier adds wanted earlier_fits))
+comes addressing (Waited time ∷ before) own (earlier, is, adds) each fits =
+    let wanted = subst reader.EachIsWanted is each in
+    let fits' = subst (λ (own : Events). Fits addressing (reader.halves_after own)) is fits in
+    subst (λ (own : Events). Comes addressing (reader.halves_after own) (steps_of before)) (sym is) (comes addressing before earlier adds wanted fits')
+comes addressing (Lacked page ∷ before) own none each fits = absurd none
 
 -- ---- the ends
 
-pub is_reading : (reading : Reading) (history : History) → IsAt reading history → IsReading history
-is_reading reading history at = let kept = counts reading history at in record { at_most = omega (arith, kept.count, kept.few); brief = kept.brief }
+unfinished_at : (halves : Halves) (history : History) → IsAt halves history → (reader.in_hand halves ≡ None → ⊥) → IsUnfinished history
+unfinished_at halves history (inl begins) some = beginning_is_unfinished history begins.refused
+unfinished_at halves history (inr (inl (earlier, first, later, way))) some = working_is_unfinished earlier first later halves history way
+unfinished_at halves history (inr (inr done)) some = absurd (some (done_hand halves history done))
 
-complete_by : (reading : Reading) (history : History) → IsAt reading history → (found : Option Region) → reader.in_hand reading ≡ found → reader.next_for reading found ≡ Complete → IsImageOf history reading.image
-complete_by reading history at None none asks = done_gives reading history (done_at reading history at none)
-complete_by reading history at (Some region) hand asks = absurd (by (nat_lt reading.steps most_steps) asks) where
-  by : (few : Bool) → (if few then Do (reader.wanted_for reading region) else GiveUp) ≡ Complete → ⊥
-  by true e = cc
-  by false e = cc
+done_at : (halves : Halves) (history : History) → IsAt halves history → reader.in_hand halves ≡ None → IsDone halves history
+done_at halves history (inl begins) none = absurd (some_not_none (sym (begin_hand halves history begins) ∙ none))
+done_at halves history (inr (inl (earlier, first, later, way))) none = absurd (some_not_none (sym (way_hand earlier first later halves history way) ∙ none))
+done_at halves history (inr (inr done)) none = done
 
-pub complete : (reading : Reading) (history : History) → IsAt reading history → reader.next reading ≡ Complete → IsImageOf history reading.image
-complete reading history at asks = complete_by reading history at (reader.in_hand reading) refl asks
+brief_at : (halves : Halves) (history : History) → IsAt halves history → EachStep (λ step before. IsUnfinished before) history
+brief_at halves history (inl begins) = begins.brief
+brief_at halves history (inr (inl (earlier, hand, later, way))) = way.has.brief
+brief_at halves history (inr (inr (earlier, has))) = has.brief
 
-all_made : (reading : Reading) (region : Region) (few : Bool) → nat_lt reading.steps most_steps ≡ few → (if few then Do (reader.wanted_for reading region) else GiveUp) ≡ GiveUp → most_steps ≤ reading.steps
-all_made reading region true e asks = absurd (let same = asks in cc)
-all_made reading region false e asks = ltb-false reading.steps most_steps e
+outcome_at : (halves : Halves) (history : History) → length history ≤ most_steps → IsAt halves history → HasOutcome history halves
+outcome_at halves history few at = record {
+  is_reading = record { at_most = few; brief = brief_at halves history at };
+  complete = λ none. done_gives halves history (done_at halves history at none);
+  unfinished = unfinished_at halves history at;
+  given_up = λ all some. (all, unfinished_at halves history at some);
+}
 
-gives_up_by : (reading : Reading) (history : History) → IsAt reading history → (found : Option Region) → reader.in_hand reading ≡ found → reader.next_for reading found ≡ GiveUp → IsGivenUp history
-gives_up_by reading history at None hand asks = absurd (let same = asks in cc)
-gives_up_by reading history at (Some region) hand asks =
-    let kept = counts reading history at in
-    let all = all_made reading region (nat_lt reading.steps most_steps) refl asks in
-    (omega (arith, kept.count, kept.few, all), unfinished_at reading history region at hand)
+pub outcome : (events : Events) (halves : Halves) → length (steps_of events) ≤ most_steps → WithOwn (λ own. IsTold own halves) events → HasOutcome (steps_of events) halves
+outcome events halves few (own, adds, told) =
+    let after = reader.halves_after own in
+    let at = by_place after.settled refl in
+    subst (λ (h : Halves). HasOutcome (steps_of events) h) (sym told.is) (outcome_at after (steps_of events) few at)
+  where
+    with_addressing : (addressing : PageAddressing) → AddsSelections true addressing reader.needed_after own events → Fits addressing (reader.halves_after own) → IsAt (reader.halves_after own) (steps_of events)
+    with_addressing addressing adds fits = (comes addressing events own adds told.each fits).at
 
-pub gives_up : (reading : Reading) (history : History) → IsAt reading history → reader.next reading ≡ GiveUp → IsGivenUp history
-gives_up reading history at asks = gives_up_by reading history at (reader.in_hand reading) refl asks
+    by_place : (n : ℕ) → (reader.halves_after own).settled ≡ n → IsAt (reader.halves_after own) (steps_of events)
+    by_place zero e =
+        let adds' = subst (λ (b : Option PageAddressing). ByAddressing b (λ a. AddsSelections true a reader.needed_after own events)) (ap (λ (m : ℕ). reader.addressing_by m (reader.halves_after own).image) e) adds in
+        with_addressing BankAndPage (adds' BankAndPage) (λ not_first. absurd (not_first e))
+    by_place (suc n) e =
+        let adds' = subst (λ (b : Option PageAddressing). ByAddressing b (λ a. AddsSelections true a reader.needed_after own events)) (ap (λ (m : ℕ). reader.addressing_by m (reader.halves_after own).image) e ∙ known_later n (reader.halves_after own).image) adds in
+        with_addressing (addressing_of (reader.halves_after own).image) adds' (λ not_first. refl)
 
-asking_by : (reading : Reading) (history : History) (op : Op) → IsAt reading history → (found : Option Region) → reader.in_hand reading ≡ found → reader.next_for reading found ≡ Do op → (length history < most_steps) × IsUnfinished history
-asking_by reading history op at None hand asks = absurd (let same = asks in cc)
-asking_by reading history op at (Some region) hand asks =
-    let kept = counts reading history at in
-    let parts = asks_for reading region op (nat_lt reading.steps most_steps) refl asks in
-    (omega (arith, kept.count, parts.0), unfinished_at reading history region at hand)
+-- ---- readings that are driven
 
--- as long as an operation is asked for
-pub asking : (reading : Reading) (history : History) (op : Op) → IsAt reading history → reader.next reading ≡ Do op → (length history < most_steps) × IsUnfinished history
-asking reading history op at asks = asking_by reading history op at (reader.in_hand reading) refl asks
+pub begins_told : Knows true None Unknown None [] × WithOwn (λ own. IsTold own reader.begun) []
+begins_told = ((λ none. refl, λ addressing. (tells_nothing addressing, record { was = λ page e. absurd cc; is = λ may awaited. absurd cc })), ([], λ addressing. refl, record { is = refl; each = tt }))
 
-fewer_by : (reading : Reading) (region : Region) (reply : Reply) (awaited missing : Bool) →
-    (if awaited then reader.after_read_back (reader.counted reading) region reply else if missing then reader.after_selection (reader.counted reading) reply else reader.after_fetch (reader.counted reading) region reply).steps ≡ reading.steps + 1
-fewer_by reading region (Bytes bytes) true missing = refl
-fewer_by reading region Done true missing = refl
-fewer_by reading region Refused true missing = refl
-fewer_by reading region reply false true = refl
-fewer_by reading region (Bytes bytes) false false = refl
-fewer_by reading region Done false false = refl
-fewer_by reading region Refused false false = refl
+pub reading_outcome : (events : Events) (reading : Reading) → WithOwn (λ own. IsTold own reading.conversation.conversation) events → length (steps_of events) ≡ reading.steps → reading.steps ≤ reading.limit → reading.limit ≡ most_steps →
+    HasOutcome (steps_of events) reading.conversation.conversation
+reading_outcome events reading told count few limit = outcome events reading.conversation.conversation (subst (λ (n : ℕ). length (steps_of events) ≤ n) limit (subst (λ (n : ℕ). n ≤ reading.limit) (sym count) few)) told
 
-fewer_in : (reading : Reading) (op : Op) (reply : Reply) (found : Option Region) → reader.next_for reading found ≡ Do op → most_steps - (reader.after_in found reading reply).steps < most_steps - reading.steps
-fewer_in reading op reply None asks = absurd (let same = asks in cc)
-fewer_in reading op reply (Some region) asks =
-    let parts = asks_for reading region op (nat_lt reading.steps most_steps) refl asks in
-    omega (arith, parts.0, fewer_by reading region reply (is_awaited reading.selected) (is_some (missing_page reading.selected (page_of region))))
+-- how a reading is left on a bus
 
--- fewer steps are left
-pub fewer : (reading : Reading) (op : Op) (reply : Reply) → reader.next reading ≡ Do op → most_steps - (reader.after reading reply).steps < most_steps - reading.steps
-fewer reading op reply asks = fewer_in reading op reply (reader.in_hand reading) asks
+left_by : (steps limit : ℕ) (addressing : PageAddressing) (selected : KnownPage) (page : Option ℕ) (found : Option Region) (spent : Spent (Unit {0})) → next_within steps limit (next_on addressing selected page (reader.wants_by found)) ≡ End spent →
+    ((spent.end ≡ Some tt) × (found ≡ None)) ⊎ ((spent.end ≡ None) × (found ≡ None → ⊥) × (limit ≤ steps))
+left_by steps limit addressing selected page None spent left = inl (ap (λ (n : Next (Spent (Unit {0}))). end_in n) (sym left), refl) where
+  end_in : Next (Spent (Unit {0})) → Option (Unit {0})
+  end_in (End spent) = spent.end
+  end_in (Do op) = None
+  end_in (Wait time) = None
+left_by steps limit addressing selected page (Some region) spent left = by (nat_lt steps limit) refl left where
+  op : Op
+  op = wanted addressing selected page (operation region)
 
--- there is room for one half more
-pub room_left : (reading : Reading) (history : History) (op : Op) → IsAt reading history → reader.next reading ≡ Do op → map.len reading.image < 16
-room_left reading history op at asks = omega (arith, (counts reading history at).room, place reading op asks)
+  by : (few : Bool) → nat_lt steps limit ≡ few → ◌≡◌ {A = Next (Spent (Unit {0}))} (if few then Do op else End (record { steps = steps; end = None })) (End spent) → ((spent.end ≡ Some tt) × (Some region ≡ None)) ⊎ ((spent.end ≡ None) × (Some region ≡ None → ⊥) × (limit ≤ steps))
+  by true e left = absurd cc
+  by false e left = let same : record { steps = steps; end = None } ≡ spent = cc in inr (ap (λ (s : Spent (Unit {0})). s.end) (sym same), some_not_none, ltb-false steps limit e)
 
-pub starts : IsAt reader.begun []
-starts = inl (record { image = refl; place = refl; selected = refl; count = refl; few = omega arith; brief = tt; refused = tt })
+going_by : (steps limit : ℕ) (addressing : PageAddressing) (selected : KnownPage) (page : Option ℕ) (found : Option Region) (op : Op) → next_within steps limit (next_on addressing selected page (reader.wants_by found)) ≡ Do op → found ≡ None → ⊥
+going_by steps limit addressing selected page None op left none = absurd cc
+going_by steps limit addressing selected page (Some region) op left none = some_not_none none
+
+abbrev pub wants_of : Reading → Next (Spent (Unit {0}))
+wants_of reading =
+    next_within reading.steps reading.limit (next_on (chosen (reader.addressing reading.conversation.conversation)) reading.conversation.selection (reader.page_by (reader.in_hand reading.conversation.conversation)) (reader.wants reading.conversation.conversation))
+
+module _ (events : Events) (reading : Reading) (told : WithOwn (λ own. IsTold own reading.conversation.conversation) events) (count : length (steps_of events) ≡ reading.steps) (few : reading.steps ≤ reading.limit) (limit : reading.limit ≡ most_steps) where
+  abbrev image_of : Memory
+  image_of = reading.conversation.conversation.image
+
+  its_outcome : HasOutcome (steps_of events) reading.conversation.conversation
+  its_outcome = reading_outcome events reading told count few limit
+
+  pub reads : IsReading (steps_of events)
+  reads = its_outcome.is_reading
+
+  pub left_whole : (spent : Spent (Unit {0})) (end : Unit {0}) → wants_of reading ≡ End spent → spent.end ≡ Some end → IsImageOf (steps_of events) image_of
+  left_whole spent end left is = whole (left_by reading.steps reading.limit (chosen (reader.addressing reading.conversation.conversation)) reading.conversation.selection (reader.page_by (reader.in_hand reading.conversation.conversation)) (reader.in_hand reading.conversation.conversation) spent left) where
+    whole : ((spent.end ≡ Some tt) × (reader.in_hand reading.conversation.conversation ≡ None)) ⊎ ((spent.end ≡ None) × (reader.in_hand reading.conversation.conversation ≡ None → ⊥) × (reading.limit ≤ reading.steps)) → IsImageOf (steps_of events) image_of
+    whole (inl (some, none)) = its_outcome.complete none
+    whole (inr (none, some, all)) = let never = sym none ∙ is in absurd cc
+
+  pub left_undone : (spent : Spent (Unit {0})) → wants_of reading ≡ End spent → spent.end ≡ None → IsGivenUp (steps_of events)
+  left_undone spent left is = undone (left_by reading.steps reading.limit (chosen (reader.addressing reading.conversation.conversation)) reading.conversation.selection (reader.page_by (reader.in_hand reading.conversation.conversation)) (reader.in_hand reading.conversation.conversation) spent left) where
+    undone : ((spent.end ≡ Some tt) × (reader.in_hand reading.conversation.conversation ≡ None)) ⊎ ((spent.end ≡ None) × (reader.in_hand reading.conversation.conversation ≡ None → ⊥) × (reading.limit ≤ reading.steps)) → IsGivenUp (steps_of events)
+    undone (inl (some, none)) = let never = sym is ∙ some in absurd cc
+    undone (inr (none, some, all)) = its_outcome.given_up (omega (arith, count, few, limit, all)) some
+
+  pub left_going : (op : Op) → wants_of reading ≡ Do op → IsUnfinished (steps_of events)
+  left_going op left = its_outcome.unfinished (going_by reading.steps reading.limit (chosen (reader.addressing reading.conversation.conversation)) reading.conversation.selection (reader.page_by (reader.in_hand reading.conversation.conversation)) (reader.in_hand reading.conversation.conversation) op left)

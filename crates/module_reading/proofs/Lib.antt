@@ -2,7 +2,5 @@ pub mod RegionLaws
 pub mod FetchSteps
 pub mod FetchUnderWay
 pub mod FetchTurns
+pub mod HalvesLaws
 pub mod FetchTold
-pub mod ReadingOutcomes
-pub mod PieceTold
-pub mod PieceReplies

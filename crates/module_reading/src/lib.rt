@@ -2,10 +2,8 @@
 #![tactic(auto)]
 
 mod asked;
+mod halves;
 pub mod laws;
-mod pieces;
-mod reading;
 mod region;
 
-pub use pieces::PieceReading;
-pub use reading::{Reading, ReadingNext};
+pub use halves::{Halves, Reading};

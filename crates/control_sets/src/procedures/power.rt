@@ -1,28 +1,23 @@
 //! Waking a module up and putting it to sleep, by the low power requests of its global controls.
-ghost use Rattle.std.specs.Prelude.{◌≡◌, ◌↔◌, [], ◌∷◌, ℕ, length, slice_index, Some, IfSome, IsFalse, IsTrue};
+ghost use Rattle.std.specs.Prelude.{◌≡◌, ◌∷◌, ℕ, [], length, slice_index, Some, IfSome, IsFalse, IsTrue};
 ghost use Rattle.bus_model.specs.Operations.{Answers, IsWellShaped};
 ghost use Rattle.bus_model.specs.declared.operation.Op.{Op};
-ghost use Rattle.control_sets.specs.declared.procedures.next.ProcedureNext.TheVariants.{Do, Done};
-ghost use Rattle.control_sets.specs.Asking.{IfDo, IsReplyTo, step_with};
-ghost use Rattle.control_sets.specs.OutcomeAnswers.{Answer};
-ghost use Rattle.control_sets.specs.OutcomeOfPower.{IsPowerChange};
-ghost use Rattle.control_sets.specs.Pages.{History};
+ghost use Rattle.control_sets.specs.OutcomeAnswers.{most_steps};
 ghost use Rattle.control_sets.specs.PowerControls.{wanted_controls};
-ghost use Rattle.control_sets.specs.PowerProgress.{IsPowerAt, judged_power, next_op, operation_at, power_next, stage_after, stage_judged, taken};
+ghost use Rattle.control_sets.specs.PowerProgress.{answer_of, judged_power, operation_at, stage_after, stage_judged};
 
 mod runner;
 mod saved;
 
 use crate::fault::ProvisionFault;
 use crate::procedures::judgement::ReplyJudgement;
-use crate::procedures::next::ProcedureNext;
-use crate::procedures::page_tracker::MAX_STEPS;
-use crate::procedures::procedure::can_have;
+use crate::procedures::procedure::MAX_STEPS;
 use crate::procedures::task::{read_of, store_byte};
 use bus_model::{Op, Reply};
+use conversations::{Conversation, Next, Spent, Within};
 use field_tables::{Field, Register, number_in_byte};
 use module_states::{ModuleState, state_of};
-pub use runner::change_power;
+pub use runner::{change_power, change_power_pausing};
 
 /// What a module is to be.
 #[derive(Clone, Copy, Debug, PartialEq, Eq)]
@@ -46,58 +41,28 @@ pub enum PowerStage {
     Met,
 }
 
-/// A change of power without a bus, driven as a `Procedure` is.
-#[derive(Clone, Copy, Debug, PartialEq, Eq)]
+/// A change of power: a conversation that ends without a fault, or in one.
+#[derive(Clone, Copy, Debug, PartialEq, Eq, Drop)]
 pub struct PowerChange {
     pub power: Power,
     pub stage: PowerStage,
-    pub steps: u16,
     pub fault: Option<ProvisionFault>,
 }
 
 impl PowerChange {
-    /// Brings a module to this power.
-    pub fn to(power: Power) -> PowerChange
-        ensures begins { IsPowerAt [] result }
-        ensures power { result.power ≡ power }
+    ghost use Rattle.std.specs.Prelude.{None};
+    ghost use Rattle.control_sets.specs.declared.procedures.power.PowerStage.TheVariants.{Unread};
+
+    /// Brings a module to this power, within as many steps as a procedure may make.
+    pub fn to(power: Power) -> Within<PowerChange>
+        ensures { result ≡ record { conversation = record { power = power; stage = Unread; fault = None }; steps = 0; limit = most_steps } }
     {
-        PowerChange {
+        let change = PowerChange {
             power,
             stage: PowerStage::Unread,
-            steps: 0,
             fault: None,
-        }
-    }
-
-    /// The operation to be made now, or the end.
-    pub fn next(&self) -> ProcedureNext
-        ensures value { result ≡ power_next self.now }
-        ensures shape { IfDo result IsWellShaped }
-        ensures ends { (history : History) (answer : Answer) (made room : ℕ) → IsPowerAt history self.now →
-            result ≡ Done answer → IsPowerChange self.now.power (made ≡ room) history answer }
-    {
-        self.wanted()
-    }
-
-    fn wanted(&self) -> ProcedureNext
-        ensures value { result ≡ power_next self.now }
-        ensures shape { IfDo result IsWellShaped }
-    {
-        match self.fault {
-            Some(fault) => ProcedureNext::Done(Err(fault)),
-            None => self.next_op(),
-        }
-    }
-
-    fn next_op(&self) -> ProcedureNext
-        ensures value { result ≡ next_op self.now.steps (operation_at self.now.power self.now.stage) }
-        ensures shape { IfDo result IsWellShaped }
-    {
-        match self.op() {
-            None => ProcedureNext::Done(Ok(self.steps)),
-            Some(op) if self.steps < MAX_STEPS => ProcedureNext::Do(op),
-            Some(_) => ProcedureNext::Done(Err(ProvisionFault::GaveUp)),
-        }
+        };
+        Within::new(change, MAX_STEPS)
     }
 
     fn op(&self) -> Option<Op>
@@ -114,44 +79,52 @@ impl PowerChange {
             PowerStage::Met => None,
         }
     }
+}
 
-    /// Takes the reply to the operation that was to be made.
-    pub fn take(&mut self, reply: &Reply)
-        requires { IsReplyTo (power_next self.old) reply.now }
-        ensures value { self.new ≡ taken self.old reply.now }
-        ensures power { self.new.power ≡ self.old.power }
-        ensures told { (history : History) (op : Op) → IsPowerAt history self.old → power_next self.old ≡ Do op →
-            IsPowerAt (step_with op reply.now ∷ history) self.new }
-    {
-        self.steps += 1;
+impl Conversation for PowerChange {
+    ghost use Rattle.conversations.specs.Events.{steps_of};
+    ghost use Rattle.control_sets.specs.PowerProgress.{GoesOnAt, HasComeTo, IsEndedIn, power_wants};
+
+    type Topic = Power;
+
+    type End = Option<ProvisionFault>;
+
+    ghost topic = { λ change. change.power };
+
+    ghost wants = { power_wants };
+
+    ghost told = { λ events change. HasComeTo change.power change.stage change.fault (steps_of events) };
+
+    ghost ends = { λ power events fault. IsEndedIn power fault (steps_of events) };
+
+    ghost goes_on = { λ power events. GoesOnAt power (steps_of events) };
+
+    fn next(&self) -> Next<Option<ProvisionFault>> {
+        match (self.fault, self.op()) {
+            (Some(fault), _) => Next::End(Some(fault)),
+            (None, None) => Next::End(None),
+            (None, Some(op)) => Next::Do(op),
+        }
+    }
+
+    fn take(&mut self, reply: &Reply) {
         match stage_after(self.power, self.stage, reply) {
             Ok(stage) => self.stage = stage,
             Err(fault) => self.fault = Some(fault),
         }
     }
 
-    /// Takes the reply if it is one that the operation to be made can have; answers whether it was.
-    pub fn try_take(&mut self, reply: &Reply) -> bool
-        ensures taken { IsTrue result ↔ IsReplyTo (power_next self.old) reply.now }
-        ensures told { IsTrue result → (history : History) (op : Op) → IsPowerAt history self.old → power_next self.old ≡ Do op →
-            IsPowerAt (step_with op reply.now ∷ history) self.new }
-        ensures power { self.new.power ≡ self.old.power }
-        ensures refused { IsFalse result → self.new ≡ self.old }
-    {
-        let fits = self.is_answered_by(reply);
-        if fits {
-            self.take(reply);
-        }
-        fits
-    }
+    fn waited(&mut self) {}
+}
 
-    fn is_answered_by(&self, reply: &Reply) -> bool
-        ensures { IsTrue result ↔ IsReplyTo (power_next self.now) reply.now }
-    {
-        match self.wanted() {
-            ProcedureNext::Do(op) => can_have(&op, reply),
-            ProcedureNext::Done(_) => false,
-        }
+/// What a change of power answers that ended so: the number of its steps, or the fault.
+pub fn answer_of(spent: Spent<Option<ProvisionFault>>) -> Result<u16, ProvisionFault>
+    ensures { result ≡ answer_of spent }
+{
+    match spent.end {
+        Some(None) => Ok(spent.steps),
+        Some(Some(fault)) => Err(fault),
+        None => Err(ProvisionFault::GaveUp),
     }
 }
 

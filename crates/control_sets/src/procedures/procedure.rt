@@ -1,5 +1,4 @@
-ghost use Rattle.std.specs.Prelude.{◌≡◌, ◌↔◌, slice_get, IsTrue};
-ghost use Rattle.bus_model.specs.Operations.{Answers, IsWellShaped};
+ghost use Rattle.std.specs.Prelude.{◌≡◌, slice_get};
 ghost use Rattle.control_sets.specs.Tasks.{provisioning, activation};
 
 mod saved;
@@ -7,20 +6,23 @@ mod saved;
 use crate::control_set::ControlSet;
 use crate::fault::ProvisionFault;
 use crate::procedures::judgement::ReplyJudgement;
-use crate::procedures::next::ProcedureNext;
-use crate::procedures::page_tracker::PageTracker;
 use crate::procedures::task::Task;
-use bus_model::{Op, Reply};
+use bus_model::Reply;
+use conversations::{Conversation, NeedsPages, Next, OnPage, Within};
 use field_tables::LaneSet;
-use paged_memory::KnownPage;
+use paged_memory::{KnownPage, PageAddressing};
 pub use saved::SavedProcedure;
+
+/// How many steps a procedure makes at most.
+pub const MAX_STEPS: u16 = 4096;
 
 /// What a procedure brings about.
 #[derive(Clone, Copy, Debug, PartialEq, Eq)]
 pub enum Work {
-    /// The control bytes become active, by taking down and applying these lanes.
+    /// The control bytes become active. The data paths of the lanes are taken down first, and the bytes are applied to them;
+    /// statuses of other lanes aren't looked at.
     Provisioning { control: ControlSet, lanes: LaneSet },
-    /// The data paths of these lanes come up, if the control bytes are active.
+    /// If the control bytes are active, the data paths of the lanes come up, and those of other lanes are taken down.
     Activation { control: ControlSet, lanes: LaneSet },
 }
 
@@ -65,129 +67,126 @@ fn activation(control: ControlSet, lanes: LaneSet) -> [Task; 4]
     ]
 }
 
-/// A procedure without a bus: it says which operation comes next, and is told the reply. Whoever has a bus of any kind
-/// drives it: ask for `next`, make that operation, `take` its reply, and so on until the end.
-#[derive(Clone, Copy, Debug, PartialEq, Eq)]
-pub struct Procedure {
+/// The tasks of a work, in order: a conversation that ends without a fault, or in one.
+#[derive(Clone, Copy, Debug, PartialEq, Eq, Drop)]
+pub struct TaskList {
     work: Work,
     met: usize,
-    tracker: PageTracker,
     fault: Option<ProvisionFault>,
 }
 
-impl Procedure {
-    ghost use Rattle.std.specs.Prelude.{◌<◌, ◌∷◌, [], List, IsFalse};
-    ghost use Rattle.bus_model.specs.declared.operation.Op.{Op};
-    ghost use Rattle.control_sets.specs.declared.procedures.task.Task.{Task};
-    ghost use Rattle.control_sets.specs.declared.procedures.next.ProcedureNext.TheVariants.{Do};
-    ghost use Rattle.control_sets.specs.Pages.{History};
-    ghost use Rattle.control_sets.specs.Procedures.{all_apart};
-    ghost use Rattle.control_sets.specs.Asking.{IfDo, IsReplyTo, step_with};
-    ghost use Rattle.control_sets.specs.Progress.{Follows, IsAt, next, steps_left, tasks_of};
+/// A procedure without a bus: tasks on confirmed pages, within as many steps as may be made.
+pub type Procedure = Within<OnPage<TaskList>>;
 
-    fn of(work: Work) -> Procedure
-        requires { IsTrue (all_apart (tasks_of work)) }
-        ensures { IsAt (tasks_of work) [] result }
+impl TaskList {
+    ghost use Rattle.std.specs.Prelude.{None};
+    ghost use Rattle.conversations.specs.Wanted.{IsReplyTo};
+    ghost use Rattle.paged_memory.specs.declared.page_addressing.KnownPage.TheVariants.{Unknown};
+    ghost use Rattle.control_sets.specs.Progress.{after_reply, hand, list_at, procedure_of, wants};
+
+    /// Brings the work about, within as many steps as a procedure may make.
+    pub fn of(work: Work) -> Procedure
+        ensures { result ≡ procedure_of (list_at work (0, None)) Unknown 0 }
     {
-        Procedure {
+        let list = TaskList {
             work,
             met: 0,
-            tracker: PageTracker {
-                steps: 0,
-                selection: KnownPage::Unknown,
-            },
             fault: None,
-        }
+        };
+        let on_page = OnPage {
+            conversation: list,
+            selection: KnownPage::Unknown,
+            taken: None,
+        };
+        Within::new(on_page, MAX_STEPS)
     }
 
-    /// Makes these control bytes active. The data paths of the lanes are taken down first, and the bytes are applied to
-    /// them; statuses of other lanes aren't looked at.
-    pub fn provisioning(control: ControlSet, lanes: LaneSet) -> Procedure
-        ensures { IsAt (provisioning control lanes) [] result }
-    {
-        Procedure::of(Work::Provisioning { control, lanes })
-    }
-
-    /// If these control bytes are active, brings up the data paths of the lanes, and takes down those of other lanes.
-    pub fn activation(control: ControlSet, lanes: LaneSet) -> Procedure
-        ensures { IsAt (activation control lanes) [] result }
-    {
-        Procedure::of(Work::Activation { control, lanes })
-    }
-
-    /// The operation to be made now, or the end.
-    pub fn next(&self) -> ProcedureNext
-        ensures value { result ≡ next self.now }
-        ensures shape { IfDo result IsWellShaped }
-        ensures follows { (tasks : List Task) (history : History) → IsAt tasks history self.now →
-            Follows tasks history result }
-    {
-        self.wanted()
-    }
-
-    fn wanted(&self) -> ProcedureNext
-        ensures value { result ≡ next self.now }
-        ensures shape { IfDo result IsWellShaped }
+    // The task in hand, if there is one.
+    fn task(&self) -> Option<Task>
+        ensures { result ≡ hand self.now }
     {
         match self.fault {
-            Some(fault) => ProcedureNext::Done(Err(fault)),
-            None => self.tracker.next(self.work.task(self.met)),
+            Some(_) => None,
+            None => self.work.task(self.met),
         }
     }
 
-    /// Takes the reply to the operation that was to be made.
-    pub fn take(&mut self, reply: &Reply)
-        requires { IsReplyTo (next self.old) reply.now }
-        ensures told { (tasks : List Task) (history : History) (op : Op) →
-            IsAt tasks history self.old → next self.old ≡ Do op →
-            IsAt tasks (step_with op reply.now ∷ history) self.new }
-        ensures fewer { steps_left self.new < steps_left self.old }
+    fn told(&mut self, reply: &Reply)
+        requires { IsReplyTo (wants self.old) reply.now }
+        ensures { self.new ≡ after_reply self.old reply.now }
     {
-        if let Some(task) = self.work.task(self.met) {
-            match self.tracker.take(&task, reply) {
+        if let Some(task) = self.task() {
+            match task.judge(reply) {
                 ReplyJudgement::Met => self.met += 1,
                 ReplyJudgement::NotYet => {}
                 ReplyJudgement::Fails(fault) => self.fault = Some(fault),
             }
         }
     }
-
-    /// Whether the reply is one that the operation to be made can have; after the end none is.
-    pub fn is_answered_by(&self, reply: &Reply) -> bool
-        ensures { IsTrue result ↔ IsReplyTo (next self.now) reply.now }
-    {
-        match self.wanted() {
-            ProcedureNext::Do(op) => can_have(&op, reply),
-            ProcedureNext::Done(_) => false,
-        }
-    }
-
-    /// Takes the reply if it is one that the operation to be made can have; answers whether it was.
-    pub fn try_take(&mut self, reply: &Reply) -> bool
-        ensures taken { IsTrue result ↔ IsReplyTo (next self.old) reply.now }
-        ensures told { IsTrue result → (tasks : List Task) (history : History) (op : Op) →
-            IsAt tasks history self.old → next self.old ≡ Do op →
-            IsAt tasks (step_with op reply.now ∷ history) self.new }
-        ensures refused { IsFalse result → self.new ≡ self.old }
-    {
-        let fits = self.is_answered_by(reply);
-        if fits {
-            self.take(reply);
-        }
-        fits
-    }
 }
 
-/// Whether the operation can have a reply of this kind, with so many bytes.
-pub fn can_have(op: &Op, reply: &Reply) -> bool
-    ensures { IsTrue result ↔ Answers op.now reply.now }
-{
-    match op {
-        Op::Fetch { count, .. } => match reply {
-            Reply::Bytes(bytes) => bytes.len() == usize::from(*count),
-            Reply::Done => false,
-            Reply::Refused => true,
-        },
-        Op::Store { .. } => !matches!(reply, Reply::Bytes(_)),
+impl Conversation for TaskList {
+    ghost use Rattle.conversations.specs.Events.{steps_of};
+    ghost use Rattle.control_sets.specs.Progress.{EndsList, GoesOnList, IsTold, tasks_of, wants};
+
+    type Topic = Work;
+
+    type End = Option<ProvisionFault>;
+
+    ghost topic = { λ list. list.work };
+
+    ghost wants = { wants };
+
+    ghost told = { λ events list. IsTold (steps_of events) list };
+
+    ghost ends = { λ work events fault. EndsList (tasks_of work) (steps_of events) fault };
+
+    ghost goes_on = { λ work events. GoesOnList (tasks_of work) (steps_of events) };
+
+    fn next(&self) -> Next<Option<ProvisionFault>> {
+        match self.task() {
+            Some(task) => Next::Do(task.op()),
+            None => Next::End(self.fault),
+        }
     }
+
+    fn take(&mut self, reply: &Reply) {
+        self.told(reply);
+    }
+
+    fn waited(&mut self) {}
+}
+
+impl NeedsPages for TaskList {
+    ghost use Rattle.std.specs.Prelude.{Some, false};
+    ghost use Rattle.conversations.specs.Events.{steps_of};
+    ghost use Rattle.paged_memory.specs.declared.page_addressing.PageAddressing.TheVariants.{BankAndPage};
+    ghost use Rattle.control_sets.specs.Progress.{hand, needed_after, page_by, tasks_of};
+
+    ghost page = { λ list. page_by (hand list) };
+
+    ghost needs = { λ work events. needed_after (tasks_of work) (steps_of events) };
+
+    ghost addressing = { λ list. Some BankAndPage };
+
+    ghost addressed = { λ work events. Some BankAndPage };
+
+    ghost may_lack = { λ work. false };
+
+    fn page(&self) -> Option<u8> {
+        match self.task() {
+            Some(task) => task.page(),
+            None => None,
+        }
+    }
+
+    fn addressing(&self) -> Option<PageAddressing> {
+        Some(PageAddressing::BankAndPage)
+    }
+
+    fn may_lack(&self) -> bool {
+        false
+    }
+
+    fn lacks(&mut self, _number: u8) {}
 }

@@ -1,23 +1,25 @@
-ghost use Rattle.std.specs.Prelude.{[], List};
 ghost use Rattle.plan_certificate.specs.Plans.{IsAdmissible, Keeps};
 ghost use Rattle.field_tables.specs.LaneSets.{every_lane};
 ghost use Rattle.control_sets.specs.ControlBytes.{control_bytes};
 ghost use Rattle.control_sets.specs.PlanLanes.{lanes_outside, plan_lanes};
 ghost use Rattle.control_sets.specs.Procedures.{IsOutcome, MakesHistory};
-ghost use Rattle.control_sets.specs.Progress.{IsAt};
+ghost use Rattle.control_sets.specs.Progress.{tasks_of};
 ghost use Rattle.control_sets.specs.Answers.{activated_steps, provisioned_steps};
 ghost use Rattle.control_sets.specs.OutcomeOfProvisioning.{IsProvisioning};
 ghost use Rattle.control_sets.specs.OutcomeOfActivation.{IsActivation};
 ghost use Rattle.bus_model.specs.Runs.{IsFull};
-ghost use Rattle.control_sets.specs.declared.procedures.task.Task.{Task};
+ghost use Rattle.conversations.specs.Carried.{MakesEvents};
+ghost use Rattle.conversations.specs.Events.{steps_of};
+ghost use Rattle.conversations.specs.Pauses.{AreSpaced};
 
 use crate::fault::ProvisionFault;
 use crate::plan_bytes::{bytes_of, lanes_of, lanes_outside};
-use crate::procedures::next::ProcedureNext;
-use crate::procedures::procedure::Procedure;
+use crate::procedures::power::answer_of;
+use crate::procedures::procedure::{TaskList, Work};
 use applications::Advert;
 use arrayvec::ArrayVec;
 use bus_model::Bus;
+use conversations::{run, run_pausing};
 use plan_certificate::Plan;
 
 /// A plan was provisioned.
@@ -69,8 +71,11 @@ pub fn provision_keeping<B: Bus>(
         MakesHistory B.rules (B.seen bus.old) (B.seen bus.new) (λ history.
         IsProvisioning control lanes (IsFull (B.seen bus.new)) history (provisioned_steps result)) }
 {
-    let procedure = Procedure::provisioning(bytes_of(advert, plan), lanes_outside(advert, kept));
-    match carry_out(bus, procedure) {
+    let work = Work::Provisioning {
+        control: bytes_of(advert, plan),
+        lanes: lanes_outside(advert, kept),
+    };
+    match carry_out(bus, work) {
         Ok(steps) => Ok(Provisioned { steps }),
         Err(fault) => Err(fault),
     }
@@ -87,26 +92,81 @@ pub fn activate<B: Bus>(
         MakesHistory B.rules (B.seen bus.old) (B.seen bus.new) (λ history.
         IsActivation (control_bytes advert.now plan.now) lanes (IsFull (B.seen bus.new)) history (activated_steps result)) }
 {
-    let procedure = Procedure::activation(bytes_of(advert, plan), lanes_of(advert, plan));
-    match carry_out(bus, procedure) {
+    let work = Work::Activation {
+        control: bytes_of(advert, plan),
+        lanes: lanes_of(advert, plan),
+    };
+    match carry_out(bus, work) {
         Ok(steps) => Ok(Activated { steps }),
         Err(fault) => Err(fault),
     }
 }
 
-// Makes the operations that the procedure asks for; answers the number of steps.
-fn carry_out<B: Bus>(bus: &mut B, mut procedure: Procedure) -> Result<u16, ProvisionFault>
-    ensures { (tasks : List Task) → IsAt tasks [] procedure →
-        MakesHistory B.rules (B.seen bus.old) (B.seen bus.new) (λ history.
-        IsOutcome tasks (B.seen bus.new) history result) }
+/// `provision_keeping` with a pause of so many milliseconds wherever the transaction before brought nothing.
+pub fn provision_pausing<B: Bus>(
+    bus: &mut B,
+    advert: &Advert,
+    plan: &Plan,
+    kept: &Plan,
+    pause: u32,
+) -> Result<Provisioned, ProvisionFault>
+    requires admissible { IsAdmissible advert.now plan.now }
+    requires kept { Keeps kept.now plan.now }
+    ensures { let control = control_bytes advert.now plan.now in
+        let lanes = lanes_outside advert.now kept.now in
+        MakesEvents B.rules (B.seen bus.old) (B.seen bus.new) (λ events. AreSpaced events
+        × IsProvisioning control lanes (IsFull (B.seen bus.new)) (steps_of events) (provisioned_steps result)) }
 {
-    'told: loop {
-        match procedure.next() {
-            ProcedureNext::Do(op) => match bus.transact(op) {
-                Ok(reply) => procedure.take(&reply),
-                Err(fault) => return Err(ProvisionFault::Bus(fault)),
-            },
-            ProcedureNext::Done(answer) => return answer,
-        }
+    let work = Work::Provisioning {
+        control: bytes_of(advert, plan),
+        lanes: lanes_outside(advert, kept),
+    };
+    match carry_out_pausing(bus, work, pause) {
+        Ok(steps) => Ok(Provisioned { steps }),
+        Err(fault) => Err(fault),
+    }
+}
+
+/// `activate` with a pause of so many milliseconds wherever the transaction before brought nothing.
+pub fn activate_pausing<B: Bus>(
+    bus: &mut B,
+    advert: &Advert,
+    plan: &Plan,
+    pause: u32,
+) -> Result<Activated, ProvisionFault>
+    requires { IsAdmissible advert.now plan.now }
+    ensures { let lanes = plan_lanes advert.now plan.now in
+        MakesEvents B.rules (B.seen bus.old) (B.seen bus.new) (λ events. AreSpaced events
+        × IsActivation (control_bytes advert.now plan.now) lanes (IsFull (B.seen bus.new)) (steps_of events) (activated_steps result)) }
+{
+    let work = Work::Activation {
+        control: bytes_of(advert, plan),
+        lanes: lanes_of(advert, plan),
+    };
+    match carry_out_pausing(bus, work, pause) {
+        Ok(steps) => Ok(Activated { steps }),
+        Err(fault) => Err(fault),
+    }
+}
+
+// Brings the work about; answers the number of steps.
+fn carry_out<B: Bus>(bus: &mut B, work: Work) -> Result<u16, ProvisionFault>
+    ensures { MakesHistory B.rules (B.seen bus.old) (B.seen bus.new) (λ history.
+        IsOutcome (tasks_of work) (B.seen bus.new) history result) }
+{
+    let mut procedure = TaskList::of(work);
+    match run(bus, &mut procedure) {
+        Ok(spent) => answer_of(spent),
+        Err(fault) => Err(ProvisionFault::Bus(fault)),
+    }
+}
+
+fn carry_out_pausing<B: Bus>(bus: &mut B, work: Work, pause: u32) -> Result<u16, ProvisionFault>
+    ensures { MakesEvents B.rules (B.seen bus.old) (B.seen bus.new) (λ events. AreSpaced events
+        × IsOutcome (tasks_of work) (B.seen bus.new) (steps_of events) result) }
+{
+    match run_pausing(bus, TaskList::of(work), pause) {
+        Ok(spent) => answer_of(spent),
+        Err(fault) => Err(ProvisionFault::Bus(fault)),
     }
 }

@@ -1,7 +1,8 @@
 use Rattle.std.proofs.Common.{◌≡◌}
 use Rattle.control_sets.proofs.OutcomeIsProvisioning.{ended_is_provisioning}
 use Rattle.control_sets.proofs.OutcomeIsActivation.{ended_is_activation}
-use Rattle.control_sets.proofs.PowerLaws.{ends}
+use Rattle.control_sets.proofs.PowerLaws.{driven_is}
+use Rattle.control_sets.proofs.Turns.{begun_at, follows, kept_at, told_step}
 use Rattle.control_sets.proofs.laws.procedures_have_their_outcomes.Goals as goal
 
 pub returns-clause-provisioning : goal.returns-clause-provisioning
@@ -10,5 +11,17 @@ returns-clause-provisioning c control lanes made room history answer eight ended
 pub returns-clause-activation : goal.returns-clause-activation
 returns-clause-activation c control lanes made room history answer eight ended = ended_is_activation control lanes eight (made ≡ room) history answer ended
 
+pub returns-clause-begun : goal.returns-clause-begun
+returns-clause-begun c work = begun_at work
+
+pub returns-clause-follows : goal.returns-clause-follows
+returns-clause-follows c tasks history procedure at = follows tasks history procedure at
+
+pub returns-clause-told : goal.returns-clause-told
+returns-clause-told c tasks history old new op reply same takes at = told_step tasks history old new op reply same takes at
+
+pub returns-clause-kept : goal.returns-clause-kept
+returns-clause-kept c tasks history procedure at = kept_at tasks history procedure at
+
 pub returns-clause-power : goal.returns-clause-power
-returns-clause-power c change made room history answer at asks = ends change history answer made room at asks
+returns-clause-power c change made room history spent at asks = driven_is change (made ≡ room) history spent at asks

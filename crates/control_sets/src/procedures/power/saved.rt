@@ -1,42 +1,49 @@
 ghost use Rattle.std.specs.Prelude.{◌≡◌, ℕ, List, None, Some};
+ghost use Rattle.control_sets.specs.OutcomeAnswers.{most_steps};
 ghost use Rattle.control_sets.specs.SavedNumbers.{restored, work_numbered};
 ghost use Rattle.control_sets.specs.SavedPower as spec;
 ghost use Rattle.control_sets.specs.SavedPower.{power_numbered, restored_power, saved_power, stage_numbered};
 
 use super::{Power, PowerChange, PowerStage};
-use crate::procedures::procedure::SavedProcedure;
+use crate::procedures::procedure::{MAX_STEPS, SavedProcedure};
 use crate::procedures::saved_fault::SavedFault;
+use conversations::Within;
 
 impl PowerChange {
-    /// Its numbers, which are those of no `Procedure`.
-    pub fn save(&self) -> SavedProcedure
-        ensures numbers { result ≡ saved_power self.now }
-        ensures same { restored_power result ≡ Some self.now }
+    /// Its numbers, which are those of no procedure. Restored, they give it with the limit that every change of power has.
+    pub fn save(within: &Within<PowerChange>) -> SavedProcedure
+        ensures numbers { result ≡ saved_power within.now }
+        ensures same { restored_power result ≡ Some (record { conversation = within.now.conversation; steps = within.now.steps; limit = most_steps }) }
         ensures apart { restored result ≡ None }
     {
-        let (met, found) = numbers_of_stage(self.stage);
+        let change = within.conversation;
+        let (met, found) = numbers_of_stage(change.stage);
         SavedProcedure {
             met,
-            steps: self.steps,
-            work: number_of_power(self.power),
+            steps: within.steps,
+            work: number_of_power(change.power),
             lanes: 0,
             control: [found, 0, 0, 0, 0, 0, 0, 0],
             selection: 0,
             page: 0,
-            fault: SavedFault::of(self.fault),
+            fault: SavedFault::of(change.fault),
         }
     }
 
     /// The change of power that has these numbers, if one has.
     #[tactic(auto, unfolding(crate::specs::SavedPower::restored_power))]
-    pub fn restore(saved: &SavedProcedure) -> Option<PowerChange>
+    pub fn restore(saved: &SavedProcedure) -> Option<Within<PowerChange>>
         ensures { result ≡ restored_power saved.now }
     {
-        Some(PowerChange {
+        let conversation = PowerChange {
             power: power_numbered(saved.work)?,
             stage: stage_numbered(saved.met, saved.control[0])?,
-            steps: saved.steps,
             fault: saved.fault.fault()?,
+        };
+        Some(Within {
+            conversation,
+            steps: saved.steps,
+            limit: MAX_STEPS,
         })
     }
 }

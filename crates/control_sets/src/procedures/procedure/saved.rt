@@ -1,10 +1,11 @@
 ghost use Rattle.std.specs.Prelude.{◌≡◌, Some};
+ghost use Rattle.control_sets.specs.Progress.{procedure_of};
 ghost use Rattle.control_sets.specs.SavedNumbers.{page_read_back, restored, saved_fault, selected_numbered, work_numbered};
 
-use super::{Procedure, Work};
+use super::{MAX_STEPS, Procedure, TaskList, Work};
 use crate::control_set::ControlSet;
-use crate::procedures::page_tracker::PageTracker;
 use crate::procedures::saved_fault::SavedFault;
+use conversations::{OnPage, Within};
 use field_tables::LaneSet;
 use paged_memory::KnownPage;
 
@@ -53,24 +54,26 @@ impl SavedProcedure {
     }
 }
 
-impl Procedure {
-    /// Its numbers.
-    pub fn save(&self) -> SavedProcedure
-        ensures same { restored result ≡ Some self.now }
-        ensures page { result.page ≡ page_read_back self.now.tracker.selection }
-        ensures fault { result.fault ≡ saved_fault self.now.fault }
+impl TaskList {
+    /// A procedure's numbers. Restored, they give it with the limit that every procedure has, and without the page that was taken,
+    /// of which the tasks make nothing.
+    pub fn save(procedure: &Procedure) -> SavedProcedure
+        ensures same { restored result ≡ Some (procedure_of procedure.now.conversation.conversation procedure.now.conversation.selection procedure.now.steps) }
+        ensures page { result.page ≡ page_read_back procedure.now.conversation.selection }
+        ensures fault { result.fault ≡ saved_fault procedure.now.conversation.conversation.fault }
     {
-        let (work, control, lanes) = numbers_of_work(&self.work);
-        let (selection, page) = numbers_of_selected(self.tracker.selection);
+        let list = procedure.conversation.conversation;
+        let (work, control, lanes) = numbers_of_work(&list.work);
+        let (selection, page) = numbers_of_selected(procedure.conversation.selection);
         SavedProcedure {
-            met: self.met,
-            steps: self.tracker.steps,
+            met: list.met,
+            steps: procedure.steps,
             work,
             lanes,
             control,
             selection,
             page,
-            fault: SavedFault::of(self.fault),
+            fault: SavedFault::of(list.fault),
         }
     }
 
@@ -79,14 +82,19 @@ impl Procedure {
     pub fn restore(saved: &SavedProcedure) -> Option<Procedure>
         ensures { result ≡ restored saved.now }
     {
-        Some(Procedure {
+        let list = TaskList {
             work: saved.work()?,
             met: saved.met,
-            tracker: PageTracker {
-                steps: saved.steps,
-                selection: saved.selected()?,
-            },
             fault: saved.fault.fault()?,
+        };
+        Some(Within {
+            conversation: OnPage {
+                conversation: list,
+                selection: saved.selected()?,
+                taken: None,
+            },
+            steps: saved.steps,
+            limit: MAX_STEPS,
         })
     }
 }

@@ -1,10 +1,18 @@
-use Rattle.std.proofs.Common.{sym, ◌∙◌, ◌∷◌}
-use Rattle.control_sets.specs.Asking.{step_with}
-use Rattle.control_sets.proofs.CarriedOut.{ran_more}
+use Rattle.std.proofs.Common.{sym, subst}
+use Rattle.conversations.specs.Events.{steps_of}
+use Rattle.control_sets.specs.OutcomeAnswers.{Answer}
+use Rattle.control_sets.specs.Procedures.{IsOutcome}
+use Rattle.control_sets.specs.Progress.{tasks_of}
+use Rattle.control_sets.proofs.Turns.{carried_out, filled}
 use Rattle.control_sets.proofs.procedures.runner.carry_out.Goals as goal
 
-pub told-preserved : goal.told-preserved
-told-preserved g c tasks start =
-    let (history, ran, at) = c.told.invariant tasks start in
-    let step = step_with c.in-Do.op c.in-Ok.reply in
-    (step ∷ history, ran_more history step ran c.in-Ok.ensures.ran, c.take.ensures.told tasks history c.in-Do.op at (sym c.next.ensures.value ∙ c.in-Do.is))
+pub returns-in-Ok : goal.returns-in-Ok
+returns-in-Ok g c =
+    let (events, ran, (told, left, ended)) = c.in-Ok.ensures.made in
+    let after = g.B.Bus.seen c.run.new.bus in
+    (steps_of events, ran, subst (λ (a : Answer). IsOutcome (tasks_of c.args.work) after (steps_of events) a) (sym c.answer_of.ensures) (carried_out c.args.work c.of-procedure.result after events c.of-procedure.ensures c.in-Ok.spent ended))
+
+pub returns-in-Err : goal.returns-in-Err
+returns-in-Err g c =
+    let (events, ran, (told, left, out)) = c.in-Err.ensures.made in
+    (steps_of events, ran, filled c.args.work c.of-procedure.result (g.B.Bus.seen c.run.new.bus) events c.of-procedure.ensures c.in-Err.fault out)

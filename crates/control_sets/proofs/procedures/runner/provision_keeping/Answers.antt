@@ -1,8 +1,6 @@
 use Rattle.std.proofs.Common.{Ok, Err}
-use Rattle.control_sets.specs.ControlBytes.{control_bytes}
 use Rattle.control_sets.specs.PlanLanes.{lanes_outside}
-use Rattle.control_sets.specs.Tasks.{provisioning}
-use Rattle.control_sets.proofs.OutcomeCalls.{is_at, makes_provisioning}
+use Rattle.control_sets.proofs.OutcomeCalls.{provisions}
 use Rattle.control_sets.proofs.PlanLaneLaws.{kept_allowed}
 use Rattle.control_sets.proofs.procedures.runner.provision_keeping.Goals as goal
 
@@ -11,16 +9,12 @@ lanes_outside-requires g c = kept_allowed c.args.advert.now c.args.plan.now c.ar
 
 pub returns-in-Ok : goal.returns-in-Ok
 returns-in-Ok g c =
-    let advert = c.args.advert.now in
-    let control = control_bytes advert c.args.plan.now in
-    let lanes = lanes_outside advert c.args.kept.now in
-    let at = is_at provisioning control c.bytes_of.result lanes c.lanes_outside.result c.provisioning-procedure.result c.bytes_of.ensures c.lanes_outside.ensures c.provisioning-procedure.ensures in
-    makes_provisioning advert c.args.plan.now lanes (Ok c.in-Ok.steps) (c.in-Ok.ensures (provisioning control lanes) at)
+    let lanes = lanes_outside c.args.advert.now c.args.kept.now in
+    let (history, ran, outcome) = c.in-Ok.ensures in
+    (history, ran, provisions (g.B.Bus.seen c.carry_out.new.bus) c.args.advert.now c.args.plan.now c.bytes_of.result c.bytes_of.ensures lanes c.lanes_outside.result c.lanes_outside.ensures (Ok c.in-Ok.steps) history outcome)
 
 pub returns-in-Err : goal.returns-in-Err
 returns-in-Err g c =
-    let advert = c.args.advert.now in
-    let control = control_bytes advert c.args.plan.now in
-    let lanes = lanes_outside advert c.args.kept.now in
-    let at = is_at provisioning control c.bytes_of.result lanes c.lanes_outside.result c.provisioning-procedure.result c.bytes_of.ensures c.lanes_outside.ensures c.provisioning-procedure.ensures in
-    makes_provisioning advert c.args.plan.now lanes (Err c.in-Err.fault) (c.in-Err.ensures (provisioning control lanes) at)
+    let lanes = lanes_outside c.args.advert.now c.args.kept.now in
+    let (history, ran, outcome) = c.in-Err.ensures in
+    (history, ran, provisions (g.B.Bus.seen c.carry_out.new.bus) c.args.advert.now c.args.plan.now c.bytes_of.result c.bytes_of.ensures lanes c.lanes_outside.result c.lanes_outside.ensures (Err c.in-Err.fault) history outcome)

@@ -1,0 +1,5 @@
+pub mod RunMore
+pub mod RunTold
+pub mod PausingLaws
+pub mod OnPageLaws
+pub mod InPiecesLaws

@@ -1,0 +1,12 @@
+use bus_model::Step;
+
+/// What happened in a conversation.
+#[derive(Debug, PartialEq, Eq, Drop)]
+pub enum Event {
+    /// This transaction was made.
+    Made(Step),
+    /// So many milliseconds passed, as was asked for.
+    Waited(u32),
+    /// This page was needed and isn't there: its selection was accepted, and page 00h shows.
+    Lacked(u8),
+}

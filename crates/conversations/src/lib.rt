@@ -1,0 +1,22 @@
+//! Conversations with a bus: which operation comes next, how long to wait before it, and what a reply makes of it. Whoever has
+//! a bus of any kind drives one: ask for `next`, make that operation or wait so long, tell what came of it, and so on until
+//! the end.
+#![tactic(auto)]
+
+mod conversation;
+mod event;
+mod in_pieces;
+mod next;
+mod on_page;
+mod pausing;
+mod runner;
+mod within;
+
+pub use conversation::{Conversation, try_take};
+pub use event::Event;
+pub use in_pieces::InPieces;
+pub use next::{Next, can_have};
+pub use on_page::{NeedsPages, OnPage};
+pub use pausing::Pausing;
+pub use runner::{run, run_pausing};
+pub use within::{Spent, Within};

@@ -1,0 +1,29 @@
+ghost use Rattle.std.specs.Prelude.{◌↔◌, IsTrue};
+ghost use Rattle.bus_model.specs.Operations.{Answers};
+
+use bus_model::{Op, Reply};
+
+/// What a conversation wants.
+#[derive(Drop)]
+pub enum Next<E> {
+    /// This operation is to be made, and its reply to be told.
+    Do(Op),
+    /// So many milliseconds are to pass before anything else.
+    Wait(u32),
+    /// Nothing more.
+    End(E),
+}
+
+/// Whether the operation can have a reply of this kind, with so many bytes.
+pub fn can_have(op: &Op, reply: &Reply) -> bool
+    ensures { IsTrue result ↔ Answers op.now reply.now }
+{
+    match op {
+        Op::Fetch { count, .. } => match reply {
+            Reply::Bytes(bytes) => bytes.len() == usize::from(*count),
+            Reply::Done => false,
+            Reply::Refused => true,
+        },
+        Op::Store { .. } => !matches!(reply, Reply::Bytes(_)),
+    }
+}

@@ -1,0 +1,193 @@
+ghost use Rattle.std.specs.Prelude.{◌≡◌};
+ghost use Rattle.conversations.specs.Selecting.{chosen, lacked_by, taken_by};
+
+use crate::conversation::Conversation;
+use crate::next::Next;
+use bus_model::Reply;
+use paged_memory::{KnownPage, PageAddressing};
+
+/// A conversation whose operations need pages, and leave the selection alone.
+pub trait NeedsPages: Conversation {
+    ghost use Rattle.std.specs.Prelude.{◌≡◌, ℕ, ◌∷◌, Bool, Option, None, Some};
+    ghost use Rattle.conversations.specs.declared.event.Event.{Event};
+    ghost use Rattle.conversations.specs.declared.event.Event.TheVariants.{Lacked};
+    ghost use Rattle.conversations.specs.Events.{Events};
+    ghost use Rattle.conversations.specs.Wanted.{IfDo};
+    ghost use Rattle.paged_memory.specs.declared.page_addressing.PageAddressing.{PageAddressing};
+    ghost use Rattle.paged_memory.specs.KnownPages.{IsApart};
+
+    /// The page that the operation needs that is wanted; none for the lower memory.
+    ghost page: { Self → Option ℕ };
+
+    /// That which an operation needs after these events.
+    ghost needs: { Self.Topic → Events → Option ℕ };
+
+    /// How pages are selected; none while that isn't known.
+    ghost addressing: { Self → Option PageAddressing };
+
+    /// That which these events tell.
+    ghost addressed: { Self.Topic → Events → Option PageAddressing };
+
+    /// Whether it is to be told that a page isn't there.
+    ghost may_lack: { Self.Topic → Bool };
+
+    /// The page that the operation needs that is wanted. Before it is known how pages are selected, none is.
+    fn page(&self) -> Option<u8>
+        ensures value { result ≡ page self.now }
+        ensures needs { (events : Events) → Self.told events self.now → page self.now ≡ needs (Self.topic self.now) events }
+        ensures apart { (by : PageAddressing) → IfDo (Self.wants self.now) (IsApart by) }
+        ensures unknown { addressing self.now ≡ None → page self.now ≡ None };
+
+    /// How pages are selected, which stays so once it is known.
+    fn addressing(&self) -> Option<PageAddressing>
+        ensures value { result ≡ addressing self.now }
+        ensures addressed { (events : Events) → Self.told events self.now → addressing self.now ≡ addressed (Self.topic self.now) events }
+        ensures steady { (event : Event) (events : Events) (by : PageAddressing) → Self.told (event ∷ events) self.now →
+            addressed (Self.topic self.now) events ≡ Some by → addressing self.now ≡ Some by };
+
+    /// Whether it is to be told that a page isn't there. Else that page is selected once more.
+    fn may_lack(&self) -> bool
+        ensures { result ≡ may_lack (Self.topic self.now) };
+
+    /// The page that is needed isn't there.
+    fn lacks(&mut self, number: u8)
+        requires { page self.old ≡ Some number }
+        ensures topic { Self.topic self.new ≡ Self.topic self.old }
+        ensures told { (events : Events) → Self.told events self.old → Self.told (Lacked number ∷ events) self.new };
+}
+
+/// A conversation on confirmed pages: before an operation its page is selected and read back.
+#[derive(Drop)]
+pub struct OnPage<C> {
+    pub conversation: C,
+    /// What is known of the page selection.
+    pub selection: KnownPage,
+    /// The page whose selection was accepted, until it is read back, if it may be lacked.
+    pub taken: Option<u8>,
+}
+
+impl<C: NeedsPages> Conversation for OnPage<C>
+where
+    C::End: Drop,
+{
+    ghost use Rattle.conversations.specs.Events.{steps_of};
+    ghost use Rattle.conversations.specs.Selecting.{Knows, WithSelections, chosen, next_on};
+
+    type Topic = C::Topic;
+
+    type End = C::End;
+
+    ghost topic = { λ on. C.topic on.conversation };
+
+    ghost wants = { λ on. next_on (chosen (C.addressing on.conversation)) on.selection (C.page on.conversation) (C.wants on.conversation) };
+
+    ghost told = { λ events on. Knows (C.may_lack (C.topic on.conversation)) (C.addressing on.conversation) on.selection on.taken (steps_of events)
+        × WithSelections (C.may_lack (C.topic on.conversation)) (C.addressed (C.topic on.conversation)) (C.needs (C.topic on.conversation)) (λ own. C.told own on.conversation) events };
+
+    ghost ends = { λ topic events end. WithSelections (C.may_lack topic) (C.addressed topic) (C.needs topic) (λ own. C.ends topic own end) events };
+
+    ghost goes_on = { λ topic events. WithSelections (C.may_lack topic) (C.addressed topic) (C.needs topic) (λ own. C.goes_on topic own) events };
+
+    fn next(&self) -> Next<C::End> {
+        match self.conversation.next() {
+            Next::Do(op) => {
+                let addressing = chosen(self.conversation.addressing());
+                let page = self.conversation.page();
+                Next::Do(self.selection.wanted(addressing, page, op))
+            }
+            next => next,
+        }
+    }
+
+    fn take(&mut self, reply: &Reply) {
+        let addressing = chosen(self.conversation.addressing());
+        let page = self.conversation.page();
+        if self.selection.is_open() {
+            match self.read_back(addressing, page, reply) {
+                Some(number) => {
+                    self.conversation.lacks(number);
+                    let _same = self.conversation.addressing();
+                }
+                None => {}
+            }
+            return;
+        }
+        match self.selection.missing(page) {
+            Some(number) => {
+                self.selection = KnownPage::Open;
+                self.taken = taken_by(self.conversation.may_lack(), number, reply);
+            }
+            None => {
+                self.taken = None;
+                self.conversation.take(reply);
+                let _same = self.conversation.addressing();
+            }
+        }
+    }
+
+    fn waited(&mut self) {
+        let _known = self.conversation.addressing();
+        self.conversation.waited();
+        let _same = self.conversation.addressing();
+    }
+}
+
+impl<C> OnPage<C> {
+    ghost use Rattle.std.specs.Prelude.{◌≡◌};
+    ghost use Rattle.conversations.specs.Selecting.{lacked, taken_after};
+    ghost use Rattle.paged_memory.specs.KnownPages.{selection_told};
+
+    // Answers the page that is needed, if it isn't there.
+    fn read_back(
+        &mut self,
+        addressing: PageAddressing,
+        page: Option<u8>,
+        reply: &Reply,
+    ) -> Option<u8>
+        ensures new { self.new ≡ record {
+          conversation = self.old.conversation;
+          selection = selection_told addressing self.old.selection reply.now;
+          taken = taken_after self.old.taken reply.now;
+        } }
+        ensures lacked { result ≡ lacked addressing page self.old.taken reply.now }
+    {
+        match reply {
+            Reply::Bytes(bytes) => {
+                let taken = self.taken;
+                self.selection = KnownPage::of(addressing, bytes);
+                self.taken = None;
+                lacked_by(page, taken, self.selection.missing(Some(0)).is_none())
+            }
+            Reply::Done => None,
+            Reply::Refused => None,
+        }
+    }
+}
+
+fn chosen(addressing: Option<PageAddressing>) -> PageAddressing
+    ensures { result ≡ chosen addressing }
+{
+    match addressing {
+        Some(addressing) => addressing,
+        None => PageAddressing::BankAndPage,
+    }
+}
+
+fn taken_by(may: bool, page: u8, reply: &Reply) -> Option<u8>
+    ensures { result ≡ taken_by may page reply.now }
+{
+    match reply {
+        Reply::Done if may => Some(page),
+        _ => None,
+    }
+}
+
+// If page 00h shows.
+fn lacked_by(page: Option<u8>, taken: Option<u8>, shows: bool) -> Option<u8>
+    ensures { result ≡ lacked_by page taken shows }
+{
+    match (page, taken) {
+        (Some(page), Some(taken)) if shows && page > 0 && page == taken => Some(page),
+        _ => None,
+    }
+}

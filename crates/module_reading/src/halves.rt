@@ -1,0 +1,140 @@
+// The halves of a module's memory: which is fetched next, and what a reply makes of it.
+ghost use Rattle.std.specs.Prelude.{◌≡◌, None, Some, true};
+ghost use Rattle.module_reading.specs.ImageReading as spec;
+
+use crate::asked::{addressing, region};
+use crate::region::Region;
+use bus_model::Reply;
+use control_sets::MAX_STEPS;
+use conversations::{Conversation, NeedsPages, Next, OnPage, Within};
+use paged_memory::{Image, KnownPage, PAGE_LEN, Page, PageAddressing};
+
+/// What was read of a module so far: a conversation that ends when each half was read, or left out since the module lacks it.
+#[derive(Drop)]
+pub struct Halves {
+    /// The halves that were read.
+    pub image: Image,
+    /// How many were read or left out.
+    pub settled: usize,
+}
+
+/// The reading of a module without a bus: halves on confirmed pages, within as many steps as may be made.
+pub type Reading = Within<OnPage<Halves>>;
+
+impl Halves {
+    ghost use Rattle.conversations.specs.Wanted.{IsReplyTo};
+
+    /// Nothing was read, and no step was made.
+    pub fn reading() -> Reading
+        ensures { result ≡ spec.begun_reading }
+    {
+        let halves = Halves {
+            image: Image::new(),
+            settled: 0,
+        };
+        let on_page = OnPage {
+            conversation: halves,
+            selection: KnownPage::Unknown,
+            taken: None,
+        };
+        Within::new(on_page, MAX_STEPS)
+    }
+
+    // The half in hand is the first that was neither read nor left out.
+    fn region(&self) -> Option<Region>
+        ensures { result ≡ spec.in_hand self.now }
+    {
+        region(&self.image, self.settled)
+    }
+
+    fn told(&mut self, reply: &Reply)
+        requires { IsReplyTo (spec.wants self.old) reply.now }
+        ensures { self.new ≡ spec.after_reply self.old reply.now }
+    {
+        if let Some(region) = self.region() {
+            if let Reply::Bytes(bytes) = reply {
+                let mut page = [0; PAGE_LEN];
+                page.copy_from_slice(bytes);
+                let _full = self.image.put(region.key(), Page::from(page));
+                self.settled += 1;
+            }
+        }
+    }
+
+    fn left_out(&mut self)
+        ensures { self.new ≡ spec.after_lack self.old }
+    {
+        if self.region().is_some() {
+            self.settled += 1;
+        }
+    }
+}
+
+impl Conversation for Halves {
+    ghost use Rattle.module_reading.specs.ImageReading.{EndsHalves, GoesOnHalves, IsTold, wants};
+
+    type Topic = ();
+
+    type End = ();
+
+    ghost topic = { λ halves. tt };
+
+    ghost wants = { wants };
+
+    ghost told = { λ events halves. IsTold events halves };
+
+    ghost ends = { λ topic events end. EndsHalves events };
+
+    ghost goes_on = { λ topic events. GoesOnHalves events };
+
+    fn next(&self) -> Next<()> {
+        match self.region() {
+            Some(region) => Next::Do(region.op()),
+            None => Next::End(()),
+        }
+    }
+
+    fn take(&mut self, reply: &Reply) {
+        self.told(reply);
+    }
+
+    fn waited(&mut self) {}
+}
+
+impl NeedsPages for Halves {
+    ghost use Rattle.std.specs.Prelude.{true};
+    ghost use Rattle.module_reading.specs.ImageReading.{addressing, addressed_after, in_hand, needed_after, page_by};
+
+    ghost page = { λ halves. page_by (in_hand halves) };
+
+    ghost needs = { λ topic events. needed_after events };
+
+    ghost addressing = { addressing };
+
+    ghost addressed = { λ topic events. addressed_after events };
+
+    ghost may_lack = { λ topic. true };
+
+    fn page(&self) -> Option<u8> {
+        match self.region() {
+            Some(region) => region.page(),
+            None => None,
+        }
+    }
+
+    // It is told by the lower half of A0, which is read first.
+    fn addressing(&self) -> Option<PageAddressing> {
+        match self.settled {
+            0 => None,
+            _ => Some(addressing(&self.image)),
+        }
+    }
+
+    fn may_lack(&self) -> bool {
+        true
+    }
+
+    fn lacks(&mut self, _number: u8) {
+        self.left_out();
+    }
+}
