@@ -20,7 +20,7 @@ use Rattle.paged_memory.specs.declared.page_addressing.KnownPage.TheVariants.{Un
 use Rattle.paged_memory.specs.KnownPages.{Tells, is_known, missing_page, selecting_first, wanted}
 use Rattle.paged_memory.specs.PageAddressing.{is_read}
 use Rattle.paged_memory.proofs.KnownPageLaws.{tells_nothing}
-use Rattle.conversations.specs.declared.event.Event.TheVariants.{Made, Waited, Lacked}
+use Rattle.conversations.specs.declared.event.Event.TheVariants.{Made, Waited, Lacked, Asked}
 use Rattle.conversations.specs.declared.next.Next.{Next}
 use Rattle.conversations.specs.declared.next.Next.TheVariants.{Do, End}
 use Rattle.conversations.specs.declared.within.Spent.{Spent}
@@ -209,6 +209,9 @@ stands tasks apart (Waited time ∷ before) own (earlier, is, adds) each =
     let wanted = subst (λ (own : Events). EachIsWanted tasks (steps_of own)) is each in
     subst (λ (own : Events). StandsBy tasks (steps_of before) (steps_of own)) (sym is) (stands tasks apart before earlier adds wanted)
 stands tasks apart (Lacked page ∷ before) own none each = absurd none
+stands tasks apart (Asked number ∷ before) own (earlier, is, adds) each =
+    let wanted = subst (λ (own : Events). EachIsWanted tasks (steps_of own)) is each in
+    subst (λ (own : Events). StandsBy tasks (steps_of before) (steps_of own)) (sym is) (stands tasks apart before earlier adds wanted)
 
 -- ---- the end
 

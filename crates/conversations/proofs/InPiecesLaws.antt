@@ -12,12 +12,12 @@ use Rattle.bus_model.specs.declared.operation.Reply.{Reply}
 use Rattle.bus_model.specs.declared.operation.Reply.TheVariants.{Bytes, Done, Refused}
 use Rattle.bus_model.specs.Operations.{Answers, IsInHalf}
 use Rattle.bus_model.specs.SameOperation.{same_device}
-use Rattle.conversations.specs.declared.event.Event.TheVariants.{Waited}
+use Rattle.conversations.specs.declared.event.Event.TheVariants.{Asked, Waited}
 use Rattle.conversations.specs.declared.next.Next.{Next}
 use Rattle.conversations.specs.declared.next.Next.TheVariants.{Do, Wait, End}
 use Rattle.conversations.specs.Events.{Events, made}
-use Rattle.conversations.specs.Pauses.{is_same_fetch}
-use Rattle.conversations.specs.Pieces.{IsInPieces, IsPiece, Joins, bytes_of_piece, fits, half_of, is_asked_again, is_half, is_half_in, is_same_asked, items_of, op_of, bytes_in, next_piece, piece_of, whole_reply}
+use Rattle.conversations.specs.Pauses.{is_refused, is_same_fetch}
+use Rattle.conversations.specs.Pieces.{IsInPieces, IsPiece, Joins, bytes_of_piece, fits, half_of, is_half, is_half_in, is_same_wanted, items_of, op_of, bytes_in, next_piece, piece_of, whole_reply}
 use Rattle.conversations.specs.Wanted.{IsReplyTo}
 
 pub few_bytes : (size read : ℕ) → read < 128 → read + bytes_of_piece size read ≤ 128
@@ -122,10 +122,15 @@ same_fetch (Fetch dev offset count) (Fetch dev' offset' count') e =
 same_fetch (Fetch dev offset count) (Store dev' offset' bytes) e = absurd (true≢false (sym e))
 same_fetch (Store dev offset bytes) other e = absurd (true≢false (sym e))
 
-same_asked : {E : Type 0} (op : Op) (next : Next E) → is_same_asked (Some op) (op_of next) ≡ true → next ≡ Do op
-same_asked op (Do other) e = ap (λ (o : Op). Do o) (sym (same_fetch op other e))
-same_asked op (Wait time) e = absurd (true≢false (sym e))
-same_asked op (End end) e = absurd (true≢false (sym e))
+same_next : {E : Type 0} (op : Op) (next : Next E) → is_same_wanted (Some op) (op_of next) ≡ true → next ≡ Do op
+same_next op (Do other) e = ap (λ (o : Op). Do o) (sym (same_fetch op other e))
+same_next op (Wait time) e = absurd (true≢false (sym e))
+same_next op (End end) e = absurd (true≢false (sym e))
+
+same_wanted : {E : Type 0} (before next : Next E) → is_same_wanted (op_of before) (op_of next) ≡ true → before ≡ next
+same_wanted (Do op) next e = sym (same_next op next e)
+same_wanted (Wait time) next e = absurd (true≢false (sym e))
+same_wanted (End end) next e = absurd (true≢false (sym e))
 
 same_do : {E : Type 0} (op other : Op) → ◌≡◌ {A = Next E} (Do op) (Do other) → op ≡ other
 same_do op other e = cc
@@ -163,10 +168,10 @@ module _ {E : Type 0} (Old New : Events → Type 0) (asked next : Next E) (piece
     is_piece : IsPiece half (length part) piece_op
     is_piece = (dev, offset, count, refl, refl)
 
-    refused_piece : (again : Bool) → is_same_asked (op_of asked) (op_of next) ≡ again → ((own : Events) → Old own → New (made half Refused ∷ own)) → IsInPieces New next piece (if again then part else []) (made piece_op Refused ∷ events)
+    refused_piece : (again : Bool) → is_same_wanted (op_of asked) (op_of next) ≡ again → ((own : Events) → Old own → New (made half Refused ∷ own)) → IsInPieces New next piece (if again then part else []) (made piece_op Refused ∷ events)
     refused_piece true e more =
         let joins : Joins (made piece_op Refused ∷ events) (made half Refused ∷ was.own) half part = inr (inl (half, was.own, part, was.in_hand half asks, is_piece, refl, refl, inl (refl, refl))) in
-        let again : next ≡ Do half = same_asked half next (sym (ap (λ (a : Next E). is_same_asked (op_of a) (op_of next)) asks) ∙ e) in
+        let again : next ≡ Do half = same_next half next (sym (ap (λ (a : Next E). is_same_wanted (op_of a) (op_of next)) asks) ∙ e) in
         record {
           some = was.some;
           short = was.short;
@@ -222,7 +227,7 @@ module _ {E : Type 0} (Old New : Events → Type 0) (asked next : Next E) (piece
   -- what the conversation within is told, and what is left of the part
   abbrev Takes : Op → Reply → Type 0
   Takes op reply = (whole : Reply) → whole_reply piece part asked reply ≡ Some whole → ((own : Events) (o : Op) → asked ≡ Do o → Old own → New (made o whole ∷ own)) →
-      IsInPieces New next piece (if is_asked_again (op_of asked) reply (op_of next) then part else []) (made op reply ∷ events)
+      IsInPieces New next piece (if is_refused reply && is_same_wanted (op_of asked) (op_of next) then part else []) (made op reply ∷ events)
 
   told_is : (asked' : Next E) → asked ≡ asked' → (reply whole : Reply) → whole_reply piece part asked reply ≡ Some whole → whole_reply piece part asked' reply ≡ Some whole
   told_is asked' e reply whole told = subst (λ (a : Next E). whole_reply piece part a reply ≡ Some whole) e told
@@ -239,7 +244,7 @@ module _ {E : Type 0} (Old New : Events → Type 0) (asked next : Next E) (piece
 
   alone_takes : (op : Op) (reply : Reply) → asked ≡ Do op → (fits piece part && is_half op) ≡ false → Takes op reply
   alone_takes op reply asks no_half whole told more =
-      by_itself op reply (is_asked_again (op_of asked) reply (op_of next)) asks (not_half (is_half op) no_half)
+      by_itself op reply (is_refused reply && is_same_wanted (op_of asked) (op_of next)) asks (not_half (is_half op) no_half)
       (λ own at. subst (λ (r : Reply). New (made op r ∷ own)) (itself reply whole (is_half op) no_half op refl (told_is (Do op) asks reply whole told)) (more own op asks at))
 
   module _ (dev : Dev) (offset : ℕ) (asks : asked ≡ Do (Fetch dev offset 128)) where
@@ -265,7 +270,7 @@ module _ {E : Type 0} (Old New : Events → Type 0) (asked next : Next E) (piece
     half_takes (Bytes bytes) answers = bytes_take bytes (length (part ++ bytes.items) == 128) refl
     half_takes Done answers = absurd answers
     half_takes Refused answers = λ whole told more.
-        refused_piece dev offset count asks (is_same_asked (op_of asked) (op_of next)) refl (λ own at. subst (λ (r : Reply). New (made (Fetch dev offset 128) r ∷ own)) (sym (some_is Refused whole told)) (more own (Fetch dev offset 128) asks at))
+        refused_piece dev offset count asks (is_same_wanted (op_of asked) (op_of next)) refl (λ own at. subst (λ (r : Reply). New (made (Fetch dev offset 128) r ∷ own)) (sym (some_is Refused whole told)) (more own (Fetch dev offset 128) asks at))
 
     -- an earlier piece of a half
     half_waits : (bytes : ArrayVec ℕ) (ends : Bool) → (length (part ++ bytes.items) == 128) ≡ ends → length bytes.items ≡ count → whole_reply piece part asked (Bytes bytes) ≡ None →
@@ -341,6 +346,34 @@ module _ {E : Type 0} (Old New : Events → Type 0) (asked next : Next E) (piece
           joins = (was.half, was.own, joins, refl, none);
           in_hand = λ op later. (was.half, was.own, joins, refl, none);
           alone = λ no_half. none;
+        }
+
+  -- and what the caller says
+  pub says : (number : ℕ) → ((own : Events) → Old own → New (Asked number ∷ own)) → IsInPieces New next piece (if is_same_wanted (op_of asked) (op_of next) then part else []) (Asked number ∷ events)
+  says number more = by (is_same_wanted (op_of asked) (op_of next)) refl where
+    by : (still : Bool) → is_same_wanted (op_of asked) (op_of next) ≡ still → IsInPieces New next piece (if still then part else []) (Asked number ∷ events)
+    by true e =
+        let same = same_wanted asked next e in
+        record {
+          some = was.some;
+          short = was.short;
+          own = Asked number ∷ was.own;
+          was_told = more was.own was.was_told;
+          half = was.half;
+          joins = (was.half, was.own, part, was.joins, refl, inl (refl, refl));
+          in_hand = λ op later. (op, was.own, part, was.in_hand op (same ∙ later), refl, inl (refl, refl));
+          alone = λ no_half. was.alone (ap is_half_in same ∙ no_half);
+        }
+    by false e =
+        record {
+          some = was.some;
+          short = omega arith;
+          own = Asked number ∷ was.own;
+          was_told = more was.own was.was_told;
+          half = was.half;
+          joins = (was.half, was.own, part, was.joins, refl, inr refl);
+          in_hand = λ op later. (was.half, was.own, part, was.joins, refl, inr refl);
+          alone = λ no_half. refl;
         }
 
   -- an earlier piece alone is kept

@@ -8,7 +8,7 @@ use Rattle.bus_model.specs.declared.operation.Reply.{Reply}
 use Rattle.bus_model.specs.declared.operation.Reply.TheVariants.{Bytes, Done, Refused}
 use Rattle.bus_model.specs.Operations.{Answers}
 use Rattle.conversations.specs.declared.event.Event.{Event}
-use Rattle.conversations.specs.declared.event.Event.TheVariants.{Lacked, Waited}
+use Rattle.conversations.specs.declared.event.Event.TheVariants.{Asked, Lacked, Waited}
 use Rattle.conversations.specs.declared.next.Next.{Next}
 use Rattle.conversations.specs.declared.next.Next.TheVariants.{Do, Wait, End}
 use Rattle.conversations.specs.Events.{Events, made, steps_of}
@@ -324,11 +324,21 @@ module _ (may : Bool) (addressed : Events → Option PageAddressing) (needs : Ev
             more own at,
           )
 
-  pub wait_more : (P Q : Events → Type 0) (time : ℕ) (events : Events) → ((own : Events) → P own → Q (Waited time ∷ own)) → ((own : Events) → P own → (a : PageAddressing) → addressed own ≡ Some a → addressed (Waited time ∷ own) ≡ Some a) →
-      WithSelections may addressed needs P events → WithSelections may addressed needs Q (Waited time ∷ events)
-  wait_more P Q time events more steady (own, adds, at) =
-      let adds' = by_both (addressed own) (λ a. AddsSelections may a needs own events) (λ a. AddsSelections may a needs own events) (λ a. AddsSelections may a needs (Waited time ∷ own) (Waited time ∷ events)) (λ a adds again. (own, refl, adds)) adds adds in
-      (Waited time ∷ own, by_next (addressed own) (addressed (Waited time ∷ own)) (λ a. AddsSelections may a needs (Waited time ∷ own) (Waited time ∷ events)) (steady own at) adds', more own at)
+  -- an event that is no transaction
+  abbrev pub Passes : Event → Events → Type 0
+  Passes event events = (addressing : PageAddressing) (own : Events) → AddsSelections may addressing needs own events → AddsSelections may addressing needs (event ∷ own) (event ∷ events)
+
+  event_more : (P Q : Events → Type 0) (event : Event) (events : Events) → Passes event events → ((own : Events) → P own → Q (event ∷ own)) → ((own : Events) → P own → (a : PageAddressing) → addressed own ≡ Some a → addressed (event ∷ own) ≡ Some a) →
+      WithSelections may addressed needs P events → WithSelections may addressed needs Q (event ∷ events)
+  event_more P Q event events passes more steady (own, adds, at) =
+      let adds' = by_both (addressed own) (λ a. AddsSelections may a needs own events) (λ a. AddsSelections may a needs own events) (λ a. AddsSelections may a needs (event ∷ own) (event ∷ events)) (λ a adds again. passes a own adds) adds adds in
+      (event ∷ own, by_next (addressed own) (addressed (event ∷ own)) (λ a. AddsSelections may a needs (event ∷ own) (event ∷ events)) (steady own at) adds', more own at)
+
+  pub wait_passes : (time : ℕ) (events : Events) → Passes (Waited time) events
+  wait_passes time events addressing own adds = (own, refl, adds)
+
+  pub word_passes : (number : ℕ) (events : Events) → Passes (Asked number) events
+  word_passes number events addressing own adds = (own, refl, adds)
 
 -- ---- one event more of any conversation within
 
@@ -357,3 +367,12 @@ module _ {C T : Type 0} (may : T → Bool) (told : Events → C → Type 0) (top
         Knows (may (topic new)) (addressing new) selected taken history × Within new new events
     in_topic selected taken history events all =
         subst (λ (t : T). Knows (may t) (addressing new) selected taken history × WithSelections (may t) (addressed t) (needs t) (λ own. told own new) events) (sym f.same) all
+
+    pub event_told : (selected : KnownPage) (taken : Option ℕ) (events : Events) → Passes (may (topic old)) (addressed (topic old)) (needs (topic old)) event events → steps_of (event ∷ events) ≡ steps_of events →
+        Knows (may (topic old)) (addressing old) selected taken (steps_of events) × Within old old events → Knows (may (topic new)) (addressing new) selected taken (steps_of (event ∷ events)) × Within new new (event ∷ events)
+    event_told selected taken events passes same (knows, within) =
+        let still = knows_next (may (topic old)) (addressing old) (addressing new) selected taken (steps_of events) (steady_by events within) knows in
+        in_topic selected taken (steps_of (event ∷ events)) (event ∷ events) (
+          subst (λ (history : History). Knows (may (topic old)) (addressing new) selected taken history) (sym same) still,
+          event_more (may (topic old)) (addressed (topic old)) (needs (topic old)) (λ own. told own old) (λ own. told own new) event events passes f.more steady_own within,
+        )

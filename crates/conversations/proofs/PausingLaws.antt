@@ -6,13 +6,13 @@ use Rattle.bus_model.specs.declared.operation.Reply.{Reply}
 use Rattle.bus_model.specs.declared.operation.Step.{Step}
 use Rattle.bus_model.specs.declared.bus.BusFault.{BusFault}
 use Rattle.conversations.specs.declared.within.Spent.{Spent}
-use Rattle.conversations.specs.declared.event.Event.TheVariants.{Waited}
+use Rattle.conversations.specs.declared.event.Event.TheVariants.{Asked, Waited}
 use Rattle.conversations.specs.declared.next.Next.{Next}
 use Rattle.conversations.specs.declared.next.Next.TheVariants.{Do, Wait, End}
 use Rattle.conversations.specs.Events.{Events, made, steps_of}
 use Rattle.conversations.specs.Budgets.{HasEnded, HasSpent}
 use Rattle.conversations.specs.Carried.{IsCarriedOut}
-use Rattle.conversations.specs.Pauses.{WithPauses, is_due, must_wait, next_pausing, pauses_between}
+use Rattle.conversations.specs.Pauses.{WithPauses, is_do, is_due, must_wait, next_pausing, pauses_between}
 
 -- an operation is wanted where none is due
 pub pausing_do : {E : Type 0} (due : Bool) (pause : ℕ) (wanted : Next E) (op : Op) → next_pausing due pause wanted ≡ Do op → (due ≡ false) × (wanted ≡ Do op)
@@ -41,6 +41,15 @@ due_waited (End end) time events = refl
 -- a wait that the conversation within asked for
 pub own_wait : (P Q : Events → Type 0) (time : ℕ) (events : Events) → WithPauses P events → ((own : Events) → P own → Q (Waited time ∷ own)) → WithPauses Q (Waited time ∷ events)
 own_wait P Q time events (all, (own, same, at)) more = (all, (Waited time ∷ own, same, more own at))
+
+-- what the caller says
+pub own_word : (P Q : Events → Type 0) (number : ℕ) (events : Events) → WithPauses P events → ((own : Events) → P own → Q (Asked number ∷ own)) → WithPauses Q (Asked number ∷ events)
+own_word P Q number events (all, (own, same, at)) more = (all, (Asked number ∷ own, same, more own at))
+
+pub due_asked : {E : Type 0} (wanted : Next E) (number : ℕ) (events : Events) → is_do wanted ≡ is_due wanted (Asked number ∷ events)
+due_asked (Do op) number events = refl
+due_asked (Wait time) number events = refl
+due_asked (End end) number events = refl
 
 -- and one that it didn't
 pub other_wait : (P : Events → Type 0) (time : ℕ) (events : Events) → WithPauses P events → WithPauses P (Waited time ∷ events)

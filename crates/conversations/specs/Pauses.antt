@@ -6,7 +6,7 @@ use Rattle.bus_model.specs.declared.operation.Op.TheVariants.{Fetch, Store}
 use Rattle.bus_model.specs.declared.operation.Reply.{Reply}
 use Rattle.bus_model.specs.declared.operation.Reply.TheVariants.{Bytes, Done, Refused}
 use Rattle.bus_model.specs.SameOperation.{same_device}
-use Rattle.conversations.specs.declared.event.Event.TheVariants.{Made, Waited, Lacked}
+use Rattle.conversations.specs.declared.event.Event.TheVariants.{Made, Waited, Lacked, Asked}
 use Rattle.conversations.specs.declared.next.Next.{Next}
 use Rattle.conversations.specs.declared.next.Next.TheVariants.{Do, Wait, End}
 use Rattle.conversations.specs.Events.{Events, steps_of}
@@ -26,25 +26,32 @@ is_same_fetch (Store dev offset bytes) other = false
 abbrev pub brought_nothing : Op → Reply → Op → Bool
 brought_nothing op reply next = is_refused reply || is_same_fetch op next
 
--- the newest event is such a transaction
+-- the newest event is such a transaction, or what the caller said
 abbrev pub must_wait : Op → Events → Bool
 must_wait op [] = false
 must_wait op (Made step ∷ before) = brought_nothing step.op step.reply op
 must_wait op (Waited time ∷ before) = false
 must_wait op (Lacked page ∷ before) = must_wait op before
+must_wait op (Asked number ∷ before) = true
 
--- between two transactions of which the first brought nothing there is a wait
+-- between two transactions of which the first brought nothing there is a wait, and between what the caller said and the next one
 abbrev pub AreSpaced : Events → Type 0
 AreSpaced [] = Unit {0}
 AreSpaced (Made step ∷ before) = (must_wait step.op before ≡ false) × AreSpaced before
 AreSpaced (Waited time ∷ before) = AreSpaced before
 AreSpaced (Lacked page ∷ before) = AreSpaced before
+AreSpaced (Asked number ∷ before) = AreSpaced before
 
 -- whether a wait comes first
 abbrev pub is_due : {E : Type 0} → Next E → Events → Bool
 is_due (Do op) events = must_wait op events
 is_due (Wait time) events = false
 is_due (End end) events = false
+
+abbrev pub is_do : {E : Type 0} → Next E → Bool
+is_do (Do op) = true
+is_do (Wait time) = false
+is_do (End end) = false
 
 abbrev pub next_pausing : {E : Type 0} → Bool → ℕ → Next E → Next E
 next_pausing due pause (Do op) = if due then Wait pause else Do op

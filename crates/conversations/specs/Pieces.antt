@@ -6,11 +6,11 @@ use Rattle.bus_model.specs.declared.operation.Op.{Op}
 use Rattle.bus_model.specs.declared.operation.Op.TheVariants.{Fetch, Store}
 use Rattle.bus_model.specs.declared.operation.Reply.{Reply}
 use Rattle.bus_model.specs.declared.operation.Reply.TheVariants.{Bytes, Done, Refused}
-use Rattle.conversations.specs.declared.event.Event.TheVariants.{Made, Waited, Lacked}
+use Rattle.conversations.specs.declared.event.Event.TheVariants.{Made, Waited, Lacked, Asked}
 use Rattle.conversations.specs.declared.next.Next.{Next}
 use Rattle.conversations.specs.declared.next.Next.TheVariants.{Do, Wait, End}
 use Rattle.conversations.specs.Events.{Events, made}
-use Rattle.conversations.specs.Pauses.{is_refused, is_same_fetch}
+use Rattle.conversations.specs.Pauses.{is_same_fetch}
 
 -- ---- what is asked for
 
@@ -60,20 +60,17 @@ whole_reply piece part asked (Bytes bytes) = if fits piece part && is_half_in as
 whole_reply piece part asked Done = Some Done
 whole_reply piece part asked Refused = Some Refused
 
--- the operation that is asked for
+-- the operation that is wanted
 abbrev pub op_of : {E : Type 0} → Next E → Option Op
 op_of (Do op) = Some op
 op_of (Wait time) = None
 op_of (End end) = None
 
-abbrev pub is_same_asked : Option Op → Option Op → Bool
-is_same_asked (Some op) (Some next) = is_same_fetch op next
-is_same_asked (Some op) None = false
-is_same_asked None next = false
-
--- a piece was refused, and its half is asked for again
-abbrev pub is_asked_again : Option Op → Reply → Option Op → Bool
-is_asked_again asked reply next = is_refused reply && is_same_asked asked next
+-- the half that was wanted before is wanted still
+abbrev pub is_same_wanted : Option Op → Option Op → Bool
+is_same_wanted (Some op) (Some next) = is_same_fetch op next
+is_same_wanted (Some op) None = false
+is_same_wanted None next = false
 
 -- ---- what the steps say
 
@@ -100,6 +97,9 @@ Joins (Made step ∷ before) own half part =
     × (step.reply ≡ items_of bytes) × (length (read ++ bytes) ≡ 128) × (own ≡ made whole (items_of (read ++ bytes)) ∷ earlier) × (part ≡ []))))
 Joins (Waited time ∷ before) own half part = (other : Op) × (earlier : Events) × Joins before earlier other [] × (own ≡ Waited time ∷ earlier) × (part ≡ [])
 Joins (Lacked page ∷ before) own half part = ⊥
+-- what was read of a half is kept, or not
+Joins (Asked number ∷ before) own half part = (whole : Op) × (earlier : Events) × (read : List ℕ) × Joins before earlier whole read
+    × (own ≡ Asked number ∷ earlier) × (((half ≡ whole) × (part ≡ read)) ⊎ (part ≡ []))
 
 -- joined, they are what the conversation within knows of
 abbrev pub InHalves : (Events → Type 0) → Events → Type 0

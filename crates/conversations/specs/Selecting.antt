@@ -7,7 +7,7 @@ use Rattle.bus_model.specs.declared.operation.Reply.{Reply}
 use Rattle.bus_model.specs.declared.operation.Reply.TheVariants.{Bytes, Done, Refused}
 use Rattle.bus_model.specs.declared.operation.Step.{Step}
 use Rattle.bus_model.specs.Operations.{Answers}
-use Rattle.conversations.specs.declared.event.Event.TheVariants.{Made, Waited, Lacked}
+use Rattle.conversations.specs.declared.event.Event.TheVariants.{Made, Waited, Lacked, Asked}
 use Rattle.conversations.specs.declared.next.Next.{Next}
 use Rattle.conversations.specs.declared.next.Next.TheVariants.{Do, Wait, End}
 use Rattle.conversations.specs.Events.{Events, steps_of}
@@ -116,6 +116,8 @@ AddsSelections may addressing needs own (Made step ∷ before) =
 AddsSelections may addressing needs own (Waited time ∷ before) =
     (earlier : Events) × (own ≡ Waited time ∷ earlier) × AddsSelections may addressing needs earlier before
 AddsSelections may addressing needs own (Lacked page ∷ before) = ⊥
+AddsSelections may addressing needs own (Asked number ∷ before) =
+    (earlier : Events) × (own ≡ Asked number ∷ earlier) × AddsSelections may addressing needs earlier before
 
 -- the events are such, and the conversation within knows of its own of them
 abbrev pub WithSelections : Bool → (Events → Option PageAddressing) → (Events → Option ℕ) → (Events → Type 0) → Events → Type 0

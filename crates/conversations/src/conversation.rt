@@ -14,7 +14,7 @@ pub trait Conversation {
     ghost use Rattle.bus_model.specs.Operations.{IsWellShaped};
     ghost use Rattle.conversations.specs.declared.next.Next.{Next};
     ghost use Rattle.conversations.specs.declared.next.Next.TheVariants.{Do, Wait};
-    ghost use Rattle.conversations.specs.declared.event.Event.TheVariants.{Waited};
+    ghost use Rattle.conversations.specs.declared.event.Event.TheVariants.{Asked, Waited};
     ghost use Rattle.conversations.specs.Events.{Events, made};
     ghost use Rattle.conversations.specs.Wanted.{IfDo, IfEnd, IsReplyTo, IsWait};
 
@@ -59,6 +59,11 @@ pub trait Conversation {
         ensures told { (events : Events) (time : ℕ) → wants self.old ≡ Wait time → told events self.old →
             told (Waited time ∷ events) self.new }
         ensures once { ¬ (IsWait (wants self.new)) };
+
+    /// The caller says this, whatever comes next. A conversation that knows no such number goes on as it was.
+    fn asked(&mut self, number: u32)
+        ensures topic { topic self.new ≡ topic self.old }
+        ensures told { (events : Events) → told events self.old → told (Asked number ∷ events) self.new };
 }
 
 /// Tells a conversation the reply if it is one that the operation to be made can have; answers whether it was.

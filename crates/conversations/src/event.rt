@@ -9,4 +9,6 @@ pub enum Event {
     Waited(u32),
     /// This page was needed and isn't there: its selection was accepted, and page 00h shows.
     Lacked(u8),
+    /// The caller said this, which means what the conversation takes it for.
+    Asked(u32),
 }

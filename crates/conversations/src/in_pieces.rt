@@ -48,11 +48,11 @@ where
     }
 
     fn take(&mut self, reply: &Reply) {
-        let asked = self.asked();
+        let wanted = self.wanted();
         match self.whole_reply(reply) {
             Some(whole) => {
                 self.conversation.take(&whole);
-                self.leave(&asked, reply);
+                self.leave(&wanted, is_refused(reply));
             }
             None => self.add(reply),
         }
@@ -61,17 +61,23 @@ where
     fn waited(&mut self) {
         self.conversation.waited();
     }
+
+    fn asked(&mut self, number: u32) {
+        let wanted = self.wanted();
+        self.conversation.asked(number);
+        self.leave(&wanted, true);
+    }
 }
 
 impl<C: Conversation> InPieces<C>
 where
     C::End: Drop,
 {
-    ghost use Rattle.std.specs.Prelude.{◌≡◌, ◌+◌, ◌≤◌, ◌++◌, IfSome, None, if◌then◌else◌, length, []};
-    ghost use Rattle.conversations.specs.Pieces.{bytes_in, is_asked_again, next_piece, op_of, whole_reply};
+    ghost use Rattle.std.specs.Prelude.{◌≡◌, ◌+◌, ◌≤◌, ◌++◌, ◌&&◌, IfSome, None, if◌then◌else◌, length, []};
+    ghost use Rattle.conversations.specs.Pieces.{bytes_in, is_same_wanted, next_piece, op_of, whole_reply};
     ghost use Rattle.conversations.specs.Wanted.{IsReplyTo};
 
-    fn asked(&self) -> Option<Op>
+    fn wanted(&self) -> Option<Op>
         ensures { result ≡ op_of (C.wants self.now.conversation) }
     {
         match self.conversation.next() {
@@ -90,15 +96,15 @@ where
         whole_reply(self.piece, &self.part, &self.conversation.next(), reply)
     }
 
-    // Nothing of a part is left, unless a piece of it was refused and its half is asked for again.
-    fn leave(&mut self, asked: &Option<Op>, reply: &Reply)
+    // Nothing of a part is left, unless it may be and its half, which was wanted before, is wanted still.
+    fn leave(&mut self, before: &Option<Op>, may: bool)
         ensures { self.new ≡ record {
           conversation = self.old.conversation;
           piece = self.old.piece;
-          part = record { items = if is_asked_again asked.now reply.now (op_of (C.wants self.old.conversation)) then self.old.part.items else [] };
+          part = record { items = if may && is_same_wanted before.now (op_of (C.wants self.old.conversation)) then self.old.part.items else [] };
         } }
     {
-        if !is_asked_again(asked, reply, &self.asked()) {
+        if !(may && is_same_wanted(before, &self.wanted())) {
             self.part.clear();
         }
     }
@@ -184,17 +190,10 @@ fn copy_of(bytes: &[u8]) -> ArrayVec<u8, PAGE_LEN>
     ArrayVec::try_from(bytes).unwrap()
 }
 
-// Whether a piece was refused whose half is asked for again.
-fn is_asked_again(asked: &Option<Op>, reply: &Reply, next: &Option<Op>) -> bool
-    ensures { result ≡ spec.is_asked_again asked.now reply.now next.now }
+fn is_same_wanted(before: &Option<Op>, next: &Option<Op>) -> bool
+    ensures { result ≡ spec.is_same_wanted before.now next.now }
 {
-    is_refused(reply) && is_same_asked(asked, next)
-}
-
-fn is_same_asked(asked: &Option<Op>, next: &Option<Op>) -> bool
-    ensures { result ≡ spec.is_same_asked asked.now next.now }
-{
-    match (asked, next) {
+    match (before, next) {
         (Some(op), Some(next)) => is_same_fetch(op, next),
         _ => false,
     }

@@ -130,6 +130,12 @@ where
         self.conversation.waited();
         let _same = self.conversation.addressing();
     }
+
+    fn asked(&mut self, number: u32) {
+        let _known = self.conversation.addressing();
+        self.conversation.asked(number);
+        let _same = self.conversation.addressing();
+    }
 }
 
 impl<C> OnPage<C> {

@@ -1,5 +1,5 @@
 ghost use Rattle.std.specs.Prelude.{◌≡◌};
-ghost use Rattle.conversations.specs.Pauses.{is_refused, is_same_fetch, pauses_between};
+ghost use Rattle.conversations.specs.Pauses.{is_do, is_refused, is_same_fetch, pauses_between};
 ghost use Rattle.bus_model.specs.SameOperation.{same_device};
 
 use crate::conversation::Conversation;
@@ -55,6 +55,12 @@ where
         }
         self.due = false;
     }
+
+    // What was asked for is not begun without a pause either.
+    fn asked(&mut self, number: u32) {
+        self.conversation.asked(number);
+        self.due = is_do(&self.conversation.next());
+    }
 }
 
 // Whether the reply to the one brought nothing, if the other comes next.
@@ -65,6 +71,12 @@ fn pauses_between<E>(asked: &Next<E>, reply: &Reply, next: &Next<E>) -> bool
         (Next::Do(op), Next::Do(next)) => is_refused(reply) || is_same_fetch(op, next),
         _ => false,
     }
+}
+
+fn is_do<E>(wanted: &Next<E>) -> bool
+    ensures { result ≡ is_do wanted.now }
+{
+    matches!(wanted, Next::Do(_))
 }
 
 pub fn is_refused(reply: &Reply) -> bool

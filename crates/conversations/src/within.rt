@@ -75,4 +75,8 @@ impl<C: Conversation> Conversation for Within<C> {
     fn waited(&mut self) {
         self.conversation.waited();
     }
+
+    fn asked(&mut self, number: u32) {
+        self.conversation.asked(number);
+    }
 }

@@ -18,7 +18,7 @@ use Rattle.bus_model.specs.declared.operation.Step.{Step}
 use Rattle.bus_model.specs.Operations.{Answers}
 use Rattle.bus_model.specs.SameOperation.{same_op}
 use Rattle.conversations.specs.declared.event.Event.{Event}
-use Rattle.conversations.specs.declared.event.Event.TheVariants.{Made, Waited, Lacked}
+use Rattle.conversations.specs.declared.event.Event.TheVariants.{Made, Waited, Lacked, Asked}
 use Rattle.conversations.specs.declared.next.Next.{Next}
 use Rattle.conversations.specs.declared.next.Next.TheVariants.{Do, Wait, End}
 use Rattle.conversations.specs.declared.within.Spent.{Spent}
@@ -376,6 +376,10 @@ comes addressing (Waited time ∷ before) own (earlier, is, adds) each fits =
     let fits' = subst (λ (own : Events). Fits addressing (reader.halves_after own)) is fits in
     subst (λ (own : Events). Comes addressing (reader.halves_after own) (steps_of before)) (sym is) (comes addressing before earlier adds wanted fits')
 comes addressing (Lacked page ∷ before) own none each fits = absurd none
+comes addressing (Asked number ∷ before) own (earlier, is, adds) each fits =
+    let wanted = subst reader.EachIsWanted is each in
+    let fits' = subst (λ (own : Events). Fits addressing (reader.halves_after own)) is fits in
+    subst (λ (own : Events). Comes addressing (reader.halves_after own) (steps_of before)) (sym is) (comes addressing before earlier adds wanted fits')
 
 -- ---- the ends
 

@@ -9,7 +9,7 @@ use Rattle.bus_model.specs.declared.operation.Op.{Op}
 use Rattle.bus_model.specs.declared.operation.Reply.{Reply}
 use Rattle.bus_model.specs.declared.operation.Reply.TheVariants.{Bytes, Done, Refused}
 use Rattle.conversations.specs.declared.event.Event.{Event}
-use Rattle.conversations.specs.declared.event.Event.TheVariants.{Made, Waited, Lacked}
+use Rattle.conversations.specs.declared.event.Event.TheVariants.{Made, Waited, Lacked, Asked}
 use Rattle.conversations.specs.declared.next.Next.{Next}
 use Rattle.conversations.specs.declared.next.Next.TheVariants.{Do}
 use Rattle.conversations.specs.Events.{Events, made}
@@ -108,4 +108,5 @@ lack_stays halves (Some region) by known = go halves.settled known where
 pub steady : (event : Event) (own : Events) (by : PageAddressing) → addressed_after own ≡ Some by → addressed_after (event ∷ own) ≡ Some by
 steady (Made step) own by known = fetch_stays (halves_after own) step.reply (in_hand (halves_after own)) refl by known
 steady (Waited time) own by known = known
+steady (Asked number) own by known = known
 steady (Lacked page) own by known = lack_stays (halves_after own) (in_hand (halves_after own)) by known

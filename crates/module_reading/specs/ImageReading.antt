@@ -6,7 +6,7 @@ use Rattle.bus_model.specs.declared.operation.Reply.{Reply}
 use Rattle.bus_model.specs.declared.operation.Reply.TheVariants.{Bytes, Done, Refused}
 use Rattle.bus_model.specs.Operations.{Answers}
 use Rattle.control_sets.specs.OutcomeAnswers.{most_steps}
-use Rattle.conversations.specs.declared.event.Event.TheVariants.{Made, Waited, Lacked}
+use Rattle.conversations.specs.declared.event.Event.TheVariants.{Made, Waited, Lacked, Asked}
 use Rattle.conversations.specs.declared.next.Next.{Next}
 use Rattle.conversations.specs.declared.next.Next.TheVariants.{Do, End}
 use Rattle.conversations.specs.declared.on_page.OnPage.{OnPage}
@@ -82,6 +82,7 @@ halves_after [] = begun
 halves_after (Made step ∷ before) = after_reply (halves_after before) step.reply
 halves_after (Waited time ∷ before) = halves_after before
 halves_after (Lacked page ∷ before) = after_lack (halves_after before)
+halves_after (Asked number ∷ before) = halves_after before
 
 abbrev pub needed_after : Events → Option ℕ
 needed_after own = page_by (in_hand (halves_after own))
@@ -95,6 +96,7 @@ EachIsWanted [] = Unit {0}
 EachIsWanted (Made step ∷ before) = (wants (halves_after before) ≡ Do step.op) × Answers step.op step.reply × EachIsWanted before
 EachIsWanted (Waited time ∷ before) = EachIsWanted before
 EachIsWanted (Lacked page ∷ before) = EachIsWanted before
+EachIsWanted (Asked number ∷ before) = EachIsWanted before
 
 -- it was told these events
 pub record IsTold (own : Events) (halves : Halves) : Type 0 where

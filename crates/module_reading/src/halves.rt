@@ -99,6 +99,8 @@ impl Conversation for Halves {
     }
 
     fn waited(&mut self) {}
+
+    fn asked(&mut self, _number: u32) {}
 }
 
 impl NeedsPages for Halves {

@@ -1,6 +1,7 @@
 mod applies;
 mod certificates;
 mod control_bytes;
+mod conversations;
 mod keeping;
 mod lanes;
 mod lies;

@@ -115,6 +115,8 @@ impl Conversation for PowerChange {
     }
 
     fn waited(&mut self) {}
+
+    fn asked(&mut self, _number: u32) {}
 }
 
 /// What a change of power answers that ended so: the number of its steps, or the fault.

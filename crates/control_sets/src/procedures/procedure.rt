@@ -155,6 +155,8 @@ impl Conversation for TaskList {
     }
 
     fn waited(&mut self) {}
+
+    fn asked(&mut self, _number: u32) {}
 }
 
 impl NeedsPages for TaskList {

@@ -4,13 +4,17 @@ use super::plans::bus_of;
 use applications::LaneSet;
 use arrayvec::ArrayVec;
 use bus_model::{Bus, BusFault, Device, Reply, ScriptBus};
-use control_sets::{Procedure, ProcedureNext, ProvisionFault};
+use control_sets::{Procedure, ProvisionFault, TaskList, Work, answer_of};
+use conversations::{Conversation, Next, try_take};
 use paged_memory::Window;
 use sample_modules::{with, with_run};
 use std::test::Fail;
 
 fn provisioning(lanes: LaneSet) -> Procedure {
-    Procedure::provisioning(PAIRS, lanes)
+    TaskList::of(Work::Provisioning {
+        control: PAIRS,
+        lanes,
+    })
 }
 
 // The answer, if each reply of the bus was one that the procedure takes.
@@ -20,13 +24,14 @@ fn driven<D: Device + Drop>(
 ) -> Result<Option<Result<u16, ProvisionFault>>, BusFault> {
     for _ in 0..5000u16 {
         match procedure.next() {
-            ProcedureNext::Do(op) => {
+            Next::Do(op) => {
                 let reply = bus.transact(op)?;
-                if !procedure.try_take(&reply) {
+                if !try_take(&mut procedure, &reply) {
                     return Ok(None);
                 }
             }
-            ProcedureNext::Done(answer) => return Ok(Some(answer)),
+            Next::Wait(_time) => return Ok(None),
+            Next::End(spent) => return Ok(Some(answer_of(spent))),
         }
     }
     Ok(None)
@@ -47,6 +52,15 @@ fn other_lanes_are_not_looked_at(rt: HostRuntime) -> Result<(), Fail> {
     Ok(())
 }
 
+// How it ended, if it has.
+fn answered(procedure: &Procedure) -> Option<Result<u16, ProvisionFault>> {
+    match procedure.next() {
+        Next::Do(_op) => None,
+        Next::Wait(_time) => None,
+        Next::End(spent) => Some(answer_of(spent)),
+    }
+}
+
 fn bytes_read(bytes: &[u8]) -> Reply {
     match ArrayVec::try_from(bytes) {
         Ok(bytes) => Reply::Bytes(bytes),
@@ -57,14 +71,12 @@ fn bytes_read(bytes: &[u8]) -> Reply {
 #[test]
 fn only_fitting_replies_are_taken(rt: HostRuntime) {
     let mut procedure = provisioning(LaneSet::run(1, 8));
-    let first = procedure;
-    assert!(rt; !procedure.try_take(&Reply::Done));
-    assert!(rt; !procedure.try_take(&bytes_read(&[6, 0])));
-    assert_eq!(rt; procedure, first);
-    assert!(rt; procedure.try_take(&bytes_read(&[0])));
-    assert_eq!(rt;
-        procedure.next(),
-        ProcedureNext::Done(Err(ProvisionFault::Reserved(0)))
-    );
-    assert!(rt; !procedure.is_answered_by(&Reply::Refused));
+    let first = TaskList::save(&procedure);
+    assert!(rt; !try_take(&mut procedure, &Reply::Done));
+    assert!(rt; !try_take(&mut procedure, &bytes_read(&[6, 0])));
+    assert_eq!(rt; TaskList::save(&procedure), first);
+    assert_eq!(rt; answered(&procedure), None);
+    assert!(rt; try_take(&mut procedure, &bytes_read(&[0])));
+    assert_eq!(rt; answered(&procedure), Some(Err(ProvisionFault::Reserved(0))));
+    assert!(rt; !try_take(&mut procedure, &Reply::Refused));
 }

@@ -1,8 +1,9 @@
-use Rattle.std.proofs.Common.{◌∷◌, [], Option, if◌then◌else◌, subst, sym, ◌∙◌}
+use Rattle.std.proofs.Common.{◌∷◌, ◌&&◌, [], Bool, Option, if◌then◌else◌, subst, sym, ◌∙◌}
 use Rattle.bus_model.specs.declared.operation.Op.{Op}
 use Rattle.conversations.specs.declared.in_pieces.InPieces.{InPieces}
 use Rattle.conversations.specs.Events.{Events, made}
-use Rattle.conversations.specs.Pieces.{IsInPieces, is_asked_again, op_of}
+use Rattle.conversations.specs.Pauses.{is_refused}
+use Rattle.conversations.specs.Pieces.{IsInPieces, is_same_wanted, op_of}
 use Rattle.conversations.proofs.InPiecesLaws.{keeps, turns}
 use Rattle.conversations.proofs.in_pieces.InPiecesConversation.take.Goals as goal
 
@@ -19,7 +20,8 @@ returns-in-Some-clause-told g c events op asked told =
     let taken = t.0 c.in-Some.whole (sym c.whole_reply.ensures.value ∙ c.in-Some.is) (λ own o wants at. c.take.ensures.told own o wants at) in
     let Told : InPieces g.row.C.Denot → Type 0 = λ p. IsInPieces (λ own. g.C.Conversation.told own p.conversation) (g.C.Conversation.wants p.conversation) p.piece p.part.items (made op reply ∷ events) in
     subst Told (sym c.leave.ensures)
-    (subst (λ (a : Option Op). IsInPieces New later old.piece (if is_asked_again a reply (op_of later) then old.part.items else []) (made op reply ∷ events)) (sym c.asked-asked.ensures) taken)
+    (subst (λ (may : Bool). IsInPieces New later old.piece (if may && is_same_wanted c.wanted-wanted.result (op_of later) then old.part.items else []) (made op reply ∷ events)) (sym c.is_refused.ensures)
+    (subst (λ (before : Option Op). IsInPieces New later old.piece (if is_refused reply && is_same_wanted before (op_of later) then old.part.items else []) (made op reply ∷ events)) (sym c.wanted-wanted.ensures) taken))
 
 pub returns-in-None-clause-told : goal.returns-in-None-clause-told
 returns-in-None-clause-told g c events op asked told =

@@ -1,0 +1,112 @@
+// Conversations that pause, and that fetch halves in pieces, driven by hand.
+use super::modules::{image, module};
+use super::plans::{FOUR_PAIRS, bus_of, plan_of};
+use applications::Advert;
+use arrayvec::ArrayVec;
+use bus_model::{Bus, Device, ScriptBus};
+use control_sets::{
+    Activated, Power, PowerChange, Provisioned, activate_pausing, change_power_pausing,
+    provision_pausing,
+};
+use conversations::{Conversation, InPieces, Next, Pausing, Spent, Within, run};
+use module_reading::{Halves, Reading};
+use paged_memory::Window;
+use plan_certificate::{Plan, admissible};
+use std::alloc::Global;
+use std::test::Fail;
+
+// How many milliseconds it waited, if it has ended.
+fn waited<C: Conversation, D: Device + Drop>(
+    conversation: &mut C,
+    bus: &mut ScriptBus<D>,
+) -> Result<Option<u32>, Fail>
+where
+    C::End: Drop,
+{
+    let mut waited: u32 = 0;
+    for _ in 0..9000u16 {
+        match conversation.next() {
+            Next::Do(op) => {
+                let reply = bus.transact(op)?;
+                conversation.take(&reply);
+            }
+            Next::Wait(time) => {
+                waited = waited.saturating_add(time);
+                conversation.waited();
+            }
+            Next::End(_end) => return Ok(Some(waited)),
+        }
+    }
+    Ok(None)
+}
+
+fn pausing(change: Within<PowerChange>, pause: u32) -> Pausing<Within<PowerChange>> {
+    Pausing {
+        conversation: change,
+        pause,
+        due: false,
+    }
+}
+
+// Three refusals, of which the last is of a store, and what the caller says before anything is made.
+#[test]
+fn each_refusal_is_followed_by_a_pause(rt: HostRuntime) -> Result<(), Fail> {
+    for (script, says, time) in [
+        (b"".as_slice(), false, 0),
+        (b"nack 2\nok 1\nnack 1\n", false, 21),
+        (b"nack 2\nok 1\nnack 1\n", true, 28),
+    ] {
+        let mut change = pausing(PowerChange::to(Power::Awake), 7);
+        if says {
+            change.asked(1);
+        }
+        let mut bus = bus_of(rt.alloc(), Window::<16>::of(&image()?)?, script, 50)?;
+        assert_eq!(rt; waited(&mut change, &mut bus)?, Some(time));
+    }
+    Ok(())
+}
+
+#[test]
+fn pauses_change_no_answer(rt: HostRuntime) -> Result<(), Fail> {
+    let (advert, plan) = (Advert::of(&image()?)?, plan_of(&FOUR_PAIRS)?);
+    let none = Plan {
+        paths: ArrayVec::new(),
+    };
+    let mut bus = bus_of(rt.alloc(), module()?, b"nack 2\n", 5000)?;
+    assert!(rt; change_power_pausing(&mut bus, Power::Awake, 5).is_ok());
+    assert!(rt; admissible(&advert, &plan));
+    let told = provision_pausing(&mut bus, &advert, &plan, &none, 5);
+    assert!(rt; matches!(told, Ok(Provisioned { .. })));
+    let told = activate_pausing(&mut bus, &advert, &plan, 5);
+    assert!(rt; matches!(told, Ok(Activated { .. })));
+    Ok(())
+}
+
+// The reading of the image in a window, and how many transactions it made.
+fn read(alloc: Global, piece: u8) -> Result<(Reading, usize), Fail> {
+    let mut bus = bus_of(alloc, Window::<16>::of(&image()?)?, b"nack 1\n", 500)?;
+    let mut pieces = InPieces {
+        conversation: Halves::reading(),
+        piece,
+        part: ArrayVec::new(),
+    };
+    let _time = waited(&mut pieces, &mut bus)?;
+    Ok((pieces.conversation, bus.steps().len()))
+}
+
+// Five halves in pieces of 128, 50 or 32 bytes, with eight transactions for selections and one that is refused.
+#[test]
+fn pieces_give_the_same_image(rt: HostRuntime) -> Result<(), Fail> {
+    for (piece, steps) in [(128, 14), (50, 24), (32, 29)] {
+        let (reading, made) = read(rt.alloc(), piece)?;
+        assert_eq!(rt; made, steps);
+        let mut bus = bus_of(rt.alloc(), Window::<16>::of(&image()?)?, b"", 500)?;
+        let mut whole = Halves::reading();
+        let spent = run(&mut bus, &mut whole)?;
+        assert!(rt; matches!(spent, Spent { steps: 13, end: Some(()) }));
+        let image = reading.conversation.conversation.image.write(rt.alloc())?;
+        let other = whole.conversation.conversation.image.write(rt.alloc())?;
+        assert_eq!(rt; image, other);
+    }
+    Ok(())
+}
