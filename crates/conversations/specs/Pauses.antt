@@ -1,6 +1,6 @@
 -- A conversation that pauses where a transaction brought nothing: it was refused, or the same bytes are fetched once more.
 -- (docs/bus.md, "Conversations"; this project's own)
-use Rattle.std.specs.Prelude.{◌≡◌, ℕ, ◌==◌, ◌&&◌, ◌||◌, Bool, true, false, [], ◌∷◌, if◌then◌else◌}
+use Rattle.std.specs.Prelude.{◌≡◌, ◌≤◌, ℕ, nat_lt, ◌==◌, ◌&&◌, ◌||◌, Bool, true, false, [], ◌∷◌, if◌then◌else◌}
 use Rattle.bus_model.specs.declared.operation.Op.{Op}
 use Rattle.bus_model.specs.declared.operation.Op.TheVariants.{Fetch, Store}
 use Rattle.bus_model.specs.declared.operation.Reply.{Reply}
@@ -34,13 +34,14 @@ must_wait op (Waited time ∷ before) = false
 must_wait op (Lacked page ∷ before) = must_wait op before
 must_wait op (Asked number ∷ before) = true
 
--- between two transactions of which the first brought nothing there is a wait, and between what the caller said and the next one
-abbrev pub AreSpaced : Events → Type 0
-AreSpaced [] = Unit {0}
-AreSpaced (Made step ∷ before) = (must_wait step.op before ≡ false) × AreSpaced before
-AreSpaced (Waited time ∷ before) = AreSpaced before
-AreSpaced (Lacked page ∷ before) = AreSpaced before
-AreSpaced (Asked number ∷ before) = AreSpaced before
+-- between two transactions of which the first brought nothing there is a wait, and between what the caller said and the next one; no
+-- wait is shorter than the pause
+abbrev pub AreSpaced : ℕ → Events → Type 0
+AreSpaced pause [] = Unit {0}
+AreSpaced pause (Made step ∷ before) = (must_wait step.op before ≡ false) × AreSpaced pause before
+AreSpaced pause (Waited time ∷ before) = (pause ≤ time) × AreSpaced pause before
+AreSpaced pause (Lacked page ∷ before) = AreSpaced pause before
+AreSpaced pause (Asked number ∷ before) = AreSpaced pause before
 
 -- whether a wait comes first
 abbrev pub is_due : {E : Type 0} → Next E → Events → Bool
@@ -53,14 +54,17 @@ is_do (Do op) = true
 is_do (Wait time) = false
 is_do (End end) = false
 
+abbrev pub at_least : ℕ → ℕ → ℕ
+at_least pause time = if nat_lt time pause then pause else time
+
 abbrev pub next_pausing : {E : Type 0} → Bool → ℕ → Next E → Next E
 next_pausing due pause (Do op) = if due then Wait pause else Do op
-next_pausing due pause (Wait time) = Wait time
+next_pausing due pause (Wait time) = Wait (at_least pause time)
 next_pausing due pause (End end) = End end
 
 -- the events are spaced, and the conversation within knows of their transactions and of its own waits
-abbrev pub WithPauses : (Events → Type 0) → Events → Type 0
-WithPauses P events = AreSpaced events × ((own : Events) × (steps_of own ≡ steps_of events) × P own)
+abbrev pub WithPauses : ℕ → (Events → Type 0) → Events → Type 0
+WithPauses pause P events = AreSpaced pause events × ((own : Events) × (steps_of own ≡ steps_of events) × P own)
 
 -- whether the reply to the one brought nothing, if the other comes next
 abbrev pub pauses_between : {E : Type 0} → Next E → Reply → Next E → Bool

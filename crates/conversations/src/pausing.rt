@@ -1,5 +1,5 @@
 ghost use Rattle.std.specs.Prelude.{◌≡◌};
-ghost use Rattle.conversations.specs.Pauses.{is_do, is_refused, is_same_fetch, pauses_between};
+ghost use Rattle.conversations.specs.Pauses.{at_least, is_do, is_refused, is_same_fetch, pauses_between};
 ghost use Rattle.bus_model.specs.SameOperation.{same_device};
 
 use crate::conversation::Conversation;
@@ -10,7 +10,7 @@ use bus_model::{Dev, Op, Reply};
 #[derive(Drop)]
 pub struct Pausing<C> {
     pub conversation: C,
-    /// For so many milliseconds.
+    /// For so many milliseconds, which no wait is shorter than.
     pub pause: u32,
     /// Whether it is to pause now.
     pub due: bool,
@@ -22,23 +22,24 @@ where
 {
     ghost use Rattle.conversations.specs.Pauses.{WithPauses, is_due, next_pausing};
 
-    type Topic = C::Topic;
+    type Topic = (u32, C::Topic);
 
     type End = C::End;
 
-    ghost topic = { λ pausing. C.topic pausing.conversation };
+    ghost topic = { λ pausing. (pausing.pause, C.topic pausing.conversation) };
 
     ghost wants = { λ pausing. next_pausing pausing.due pausing.pause (C.wants pausing.conversation) };
 
-    ghost told = { λ events pausing. WithPauses (λ own. C.told own pausing.conversation) events × (pausing.due ≡ is_due (C.wants pausing.conversation) events) };
+    ghost told = { λ events pausing. WithPauses pausing.pause (λ own. C.told own pausing.conversation) events × (pausing.due ≡ is_due (C.wants pausing.conversation) events) };
 
-    ghost ends = { λ topic events end. WithPauses (λ own. C.ends topic own end) events };
+    ghost ends = { λ topic events end. WithPauses topic.0 (λ own. C.ends topic.1 own end) events };
 
-    ghost goes_on = { λ topic events. WithPauses (λ own. C.goes_on topic own) events };
+    ghost goes_on = { λ topic events. WithPauses topic.0 (λ own. C.goes_on topic.1 own) events };
 
     fn next(&self) -> Next<C::End> {
         match self.conversation.next() {
             Next::Do(_) if self.due => Next::Wait(self.pause),
+            Next::Wait(time) => Next::Wait(at_least(self.pause, time)),
             next => next,
         }
     }
@@ -71,6 +72,12 @@ fn pauses_between<E>(asked: &Next<E>, reply: &Reply, next: &Next<E>) -> bool
         (Next::Do(op), Next::Do(next)) => is_refused(reply) || is_same_fetch(op, next),
         _ => false,
     }
+}
+
+fn at_least(pause: u32, time: u32) -> u32
+    ensures { result ≡ at_least pause time }
+{
+    if time < pause { pause } else { time }
 }
 
 fn is_do<E>(wanted: &Next<E>) -> bool

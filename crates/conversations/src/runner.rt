@@ -41,7 +41,7 @@ pub fn run_pausing<B: Bus, C: Conversation + Drop>(
 where
     C::End: Drop,
     requires begun { ⟦<Within<C> as Conversation>⟧.told [] within }
-    ensures { MakesEvents B.rules (B.seen bus.old) (B.seen bus.new) (λ events. WithPauses (λ own.
+    ensures { MakesEvents B.rules (B.seen bus.old) (B.seen bus.new) (λ events. WithPauses pause (λ own.
         IsCarriedOut within.limit (C.goes_on (C.topic within.conversation)) (C.ends (C.topic within.conversation)) (IsFull (B.seen bus.new)) own result) events) }
 {
     let conversation = Pausing {

@@ -114,7 +114,7 @@ pub fn provision_pausing<B: Bus>(
     requires kept { Keeps kept.now plan.now }
     ensures { let control = control_bytes advert.now plan.now in
         let lanes = lanes_outside advert.now kept.now in
-        MakesEvents B.rules (B.seen bus.old) (B.seen bus.new) (λ events. AreSpaced events
+        MakesEvents B.rules (B.seen bus.old) (B.seen bus.new) (λ events. AreSpaced pause events
         × IsProvisioning control lanes (IsFull (B.seen bus.new)) (steps_of events) (provisioned_steps result)) }
 {
     let work = Work::Provisioning {
@@ -136,7 +136,7 @@ pub fn activate_pausing<B: Bus>(
 ) -> Result<Activated, ProvisionFault>
     requires { IsAdmissible advert.now plan.now }
     ensures { let lanes = plan_lanes advert.now plan.now in
-        MakesEvents B.rules (B.seen bus.old) (B.seen bus.new) (λ events. AreSpaced events
+        MakesEvents B.rules (B.seen bus.old) (B.seen bus.new) (λ events. AreSpaced pause events
         × IsActivation (control_bytes advert.now plan.now) lanes (IsFull (B.seen bus.new)) (steps_of events) (activated_steps result)) }
 {
     let work = Work::Activation {
@@ -162,7 +162,7 @@ fn carry_out<B: Bus>(bus: &mut B, work: Work) -> Result<u16, ProvisionFault>
 }
 
 fn carry_out_pausing<B: Bus>(bus: &mut B, work: Work, pause: u32) -> Result<u16, ProvisionFault>
-    ensures { MakesEvents B.rules (B.seen bus.old) (B.seen bus.new) (λ events. AreSpaced events
+    ensures { MakesEvents B.rules (B.seen bus.old) (B.seen bus.new) (λ events. AreSpaced pause events
         × IsOutcome (tasks_of work) (B.seen bus.new) (steps_of events) result) }
 {
     match run_pausing(bus, TaskList::of(work), pause) {

@@ -29,7 +29,7 @@ pub fn change_power_pausing<B: Bus>(
     pause: u32,
 ) -> Result<u16, ProvisionFault>
     ensures { MakesEvents B.rules (B.seen bus.old) (B.seen bus.new) (λ events.
-        AreSpaced events × IsPowerChange power (IsFull (B.seen bus.new)) (steps_of events) result) }
+        AreSpaced pause events × IsPowerChange power (IsFull (B.seen bus.new)) (steps_of events) result) }
 {
     match run_pausing(bus, PowerChange::to(power), pause) {
         Ok(spent) => answer_of(spent),

@@ -12,4 +12,4 @@ pub returns : goal.returns
 returns g c =
     let (events, ran, made) = c.run.ensures.made in
     let topic = g.C.Conversation.topic c.args.within.conversation in
-    (events, ran, carried_pausing c.args.within.limit (g.C.Conversation.goes_on topic) (g.C.Conversation.ends topic) (IsFull (g.B.Bus.seen c.run.new.bus)) events c.run.result made.2)
+    (events, ran, carried_pausing c.args.pause c.args.within.limit (g.C.Conversation.goes_on topic) (g.C.Conversation.ends topic) (IsFull (g.B.Bus.seen c.run.new.bus)) events c.run.result made.2)

@@ -9,6 +9,6 @@ returns-clause-told g c events told =
     let old = c.args.self.now in
     let number = c.args.number in
     let new = c.asked.new.self in (
-      own_word (λ own. g.C.Conversation.told own old.conversation) (λ own. g.C.Conversation.told own new) number events told.0 (λ own at. c.asked.ensures.told own at),
+      own_word old.pause (λ own. g.C.Conversation.told own old.conversation) (λ own. g.C.Conversation.told own new) number events told.0 (λ own at. c.asked.ensures.told own at),
       c.is_do-self.ensures ∙ ap (λ (n : Next g.row.C-End.Denot). is_do n) c.next.ensures.value ∙ due_asked (g.C.Conversation.wants new) number events,
     )
