@@ -19,6 +19,7 @@ pub mod OutcomeOfActivation
 pub mod OutcomeSuccess
 pub mod OutcomeExamples
 pub mod StoredBits
+pub mod Durations
 pub mod PowerControls
 pub mod OutcomeOfPower
 pub mod PowerProgress

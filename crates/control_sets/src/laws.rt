@@ -1,6 +1,6 @@
 //! What holds of control bytes, over all plans. Each function is a theorem: its contract says it, and its body is empty. In those over
 //! histories, `made` is the length of the whole list of steps that the bus keeps, and `room` how many steps that list takes.
-ghost use Rattle.std.specs.Prelude.{◌≡◌, ◌≢◌, ℕ, ◌<◌, ◌≤◌, List, Option, None, All, Any, IsTrue, length, ◌+◌, [], ◌∷◌, Ok, Err, false};
+ghost use Rattle.std.specs.Prelude.{◌≡◌, ◌≢◌, ℕ, ◌<◌, ◌≤◌, List, Option, None, All, Any, IsTrue, length, ◌+◌, ◌*◌, [], ◌∷◌, Ok, Err, false};
 ghost use Rattle.std.specs.List.{AllByRecursion};
 ghost use Rattle.applications.specs.Advertised.{Advertised, InOrder};
 ghost use Rattle.plan_certificate.specs.declared.path.Path.{Path};
@@ -45,6 +45,8 @@ ghost use Rattle.control_sets.specs.declared.procedures.power.Power.{Power};
 ghost use Rattle.control_sets.specs.declared.procedures.power.Power.TheVariants.{Asleep, Awake};
 ghost use Rattle.control_sets.specs.declared.procedures.power.PowerChange.{PowerChange};
 ghost use Rattle.control_sets.specs.StoredBits.{HasBitsOf, LeavesOthers};
+ghost use Rattle.control_sets.specs.Durations.{pause_for, polls, states_of};
+ghost use Rattle.paged_memory.specs.Images.{Memory};
 
 use crate::procedures::Procedure;
 use conversations::Conversation;
@@ -250,4 +252,11 @@ pub fn what_changes_of_power_may_do()
         ¬ (IsPowerChange power (made ≡ room) (took (set_controls byte) ∷ gave read_controls (0x00 ∷ []) ∷ []) answer) }
     ensures no_second_store { (power : Power) (made room byte other : ℕ) (before : History) (answer : Answer) →
         ¬ (IsPowerChange power (made ≡ room) (took (set_controls byte) ∷ took (set_controls other) ∷ before) answer) }
+{}
+
+/// As many polls as a procedure's steps leave room for, each with the pause before it, last twice as long as each state that the
+/// module advertises.
+pub fn pauses_outlast_states()
+    ensures room { polls + 96 ≤ most_steps }
+    ensures each { (memory : Memory) → AllByRecursion (λ time. 2 * time ≤ polls * pause_for memory) (states_of memory) }
 {}

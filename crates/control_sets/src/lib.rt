@@ -4,6 +4,7 @@
 
 mod control_byte;
 mod control_set;
+mod durations;
 mod fault;
 mod host_path;
 pub mod laws;
@@ -12,6 +13,7 @@ mod procedures;
 
 pub use control_byte::ControlByte;
 pub use control_set::ControlSet;
+pub use durations::{longest_duration, pause_for};
 pub use fault::{ControlFault, ProvisionFault};
 pub use host_path::{HostPath, agree, control_at, paths_of};
 pub use plan_bytes::{bytes_of, lanes_of, lanes_outside};

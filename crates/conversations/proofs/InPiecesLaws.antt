@@ -17,8 +17,8 @@ use Rattle.conversations.specs.declared.next.Next.{Next}
 use Rattle.conversations.specs.declared.next.Next.TheVariants.{Do, Wait, End}
 use Rattle.conversations.specs.Events.{Events, made}
 use Rattle.conversations.specs.Pauses.{is_refused, is_same_fetch}
-use Rattle.conversations.specs.Pieces.{IsInPieces, IsPiece, Joins, bytes_of_piece, fits, half_of, is_half, is_half_in, is_same_wanted, items_of, op_of, bytes_in, next_piece, piece_of, whole_reply}
-use Rattle.conversations.specs.Wanted.{IsReplyTo}
+use Rattle.conversations.specs.Pieces.{IsInPieces, IsPiece, Joins, bytes_of_piece, fits, half_of, is_half, is_half_in, is_same_wanted, items_of, bytes_in, next_piece, piece_of, whole_reply}
+use Rattle.conversations.specs.Wanted.{IsReplyTo, op_of}
 
 pub few_bytes : (size read : ℕ) → read < 128 → read + bytes_of_piece size read ≤ 128
 few_bytes size read few = by (nat_lt size (128 - read)) refl where

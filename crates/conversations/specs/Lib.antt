@@ -5,3 +5,4 @@ pub mod Carried
 pub mod Pauses
 pub mod Selecting
 pub mod Pieces
+pub mod Deadlines

@@ -60,12 +60,6 @@ whole_reply piece part asked (Bytes bytes) = if fits piece part && is_half_in as
 whole_reply piece part asked Done = Some Done
 whole_reply piece part asked Refused = Some Refused
 
--- the operation that is wanted
-abbrev pub op_of : {E : Type 0} → Next E → Option Op
-op_of (Do op) = Some op
-op_of (Wait time) = None
-op_of (End end) = None
-
 -- the half that was wanted before is wanted still
 abbrev pub is_same_wanted : Option Op → Option Op → Bool
 is_same_wanted (Some op) (Some next) = is_same_fetch op next

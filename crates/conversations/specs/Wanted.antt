@@ -1,4 +1,5 @@
 -- What a conversation wants, by cases. (docs/bus.md, "Conversations"; this project's own)
+use Rattle.std.specs.Prelude.{Option, Some, None}
 use Rattle.bus_model.specs.declared.operation.Op.{Op}
 use Rattle.bus_model.specs.declared.operation.Reply.{Reply}
 use Rattle.bus_model.specs.Operations.{Answers}
@@ -25,3 +26,9 @@ abbrev pub IsWait : {E : Type 0} → Next E → Type 0
 IsWait (Do op) = ⊥
 IsWait (Wait time) = Unit {0}
 IsWait (End end) = ⊥
+
+-- the operation that is wanted, if one is
+abbrev pub op_of : {E : Type 0} → Next E → Option Op
+op_of (Do op) = Some op
+op_of (Wait time) = None
+op_of (End end) = None

@@ -4,7 +4,7 @@ ghost use Rattle.conversations.specs.Pieces as spec;
 ghost use Rattle.conversations.specs.Wanted.{IsReplyTo};
 
 use crate::conversation::Conversation;
-use crate::next::Next;
+use crate::next::{Next, op_in};
 use crate::pausing::{is_refused, is_same_fetch};
 use arrayvec::ArrayVec;
 use bus_model::{Op, Reply};
@@ -74,17 +74,13 @@ where
     C::End: Drop,
 {
     ghost use Rattle.std.specs.Prelude.{◌≡◌, ◌+◌, ◌≤◌, ◌++◌, ◌&&◌, IfSome, None, if◌then◌else◌, length, []};
-    ghost use Rattle.conversations.specs.Pieces.{bytes_in, is_same_wanted, next_piece, op_of, whole_reply};
-    ghost use Rattle.conversations.specs.Wanted.{IsReplyTo};
+    ghost use Rattle.conversations.specs.Pieces.{bytes_in, is_same_wanted, next_piece, whole_reply};
+    ghost use Rattle.conversations.specs.Wanted.{IsReplyTo, op_of};
 
     fn wanted(&self) -> Option<Op>
         ensures { result ≡ op_of (C.wants self.now.conversation) }
     {
-        match self.conversation.next() {
-            Next::Do(op) => Some(op),
-            Next::Wait(_) => None,
-            Next::End(_end) => None,
-        }
+        op_in(self.conversation.next())
     }
 
     fn whole_reply(&self, reply: &Reply) -> Option<Reply>

@@ -10,6 +10,7 @@ mod next;
 mod on_page;
 mod pausing;
 mod runner;
+mod until;
 mod within;
 
 pub use conversation::{Conversation, try_take};
@@ -19,4 +20,5 @@ pub use next::{Next, can_have};
 pub use on_page::{NeedsPages, OnPage};
 pub use pausing::Pausing;
 pub use runner::{run, run_pausing};
+pub use until::{Last, Timed, Until};
 pub use within::{Spent, Within};

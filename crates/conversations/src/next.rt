@@ -1,5 +1,6 @@
-ghost use Rattle.std.specs.Prelude.{◌↔◌, IsTrue};
+ghost use Rattle.std.specs.Prelude.{◌≡◌, ◌↔◌, IsTrue};
 ghost use Rattle.bus_model.specs.Operations.{Answers};
+ghost use Rattle.conversations.specs.Wanted.{op_of};
 
 use bus_model::{Op, Reply};
 
@@ -25,5 +26,16 @@ pub fn can_have(op: &Op, reply: &Reply) -> bool
             Reply::Refused => true,
         },
         Op::Store { .. } => !matches!(reply, Reply::Bytes(_)),
+    }
+}
+
+// The operation that is wanted, if one is.
+pub fn op_in<E: Drop>(wanted: Next<E>) -> Option<Op>
+    ensures { result ≡ op_of wanted }
+{
+    match wanted {
+        Next::Do(op) => Some(op),
+        Next::Wait(_time) => None,
+        Next::End(_end) => None,
     }
 }

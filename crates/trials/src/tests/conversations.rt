@@ -3,15 +3,16 @@ use super::modules::{image, module};
 use super::plans::{FOUR_PAIRS, bus_of, plan_of};
 use applications::Advert;
 use arrayvec::ArrayVec;
-use bus_model::{Bus, Device, ScriptBus};
+use bus_model::{Bus, Dev, Device, ScriptBus};
 use control_sets::{
     Activated, Power, PowerChange, Provisioned, activate_pausing, change_power_pausing,
     provision_pausing,
 };
-use conversations::{Conversation, InPieces, Next, Pausing, Spent, Within, run};
+use conversations::{Conversation, InPieces, Next, Pausing, Timed, Until, Within, run};
 use module_reading::{Halves, Reading};
-use paged_memory::Window;
+use paged_memory::{Key, Window};
 use plan_certificate::{Plan, admissible};
+use sample_modules::with;
 use std::alloc::Global;
 use std::test::Fail;
 
@@ -66,6 +67,19 @@ fn each_refusal_is_followed_by_a_pause(rt: HostRuntime) -> Result<(), Fail> {
     Ok(())
 }
 
+// The module stays in ModuleLowPwr, so its state is read again after each pause of 7 ms.
+#[test]
+fn a_state_that_never_comes_is_overdue(rt: HostRuntime) -> Result<(), Fail> {
+    for (limit, time) in [(0, 7), (48, 49), (49, 56)] {
+        let asleep = with(image()?, Key::lower(Dev::A0), &[(3, 0x02)])?;
+        let mut bus = bus_of(rt.alloc(), Window::<16>::of(&asleep)?, b"", 50)?;
+        let mut change = Until::new(pausing(PowerChange::to(Power::Awake), 7), limit);
+        assert_eq!(rt; waited(&mut change, &mut bus)?, Some(time));
+        assert!(rt; matches!(change.next(), Next::End(Timed::Overdue)));
+    }
+    Ok(())
+}
+
 #[test]
 fn pauses_change_no_answer(rt: HostRuntime) -> Result<(), Fail> {
     let (advert, plan) = (Advert::of(&image()?)?, plan_of(&FOUR_PAIRS)?);
@@ -103,7 +117,8 @@ fn pieces_give_the_same_image(rt: HostRuntime) -> Result<(), Fail> {
         let mut bus = bus_of(rt.alloc(), Window::<16>::of(&image()?)?, b"", 500)?;
         let mut whole = Halves::reading();
         let spent = run(&mut bus, &mut whole)?;
-        assert!(rt; matches!(spent, Spent { steps: 13, end: Some(()) }));
+        assert_eq!(rt; spent.steps, 13);
+        assert!(rt; spent.end.is_some());
         let image = reading.conversation.conversation.image.write(rt.alloc())?;
         let other = whole.conversation.conversation.image.write(rt.alloc())?;
         assert_eq!(rt; image, other);

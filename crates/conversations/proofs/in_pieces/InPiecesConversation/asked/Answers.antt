@@ -3,7 +3,8 @@ use Rattle.bus_model.specs.declared.operation.Op.{Op}
 use Rattle.conversations.specs.declared.event.Event.TheVariants.{Asked}
 use Rattle.conversations.specs.declared.in_pieces.InPieces.{InPieces}
 use Rattle.conversations.specs.Events.{Events}
-use Rattle.conversations.specs.Pieces.{IsInPieces, is_same_wanted, op_of}
+use Rattle.conversations.specs.Pieces.{IsInPieces, is_same_wanted}
+use Rattle.conversations.specs.Wanted.{op_of}
 use Rattle.conversations.proofs.InPiecesLaws.{says}
 use Rattle.conversations.proofs.in_pieces.InPiecesConversation.asked.Goals as goal
 

@@ -3,7 +3,8 @@ use Rattle.bus_model.specs.declared.operation.Op.{Op}
 use Rattle.conversations.specs.declared.in_pieces.InPieces.{InPieces}
 use Rattle.conversations.specs.Events.{Events, made}
 use Rattle.conversations.specs.Pauses.{is_refused}
-use Rattle.conversations.specs.Pieces.{IsInPieces, is_same_wanted, op_of}
+use Rattle.conversations.specs.Pieces.{IsInPieces, is_same_wanted}
+use Rattle.conversations.specs.Wanted.{op_of}
 use Rattle.conversations.proofs.InPiecesLaws.{keeps, turns}
 use Rattle.conversations.proofs.in_pieces.InPiecesConversation.take.Goals as goal
 

@@ -1,9 +1,7 @@
-use Rattle.std.proofs.Common.{◌≡◌, ◌∷◌, ℕ, false, ap, sym, subst, ◌∙◌}
+use Rattle.std.proofs.Common.{◌≡◌, ◌∷◌, false, sym, subst, ◌∙◌}
 use Rattle.conversations.specs.declared.event.Event.TheVariants.{Waited}
-use Rattle.conversations.specs.declared.next.Next.{Next}
-use Rattle.conversations.specs.declared.next.Next.TheVariants.{Wait}
 use Rattle.conversations.specs.declared.pausing.Pausing.{Pausing}
-use Rattle.conversations.specs.Pauses.{WithPauses, is_due, next_pausing}
+use Rattle.conversations.specs.Pauses.{WithPauses, is_due}
 use Rattle.conversations.proofs.PausingLaws.{due_waited, other_wait, own_wait, waits_long}
 use Rattle.conversations.proofs.pausing.PausingConversation.waited.Goals.{in-Wait, in_default+in-End-1, in_default+in-Do-1}
 use Rattle.conversations.proofs.pausing.PausingConversation.waited.Goals as goal

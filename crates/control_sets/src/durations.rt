@@ -1,0 +1,57 @@
+//! How long states last, as a module advertises, and how long to pause between two polls of them.
+ghost use Rattle.std.specs.Prelude.{◌≡◌, max};
+ghost use Rattle.control_sets.specs.Durations as spec;
+
+use field_tables::{Field, number};
+use paged_memory::Image;
+
+/// How many milliseconds to pause wherever a transaction brought nothing, if the module has this memory: at least 100, and so
+/// long that 4,000 pauses last twice as long as the longest state that it advertises.
+pub fn pause_for(image: &Image) -> u32
+    ensures { result ≡ spec.pause_for image.now }
+{
+    larger(SHORTEST_PAUSE, longest_state(image).div_ceil(2000))
+}
+
+const SHORTEST_PAUSE: u32 = 100;
+
+/// The end of the range that a code stands for, in milliseconds; none of a code without an upper end or without a meaning.
+pub fn longest_duration(code: u8) -> Option<u32>
+    ensures { result ≡ spec.longest_duration code }
+{
+    DURATIONS.get(usize::from(code)).copied()
+}
+
+const DURATIONS: [u32; 13] = [
+    1, 5, 10, 50, 100, 500, 1_000, 5_000, 10_000, 60_000, 300_000, 600_000, 3_000_000,
+];
+
+fn longest_state(image: &Image) -> u32
+    ensures { result ≡ spec.longest_of (spec.states_of image.now) }
+{
+    let module = larger(
+        lasts(number(image, Field::CMaxDurationModulePwrUp)),
+        lasts(number(image, Field::CMaxDurationModulePwrDn)),
+    );
+    let path = larger(
+        lasts(number(image, Field::CMaxDurationDPInit)),
+        lasts(number(image, Field::CMaxDurationDPDeinit)),
+    );
+    let output = larger(
+        lasts(number(image, Field::CMaxDurationDPTxTurnOn)),
+        lasts(number(image, Field::CMaxDurationDPTxTurnOff)),
+    );
+    larger(module, larger(path, output))
+}
+
+fn lasts(code: u8) -> u32
+    ensures { result ≡ spec.lasts code }
+{
+    longest_duration(code).unwrap_or(3_000_000)
+}
+
+fn larger(one: u32, other: u32) -> u32
+    ensures { result ≡ max one other }
+{
+    if one < other { other } else { one }
+}
