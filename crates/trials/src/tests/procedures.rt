@@ -77,6 +77,9 @@ fn only_fitting_replies_are_taken(rt: HostRuntime) {
     assert_eq!(rt; TaskList::save(&procedure), first);
     assert_eq!(rt; answered(&procedure), None);
     assert!(rt; try_take(&mut procedure, &bytes_read(&[0])));
-    assert_eq!(rt; answered(&procedure), Some(Err(ProvisionFault::Reserved(0))));
+    assert_eq!(rt;
+        answered(&procedure),
+        Some(Err(ProvisionFault::Reserved(0)))
+    );
     assert!(rt; !try_take(&mut procedure, &Reply::Refused));
 }
