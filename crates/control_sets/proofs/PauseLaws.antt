@@ -1,8 +1,6 @@
 -- The pauses that a budget allows last twice as long as each of six states.
-use Rattle.std.proofs.Common.{◌≤◌, ◌<◌, ◌*◌, ℕ, [], ◌∷◌, tt, arith}
+use Rattle.std.proofs.Common.{◌≤◌, ◌*◌, ℕ, [], ◌∷◌, arith}
 use Rattle.std.proofs.lemmas.Grind.{div_ceil_times}
-use Rattle.std.specs.Prelude.{max}
-use Rattle.std.specs.Int.{div_ceil}
 use Rattle.std.specs.List.{AllByRecursion}
 use Rattle.control_sets.specs.Durations.{longest_of, pause_after, polls}
 

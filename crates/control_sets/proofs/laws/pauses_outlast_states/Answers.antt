@@ -1,5 +1,4 @@
-use Rattle.std.proofs.Common.{ℕ, arith, lit≤}
-use Rattle.control_sets.specs.Durations.{duration_of, states_of}
+use Rattle.control_sets.specs.Durations.{duration_of}
 use Rattle.field_tables.specs.declared.field.Field.TheVariants as fields
 use Rattle.control_sets.proofs.PauseLaws.{outlasts}
 use Rattle.control_sets.proofs.laws.pauses_outlast_states.Goals as goal
