@@ -16,3 +16,4 @@ pub mod WellFormed
 pub mod AddedLabels
 pub mod FormatLines
 pub mod Laws
+pub mod UnitLaws

@@ -1,5 +1,6 @@
 //! What holds of all metrics. The functions are theorems: their contracts say it, and their bodies are empty.
 
+ghost use Rattle.module_metrics.specs.UnitLaws.{EachMetricCountsSteps, EachUnitHasItsPrefix};
 ghost use Rattle.module_metrics.specs.Laws.{EachAmountIsTheReports, EachLineIsOne, EachNumberIsWritten, EachValueReadsBack, EveryModulesMetricsAreRight};
 
 /// The metrics of each image, with labels that words have added: names of metrics and of labels are names of the format, help is one line,
@@ -22,4 +23,11 @@ pub fn each_value_reads_back()
 pub fn each_number_is_written()
     ensures metrics { EachNumberIsWritten }
     ensures reports { EachAmountIsTheReports }
+{}
+
+/// A metric of a monitored value has the unit of the step that the module counts in, and its number is that of these steps. For each unit
+/// in which a report prints, it is the unit without the prefix, and counts the thousandths of it that the report prints.
+pub fn each_metric_is_what_the_report_prints()
+    ensures steps { EachMetricCountsSteps }
+    ensures units { EachUnitHasItsPrefix }
 {}
