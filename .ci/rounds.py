@@ -72,8 +72,9 @@ def with_shapes(said, folder_of):
         text = read(f"{folder_of(folder)}/{name}").split("\n")[int(line) - 1][int(column) - 1:]
         return error[0] if re.match(r"refl\b", text) else f"{error[0]} {SHAPE}"
 
-    differ = r"^\./proofs/([\w/]+)/((?:Answers|Invariants)\.antt):(\d+):(\d+): error: .*\bthe two types (?:first )?differ\b.*$"
-    return re.sub(differ, marked, said, flags=re.M)
+    place = r"^\./proofs/([\w/]+)/((?:Answers|Invariants)\.antt):(\d+):(\d+): error: "
+    differ = r"(?:\bthe two types (?:first )?differ\b|\bexpected type\b.*\bbut this has type\b)"
+    return re.sub(rf"{place}.*{differ}.*$", marked, said, flags=re.M)
 
 
 def verdict_of(said, function, path, lines, is_alone):
