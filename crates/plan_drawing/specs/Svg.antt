@@ -92,9 +92,13 @@ path_elements advert kept (number, path) =
     (left_of path.host) (80 * (app_of advert path).host_lanes)
     (left_of path.media) (80 * (app_of advert path).media_lanes)
 
+-- a control byte; a dash in place of 0, which a lane of no path has
+abbrev pub control_text : ℕ → List ℕ
+control_text byte = if byte == 0 then codes "-" else encode_lower (byte ∷ [])
+
 -- the control byte of a host lane
 unfoldable pub control_element : ℕ × ℕ → List ℕ
-control_element (lane, byte) = text_at (left_of lane + 8) 80 (encode_lower (byte ∷ []))
+control_element (lane, byte) = text_at (left_of lane + 8) 80 (control_text byte)
 
 -- ---- the whole
 

@@ -3,7 +3,7 @@ ghost use Rattle.std.specs.Prelude.{◌≡◌, ◌++◌, ◌∷◌, [], ◌^◌,
 ghost use Rattle.std.specs.List.{enumerate_from, range_with_len};
 ghost use Rattle.text_lines.specs.Lines.{text_of};
 ghost use Rattle.plan_certificate.specs.Plans.{IsAdmissible};
-ghost use Rattle.plan_drawing.specs.Svg.{band, block_begin, control_element, escaped, head, head_begin, head_end, height_of, lane_elements, path_boxes, path_elements, shape_lines, sides, style, svg_lines, text_block};
+ghost use Rattle.plan_drawing.specs.Svg.{band, block_begin, control_element, control_text, escaped, head, head_begin, head_end, height_of, lane_elements, path_boxes, path_elements, shape_lines, sides, style, svg_lines, text_at, text_block};
 
 use crate::elements::{
     class_of, lane_class, left_of, push_box, push_points, push_points_begin, push_text_at,
@@ -95,9 +95,18 @@ fn push_control(out: &mut Vec<u8>, control: &[u8]) -> Result<(), AllocError>
 fn push_control_byte(out: &mut Vec<u8>, lane: u8, byte: u8) -> Result<(), AllocError>
     ensures { OnOk result (out.new.items ≡ out.old.items ++ (control_element (lane, byte) ++ 10 ∷ [])) }
 {
-    push_text_at(out, left_of(lane) + 8, 80, &HexByte(byte).digits())?;
+    push_control_text(out, left_of(lane) + 8, byte)?;
     out.push(b'\n')?;
     Ok(())
+}
+
+fn push_control_text(out: &mut Vec<u8>, left: u64, byte: u8) -> Result<(), AllocError>
+    ensures { OnOk result (out.new.items ≡ out.old.items ++ text_at left 80 (control_text byte)) }
+{
+    match byte {
+        0 => push_text_at(out, left, 80, b"-"),
+        _ => push_text_at(out, left, 80, &HexByte(byte).digits()),
+    }
 }
 
 // ---- paths
