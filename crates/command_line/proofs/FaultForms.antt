@@ -35,7 +35,7 @@ of_reading false f is = refl
 -- an answer with a text, whose JSON has the fault
 text_alone : (opening : Opening) (text : List ℕ) (told : Option ToldFault) → output_in Ready (Ok (text, told)) ≡ output_of true opening (Ok (text, told))
 text_alone opening text None = refl
-text_alone opening text (Some (Procedure f)) = refl
+text_alone opening text (Some (Procedure f inactive)) = refl
 text_alone opening text (Some (Metrics f)) = refl
 
 pub ready_if_ok : (json : Bool) (opening : Opening) (answer : Result CommandOutput Fault) (told : CommandOutput) → json ≡ true → answer ≡ Ok told

@@ -122,7 +122,7 @@ module _ (conventions : Conventions) (image listed kept script : List ℕ) (sess
   -- what a session's bus makes of the plan
   pub carried : (json traced wake activate : Bool) (text : List ℕ) (after : ModuleBus) (results : ProcedureResults) (ended : Option ProvisionFault) (told_fault : Option ToldFault)
       → CarriesOut wake activate session.advert session.plan session.kept (seen_at session.bus) after results
-      → text ≡ told_output json traced after.steps (outcome_of results (active_bytes after.state.1)) ended → ended ≡ outcome_fault results → told_fault ≡ option_map Procedure ended
+      → text ≡ told_output json traced after.steps (outcome_of results (active_bytes after.state.1)) ended → ended ≡ outcome_fault results → told_fault ≡ option_map (λ f. Procedure f session.inactive) ended
       → IsCarriedOut json traced wake activate conventions image listed kept script text told_fault
   carried json traced wake activate text after results ended told_fault done told fault same = record {
     set_up = is.set_up;
@@ -130,7 +130,7 @@ module _ (conventions : Conventions) (image listed kept script : List ℕ) (sess
     results = results;
     done = rw (is.advert, is.plan, is.kept, is.bus) at done;
     told = told ∙ ap (told_output json traced after.steps (outcome_of results (active_bytes after.state.1))) fault;
-    fault = same ∙ ap (option_map Procedure) fault;
+    fault = same ∙ ap₂ (λ (o : Option Path) (e : Option ProvisionFault). option_map (λ f. Procedure f o) e) is.inactive fault;
   }
 
   session_module : session.bus.device ≡ start is.set_up.given.is_advert.memory delays

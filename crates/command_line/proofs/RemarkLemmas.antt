@@ -3,6 +3,7 @@ use Rattle.std.proofs.Common.{◌≡◌, ◌∙◌, ℕ, Bool, true, false, List
 use Rattle.command_line.specs.Input.{IsReadOf}
 use Rattle.command_line.specs.Remarks.{clue_for}
 use Rattle.command_line.specs.RemarksBeside.{IsRemarkBeside}
+use Rattle.command_line.specs.ToldRemarks.{beside_told}
 use Rattle.command_line.specs.Runs.{Answer, EndsByFailure, IsSaidBeside, IsWritten, SaysReading, clue_beside, ended, ending_after, opening_beside, output_of, status_after}
 use Rattle.reports.specs.declared.fault.ReportFault.TheVariants as report
 use Rattle.command_line.specs.Faults.{fault_of_told}
@@ -29,7 +30,7 @@ read_clue input f is = absurd is
 
 -- nor of a fault that a text tells of
 told_clue : (told : ToldFault) (input : List ℕ) → record { opening = Other; weights_line = None } ≡ clue_for (fault_of_told told) input
-told_clue (Procedure f) input = refl
+told_clue (Procedure f inactive) input = refl
 told_clue (Metrics report.Memory) input = refl
 told_clue (Metrics f) input = refl
 
@@ -43,7 +44,7 @@ pub said_beside : (failed : Bool) (status : Status) (input : List ℕ) (answer :
 said_beside true status input answer clue remark is same = refl
 said_beside false status input (Err f) clue remark is same = with_clue f clue (clue_for f input) remark is same
 said_beside false status input (Ok (text, Some told)) clue remark is same =
-    with_clue (fault_of_told told) clue (clue_for (fault_of_told told) input) remark is (same ∙ told_clue told input)
+    is ∙ ap (beside_told told) (same ∙ told_clue told input)
 said_beside false status input (Ok (text, None)) clue remark is same = is
 
 -- what follows of two facts of the input holds of it, where it is known
@@ -65,7 +66,7 @@ refusal_remarked failed status ending is =
 -- of all answers a failed read alone ends so
 only_reading : (answer : Answer) → status_after answer ≡ ReadOrWrite → answer ≡ Err fault.Io
 only_reading (Ok (text, None)) ends = cc
-only_reading (Ok (text, Some (Procedure f))) ends = cc
+only_reading (Ok (text, Some (Procedure f inactive))) ends = cc
 only_reading (Ok (text, Some (Metrics report.Memory))) ends = cc
 only_reading (Ok (text, Some (Metrics f))) ends = cc
 only_reading (Err fault.Io) ends = refl

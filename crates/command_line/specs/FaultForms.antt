@@ -24,7 +24,7 @@ fault_in Ready fault = reading_fault_text fault
 abbrev pub output_in : FaultForm → Answer → List ℕ
 output_in form (Ok (text, None)) = text
 output_in form (Ok (text, Some (Metrics fault))) = text
-output_in Line (Ok (text, Some (Procedure fault))) = text ++ fault_line (Provision fault)
-output_in (Json other) (Ok (text, Some (Procedure fault))) = text
-output_in Ready (Ok (text, Some (Procedure fault))) = text
+output_in Line (Ok (text, Some (Procedure fault inactive))) = text ++ fault_line (Provision fault)
+output_in (Json other) (Ok (text, Some (Procedure fault inactive))) = text
+output_in Ready (Ok (text, Some (Procedure fault inactive))) = text
 output_in form (Err fault) = fault_in form fault

@@ -66,5 +66,5 @@ fault_of_weights f = Weights f
 
 -- the fault that a text tells of, as an answer alone
 abbrev pub fault_of_told : ToldFault → Fault
-fault_of_told (Procedure f) = Provision f
+fault_of_told (Procedure f inactive) = Provision f
 fault_of_told (Metrics f) = fault_of_report f

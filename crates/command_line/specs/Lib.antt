@@ -19,7 +19,9 @@ pub mod Faults
 pub mod Places
 pub mod PlanWarnings
 pub mod OddLines
+pub mod InactivePaths
 pub mod Remarks
+pub mod ToldRemarks
 pub mod FaultTexts
 pub mod Runs
 pub mod FaultForms

@@ -42,6 +42,7 @@ use Rattle.command_line.specs.Faults.{fault_words}
 use Rattle.command_line.specs.FaultTexts.{fault_sentence}
 use Rattle.command_line.specs.declared.remark.opening.Opening.TheVariants.{Other}
 use Rattle.command_line.specs.GivenPlan.{IsGiven}
+use Rattle.command_line.specs.InactivePaths.{first_inactive}
 use Rattle.command_line.specs.PlanningInputs.{Advertises, ArePlanningInputs, IsAdvertRefusal, IsKeptRefusal, IsWeightsRefusal}
 use Rattle.command_line.specs.Runs.{Answer}
 use Rattle.command_line.specs.declared.commands.outcome.ProcedureResults.{ProcedureResults}
@@ -188,6 +189,10 @@ pub record IsSetUp (conventions : Conventions) (image_text weights_text kept_tex
   pub is_script : IsTextOf (lines_of script_text) script
   pub starts : start_fault given.is_advert.memory delays ≡ None
 
+-- the first kept path that the module of the image has not in its Active Control Set
+abbrev pub inactive_of : {conventions : Conventions} {image_text weights_text kept_text script_text : List ℕ} → IsSetUp conventions image_text weights_text kept_text script_text → Option Path
+inactive_of set_up = first_inactive set_up.given.advert set_up.certificate.kept (active_bytes (start set_up.given.is_advert.memory delays))
+
 -- the image makes no module
 pub record IsNoModule (conventions : Conventions) (image_text weights_text kept_text script_text : List ℕ) (refused : SimFault) : Type 0 where
   pub inputs : ArePlanningInputs conventions image_text weights_text kept_text
@@ -211,7 +216,7 @@ pub record IsCarriedOut (json traced wake activate : Bool) (conventions : Conven
   pub results : ProcedureResults
   pub done : CarriesOut wake activate set_up.given.advert set_up.certificate.paths set_up.certificate.kept (bus_at_start set_up.given.is_advert.memory set_up.script) after results
   pub told : text ≡ told_output json traced after.steps (outcome_of results (active_bytes after.state.1)) (outcome_fault results)
-  pub fault : told_fault ≡ option_map Procedure (outcome_fault results)
+  pub fault : told_fault ≡ option_map (λ f. Procedure f (inactive_of set_up)) (outcome_fault results)
 
 -- the answer to the texts of an image, of weights, of kept paths and of a script, by whether it is JSON, the steps are shown,
 -- waking up and activation are asked for and the module pairs first lanes

@@ -9,13 +9,14 @@ use Rattle.applications.specs.declared.weights.table.WeightTable.{WeightTable}
 use Rattle.applications.specs.declared.weights.table.WeightTable.TheVariants as table
 use Rattle.paged_memory.specs.declared.fault.ImageFault.TheVariants as image
 use Rattle.command_line.specs.Faults.{fault_words}
+use Rattle.command_line.specs.InactivePaths.{inactive_text}
 use Rattle.command_line.specs.OddLines.{odd_line_of_weights}
 use Rattle.command_line.specs.Places.{first_word, place_of, place_text}
 use Rattle.command_line.specs.declared.fault.Fault.{Fault}
 use Rattle.command_line.specs.declared.fault.Fault.TheVariants as fault
 use Rattle.command_line.specs.declared.remark.Explained.{Explained}
 use Rattle.command_line.specs.declared.remark.Remark.{Remark}
-use Rattle.command_line.specs.declared.remark.Remark.TheVariants.{Nothing, Unwritten, NoMemory, Refused, Warned}
+use Rattle.command_line.specs.declared.remark.Remark.TheVariants.{Nothing, Unwritten, NoMemory, Refused, Foreseen, Warned}
 use Rattle.command_line.specs.declared.remark.clue.Clue.{Clue}
 use Rattle.command_line.specs.declared.remark.opening.Opening.{Opening}
 use Rattle.command_line.specs.declared.remark.opening.Opening.TheVariants.{Empty, Mark, Returns, Binary, Other}
@@ -94,4 +95,5 @@ remark_text Nothing = Some []
 remark_text Unwritten = Some (codes "cmisctl: " ++ sentence_of (codes "output") ++ codes " (docs/faults.md)\n")
 remark_text NoMemory = Some (codes "cmisctl: memory: " ++ sentence_of (codes "memory") ++ codes " (docs/faults.md)\n")
 remark_text (Refused explained) = Some (explained_text explained)
+remark_text (Foreseen path explained) = Some (inactive_text path ++ explained_text explained)
 remark_text (Warned warnings) = None

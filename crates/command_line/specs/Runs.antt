@@ -7,6 +7,7 @@ use Rattle.command_line.specs.declared.fault.Fault.{Fault}
 use Rattle.command_line.specs.declared.fault.Fault.TheVariants.{Memory, Io, TooLong, Parts, Provision}
 use Rattle.command_line.specs.declared.command_output.CommandOutput.{CommandOutput}
 use Rattle.command_line.specs.Remarks.{clue_for}
+use Rattle.command_line.specs.ToldRemarks.{beside_told}
 use Rattle.command_line.specs.declared.remark.clue.Clue.{Clue}
 use Rattle.command_line.specs.declared.remark.opening.Opening.{Opening}
 use Rattle.command_line.specs.declared.remark.opening.Opening.TheVariants.{Other}
@@ -51,7 +52,7 @@ opening_beside answer input = (clue_beside answer input).opening
 abbrev pub output_of : Bool → Opening → Answer → List ℕ
 output_of json opening (Ok (text, None)) = text
 output_of true opening (Ok (text, Some fault)) = text
-output_of false opening (Ok (text, Some (Procedure fault))) = text ++ fault_text false (Provision fault) opening
+output_of false opening (Ok (text, Some (Procedure fault inactive))) = text ++ fault_text false (Provision fault) opening
 output_of false opening (Ok (text, Some (Metrics fault))) = text
 output_of json opening (Err fault) = fault_text json fault opening
 
@@ -104,7 +105,7 @@ IsExplained input fault remark = remark ≡ Refused record { fault = fault; clue
 -- what is said beside an answer to this input that was written; what is warned of is left open
 abbrev pub IsRemarkOn : List ℕ → Answer → Remark → Type 0
 IsRemarkOn input (Err fault) remark = IsExplained input fault remark
-IsRemarkOn input (Ok (text, Some told)) remark = IsExplained input (fault_of_told told) remark
+IsRemarkOn input (Ok (text, Some told)) remark = remark ≡ beside_told told (clue_for (fault_of_told told) input)
 IsRemarkOn input (Ok (text, None)) remark = (warnings : Warnings) × (remark ≡ Warned warnings)
 
 -- of one that was not written whole, that alone

@@ -2,7 +2,7 @@
 use Rattle.std.specs.Prelude.{◌≡◌, ℕ, List}
 use Rattle.bus_model.specs.ScriptBuses.{seen_at}
 use Rattle.applications.specs.declared.conventions.Conventions.{Conventions}
-use Rattle.command_line.specs.ProvisionCommand.{IsSetUp, bus_at_start}
+use Rattle.command_line.specs.ProvisionCommand.{IsSetUp, bus_at_start, inactive_of}
 use Rattle.command_line.specs.declared.commands.session.Session.{Session}
 
 pub record IsSessionOf (conventions : Conventions) (image_text weights_text kept_text script_text : List ℕ) (session : Session) : Type 0 where
@@ -10,4 +10,5 @@ pub record IsSessionOf (conventions : Conventions) (image_text weights_text kept
   pub advert : session.advert ≡ set_up.given.advert
   pub plan : session.plan ≡ set_up.certificate.paths
   pub kept : session.kept ≡ set_up.certificate.kept
+  pub inactive : session.inactive ≡ inactive_of set_up
   pub bus : seen_at session.bus ≡ bus_at_start set_up.given.is_advert.memory set_up.script

@@ -2,6 +2,7 @@
 mod check_command;
 mod command;
 mod draw_command;
+mod inactive;
 mod metrics_command;
 mod outcome;
 mod over_bus;

@@ -65,7 +65,7 @@ fn write_output<W: Write>(
     match output.fault {
         None => Status::Done,
         Some(ToldFault::Metrics(fault)) => Fault::from(fault).status(),
-        Some(ToldFault::Procedure(fault)) => match form {
+        Some(ToldFault::Procedure(fault, _)) => match form {
             FaultForm::Line => write_fault(writer, Fault::Provision(fault), form),
             FaultForm::Json(_) => Status::NotProvisioned,
             FaultForm::Ready => Status::NotProvisioned,

@@ -2,12 +2,14 @@
 ghost use Rattle.std.specs.Prelude.{◌≡◌, None, Some};
 ghost use Rattle.command_line.specs.Remarks.{explained_text, key_sentence, remark_text, sentence_key, sentence_of};
 ghost use Rattle.command_line.specs.RemarksBeside.{IsRemarkBeside};
+ghost use Rattle.command_line.specs.ToldRemarks.{beside_told};
 ghost use Rattle.command_line.specs.Faults.{fault_words};
 ghost use Rattle.command_line.specs.Places.{first_word};
 ghost use Rattle.command_line.specs.Runs.{answer_of};
 ghost use Rattle.command_line.specs.declared.remark.opening.Opening.TheVariants.{Other};
 
 mod clue;
+mod inactive_path;
 mod line_pieces;
 mod named;
 mod opening;
@@ -18,12 +20,15 @@ mod weights_lines;
 
 use crate::command_output::CommandOutput;
 use crate::fault::Fault;
+use crate::told_fault::ToldFault;
 use applications::{WeightTable, WeightsFault};
 pub use clue::Clue;
+use inactive_path::InactivePath;
 use named::Named;
 use notices::sentence_by_code;
 pub use opening::Opening;
 use paged_memory::ImageFault;
+use plan_certificate::Path;
 use std::fmt;
 pub use warnings::Warnings;
 
@@ -38,6 +43,8 @@ pub enum Remark {
     NoMemory,
     /// The answer is, or ends with, the line of a fault.
     Refused(Explained),
+    /// The same, and that it was to be expected, since this kept path was not active.
+    Foreseen(Path, Explained),
     /// The answer has no fault.
     Warned(Warnings),
 }
@@ -56,10 +63,25 @@ impl Remark {
     {
         match answer {
             Ok(output) => match output.fault {
-                Some(told) => Remark::of(told.fault(), clue),
+                Some(told) => Remark::of_told(told, clue),
                 None => Remark::Warned(output.warnings),
             },
             Err(fault) => Remark::of(*fault, clue),
+        }
+    }
+
+    // What is said of a fault that a text tells of.
+    fn of_told(told: ToldFault, clue: Clue) -> Remark
+        ensures { result ≡ beside_told told clue }
+    {
+        let explained = Explained {
+            fault: told.fault(),
+            clue,
+        };
+        match told {
+            ToldFault::Procedure(_, Some(path)) => Remark::Foreseen(path, explained),
+            ToldFault::Procedure(_, None) => Remark::Refused(explained),
+            ToldFault::Metrics(_) => Remark::Refused(explained),
         }
     }
 
@@ -149,6 +171,10 @@ impl fmt::Display for Remark {
                 writeln!(f, "cmisctl: memory: {sentence} (docs/faults.md)")
             }
             Remark::Refused(explained) => write!(f, "{explained}"),
+            Remark::Foreseen(path, explained) => {
+                let path = InactivePath(*path);
+                write!(f, "{path}{explained}")
+            }
             Remark::Warned(warnings) => write!(f, "{warnings}"),
         }
     }

@@ -4,13 +4,14 @@ ghost use Rattle.command_line.specs.Faults.{fault_of_told};
 
 use crate::fault::Fault;
 use control_sets::ProvisionFault;
+use plan_certificate::Path;
 use reports::ReportFault;
 
 /// A fault that comes beside a text.
 #[derive(Clone, Copy, Debug, PartialEq, Eq)]
 pub enum ToldFault {
-    /// The procedure that the text tells of ended with it.
-    Procedure(ProvisionFault),
+    /// The procedure that the text tells of ended with it; and the first kept path that was not active before it.
+    Procedure(ProvisionFault, Option<Path>),
     /// A report can't be made, which is among the metrics.
     Metrics(ReportFault),
 }
@@ -21,7 +22,7 @@ impl ToldFault {
         ensures { result ≡ fault_of_told self }
     {
         match self {
-            ToldFault::Procedure(fault) => Fault::Provision(fault),
+            ToldFault::Procedure(fault, _) => Fault::Provision(fault),
             ToldFault::Metrics(fault) => Fault::from(fault),
         }
     }

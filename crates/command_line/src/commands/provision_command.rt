@@ -13,6 +13,7 @@ use crate::told_fault::ToldFault;
 use applications::Conventions;
 use bus_model::Step;
 use control_sets::ProvisionFault;
+use plan_certificate::Path;
 use reports::{Outcome, procedure_json, trace_text};
 use std::alloc::{AllocError, Global};
 use text_lines::ToWords;
@@ -39,6 +40,7 @@ pub fn provision(
         advert,
         plan,
         kept,
+        inactive,
         warnings,
         mut bus,
     } = set_up(alloc, conventions, image, weights, kept, script)?;
@@ -47,16 +49,16 @@ pub fn provision(
     let fault = outcome_fault(results);
     Ok(CommandOutput {
         text: output(alloc, is_json, is_traced, bus.steps(), outcome, fault)?,
-        fault: told(fault),
+        fault: told(fault, inactive),
         warnings,
     })
 }
 
-fn told(fault: Option<ProvisionFault>) -> Option<ToldFault>
-    ensures { result ≡ option_map ToldFault.Procedure fault }
+fn told(fault: Option<ProvisionFault>, inactive: Option<Path>) -> Option<ToldFault>
+    ensures { result ≡ option_map (λ f. ToldFault.Procedure f inactive) fault }
 {
     match fault {
-        Some(fault) => Some(ToldFault::Procedure(fault)),
+        Some(fault) => Some(ToldFault::Procedure(fault, inactive)),
         None => None,
     }
 }

@@ -8,6 +8,7 @@ ghost use Rattle.sim_module.specs.Soundness.{IsSound};
 ghost use Rattle.command_line.specs.ProvisionCommand.{Activates, CarriesOut, IsSetUpRefusal, MakesIf, Provisions, Wakes, delays, fault_of, steps_of};
 ghost use Rattle.command_line.specs.Sessions.{IsSessionOf};
 
+use super::inactive::first_inactive;
 use super::outcome::{ProcedureResults, fault_of, steps_of};
 use super::planning_inputs::{read_kept, read_module};
 use crate::fault::Fault;
@@ -19,7 +20,7 @@ use control_sets::{
     provision_keeping,
 };
 use lane_planner::first_plan;
-use plan_certificate::Plan;
+use plan_certificate::{Path, Plan};
 use sim_module::{Delays, SimModule};
 use std::alloc::Global;
 
@@ -29,12 +30,14 @@ const ROOM: usize = 3 * MAX_STEPS as usize;
 /// How many ticks each work of the module takes.
 const DELAY: u16 = 4;
 
-/// A module, by what it advertises, its plan, what the plan keeps and what is odd about it, and its bus.
+/// A module, by what it advertises, its plan, what the plan keeps, of that the first path that is not active, what is odd about the
+/// plan, and the module's bus.
 #[derive(Drop)]
 pub struct Session {
     pub advert: Advert,
     pub plan: Plan,
     pub kept: Plan,
+    pub inactive: Option<Path>,
     pub warnings: Warnings,
     pub bus: ScriptBus<SimModule>,
 }
@@ -71,6 +74,7 @@ pub fn set_up(
     let kept = read_kept(&advert, kept)?;
     let script = Script::read(script)?;
     let module = SimModule::new(&image, delays())?;
+    let inactive = first_inactive(&advert, &kept, &module.active());
     let weighed = AppWeights::of(&advert, &weights);
     let plan = first_plan(&advert, &weighed, &kept);
     let warnings = Warnings::of(&advert, &weights, !plan.paths.is_empty());
@@ -79,6 +83,7 @@ pub fn set_up(
         advert,
         plan,
         kept,
+        inactive,
         warnings,
         bus,
     })

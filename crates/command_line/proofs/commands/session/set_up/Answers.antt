@@ -1,11 +1,14 @@
-use Rattle.std.proofs.Common.{refl, ap, sym, subst, ◌∙◌}
+use Rattle.std.proofs.Common.{ℕ, List, refl, ap, ap₂, sym, subst, ◌∙◌}
 use Rattle.std.proofs.lemmas.Result.{err_from_is_err_and}
 use Rattle.applications.specs.AppWeights.{PathWeights}
 use Rattle.bus_model.specs.ScriptBuses.{seen_at}
 use Rattle.lane_planner.specs.CertifiedPlans.{IsCertified}
+use Rattle.plan_certificate.specs.declared.path.Path.{Path}
+use Rattle.sim_module.specs.Lanes.{active_bytes}
 use Rattle.sim_module.specs.Starts.{start, start_fault}
 use Rattle.sim_module.specs.declared.delays.Delays.{Delays}
 use Rattle.sim_module.specs.declared.module.SimModule.{SimModule}
+use Rattle.command_line.specs.InactivePaths.{first_inactive}
 use Rattle.command_line.specs.PlanningInputs.{ArePlanningInputs, IsAdvertText, IsKeptRefusal}
 use Rattle.command_line.specs.ProvisionCommand.{IsNoModule, IsSetUpRefusal}
 use Rattle.command_line.specs.declared.fault.Fault.TheVariants.{Kept, Module, Script}
@@ -92,5 +95,8 @@ returns-clause-answer c =
       advert = refl;
       plan = sym certified.2;
       kept = sym all.keeps;
+      inactive = c.first_inactive-inactive.ensures
+          ∙ ap₂ (λ (k : List Path) (bytes : List ℕ). first_inactive c.in_ok-image.advert k bytes) (sym all.keeps)
+          (c.active.ensures ∙ ap active_bytes (starts.1 ∙ ap (λ (d : Delays). start memory d) c.delays.ensures));
       bus = ap seen_at c.in_ok-bus.ensures ∙ ap (λ (m : SimModule). bus_with c.in_ok-script.script m) (starts.1 ∙ ap (λ (d : Delays). start memory d) c.delays.ensures);
     }
