@@ -260,6 +260,7 @@ int open(const char *path, int flags, ...) {
         mode = va_arg(arguments, mode_t);
         va_end(arguments);
     }
+    if (getenv("NO_NULL") != NULL && strcmp(path, "/dev/null") == 0) return errno = ENOENT, -1;
     if (strcmp(path, adapter) != 0 && strcmp(path, eeprom) != 0) return REAL(open)(path, flags, mode);
     if (getenv("PORT") != NULL) begin();
     shim.in_a_row = strcmp(path, eeprom) == 0;

@@ -40,6 +40,15 @@ void pause_ms(struct port *port, int64_t ms) {
     stop(port, "interrupted");
 }
 
+/* Opens /dev/null in place of each standard stream that is closed, so that no bus becomes one. It is to be read only: what is written
+   to such a stream fails, as if it were closed. */
+void fill_streams(void) {
+    int file;
+    do file = open("/dev/null", O_RDONLY);
+    while (file >= 0 && file <= STDERR_FILENO);
+    if (file >= 0) close(file);
+}
+
 /* Holds signals back, but for those that are ignored, as nohup has it. */
 void hold_signals(sigset_t *signals) {
     struct sigaction action;
@@ -103,8 +112,17 @@ static void name_driver(const struct port *port) {
         warnx("%s: the kernel has the module too, by the driver %s", port->name, basename(driver));
 }
 
+/* Opens a file, under a number that no standard stream has, even where fill_streams found no /dev/null. */
+static int open_apart(const char *name, int flags) {
+    int file = open(name, flags | O_CLOEXEC, 0666);
+    if (file < 0 || file > STDERR_FILENO) return file;
+    int apart = fcntl(file, F_DUPFD_CLOEXEC, STDERR_FILENO + 1);
+    close(file);
+    return apart;
+}
+
 static bool open_bus(struct port *port) {
-    port->file = open(port->name, O_RDWR | O_CLOEXEC);
+    port->file = open_apart(port->name, O_RDWR);
     if (port->file < 0) warn("%s", port->name);
     if (port->file < 0 || !is_bus(port)) return false;
     if (!lock_bus(port)) return false;
@@ -117,7 +135,8 @@ bool open_port(struct port *port) {
     port->carry = transact_simulated;
     if (simulates ? !open_simulated(&port->simulated, port->name + 4) : !open_bus(port)) return false;
     if (port->log_name == NULL) return true;
-    port->log = fopen(port->log_name, "w");
+    int log = open_apart(port->log_name, O_WRONLY | O_CREAT | O_TRUNC);
+    port->log = log < 0 ? NULL : fdopen(log, "w");
     if (port->log == NULL) warn("%s", port->log_name);
     return port->log != NULL;
 }

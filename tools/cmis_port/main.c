@@ -88,6 +88,7 @@ static void close_log(struct port *port) {
 
 int main(int count, char **words) {
     struct port port = {.file = -1, .most = 128};
+    fill_streams();
     const struct command *command = read_words(count, words, &port);
     if (command == NULL) fputs(usage, port.help ? stdout : stderr);
     if (command == NULL) return port.help ? DONE : COMMAND_LINE;

@@ -51,6 +51,7 @@ int64_t now(void); /* in milliseconds */
 void clear_progress(void);
 void stop(struct port *port, const char *why);
 void pause_ms(struct port *port, int64_t ms);
+void fill_streams(void);
 void hold_signals(sigset_t *signals);
 bool open_port(struct port *port);
 uint8_t transact(struct port *port, const struct dovecounter_operation *operation, uint8_t bytes[128]);
