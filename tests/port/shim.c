@@ -80,6 +80,7 @@ static void read_word(const char *word) {
     if (strncmp(word, "unplug=", 7) == 0) shim.unplug = value;
     if (strncmp(word, "swap=", 5) == 0) shim.swap = value;
     if (strncmp(word, "interrupt=", 10) == 0) shim.interrupt = value;
+    if (strncmp(word, "signal=", 7) == 0) shim.signal = value;
     if (strncmp(word, "durations=", 10) == 0) shim.durations = (uint8_t)value;
     if (strncmp(word, "error=", 6) == 0) shim.error = (int)value;
     if (strncmp(word, "slowest=", 8) == 0) shim.module.slowest = value;
@@ -168,7 +169,7 @@ static bool reaches(void) {
     if (shim.made == 10 && shim.hold[0] != 0) wait_for_removal(shim.hold);
     shim.microseconds += 300; /* of the transaction */
     if (shim.made == shim.swap) shim.module = shim.fresh;
-    if (shim.made == shim.interrupt) kill(getpid(), SIGINT);
+    if (shim.made == shim.interrupt) kill(getpid(), shim.signal != 0 ? (int)shim.signal : SIGINT);
     for (int64_t until = microseconds() / 1000; shim.lived < until; shim.lived++) pass_millisecond(&shim.module);
     errno = shim.error;
     if (shim.unplug != 0 && shim.made > shim.unplug)

@@ -49,14 +49,26 @@ void fill_streams(void) {
     if (file >= 0) close(file);
 }
 
-/* Holds signals back, but for those that are ignored, as nohup has it. */
+/* Holds signals back, but for those that are ignored, as nohup has it. Before, they end the program at once. */
 void hold_signals(sigset_t *signals) {
     struct sigaction action;
     sigemptyset(signals);
-    for (const int *each = (const int[]){SIGINT, SIGTERM, SIGHUP, 0}; *each != 0; each++)
+    for (const int *each = (const int[]){SIGINT, SIGTERM, SIGHUP, SIGQUIT, 0}; *each != 0; each++)
         if (sigaction(*each, NULL, &action) == 0 && action.sa_handler != SIG_IGN) sigaddset(signals, *each);
     sigprocmask(SIG_BLOCK, signals, NULL);
-    signal(SIGPIPE, SIG_IGN);
+}
+
+/* Prints what was said so far, before anything is stored: a reader that stands still can be left by a signal. */
+void print_now(struct port *port) {
+    sigprocmask(SIG_UNBLOCK, &port->signals, NULL);
+    fflush(stdout);
+    sigprocmask(SIG_BLOCK, &port->signals, NULL);
+}
+
+/* Drops the signals that came too late for a module, and lets further ones end the program while it prints. */
+void release_signals(struct port *port) {
+    while (sigtimedwait(&port->signals, NULL, &(struct timespec){0}) > 0) continue;
+    sigprocmask(SIG_UNBLOCK, &port->signals, NULL);
 }
 
 static bool transact_i2c(struct port *port, const struct dovecounter_operation *operation, uint8_t *bytes) {
@@ -130,15 +142,20 @@ static bool open_bus(struct port *port) {
     return true;
 }
 
+/* Who reads the log may stand still: then lines are lost, and no procedure waits for it. */
+static bool open_log(struct port *port) {
+    int file = open_apart(port->log_name, O_WRONLY | O_CREAT | O_TRUNC);
+    port->log = file < 0 ? NULL : fdopen(file, "w");
+    if (port->log == NULL) return warn("%s", port->log_name), false;
+    fcntl(file, F_SETFL, O_NONBLOCK);
+    return true;
+}
+
 bool open_port(struct port *port) {
     bool simulates = strncmp(port->name, "sim:", 4) == 0;
     port->carry = transact_simulated;
     if (simulates ? !open_simulated(&port->simulated, port->name + 4) : !open_bus(port)) return false;
-    if (port->log_name == NULL) return true;
-    int log = open_apart(port->log_name, O_WRONLY | O_CREAT | O_TRUNC);
-    port->log = log < 0 ? NULL : fdopen(log, "w");
-    if (port->log == NULL) warn("%s", port->log_name);
-    return port->log != NULL;
+    return port->log_name == NULL || open_log(port);
 }
 
 /* A line as the command trace of cmisctl prints it. */

@@ -81,10 +81,9 @@ static void print_plan(const struct port *port) {
 
 /* Reads the module, and finds and prints the plan. */
 static bool find_plan(struct port *port) {
-    uint32_t weights[256] = {0};
-    if (!read_weights(port->weights, weights) || !read_module(port, false)) return false;
+    if (!read_module(port, false)) return false;
     uint32_t status = dovecounter_plan(port->reading.halves, port->reading.count, !port->unpaired, port->counts_by_id,
-                                       weights, 0, port->kept, port->kept_count, &port->plan);
+                                       port->weights, 0, port->kept, port->kept_count, &port->plan);
     if (status == DOVECOUNTER_DONE && bytes_at(port, ACTIVE) == NULL) status = DOVECOUNTER_ENDED;
     if (status != DOVECOUNTER_DONE) return refuse(port, status), false;
     print_plan(port);
@@ -157,7 +156,7 @@ enum status provision(struct port *port) {
         say_lanes(stderr, "cmis-port:", lanes, why);
         return REFUSED;
     }
-    fflush(stdout);
+    print_now(port);
     bool done = (is_held(port) && !port->force) || put_in(port);
     done = done && (!port->activate || bring_up(port));
     return say_what_is_held(port) && done ? DONE : NOT_PROVISIONED;

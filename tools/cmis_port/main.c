@@ -63,15 +63,15 @@ struct command {
     bool plans, stores; /* it takes weights, --keep, --unpaired and --counts-by-id; it takes --activate and --force */
 };
 
-/* The command that the words name, if all flags are its own; else NULL. */
-static const struct command *read_words(int count, char **words, struct port *port) {
+/* The command that the words name, if all flags are its own; else NULL. The word after it is `weights`, or NULL. */
+static const struct command *read_words(int count, char **words, struct port *port, const char **weights) {
     static const struct command commands[] = {{"image", image, false, false},
                                               {"state", state, false, false},
                                               {"plan", plan, true, false},
                                               {"provision", provision, true, true}};
     if (!read_flags(count, words, port) || port->help || optind + 1 >= count) return NULL;
     port->name = words[optind];
-    port->weights = words[optind + 2];
+    *weights = words[optind + 2];
     for (const struct command *each = commands; each < commands + 4; each++) {
         if (strcmp(words[optind + 1], each->name) != 0) continue;
         bool asks = port->kept_count > 0 || port->unpaired || port->counts_by_id;
@@ -86,17 +86,29 @@ static void close_log(struct port *port) {
     if (fclose(port->log) != 0 || !is_whole) warnx("%s: not each operation could be written there", port->log_name);
 }
 
-int main(int count, char **words) {
-    struct port port = {.file = -1, .most = 128};
-    fill_streams();
-    const struct command *command = read_words(count, words, &port);
-    if (command == NULL) fputs(usage, port.help ? stdout : stderr);
-    if (command == NULL) return port.help ? DONE : COMMAND_LINE;
-    hold_signals(&port.signals);
-    enum status status = open_port(&port) ? command->run(&port) : REFUSED;
-    if (port.log != NULL) close_log(&port);
+/* All that may have to be waited for is read before signals are held back, and before the module is touched. */
+static enum status run(const struct command *command, struct port *port, const char *weights) {
+    bool ready = (!command->plans || read_weights(weights, port->weights)) && open_port(port);
+    hold_signals(&port->signals);
+    enum status status = ready ? command->run(port) : REFUSED;
+    release_signals(port);
+    if (port->log != NULL) close_log(port);
     unlock_bus();
-    if (port.file >= 0) close(port.file);
+    if (port->file >= 0) close(port->file);
+    return status;
+}
+
+int main(int count, char **words) {
+    static char output[1 << 14]; /* all of it: it is written where a signal may come */
+    struct port port = {.file = -1, .most = 128};
+    const char *weights = NULL;
+    fill_streams();
+    signal(SIGPIPE, SIG_IGN); /* writes fail instead, */
+    signal(SIGXFSZ, SIG_IGN); /* also those above a limit of the file's size */
+    setvbuf(stdout, output, _IOFBF, sizeof output);
+    const struct command *command = read_words(count, words, &port, &weights);
+    if (command == NULL) fputs(usage, port.help ? stdout : stderr);
+    enum status status = command != NULL ? run(command, &port, weights) : port.help ? DONE : COMMAND_LINE;
     if (fflush(stdout) == 0 && !ferror(stdout)) return (int)status;
     warn("standard output");
     return status == DONE ? NOT_WRITTEN : (int)status;

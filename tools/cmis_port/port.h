@@ -24,8 +24,9 @@ struct simulated {
 
 struct port {
     /* what is asked for */
-    const char *name, *weights, *log_name;
+    const char *name, *log_name;
     bool activate, force, help, unpaired, counts_by_id;
+    uint32_t weights[256];
     struct dovecounter_path kept[9];
     size_t kept_count;
 
@@ -53,6 +54,8 @@ void stop(struct port *port, const char *why);
 void pause_ms(struct port *port, int64_t ms);
 void fill_streams(void);
 void hold_signals(sigset_t *signals);
+void print_now(struct port *port);
+void release_signals(struct port *port);
 bool open_port(struct port *port);
 uint8_t transact(struct port *port, const struct dovecounter_operation *operation, uint8_t bytes[128]);
 

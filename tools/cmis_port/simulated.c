@@ -24,8 +24,10 @@ static bool read_image(const char *name, struct simulated *simulated) {
     char line[400];
     FILE *file = fopen(name, "r");
     if (file == NULL) return warn("%s", name), false;
-    while (simulated->count < 16 && fgets(line, sizeof line, file) && strcmp(line, "end\n") != 0)
+    for (int lines = 0; lines < 64 && simulated->count < 16; lines++) {
+        if (fgets(line, sizeof line, file) == NULL || strcmp(line, "end\n") == 0) break;
         if (read_half(line, &simulated->halves[simulated->count])) simulated->count++;
+    }
     fclose(file);
     return true;
 }
