@@ -49,8 +49,11 @@ size_t describe(const struct emulator *module, char *text, size_t room) {
         at += (size_t)snprintf(text + at, room - at, " %02x", module->pages[0x11][ACTIVE + lane]);
     at += (size_t)snprintf(text + at, room - at, "\npaths");
     for (int lane = 0; lane < 8; lane++) at += (size_t)snprintf(text + at, room - at, " %u", module->path[lane]);
-    return at + (size_t)snprintf(text + at, room - at, "\ndeinit %02x applied %02x left-activated %02x astray %u\n",
-                                 module->deinit, module->applies, module->left_activated, module->astray);
+    at += (size_t)snprintf(text + at, room - at, "\ndeinit %02x applied %02x left-activated %02x astray %u\n",
+                           module->deinit, module->applies, module->left_activated, module->astray);
+    if (module->powers == 0) return at;
+    return at + (size_t)snprintf(text + at, room - at, "power %02x state %u\n", module->lower[26],
+                                 module->lower[3] >> 1 & 7);
 }
 
 /* The descriptor of an Application; NULL if it isn't advertised. */
@@ -65,6 +68,33 @@ static const uint8_t *descriptor(const struct emulator *module, unsigned applica
 
 static unsigned lanes_from(unsigned first, unsigned count) { return ((1U << count) - 1) << first & 0xFF; }
 
+enum { IN_LOW_POWER = 1, IN_POWER_UP, IN_READY, IN_POWER_DOWN };
+
+static unsigned state_of(const struct emulator *module) { return module->lower[3] >> 1 & 7; }
+
+void enter_state(struct emulator *module, uint8_t state) {
+    module->lower[3] = (uint8_t)((module->lower[3] & ~0x0E) | state << 1);
+    module->lower[8] |= 1; /* ModuleStateChangedFlag */
+    module->power_left = some_time(module);
+}
+
+/* Byte 26: low power is requested by software, or by the pin, which this module always has. */
+static void store_power(struct emulator *module, uint8_t byte) {
+    module->powers++;
+    module->lower[26] = byte;
+    module->is_low = (byte & 0x50) != 0;
+}
+
+static void pass_power(struct emulator *module) {
+    bool over = module->power_left == 0 || --module->power_left == 0;
+    unsigned state = state_of(module), down = 0;
+    for (int lane = 0; lane < 8; lane++) down += module->path[lane] == DEACTIVATED;
+    if (state == IN_LOW_POWER && !module->is_low) enter_state(module, IN_POWER_UP);
+    if (state == IN_POWER_UP && over) enter_state(module, IN_READY);
+    if (state == IN_READY && module->is_low && down == 8) enter_state(module, IN_POWER_DOWN);
+    if (state == IN_POWER_DOWN && over) enter_state(module, IN_LOW_POWER);
+}
+
 /* The lanes of the active data path of this one. */
 static unsigned active_path(const struct emulator *module, int lane) {
     const uint8_t *active = &module->pages[0x11][ACTIVE];
@@ -76,11 +106,12 @@ static unsigned active_path(const struct emulator *module, int lane) {
 
 static bool is_held_down(const struct emulator *module, int lane) {
     unsigned lanes = active_path(module, lane);
-    if (module->pages[0x11][ACTIVE + lane] >> 4 == 0 || (module->lower[3] >> 1 & 7) != 3) return true;
+    if (module->pages[0x11][ACTIVE + lane] >> 4 == 0 || state_of(module) != IN_READY || module->is_low) return true;
     return ((module->pages[0x10][DP_DEINIT] | module->applying) & lanes) != 0;
 }
 
 void power_up(struct emulator *module) {
+    module->is_low = state_of(module) == IN_LOW_POWER;
     for (int lane = 0; lane < 8; lane++) module->path[lane] = is_held_down(module, lane) ? DEACTIVATED : ACTIVATED;
 }
 
@@ -133,7 +164,11 @@ static void apply(struct emulator *module, uint8_t mask) {
 
 uint8_t fetch_byte(struct emulator *module, uint8_t address) {
     uint8_t at = address & 127, *bytes = module->pages[module->page], byte;
-    if (address < 126) return module->lower[address];
+    if (address < 126) {
+        byte = module->lower[address];
+        if (address >= 8 && address <= 11) module->lower[address] = 0;
+        return byte;
+    }
     if (address < 128) return address == 126 ? module->bank : module->page;
     if (module->page == 0x11 && at < 4) return (uint8_t)(module->path[2 * at] | module->path[2 * at + 1] << 4);
     if (module->page == 0x11 && at >= STATUSES && at < ACTIVE)
@@ -156,6 +191,8 @@ void store_byte(struct emulator *module, uint8_t address, uint8_t byte) {
         module->next_bank = byte;
     else if (address == 127)
         select_page(module, byte);
+    else if (address == 26)
+        store_power(module, byte);
     else if (address < 128 || module->page != 0x10)
         module->astray++;
     else if (at == DP_DEINIT) {
@@ -195,6 +232,7 @@ static void pass_paths(struct emulator *module) {
 }
 
 void pass_millisecond(struct emulator *module) {
+    pass_power(module);
     pass_paths(module);
     bool shows = module->silent_left > 0 && --module->silent_left == 0;
     bool ends = module->applying != 0 && --module->apply_left == 0;

@@ -27,6 +27,8 @@ struct emulator {
     uint8_t applied[8];    /* what becomes active */
     uint8_t applying;      /* lanes */
     unsigned apply_left, silent_left;
+    bool is_low;         /* low power is requested */
+    unsigned power_left; /* milliseconds until ModulePwrUp or ModulePwrDn ends */
 
     unsigned slowest; /* milliseconds that a state may last */
     unsigned silent;  /* milliseconds before an apply shows in the statuses */
@@ -42,12 +44,14 @@ struct emulator {
     uint8_t left_activated;  /* lanes */
     uint8_t deinit, applies; /* bits that were stored to DPDeinit and ApplyDPInit */
     unsigned astray;         /* bytes stored elsewhere, but for the selection and the staged control bytes */
+    unsigned powers;         /* stores of byte 26 */
 };
 
 uint64_t next_random(uint64_t *state);
 void begin_emulator(struct emulator *module, uint64_t seed);
 void load_line(struct emulator *module, const char *line); /* of an image's text */
 void power_up(struct emulator *module); /* once the memory is loaded: lanes with active control bytes are up */
+void enter_state(struct emulator *module, uint8_t state); /* of the module */
 uint8_t fetch_byte(struct emulator *module, uint8_t address);
 void store_byte(struct emulator *module, uint8_t address, uint8_t byte);
 void pass_millisecond(struct emulator *module);

@@ -1,5 +1,6 @@
 /* Runs cmis-port, linked in, on modules made by chance: `many FIRST COUNT`. Each success has the plan active, lanes that are kept never
-   leave DPActivated, nothing is stored but what the plan allows, and nothing that is up is taken down without --force. */
+   leave DPActivated, nothing is stored but what the plan allows, nothing that is up is taken down without --force or --ensure, and by
+   --ensure alone no path that the plan has. */
 #include "dovecounter.h"
 #include "shim.h"
 
@@ -18,7 +19,7 @@ struct run {
     size_t path_count, kept_count;     /* the first of them are kept */
     uint8_t up;                        /* host lanes of these paths */
     uint32_t weights[256];
-    bool activate, force, in_a_row;
+    bool activate, ensure, force, in_a_row;
 };
 
 static unsigned below(struct run *run, unsigned limit) { return (unsigned)(next_random(&run->random) % limit); }
@@ -116,6 +117,7 @@ static void make_run(struct run *run, uint64_t number, const char *file) {
     run->activate = below(run, 2);
     run->force = below(run, 3) > 0;
     run->in_a_row = below(run, 4) == 0;
+    run->ensure = below(run, 3) == 0;
 }
 
 static void write_weights(const struct run *run, const char *name) {
@@ -132,6 +134,7 @@ static void write_weights(const struct run *run, const char *name) {
 static int carry_out(const struct run *run, char *weights) {
     static char bus[] = "/dev/i2c-99", eeprom[] = "/sys/bus/i2c/devices/99-0050/eeprom", program[] = "cmis-port";
     static char provision[] = "provision", keep[] = "--keep", activate[] = "--activate", force[] = "--force";
+    static char ensure[] = "--ensure";
     char kept[8][16], *words[24] = {program, run->in_a_row ? eeprom : bus, provision, weights};
     int count = 4;
     for (size_t i = 0; i < run->kept_count; i++) {
@@ -142,7 +145,22 @@ static int carry_out(const struct run *run, char *weights) {
     }
     if (run->activate) words[count++] = activate;
     if (run->force) words[count++] = force;
+    if (run->ensure) words[count++] = ensure;
     return cmis_port_main(count, words);
+}
+
+/* The lanes of the paths that were up, and that the plan has too. */
+static uint8_t staying(const struct run *run, const struct dovecounter_plan *plan) {
+    unsigned lanes = 0;
+    for (size_t i = 0; i < run->path_count; i++) {
+        const struct dovecounter_path *path = &run->paths[i];
+        for (size_t other = 0; other < plan->count; other++)
+            if (plan->paths[other].application == path->application && plan->paths[other].host == path->host &&
+                shim.fresh.path[path->host - 1] == ACTIVATED)
+                for (unsigned lane = 0; lane < 8; lane++)
+                    if (plan->control[lane] == plan->control[path->host - 1]) lanes |= 1U << lane;
+    }
+    return (uint8_t)lanes;
 }
 
 /* What is wrong with how the program ended; NULL if nothing is. */
@@ -153,16 +171,17 @@ static const char *judge(const struct run *run, int status) {
     if (dovecounter_plan(run->halves, 3, 1, 0, run->weights, 0, run->paths, run->kept_count, &plan) != DOVECOUNTER_DONE)
         return "no plan";
     uint8_t kept = (uint8_t)~plan.outside;
+    if (run->ensure) kept |= staying(run, &plan);
     if (module->left_activated & kept) return "a kept lane went down";
     if (module->deinit & kept) return "a kept lane was asked to go down";
     if (module->applies & kept) return "a kept lane was applied to";
     /* between a selection and its store another module may come, which has page 00h selected */
     if (module->astray != 0 && shim.swap == 0) return "a store went astray";
-    if (!run->force && module->left_activated != 0) return "a lane went down without --force";
+    if (!run->force && !run->ensure && module->left_activated != 0) return "a lane went down without --force";
     for (unsigned lane = 0; lane < 8 && shim.swap == 0 && !run->force && !run->activate; lane++)
         if (kept >> lane & 1 && shim.fresh.path[lane] == DEACTIVATED && module->path[lane] != DEACTIVATED)
             return "a kept lane came up unasked";
-    if (status == 1 && (module->deinit | module->applies) != 0) return "stored, and refused";
+    if ((status == 1 || status == 4) && (module->deinit | module->applies) != 0) return "stored, and refused";
     if (shim.made == shim.swap) return NULL; /* by the last transaction, after which nobody can notice */
     if (status == 0 && memcmp(active, plan.control, 8) != 0) return "another plan is active";
     for (unsigned lane = 0; lane < 8; lane++)
@@ -170,7 +189,8 @@ static const char *judge(const struct run *run, int status) {
             return "a lane is not up";
     bool disturbed = shim.swap + shim.unplug + shim.interrupt > 0;
     if (status == 1 && run->force && !disturbed) return "refused";
-    return status <= 1 || (status == 3 && disturbed) ? NULL : "not provisioned";
+    if (status == 4 && (run->force || run->ensure)) return "refused what is up";
+    return status <= 1 || status == 4 || (status == 3 && disturbed) ? NULL : "not provisioned";
 }
 
 int main(int count, char **words) {
@@ -193,8 +213,8 @@ int main(int count, char **words) {
         bad += wrong != NULL;
     }
     unlink(weights);
-    fprintf(out, "many: %u provisioned, %u refused, %u else, %u wrong\n", ends[0], ends[1], ends[2] + ends[3] + ends[6],
-            bad);
+    fprintf(out, "many: %u provisioned, %u refused, %u else, %u wrong\n", ends[0], ends[1] + ends[4],
+            ends[2] + ends[3] + ends[6], bad);
     fclose(out);
     return bad != 0;
 }

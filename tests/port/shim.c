@@ -81,11 +81,14 @@ static void read_word(const char *word) {
     if (strncmp(word, "swap=", 5) == 0) shim.swap = value;
     if (strncmp(word, "interrupt=", 10) == 0) shim.interrupt = value;
     if (strncmp(word, "signal=", 7) == 0) shim.signal = value;
+    if (strncmp(word, "fault=", 6) == 0) shim.fault = value;
+    if (strncmp(word, "lose=", 5) == 0) shim.lose = value;
     if (strncmp(word, "durations=", 10) == 0) shim.durations = (uint8_t)value;
     if (strncmp(word, "error=", 6) == 0) shim.error = (int)value;
     if (strncmp(word, "slowest=", 8) == 0) shim.module.slowest = value;
     if (strncmp(word, "silent=", 7) == 0) shim.module.silent = value;
     if (strncmp(word, "stuck=", 6) == 0) shim.module.stuck = (int)value;
+    if (strcmp(word, "succeeded") == 0) memset(shim.module.status, SUCCESS, sizeof shim.module.status);
     if (strcmp(word, "smbus") == 0) shim.smbus = true;
     if (strcmp(word, "real-time") == 0) shim.real_time = true;
 }
@@ -170,6 +173,8 @@ static bool reaches(void) {
     shim.microseconds += 300; /* of the transaction */
     if (shim.made == shim.swap) shim.module = shim.fresh;
     if (shim.made == shim.interrupt) kill(getpid(), shim.signal != 0 ? (int)shim.signal : SIGINT);
+    if (shim.made == shim.fault) enter_state(&shim.module, 5);
+    if (shim.made == shim.lose) shim.module.present[0x11] = false;
     for (int64_t until = microseconds() / 1000; shim.lived < until; shim.lived++) pass_millisecond(&shim.module);
     errno = shim.error;
     if (shim.unplug != 0 && shim.made > shim.unplug)

@@ -14,6 +14,7 @@ struct shim {
     unsigned unplug, swap; /* after so many of them the module is gone, or is a fresh one; 0 for never */
     unsigned interrupt;    /* after so many of them the program gets SIGINT */
     unsigned signal;       /* or this signal; 0 for SIGINT */
+    unsigned fault, lose;  /* after so many of them the module is in ModuleFault, or lacks page 11h; 0 for never */
     bool smbus;            /* the adapter is for SMBus alone */
     bool real_time;        /* a pause is one; else the clock goes on by it at once */
     uint8_t durations; /* codes that the module advertises for the states of its data paths; 0 for those of the image */

@@ -190,6 +190,8 @@ static void take_refusal(struct port *port, const struct dovecounter_operation *
 
 uint8_t transact(struct port *port, const struct dovecounter_operation *operation, uint8_t bytes[128]) {
     int64_t began = now();
+    bool selects = operation->offset == 126 || operation->offset == 127;
+    port->stored = port->stored || (operation->kind == DOVECOUNTER_STORE && !selects);
     bool answered = port->carry(port, operation, bytes);
     int error = errno;
     port->made++;

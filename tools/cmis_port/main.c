@@ -8,18 +8,22 @@
 #include <unistd.h>
 
 static const char usage[] =
-    "usage: cmis-port BUS image | state | plan WEIGHTS | provision WEIGHTS\n"
+    "usage: cmis-port BUS image | state | plan WEIGHTS | provision WEIGHTS | wake | sleep\n"
     "  BUS             /dev/i2c-N, the eeprom file of the driver optoe, or sim:IMAGE[,SCRIPT]\n"
     "  WEIGHTS         a file with the line [host], and lines such as 0Dh = 101\n"
     "  image           prints the module's memory, as cmisctl reads it\n"
     "  state           prints the states of the module and its lanes, and the active control bytes\n"
     "  plan            prints the best plan, and what stands against provisioning it\n"
     "  provision       puts the best plan into the module\n"
+    "  wake            takes the module out of low power\n"
+    "  sleep           puts it into low power\n"
     "  --keep A,H,M    leaves a data path alone that is up: its Application, first host lane, first media lane\n"
     "  --unpaired      lets any first host lane go with any first media lane, and not only those of one place\n"
     "  --counts-by-id  takes a lane count of 0 as the one that the interface ID implies\n"
     "  --activate      brings the plan's data paths up\n"
+    "  --ensure        takes down what is up and in the way, but no path that the plan has too\n"
     "  --force         takes down what is up, or provisions a plan without paths\n"
+    "  --wake          takes the module out of low power before\n"
     "  --log FILE      writes each operation there\n";
 
 static bool read_path(const char *word, struct dovecounter_path *path) {
@@ -38,7 +42,9 @@ static bool take_flag(struct port *port, int flag) {
     case 'a': return port->activate = true;
     case 'u': return port->unpaired = true;
     case 'c': return port->counts_by_id = true;
+    case 'e': return port->ensure = true;
     case 'f': return port->force = true;
+    case 'w': return port->wake = true;
     case 'h': return port->help = true;
     default: return false;
     }
@@ -48,6 +54,7 @@ static bool read_flags(int count, char **words, struct port *port) {
     static const struct option flags[] = {
         {"keep", required_argument, NULL, 'k'},   {"log", required_argument, NULL, 'l'},
         {"activate", no_argument, NULL, 'a'},     {"force", no_argument, NULL, 'f'},
+        {"ensure", no_argument, NULL, 'e'},       {"wake", no_argument, NULL, 'w'},
         {"help", no_argument, NULL, 'h'},         {"unpaired", no_argument, NULL, 'u'},
         {"counts-by-id", no_argument, NULL, 'c'}, {0}};
     int flag;
@@ -60,22 +67,24 @@ static bool read_flags(int count, char **words, struct port *port) {
 struct command {
     const char *name;
     enum status (*run)(struct port *port);
-    bool plans, stores; /* it takes weights, --keep, --unpaired and --counts-by-id; it takes --activate and --force */
+    bool plans;          /* it takes weights, --keep, --unpaired and --counts-by-id */
+    bool stores, forces; /* it takes --activate, --ensure and --wake; it takes --force */
 };
 
 /* The command that the words name, if all flags are its own; else NULL. The word after it is `weights`, or NULL. */
 static const struct command *read_words(int count, char **words, struct port *port, const char **weights) {
-    static const struct command commands[] = {{"image", image, false, false},
-                                              {"state", state, false, false},
-                                              {"plan", plan, true, false},
-                                              {"provision", provision, true, true}};
+    static const struct command commands[] = {
+        {"image", image, false, false, false}, {"state", state, false, false, false},
+        {"plan", plan, true, false, false},    {"provision", provision, true, true, true},
+        {"wake", wake, false, false, false},   {"sleep", put_to_sleep, false, false, true}};
     if (!read_flags(count, words, port) || port->help || optind + 1 >= count) return NULL;
     port->name = words[optind];
     *weights = words[optind + 2];
-    for (const struct command *each = commands; each < commands + 4; each++) {
+    for (const struct command *each = commands; each < commands + 6; each++) {
         if (strcmp(words[optind + 1], each->name) != 0) continue;
         bool asks = port->kept_count > 0 || port->unpaired || port->counts_by_id;
-        bool stray = (asks && !each->plans) || ((port->activate || port->force) && !each->stores);
+        bool changes = port->activate || port->ensure || port->wake;
+        bool stray = (asks && !each->plans) || (changes && !each->stores) || (port->force && !each->forces);
         return !stray && count - optind == (each->plans ? 3 : 2) ? each : NULL;
     }
     return NULL;

@@ -7,7 +7,8 @@
 #include <stdbool.h>
 #include <stdio.h>
 
-enum status { DONE = 0, REFUSED = 1, COMMAND_LINE = 2, NOT_PROVISIONED = 3, NOT_WRITTEN = 6 };
+enum status { DONE = 0, REFUSED = 1, COMMAND_LINE = 2, NOT_PROVISIONED = 3, IN_USE = 4, NOT_WRITTEN = 6 };
+enum work { PROVISION, ACTIVATE, WAKE, SLEEP };
 
 struct directive {
     enum { OK, NACK, CUT, TICK, LPMODE } kind;
@@ -25,7 +26,7 @@ struct simulated {
 struct port {
     /* what is asked for */
     const char *name, *log_name;
-    bool activate, force, help, unpaired, counts_by_id;
+    bool activate, ensure, force, wake, help, unpaired, counts_by_id;
     uint32_t weights[256];
     struct dovecounter_path kept[9];
     size_t kept_count;
@@ -43,6 +44,8 @@ struct port {
     unsigned made, refused;                   /* operations; those that were refused since one was answered */
     int64_t refused_at;                       /* when the first of these began */
     enum { GOES_ON, STOPPED, SILENT } ending; /* whether no further operation is to be made */
+    bool stored;                              /* or tried to, but for page selections */
+    unsigned steps[4];                        /* of each work that was done */
     struct dovecounter_reading reading;
     struct dovecounter_plan plan;
 };
@@ -69,16 +72,43 @@ bool transact_simulated(struct port *port, const struct dovecounter_operation *o
 
 /* module.c */
 enum { MODULE_STATE = 3, PATH_STATES = 128, CONFIG_STATUSES = 202, ACTIVE = 206 }; /* the last three on page 11h */
-enum { DEACTIVATED = 1, NO_ANSWER = 8 };
-typedef void begin_procedure(const uint8_t control[8], uint8_t lanes, struct dovecounter_procedure *procedure);
+enum { LOW_POWER = 1, READY = 3, POWER_DOWN = 4 };                                 /* states of the module */
+enum { DEACTIVATED = 1, ACTIVATED = 4, NO_ANSWER = 8 };
 bool is_other_family(const struct port *port);
 bool read_module(struct port *port, bool of_any_family);
 const uint8_t *bytes_at(const struct port *port, uint8_t offset);
-unsigned carry_out(struct port *port, begin_procedure *begin, uint8_t lanes, const char *what);
+unsigned state_of(const struct port *port);
+unsigned lanes_in(const struct port *port, unsigned path_state);
+unsigned carry_out(struct port *port, enum work work);
+
+/* flags.c */
+void print_flags(const struct port *port);
 
 /* commands.c */
+void print_line(const char *name, const uint8_t control[8], const char *after);
+enum status refuse(const struct port *port, uint32_t status);
 enum status image(struct port *port);
 enum status state(struct port *port);
+
+/* power.c */
+enum status wake(struct port *port);
+enum status put_to_sleep(struct port *port);
+
+/* lanes.c */
+struct hindrance {
+    enum status status;
+    unsigned lanes;    /* on which it is; 0 if it is on none */
+    const char *state; /* of the module, if that is in the way; else NULL */
+    const char *why;
+};
+bool is_held(const struct port *port);
+bool has_work(const struct port *port);
+uint8_t lanes_to_take(const struct port *port);
+struct hindrance hindrance(const struct port *port);
+void say_lanes(FILE *out, const char *before, unsigned lanes, const char *after);
+void say_hindrance(FILE *out, const char *before, const struct hindrance *hindrance);
+
+/* provision.c */
 enum status plan(struct port *port);
 enum status provision(struct port *port);
 

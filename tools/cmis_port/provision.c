@@ -1,0 +1,115 @@
+/* The commands that plan and provision. */
+#include "port.h"
+
+#include <err.h>
+
+enum { BEFORE_AGAIN = 500 }; /* milliseconds */
+
+static void print_held(const struct port *port) {
+    print_line("active", bytes_at(port, ACTIVE), ",");
+    print_codes(stdout, bytes_at(port, PATH_STATES), path_states);
+    putchar('\n');
+}
+
+/* Reads the lanes again. Says why it can't. */
+static bool read_lanes(struct port *port) {
+    bool whole = read_module(port, false);
+    print_flags(port);
+    if (whole && bytes_at(port, ACTIVE) == NULL) warnx("%s: the module shows no page 11h any more", port->name);
+    return whole && bytes_at(port, ACTIVE) != NULL;
+}
+
+static void print_plan(const struct port *port) {
+    struct dovecounter_advertisement module;
+    dovecounter_advertisement(port->reading.halves, port->reading.count, port->counts_by_id, &module);
+    printf("weight %llu\n", (unsigned long long)port->plan.weight);
+    for (size_t i = 0; i < port->plan.count; i++) {
+        const struct dovecounter_path *path = &port->plan.paths[i];
+        const struct dovecounter_application *carried = &module.applications[path->application - 1];
+        printf("path app %u host %u-%u media %u-%u\n", path->application, path->host,
+               path->host + carried->host_lanes - 1, path->media, path->media + carried->media_lanes - 1);
+    }
+    print_line("control", port->plan.control, "\n");
+}
+
+/* Reads the module, and finds and prints the plan. */
+static bool find_plan(struct port *port) {
+    bool whole = read_module(port, false);
+    print_flags(port);
+    if (!whole) return false;
+    uint32_t status = dovecounter_plan(port->reading.halves, port->reading.count, !port->unpaired, port->counts_by_id,
+                                       port->weights, 0, port->kept, port->kept_count, &port->plan);
+    if (status == DOVECOUNTER_DONE && bytes_at(port, ACTIVE) == NULL) status = DOVECOUNTER_ENDED;
+    if (status != DOVECOUNTER_DONE) return refuse(port, status), false;
+    print_plan(port);
+    return true;
+}
+
+enum status plan(struct port *port) {
+    if (!find_plan(port)) return REFUSED;
+    print_held(port);
+    struct hindrance against = hindrance(port);
+    if (against.status != DONE)
+        say_hindrance(stdout, "provision refuses:", &against);
+    else if (!has_work(port))
+        puts("provision has nothing to do");
+    else
+        say_lanes(stdout, "provision takes", port->plan.outside, "");
+    return DONE;
+}
+
+/* Wakes the module up if it is in low power, and looks again at what stands against provisioning. */
+static bool wake_up(struct port *port) {
+    if (state_of(port) == READY) return true;
+    if (carry_out(port, WAKE) != 0 || !read_lanes(port)) return false;
+    struct hindrance against = hindrance(port);
+    if (against.status != DONE) say_hindrance(stderr, "cmis-port:", &against);
+    return against.status == DONE;
+}
+
+/* A module may tell an old success before it begins to apply: then other bytes are active (PV3), and a second try helps. */
+static bool put_in(struct port *port) {
+    for (int times = 0; times < 3; times++) {
+        unsigned fault = carry_out(port, PROVISION);
+        if (fault != 3) return fault == 0;
+        pause_ms(port, BEFORE_AGAIN);
+        if (port->ending != GOES_ON || !read_lanes(port) || hindrance(port).status != DONE) return false;
+        if (is_held(port)) return warnx("%s: the plan is active now", port->name), true;
+        if (times < 2) warnx("%s: provisioning begins again", port->name);
+    }
+    return false;
+}
+
+/* The last lines: what was done, if the module shows it, and what the module holds now. A module that resets itself after the last
+   operation of a procedure shows something else. */
+static enum status say_what_is_held(struct port *port, bool done) {
+    bool known = port->ending != SILENT && read_lanes(port), held = known && is_held(port);
+    bool ready = known && state_of(port) == READY, finished = held && ready && !has_work(port);
+    if (held && port->steps[PROVISION] != 0) printf("provisioned %u\n", port->steps[PROVISION]);
+    if (finished && port->steps[ACTIVATE] != 0) printf("activated %u\n", port->steps[ACTIVATE]);
+    if (known)
+        print_held(port);
+    else
+        puts("active unknown");
+    if (done && known && !ready)
+        warnx("%s: the module is in %s", port->name, module_states[state_of(port)]);
+    else if (done && known && !finished)
+        warnx("%s: all was done, but the module shows it no more: has it reset itself?", port->name);
+    if (done && finished) return DONE;
+    return port->stored ? NOT_PROVISIONED : REFUSED;
+}
+
+enum status provision(struct port *port) {
+    if (!find_plan(port)) return REFUSED;
+    struct hindrance against = hindrance(port);
+    if (against.status != DONE || !has_work(port)) {
+        if (against.status == DONE) puts("provision has nothing to do");
+        print_held(port);
+        if (against.status != DONE) say_hindrance(stderr, "cmis-port:", &against);
+        return against.status;
+    }
+    print_now(port);
+    bool done = wake_up(port) && (is_held(port) || put_in(port));
+    done = done && (!port->activate || !has_work(port) || carry_out(port, ACTIVATE) == 0);
+    return say_what_is_held(port, done);
+}
