@@ -9,7 +9,7 @@ void print_line(const char *name, const uint8_t control[8], const char *after) {
     fputs(after, stdout);
 }
 
-enum status refuse(const struct port *port, uint32_t status) {
+enum status refuse_by(const struct port *port, uint32_t status) {
     warnx("%s: %s", port->name, sentence(status));
     return REFUSED;
 }
@@ -34,7 +34,7 @@ enum status state(struct port *port) {
     bool whole = read_module(port, false);
     if (!whole) print_flags(port);
     if (!whole) return REFUSED;
-    if (is_other_family(port)) return refuse(port, DOVECOUNTER_NOT_CMIS);
+    if (is_other_family(port)) return refuse_by(port, DOVECOUNTER_NOT_CMIS);
     const uint8_t *states = bytes_at(port, PATH_STATES), *statuses = bytes_at(port, CONFIG_STATUSES);
     printf("state %s\n", module_states[state_of(port)]);
     for (unsigned lane = 0; lane < 8 && states != NULL; lane++)

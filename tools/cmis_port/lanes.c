@@ -3,12 +3,12 @@
 
 #include <string.h>
 
-bool is_held(const struct port *port) { return memcmp(bytes_at(port, ACTIVE), port->plan.control, 8) == 0; }
+bool holds_plan(const struct port *port) { return memcmp(bytes_at(port, ACTIVE), port->plan.control, 8) == 0; }
 
 /* Whether something is to be done: the plan isn't active; or it is to be up, or the module to be awake, and isn't. */
 bool has_work(const struct port *port) {
     bool is_up = (port->plan.lanes & ~lanes_in(port, ACTIVATED)) == 0;
-    return !is_held(port) || (port->activate && !is_up) || (port->wake && state_of(port) != READY);
+    return !holds_plan(port) || (port->activate && !is_up) || (port->wake && state_of(port) != READY);
 }
 
 /* Whether the plan's path of these control bytes is active, on the same lanes, and not down. */
@@ -36,10 +36,10 @@ static struct hindrance of_lanes(enum status status, unsigned lanes, const char 
 }
 
 /* Whether lanes may come up that are kept and down, and lanes go down that are up: a word says so, or nothing is done to them. */
-static bool may_come_up(const struct port *port) { return port->activate || port->force || is_held(port); }
+static bool may_come_up(const struct port *port) { return port->activate || port->force || holds_plan(port); }
 static bool may_go_down(const struct port *port) {
     bool came_up_by_waking = port->steps[WAKE] != 0;
-    return port->force || port->ensure || is_held(port) || came_up_by_waking;
+    return port->force || port->ensure || holds_plan(port) || came_up_by_waking;
 }
 
 /* What stands against provisioning. */

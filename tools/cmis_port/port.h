@@ -86,7 +86,7 @@ void print_flags(const struct port *port);
 
 /* commands.c */
 void print_line(const char *name, const uint8_t control[8], const char *after);
-enum status refuse(const struct port *port, uint32_t status);
+enum status refuse_by(const struct port *port, uint32_t status);
 enum status image(struct port *port);
 enum status state(struct port *port);
 
@@ -101,7 +101,7 @@ struct hindrance {
     const char *state; /* of the module, if that is in the way; else NULL */
     const char *why;
 };
-bool is_held(const struct port *port);
+bool holds_plan(const struct port *port);
 bool has_work(const struct port *port);
 uint8_t lanes_to_take(const struct port *port);
 struct hindrance hindrance(const struct port *port);

@@ -21,7 +21,7 @@ static enum status change_power(struct port *port, enum work work, unsigned want
     if (!whole) return REFUSED;
     uint32_t status = dovecounter_advertisement(port->reading.halves, port->reading.count, 0, &module);
     if (status == DOVECOUNTER_DONE && bytes_at(port, ACTIVE) == NULL) status = DOVECOUNTER_ENDED;
-    if (status != DOVECOUNTER_DONE) return refuse(port, status);
+    if (status != DOVECOUNTER_DONE) return refuse_by(port, status);
     unsigned up = 0xFF & ~lanes_in(port, DEACTIVATED);
     const struct hindrance astray = {REFUSED, 0, module_states[state_of(port)], ""};
     const struct hindrance in_use = {IN_USE, up, NULL, " are up: take them down with --force"};

@@ -40,7 +40,7 @@ static bool find_plan(struct port *port) {
     uint32_t status = dovecounter_plan(port->reading.halves, port->reading.count, !port->unpaired, port->counts_by_id,
                                        port->weights, 0, port->kept, port->kept_count, &port->plan);
     if (status == DOVECOUNTER_DONE && bytes_at(port, ACTIVE) == NULL) status = DOVECOUNTER_ENDED;
-    if (status != DOVECOUNTER_DONE) return refuse(port, status), false;
+    if (status != DOVECOUNTER_DONE) return refuse_by(port, status), false;
     print_plan(port);
     return true;
 }
@@ -74,7 +74,7 @@ static bool put_in(struct port *port) {
         if (fault != 3) return fault == 0;
         pause_ms(port, BEFORE_AGAIN);
         if (port->ending != GOES_ON || !read_lanes(port) || hindrance(port).status != DONE) return false;
-        if (is_held(port)) return warnx("%s: the plan is active now", port->name), true;
+        if (holds_plan(port)) return warnx("%s: the plan is active now", port->name), true;
         if (times < 2) warnx("%s: provisioning begins again", port->name);
     }
     return false;
@@ -83,7 +83,7 @@ static bool put_in(struct port *port) {
 /* The last lines: what was done, if the module shows it, and what the module holds now. A module that resets itself after the last
    operation of a procedure shows something else. */
 static enum status say_what_is_held(struct port *port, bool done) {
-    bool known = port->ending != SILENT && read_lanes(port), held = known && is_held(port);
+    bool known = port->ending != SILENT && read_lanes(port), held = known && holds_plan(port);
     bool ready = known && state_of(port) == READY, finished = held && ready && !has_work(port);
     if (held && port->steps[PROVISION] != 0) printf("provisioned %u\n", port->steps[PROVISION]);
     if (finished && port->steps[ACTIVATE] != 0) printf("activated %u\n", port->steps[ACTIVATE]);
@@ -109,7 +109,7 @@ enum status provision(struct port *port) {
         return against.status;
     }
     print_now(port);
-    bool done = wake_up(port) && (is_held(port) || put_in(port));
+    bool done = wake_up(port) && (holds_plan(port) || put_in(port));
     done = done && (!port->activate || !has_work(port) || carry_out(port, ACTIVATE) == 0);
     return say_what_is_held(port, done);
 }
