@@ -61,6 +61,7 @@ static void read_rare_word(const char *word, unsigned value) {
     if (strncmp(word, "answers=", 8) == 0) shim.answers = value;
     if (strncmp(word, "mute=", 5) == 0) shim.mute = value;
     if (strncmp(word, "takes=", 6) == 0) shim.takes = value;
+    if (strncmp(word, "status=", 7) == 0) memset(shim.module.status, (int)value, sizeof shim.module.status);
     if (strncmp(word, "ignored=", 8) == 0) shim.module.ignored = value;
     if (strncmp(word, "reject=", 7) == 0) shim.module.reject = (uint8_t)value;
     if (strncmp(word, "unstaged=", 9) == 0) shim.module.unstaged = value;
