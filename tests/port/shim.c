@@ -271,7 +271,7 @@ int open(const char *path, int flags, ...) {
     if (strcmp(path, adapter) != 0 && strcmp(path, eeprom) != 0) return REAL(open)(path, flags, mode);
     if (getenv("PORT") != NULL) begin();
     shim.in_a_row = strcmp(path, eeprom) == 0;
-    return shim.file = REAL(open)(shim.image, O_RDONLY | O_CLOEXEC); /* two programs at once lock the same file */
+    return shim.file = REAL(open)(shim.image, O_RDWR | O_CLOEXEC); /* two programs at once lock the same file */
 }
 
 ssize_t readlink(const char *path, char *target, size_t room) {

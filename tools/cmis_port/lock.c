@@ -1,4 +1,5 @@
 /* The lock of a bus. Root's is a file where nobody else can open it: who can open a file can lock it. */
+#define _GNU_SOURCE
 #include "port.h"
 
 #include <err.h>
@@ -11,6 +12,7 @@
 static const char folder[] = "/run/dovecounter";
 static char path[96];
 static int lock = -1;
+static bool has_lock;
 
 /* Whether there is the folder, and root alone may enter it; says why not. */
 static bool is_own_folder(void) {
@@ -42,34 +44,41 @@ static bool take_lock(void) {
         lock = open(path, O_RDWR | O_CREAT | O_NOFOLLOW | O_CLOEXEC, 0600);
         if (lock < 0 || flock(lock, LOCK_EX | LOCK_NB) != 0) return false;
     } while (!has_name());
-    return true;
+    return has_lock = true;
 }
 
-static bool refuse(const char *name) {
+static bool say_locked(const char *name, const char *locked) {
     if (errno == EWOULDBLOCK)
         warn("%s: another program has locked it (fuser -v names it)", name);
     else
-        warn("%s", path);
-    if (lock >= 0) close(lock);
-    lock = -1;
+        warn("%s", locked);
     return false;
 }
 
-/* Root locks the file of the bus too, for programs of other users, but needn't: anyone who may read it can have locked it. */
+/* Locks the file of the bus too, against programs of other users, and in containers that have a /run of their own. Who may only read it can
+   keep this lock away by a shared one. Root goes on then, unless there is an exclusive one, which takes more than to read. */
+static bool lock_file(const struct port *port, bool is_root) {
+    struct flock own = {.l_type = F_WRLCK, .l_whence = SEEK_SET}, other = {.l_type = F_RDLCK, .l_whence = SEEK_SET};
+    if (fcntl(port->file, F_OFD_SETLK, &own) == 0) return true;
+    int error = errno;
+    bool is_readers = fcntl(port->file, F_OFD_GETLK, &other) == 0 && other.l_type == F_UNLCK;
+    errno = error;
+    if (!is_root || !is_readers) return say_locked(port->name, port->name);
+    warnx("%s: a program that may only read it has locked it (fuser -v names it)", port->name);
+    return true;
+}
+
 bool lock_bus(const struct port *port) {
     bool is_root = geteuid() == 0;
     if (is_root && !is_own_folder()) return false;
     name_lock(port->file);
-    if (is_root && !take_lock()) return refuse(port->name);
-    if (flock(port->file, LOCK_EX | LOCK_NB) == 0) return true;
-    if (!is_root) return refuse(port->name);
-    warnx("%s: another user's program has locked it too (fuser -v names it)", port->name);
-    return true;
+    if (is_root && !take_lock()) return say_locked(port->name, path);
+    return lock_file(port, is_root);
 }
 
 void unlock_bus(void) {
-    if (lock < 0) return;
-    unlink(path);
-    close(lock);
+    if (has_lock) unlink(path);
+    if (lock >= 0) close(lock);
     lock = -1;
+    has_lock = false;
 }
