@@ -95,6 +95,13 @@ stage_after power stage.Stored replies.Done = Ok stage.Stored
 stage_after power stage.Stored Refused = Ok stage.Stored
 stage_after power stage.Met reply = Ok stage.Met
 
+abbrev pub moved_to : PowerChange → Result PowerStage ProvisionFault → PowerChange
+moved_to change (Ok stage) = record { power = change.power; stage = stage; fault = change.fault }
+moved_to change (Err fault) = record { power = change.power; stage = change.stage; fault = Some fault }
+
+abbrev pub change_after : PowerChange → Reply → PowerChange
+change_after change reply = moved_to change (stage_after change.power change.stage reply)
+
 -- each read of the controls was refused
 abbrev pub IsUnread : History → Type 0
 IsUnread [] = Unit {0}

@@ -8,8 +8,10 @@ use Rattle.conversations.specs.declared.next.Next.TheVariants.{Do, Wait, End}
 use Rattle.conversations.specs.declared.until.Last.{Last}
 use Rattle.conversations.specs.declared.until.Timed.{Timed}
 use Rattle.conversations.specs.declared.until.Timed.TheVariants.{InTime, Overdue}
+use Rattle.conversations.specs.declared.until.Until.{Until}
 use Rattle.conversations.specs.Events.{Events}
 use Rattle.conversations.specs.Pauses.{is_refused, is_same_fetch}
+use Rattle.conversations.specs.Wanted.{op_of}
 
 -- the newest transaction since the caller said something
 abbrev pub last_of : Events → Option Last
@@ -59,3 +61,12 @@ next_until idle limit (End end) = End (InTime end)
 abbrev pub EndsTimed : {E : Type 0} → ℕ → (Events → Type 0) → (Events → E → Type 0) → Events → Timed E → Type 0
 EndsTimed limit GoesOn Ends events (InTime end) = Ends events end
 EndsTimed limit GoesOn Ends events Overdue = (limit < idle events) × GoesOn events
+
+-- what a reply makes of the conversation within and of the time
+abbrev pub after_until : {C E : Type 0} → (C → Next E) → (C → Reply → C) → Until C → Reply → Until C
+after_until wants after until reply = record {
+  conversation = after until.conversation reply;
+  limit = until.limit;
+  idle = idle_at until.last (op_of (wants until.conversation)) until.idle;
+  last = last_after (op_of (wants until.conversation)) reply;
+}

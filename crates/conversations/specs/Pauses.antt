@@ -9,6 +9,7 @@ use Rattle.bus_model.specs.SameOperation.{same_device}
 use Rattle.conversations.specs.declared.event.Event.TheVariants.{Made, Waited, Lacked, Asked}
 use Rattle.conversations.specs.declared.next.Next.{Next}
 use Rattle.conversations.specs.declared.next.Next.TheVariants.{Do, Wait, End}
+use Rattle.conversations.specs.declared.pausing.Pausing.{Pausing}
 use Rattle.conversations.specs.Events.{Events, steps_of}
 
 abbrev pub is_refused : Reply → Bool
@@ -73,3 +74,11 @@ pauses_between (Do op) reply (Wait time) = false
 pauses_between (Do op) reply (End end) = false
 pauses_between (Wait time) reply next = false
 pauses_between (End end) reply next = false
+
+-- what a reply makes of a conversation and of whether a wait comes first
+abbrev pub after_pausing : {C E : Type 0} → (C → Next E) → (C → Reply → C) → Pausing C → Reply → Pausing C
+after_pausing wants after pausing reply = record {
+  conversation = after pausing.conversation reply;
+  pause = pausing.pause;
+  due = pauses_between (wants pausing.conversation) reply (wants (after pausing.conversation reply));
+}

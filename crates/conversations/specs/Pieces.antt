@@ -9,8 +9,10 @@ use Rattle.bus_model.specs.declared.operation.Reply.TheVariants.{Bytes, Done, Re
 use Rattle.conversations.specs.declared.event.Event.TheVariants.{Made, Waited, Lacked, Asked}
 use Rattle.conversations.specs.declared.next.Next.{Next}
 use Rattle.conversations.specs.declared.next.Next.TheVariants.{Do, Wait, End}
+use Rattle.conversations.specs.declared.in_pieces.InPieces.{InPieces}
 use Rattle.conversations.specs.Events.{Events, made}
-use Rattle.conversations.specs.Pauses.{is_same_fetch}
+use Rattle.conversations.specs.Pauses.{is_refused, is_same_fetch}
+use Rattle.conversations.specs.Wanted.{op_of}
 
 -- ---- what is asked for
 
@@ -65,6 +67,22 @@ abbrev pub is_same_wanted : Option Op → Option Op → Bool
 is_same_wanted (Some op) (Some next) = is_same_fetch op next
 is_same_wanted (Some op) None = false
 is_same_wanted None next = false
+
+-- of a part that stays, or none
+abbrev pub part_left : Bool → List ℕ → List ℕ
+part_left again part = if again then part else []
+
+abbrev pub after_told : {C E : Type 0} → (C → Next E) → (C → Reply → C) → InPieces C → Reply → Option Reply → InPieces C
+after_told wants after pieces reply None = record { conversation = pieces.conversation; piece = pieces.piece; part = record { items = pieces.part.items ++ bytes_in reply } }
+after_told wants after pieces reply (Some whole) = record {
+  conversation = after pieces.conversation whole;
+  piece = pieces.piece;
+  part = record { items = part_left (is_refused reply && is_same_wanted (op_of (wants pieces.conversation)) (op_of (wants (after pieces.conversation whole)))) pieces.part.items };
+}
+
+-- what a reply makes of the conversation within and of the part
+abbrev pub after_piece : {C E : Type 0} → (C → Next E) → (C → Reply → C) → InPieces C → Reply → InPieces C
+after_piece wants after pieces reply = after_told wants after pieces reply (whole_reply pieces.piece pieces.part.items (wants pieces.conversation) reply)
 
 -- ---- what the steps say
 

@@ -10,12 +10,13 @@ use Rattle.bus_model.specs.Operations.{Answers}
 use Rattle.conversations.specs.declared.event.Event.TheVariants.{Made, Waited, Lacked, Asked}
 use Rattle.conversations.specs.declared.next.Next.{Next}
 use Rattle.conversations.specs.declared.next.Next.TheVariants.{Do, Wait, End}
+use Rattle.conversations.specs.declared.on_page.OnPage.{OnPage}
 use Rattle.conversations.specs.Events.{Events, steps_of}
 use Rattle.paged_memory.specs.declared.page_addressing.PageAddressing.{PageAddressing}
 use Rattle.paged_memory.specs.declared.page_addressing.PageAddressing.TheVariants.{BankAndPage}
 use Rattle.paged_memory.specs.declared.page_addressing.KnownPage.{KnownPage}
-use Rattle.paged_memory.specs.declared.page_addressing.KnownPage.TheVariants.{Unknown}
-use Rattle.paged_memory.specs.KnownPages.{Tells, is_known, selection_read, wanted}
+use Rattle.paged_memory.specs.declared.page_addressing.KnownPage.TheVariants.{Unknown, Open}
+use Rattle.paged_memory.specs.KnownPages.{Tells, is_awaited, is_known, missing_page, selection_read, selection_told, wanted}
 use Rattle.paged_memory.specs.PageAddressing.{History, is_open, is_page, is_page_confirmed, read_selection, selection}
 
 -- ---- how pages are selected, which may be learned on the way
@@ -60,6 +61,27 @@ abbrev pub lacked : PageAddressing → Option ℕ → Option ℕ → Reply → O
 lacked addressing page taken (Bytes bytes) = lacked_by page taken (is_known (selection_read addressing bytes.items) 0)
 lacked addressing page taken Done = None
 lacked addressing page taken Refused = None
+
+-- ---- what a reply makes of it
+
+-- it is told if a page isn't there
+abbrev pub told_lacked : {C : Type 0} → (C → ℕ → C) → Option ℕ → C → C
+told_lacked lacking None conversation = conversation
+told_lacked lacking (Some page) conversation = lacking conversation page
+
+-- the selection of a page that is missing, or an operation of the conversation within
+abbrev pub after_missing : {C : Type 0} → (C → Reply → C) → Bool → Option ℕ → OnPage C → Reply → OnPage C
+after_missing after may None on reply = record { conversation = after on.conversation reply; selection = on.selection; taken = None }
+after_missing after may (Some page) on reply = record { conversation = on.conversation; selection = Open; taken = taken_by may page reply }
+
+abbrev pub on_after : {C : Type 0} → (C → Reply → C) → (C → ℕ → C) → Bool → PageAddressing → Option ℕ → OnPage C → Reply → OnPage C
+on_after after lacking may addressing page on reply =
+    if is_awaited on.selection then record {
+      conversation = told_lacked lacking (lacked addressing page on.taken reply) on.conversation;
+      selection = selection_told addressing on.selection reply;
+      taken = taken_after on.taken reply;
+    }
+    else after_missing after may (missing_page on.selection page) on reply
 
 -- ---- what the steps say
 

@@ -11,6 +11,7 @@ use bus_model::Reply;
 pub trait Conversation {
     ghost use Rattle.std.specs.Prelude.{◌≡◌, ℕ, ◌∷◌};
     ghost use Rattle.bus_model.specs.declared.operation.Op.{Op};
+    ghost use Rattle.bus_model.specs.declared.operation.Reply.{Reply};
     ghost use Rattle.bus_model.specs.Operations.{IsWellShaped};
     ghost use Rattle.conversations.specs.declared.next.Next.{Next};
     ghost use Rattle.conversations.specs.declared.next.Next.TheVariants.{Do, Wait};
@@ -28,6 +29,9 @@ pub trait Conversation {
 
     /// What it wants next.
     ghost wants: { Self → Next Self.End };
+
+    /// What the reply to the operation that is wanted makes of it.
+    ghost after: { Self → Reply → Self };
 
     /// It was told these events, the newest first.
     ghost told: { Events → Self → Type 0 };
@@ -48,6 +52,7 @@ pub trait Conversation {
     /// Takes the reply to the operation that was to be made.
     fn take(&mut self, reply: &Reply)
         requires { IsReplyTo (wants self.old) reply.now }
+        ensures after { self.new ≡ after self.old reply.now }
         ensures topic { topic self.new ≡ topic self.old }
         ensures told { (events : Events) (op : Op) → wants self.old ≡ Do op → told events self.old →
             told (made op reply.now ∷ events) self.new };
@@ -71,6 +76,7 @@ pub fn try_take<C: Conversation>(conversation: &mut C, reply: &Reply) -> bool
 where
     C::End: Drop,
     ensures taken { IsTrue result ↔ IsReplyTo (C.wants conversation.old) reply.now }
+    ensures after { IsTrue result → conversation.new ≡ C.after conversation.old reply.now }
     ensures topic { C.topic conversation.new ≡ C.topic conversation.old }
     ensures told { IsTrue result → (events : Events) (op : Op) → C.wants conversation.old ≡ Do op →
         C.told events conversation.old → C.told (made op reply.now ∷ events) conversation.new }

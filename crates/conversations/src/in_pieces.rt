@@ -24,7 +24,7 @@ impl<C: Conversation> Conversation for InPieces<C>
 where
     C::End: Drop,
 {
-    ghost use Rattle.conversations.specs.Pieces.{InHalves, InHalvesSoFar, IsInPieces, next_piece};
+    ghost use Rattle.conversations.specs.Pieces.{InHalves, InHalvesSoFar, IsInPieces, after_piece, next_piece};
 
     type Topic = C::Topic;
 
@@ -33,6 +33,8 @@ where
     ghost topic = { λ pieces. C.topic pieces.conversation };
 
     ghost wants = { λ pieces. next_piece pieces.piece pieces.part.items (C.wants pieces.conversation) };
+
+    ghost after = { λ pieces reply. after_piece (λ c. C.wants c) (λ c r. C.after c r) pieces reply };
 
     ghost told = { λ events pieces. IsInPieces (λ own. C.told own pieces.conversation) (C.wants pieces.conversation) pieces.piece pieces.part.items events };
 

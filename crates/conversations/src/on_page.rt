@@ -31,6 +31,9 @@ pub trait NeedsPages: Conversation {
     /// Whether it is to be told that a page isn't there.
     ghost may_lack: { Self.Topic → Bool };
 
+    /// What it is once it was told that the page isn't there.
+    ghost lacking: { Self → ℕ → Self };
+
     /// The page that the operation needs that is wanted. Before it is known how pages are selected, none is.
     fn page(&self) -> Option<u8>
         ensures value { result ≡ page self.now }
@@ -52,6 +55,7 @@ pub trait NeedsPages: Conversation {
     /// The page that is needed isn't there.
     fn lacks(&mut self, number: u8)
         requires { page self.old ≡ Some number }
+        ensures after { self.new ≡ lacking self.old number }
         ensures topic { Self.topic self.new ≡ Self.topic self.old }
         ensures told { (events : Events) → Self.told events self.old → Self.told (Lacked number ∷ events) self.new };
 }
@@ -71,7 +75,7 @@ where
     C::End: Drop,
 {
     ghost use Rattle.conversations.specs.Events.{steps_of};
-    ghost use Rattle.conversations.specs.Selecting.{Knows, WithSelections, chosen, next_on};
+    ghost use Rattle.conversations.specs.Selecting.{Knows, WithSelections, chosen, next_on, on_after};
 
     type Topic = C::Topic;
 
@@ -80,6 +84,8 @@ where
     ghost topic = { λ on. C.topic on.conversation };
 
     ghost wants = { λ on. next_on (chosen (C.addressing on.conversation)) on.selection (C.page on.conversation) (C.wants on.conversation) };
+
+    ghost after = { λ on reply. on_after (λ c r. C.after c r) (λ c number. C.lacking c number) (C.may_lack (C.topic on.conversation)) (chosen (C.addressing on.conversation)) (C.page on.conversation) on reply };
 
     ghost told = { λ events on. Knows (C.may_lack (C.topic on.conversation)) (C.addressing on.conversation) on.selection on.taken (steps_of events)
         × WithSelections (C.may_lack (C.topic on.conversation)) (C.addressed (C.topic on.conversation)) (C.needs (C.topic on.conversation)) (λ own. C.told own on.conversation) events };

@@ -20,7 +20,7 @@ impl<C: Conversation> Conversation for Pausing<C>
 where
     C::End: Drop,
 {
-    ghost use Rattle.conversations.specs.Pauses.{WithPauses, is_due, next_pausing};
+    ghost use Rattle.conversations.specs.Pauses.{WithPauses, after_pausing, is_due, next_pausing};
 
     type Topic = (u32, C::Topic);
 
@@ -29,6 +29,8 @@ where
     ghost topic = { λ pausing. (pausing.pause, C.topic pausing.conversation) };
 
     ghost wants = { λ pausing. next_pausing pausing.due pausing.pause (C.wants pausing.conversation) };
+
+    ghost after = { λ pausing reply. after_pausing (λ c. C.wants c) (λ c r. C.after c r) pausing reply };
 
     ghost told = { λ events pausing. WithPauses pausing.pause (λ own. C.told own pausing.conversation) events × (pausing.due ≡ is_due (C.wants pausing.conversation) events) };
 

@@ -55,7 +55,7 @@ where
     C::End: Drop,
 {
     ghost use Rattle.std.specs.Prelude.{◌≡◌, ◌≤◌};
-    ghost use Rattle.conversations.specs.Deadlines.{EndsTimed, counted, idle, last_of, next_until};
+    ghost use Rattle.conversations.specs.Deadlines.{EndsTimed, after_until, counted, idle, last_of, next_until};
 
     type Topic = (u32, C::Topic);
 
@@ -64,6 +64,8 @@ where
     ghost topic = { λ until. (until.limit, C.topic until.conversation) };
 
     ghost wants = { λ until. next_until until.idle until.limit (C.wants until.conversation) };
+
+    ghost after = { λ until reply. after_until (λ c. C.wants c) (λ c r. C.after c r) until reply };
 
     ghost told = { λ events until. C.told events until.conversation × (until.idle ≡ counted (idle events)) × (until.last ≡ last_of events) };
 

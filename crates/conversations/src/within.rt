@@ -36,7 +36,7 @@ impl<C> Within<C> {
 }
 
 impl<C: Conversation> Conversation for Within<C> {
-    ghost use Rattle.std.specs.Prelude.{◌≡◌, ◌≤◌, ◌<◌, length};
+    ghost use Rattle.std.specs.Prelude.{◌≡◌, ◌+◌, ◌≤◌, ◌<◌, length};
     ghost use Rattle.conversations.specs.Events.{Events, steps_of};
     ghost use Rattle.conversations.specs.Budgets.{HasSpent, next_within};
 
@@ -47,6 +47,8 @@ impl<C: Conversation> Conversation for Within<C> {
     ghost topic = { λ within. (within.limit, C.topic within.conversation) };
 
     ghost wants = { λ within. next_within within.steps within.limit (C.wants within.conversation) };
+
+    ghost after = { λ within reply. record { conversation = C.after within.conversation reply; steps = within.steps + 1; limit = within.limit } };
 
     ghost told = { λ events within. C.told events within.conversation × (length (steps_of events) ≡ within.steps) × (within.steps ≤ within.limit) };
 

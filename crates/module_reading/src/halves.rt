@@ -71,7 +71,7 @@ impl Halves {
 }
 
 impl Conversation for Halves {
-    ghost use Rattle.module_reading.specs.ImageReading.{EndsHalves, GoesOnHalves, IsTold, wants};
+    ghost use Rattle.module_reading.specs.ImageReading.{EndsHalves, GoesOnHalves, IsTold, after_reply, wants};
 
     type Topic = ();
 
@@ -80,6 +80,8 @@ impl Conversation for Halves {
     ghost topic = { λ halves. tt };
 
     ghost wants = { wants };
+
+    ghost after = { after_reply };
 
     ghost told = { λ events halves. IsTold events halves };
 
@@ -105,7 +107,7 @@ impl Conversation for Halves {
 
 impl NeedsPages for Halves {
     ghost use Rattle.std.specs.Prelude.{true};
-    ghost use Rattle.module_reading.specs.ImageReading.{addressing, addressed_after, in_hand, needed_after, page_by};
+    ghost use Rattle.module_reading.specs.ImageReading.{addressing, addressed_after, after_lack, in_hand, needed_after, page_by};
 
     ghost page = { λ halves. page_by (in_hand halves) };
 
@@ -116,6 +118,8 @@ impl NeedsPages for Halves {
     ghost addressed = { λ topic events. addressed_after events };
 
     ghost may_lack = { λ topic. true };
+
+    ghost lacking = { λ halves number. after_lack halves };
 
     fn page(&self) -> Option<u8> {
         match self.region() {

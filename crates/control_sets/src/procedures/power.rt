@@ -83,7 +83,7 @@ impl PowerChange {
 
 impl Conversation for PowerChange {
     ghost use Rattle.conversations.specs.Events.{steps_of};
-    ghost use Rattle.control_sets.specs.PowerProgress.{GoesOnAt, HasComeTo, IsEndedIn, power_wants};
+    ghost use Rattle.control_sets.specs.PowerProgress.{GoesOnAt, HasComeTo, IsEndedIn, change_after, power_wants};
 
     type Topic = Power;
 
@@ -92,6 +92,8 @@ impl Conversation for PowerChange {
     ghost topic = { λ change. change.power };
 
     ghost wants = { power_wants };
+
+    ghost after = { change_after };
 
     ghost told = { λ events change. HasComeTo change.power change.stage change.fault (steps_of events) };
 

@@ -127,7 +127,7 @@ impl TaskList {
 
 impl Conversation for TaskList {
     ghost use Rattle.conversations.specs.Events.{steps_of};
-    ghost use Rattle.control_sets.specs.Progress.{EndsList, GoesOnList, IsTold, tasks_of, wants};
+    ghost use Rattle.control_sets.specs.Progress.{EndsList, GoesOnList, IsTold, after_reply, tasks_of, wants};
 
     type Topic = Work;
 
@@ -136,6 +136,8 @@ impl Conversation for TaskList {
     ghost topic = { λ list. list.work };
 
     ghost wants = { wants };
+
+    ghost after = { after_reply };
 
     ghost told = { λ events list. IsTold (steps_of events) list };
 
@@ -174,6 +176,8 @@ impl NeedsPages for TaskList {
     ghost addressed = { λ work events. Some BankAndPage };
 
     ghost may_lack = { λ work. false };
+
+    ghost lacking = { λ list number. list };
 
     fn page(&self) -> Option<u8> {
         match self.task() {
