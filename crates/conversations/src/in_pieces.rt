@@ -85,7 +85,9 @@ where
         op_in(self.conversation.next())
     }
 
-    fn whole_reply(&self, reply: &Reply) -> Option<Reply>
+    /// What the conversation within is told by the reply: a whole half by its last piece, nothing by an earlier one, and else the reply
+    /// itself.
+    pub fn whole_reply(&self, reply: &Reply) -> Option<Reply>
         requires { IsReplyTo (next_piece self.now.piece self.now.part.items (C.wants self.now.conversation)) reply.now }
         ensures value { result ≡ whole_reply self.now.piece self.now.part.items (C.wants self.now.conversation) reply.now }
         ensures answers { IfSome result (λ whole. IsReplyTo (C.wants self.now.conversation) whole) }
@@ -157,8 +159,6 @@ fn is_half<E>(asked: &Next<E>) -> bool
     matches!(asked, Next::Do(Op::Fetch { count: 128, .. }))
 }
 
-// What the conversation within is told by a reply: the whole half by its last piece, nothing by an earlier one, and else the reply
-// itself.
 fn whole_reply<E>(piece: u8, part: &[u8], asked: &Next<E>, reply: &Reply) -> Option<Reply>
     requires { IsReplyTo (spec.next_piece piece part.now asked.now) reply.now }
     ensures value { result ≡ spec.whole_reply piece part.now asked.now reply.now }

@@ -1,13 +1,15 @@
 // The halves of a module's memory: which is fetched next, and what a reply makes of it.
 ghost use Rattle.std.specs.Prelude.{◌≡◌, None, Some, true};
+ghost use Rattle.std.specs.Option.{option_map};
 ghost use Rattle.module_reading.specs.ImageReading as spec;
+ghost use Rattle.module_reading.specs.Regions.{key_of};
 
 use crate::asked::{addressing, region};
 use crate::region::Region;
 use bus_model::Reply;
 use control_sets::MAX_STEPS;
 use conversations::{Conversation, NeedsPages, Next, OnPage, Within};
-use paged_memory::{Image, KnownPage, PAGE_LEN, Page, PageAddressing};
+use paged_memory::{Image, Key, KnownPage, PAGE_LEN, Page, PageAddressing};
 
 /// What was read of a module so far: a conversation that ends when each half was read, or left out since the module lacks it.
 #[derive(Drop)]
@@ -45,6 +47,16 @@ impl Halves {
         ensures { result ≡ spec.in_hand self.now }
     {
         region(&self.image, self.settled)
+    }
+
+    /// Where an image has the half in hand.
+    pub fn key(&self) -> Option<Key>
+        ensures { result ≡ option_map key_of (spec.in_hand self.now) }
+    {
+        match self.region() {
+            Some(region) => Some(region.key()),
+            None => None,
+        }
     }
 
     fn told(&mut self, reply: &Reply)
