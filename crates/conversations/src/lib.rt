@@ -18,7 +18,7 @@ pub use event::Event;
 pub use in_pieces::InPieces;
 pub use next::{Next, can_have};
 pub use on_page::{NeedsPages, OnPage};
-pub use pausing::Pausing;
+pub use pausing::{Pausing, pauses_between};
 pub use runner::{run, run_pausing};
 pub use until::{Last, Timed, Until};
 pub use within::{Spent, Within};

@@ -66,8 +66,8 @@ where
     }
 }
 
-// Whether the reply to the one brought nothing, if the other comes next.
-fn pauses_between<E>(asked: &Next<E>, reply: &Reply, next: &Next<E>) -> bool
+/// Whether the reply to the one brought nothing, if the other comes next.
+pub fn pauses_between<E>(asked: &Next<E>, reply: &Reply, next: &Next<E>) -> bool
     ensures { result ≡ pauses_between asked.now reply.now next.now }
 {
     match (asked, next) {
