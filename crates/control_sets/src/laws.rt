@@ -44,12 +44,13 @@ ghost use Rattle.control_sets.specs.PowerProgress.{IsPowerAt, answer_of, power_w
 ghost use Rattle.control_sets.specs.declared.procedures.power.Power.{Power};
 ghost use Rattle.control_sets.specs.declared.procedures.power.Power.TheVariants.{Asleep, Awake};
 ghost use Rattle.control_sets.specs.declared.procedures.power.PowerChange.{PowerChange};
+ghost use Rattle.control_sets.specs.declared.procedures.power.PowerStage.TheVariants.{Unread};
 ghost use Rattle.control_sets.specs.StoredBits.{HasBitsOf, LeavesOthers};
 ghost use Rattle.control_sets.specs.Durations.{pause_for, polls, states_of};
 ghost use Rattle.paged_memory.specs.Images.{Memory};
 
-use crate::procedures::Procedure;
-use conversations::Conversation;
+use crate::procedures::{PowerChange, Procedure};
+use conversations::{Conversation, Within};
 
 /// A control byte says the same in Staged Control Set 0 and in the Active Control Set.
 pub fn both_sets_have_the_same_bits()
@@ -103,7 +104,7 @@ pub fn operations_are_at_registers()
 
 /// Procedures that were told their replies, without a bus, have the outcomes of provisioning, activation and changes of power. A
 /// procedure asks for what comes next after the steps that it was told, and a reply that it takes is one step more; it does so
-/// too once its numbers were saved and restored.
+/// too once its numbers were saved and restored. So it is with a change of power.
 pub fn procedures_have_their_outcomes()
     ensures provisioning { (control : List ℕ) (lanes : Lanes) (made room : ℕ) (history : History) (answer : Answer) →
         length control ≡ 8 → HasEnded (provisioning control lanes) history answer →
@@ -120,6 +121,12 @@ pub fn procedures_have_their_outcomes()
         IsAt tasks history old → IsAt tasks (record { op = op; reply = reply } ∷ history) new }
     ensures kept { (tasks : List Task) (history : History) (procedure : Procedure) → IsAt tasks history procedure →
         IsAt tasks history (procedure_of procedure.conversation.conversation procedure.conversation.selection procedure.steps) }
+    ensures power_begun { (power : Power) →
+        IsPowerAt [] (record { conversation = record { power = power; stage = Unread; fault = None }; steps = 0; limit = most_steps }) }
+    ensures power_told { (history : History) (old new : Within PowerChange) (op : Op) (reply : Reply) →
+        ⟦<Within<PowerChange> as Conversation>⟧.topic new ≡ ⟦<Within<PowerChange> as Conversation>⟧.topic old →
+        ((events : Events) → ⟦<Within<PowerChange> as Conversation>⟧.told events old → ⟦<Within<PowerChange> as Conversation>⟧.told (made op reply ∷ events) new) →
+        IsPowerAt history old → IsPowerAt (record { op = op; reply = reply } ∷ history) new }
     ensures power { (change : Within PowerChange) (made room : ℕ) (history : History) (spent : Spent (Option ProvisionFault)) →
         IsPowerAt history change → next_within change.steps change.limit (power_wants change.conversation) ≡ End spent →
         IsPowerChange change.conversation.power (made ≡ room) history (answer_of spent) }

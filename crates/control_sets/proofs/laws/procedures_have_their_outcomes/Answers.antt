@@ -2,6 +2,7 @@ use Rattle.std.proofs.Common.{◌≡◌}
 use Rattle.control_sets.proofs.OutcomeIsProvisioning.{ended_is_provisioning}
 use Rattle.control_sets.proofs.OutcomeIsActivation.{ended_is_activation}
 use Rattle.control_sets.proofs.PowerLaws.{driven_is}
+use Rattle.control_sets.proofs.PowerTold.{power_begun, power_told}
 use Rattle.control_sets.proofs.Turns.{begun_at, follows, kept_at, told_step}
 use Rattle.control_sets.proofs.laws.procedures_have_their_outcomes.Goals as goal
 
@@ -22,6 +23,12 @@ returns-clause-told c tasks history old new op reply same takes at = told_step t
 
 pub returns-clause-kept : goal.returns-clause-kept
 returns-clause-kept c tasks history procedure at = kept_at tasks history procedure at
+
+pub returns-clause-power_begun : goal.returns-clause-power_begun
+returns-clause-power_begun c power = power_begun power
+
+pub returns-clause-power_told : goal.returns-clause-power_told
+returns-clause-power_told c history old new op reply same takes at = power_told history old new op reply same takes at
 
 pub returns-clause-power : goal.returns-clause-power
 returns-clause-power c change made room history spent at asks = driven_is change (made ≡ room) history spent at asks
