@@ -4,8 +4,8 @@ pub mod Advertisements
 pub mod Plans
 pub mod Checks
 pub mod Operations
-pub mod Waits
 pub mod KeptProcedures
+pub mod Waits
 pub mod SavedProcedures
 pub mod SimulatedModules
 pub mod SavedReadings

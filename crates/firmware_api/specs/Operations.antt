@@ -7,6 +7,7 @@ use Rattle.bus_model.specs.declared.operation.Op.{Op}
 use Rattle.bus_model.specs.declared.operation.Op.TheVariants.{Fetch, Store}
 use Rattle.bus_model.specs.declared.operation.Reply.{Reply}
 use Rattle.bus_model.specs.declared.operation.Reply.TheVariants.{Bytes, Done, Refused}
+use Rattle.bus_model.specs.declared.operation.Step.{Step}
 use Rattle.firmware_api.specs.declared.operation.Operation.{Operation}
 
 -- the most bytes of a store
@@ -40,3 +41,7 @@ reply_of number bytes =
     else (if number == 1 then Some Done
     else (if number == 2 then (if nat_le (length bytes) most_fetched then Some (Bytes (record { items = bytes })) else None)
     else None))
+
+-- the step with this operation and this reply
+abbrev pub step_with : Op → Reply → Step
+step_with op reply = record { op = op; reply = reply }

@@ -1,19 +1,20 @@
 ghost use Rattle.std.specs.Prelude.{◌≡◌, None, Some};
-ghost use Rattle.control_sets.specs.Asking.{IsReplyTo};
+ghost use Rattle.conversations.specs.Wanted.{IsReplyTo};
 ghost use Rattle.control_sets.specs.SavedNumbers.{restored};
 ghost use Rattle.control_sets.specs.SavedPower.{restored_power};
-ghost use Rattle.firmware_api.specs.KeptProcedures.{Takes, kept_as, next_of};
+ghost use Rattle.firmware_api.specs.KeptProcedures.{Takes, given_back, kept_as, next_of};
 
 use bus_model::Reply;
-use control_sets::{PowerChange, Procedure, ProcedureNext, SavedProcedure};
+use control_sets::{PowerChange, Procedure, ProvisionFault, SavedProcedure, TaskList};
+use conversations::{Conversation, Next, Spent, Within};
 
 /// A procedure that C keeps.
-#[derive(Clone, Copy)]
+#[derive(Drop)]
 pub enum Kept {
     /// Provisioning or activation.
     OfTasks(Procedure),
     /// Waking a module up, or putting it to sleep.
-    OfPower(PowerChange),
+    OfPower(Within<PowerChange>),
 }
 
 impl Kept {
@@ -21,7 +22,7 @@ impl Kept {
     pub fn restore(saved: &SavedProcedure) -> Option<Kept>
         ensures { result ≡ kept_as (restored saved.now) (restored_power saved.now) }
     {
-        match Procedure::restore(saved) {
+        match TaskList::restore(saved) {
             Some(procedure) => Some(Kept::OfTasks(procedure)),
             None => restore_power(saved),
         }
@@ -29,16 +30,16 @@ impl Kept {
 
     /// Its numbers.
     pub fn save(&self) -> SavedProcedure
-        ensures { kept_as (restored result) (restored_power result) ≡ Some self.now }
+        ensures { kept_as (restored result) (restored_power result) ≡ Some (given_back self.now) }
     {
         match self {
-            Kept::OfTasks(procedure) => procedure.save(),
-            Kept::OfPower(change) => change.save(),
+            Kept::OfTasks(procedure) => TaskList::save(procedure),
+            Kept::OfPower(change) => PowerChange::save(change),
         }
     }
 
     /// The operation to be made now, or the end.
-    pub fn next(&self) -> ProcedureNext
+    pub fn next(&self) -> Next<Spent<Option<ProvisionFault>>>
         ensures { result ≡ next_of self.now }
     {
         match self {

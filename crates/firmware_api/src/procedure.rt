@@ -1,34 +1,32 @@
-ghost use Rattle.std.specs.Prelude.{◌≡◌, ◌≢◌, ◌∷◌, [], List, Ok, Err, Some, Result, ℕ};
+ghost use Rattle.std.specs.Prelude.{◌≡◌, ◌≢◌, ◌∷◌, [], List, Option, Some, ℕ};
 ghost use Rattle.field_tables.specs.LaneSets.{lanes_in};
 ghost use Rattle.bus_model.specs.declared.operation.Op.{Op};
 ghost use Rattle.bus_model.specs.declared.operation.Reply.{Reply};
-ghost use Rattle.bus_model.specs.SameOperation.{same_device};
+ghost use Rattle.conversations.specs.declared.next.Next.TheVariants as nexts;
+ghost use Rattle.conversations.specs.declared.within.Spent.{Spent};
 ghost use Rattle.control_sets.specs.declared.fault.ProvisionFault.{ProvisionFault};
-ghost use Rattle.control_sets.specs.declared.procedures.next.ProcedureNext.{ProcedureNext};
-ghost use Rattle.control_sets.specs.declared.procedures.next.ProcedureNext.TheVariants as nexts;
 ghost use Rattle.control_sets.specs.declared.procedures.task.Task.{Task};
-ghost use Rattle.control_sets.specs.Asking.{step_with};
 ghost use Rattle.control_sets.specs.Pages.{History};
 ghost use Rattle.control_sets.specs.Procedures.{HasEnded};
 ghost use Rattle.control_sets.specs.Progress.{Follows};
 ghost use Rattle.control_sets.specs.declared.procedures.power.Power.{Power};
 ghost use Rattle.control_sets.specs.declared.procedures.power.Power.TheVariants.{Asleep, Awake};
 ghost use Rattle.control_sets.specs.OutcomeOfPower.{IsPowerChange};
+ghost use Rattle.control_sets.specs.PowerProgress.{answer_of as result_of};
 ghost use Rattle.control_sets.specs.Tasks.{activation, provisioning};
 ghost use Rattle.firmware_api.specs.SavedProcedures.{IsAnswerTold, IsNextTold, IsReplyTold, IsSavedAt, IsSavedPowerAt, answer_of, asked, procedure_in};
-ghost use Rattle.firmware_api.specs.KeptProcedures.{next_of};
-ghost use Rattle.firmware_api.specs.Waits.{is_same_fetch, wait_for, wait_number, waits_after};
-ghost use Rattle.firmware_api.specs.Operations.{reply_of};
+ghost use Rattle.firmware_api.specs.KeptProcedures.{Wants, given_back};
+ghost use Rattle.firmware_api.specs.Waits.{wait_for, wait_number};
+ghost use Rattle.firmware_api.specs.Operations.{reply_of, step_with};
 ghost use Rattle.firmware_api.specs.Statuses.{done};
 
 use crate::kept::Kept;
 use crate::operation::{Operation, reply_of};
 use crate::status::{DONE, ENDED, NO_PROCEDURE, NO_REPLY, NOT_ENDED};
-use bus_model::{Dev, Op, Reply};
 use control_sets::{
-    ControlSet, Power, PowerChange, Procedure, ProcedureNext, ProvisionFault, SavedFault,
-    SavedProcedure, can_have,
+    ControlSet, Power, PowerChange, ProvisionFault, SavedFault, SavedProcedure, TaskList, Work,
 };
+use conversations::{Next, Spent, can_have, pauses_between};
 use field_tables::LaneSet;
 
 /// What stands in each procedure, so that other memory is not taken for one: `DCP1`.
@@ -63,7 +61,8 @@ pub extern "C" fn dovecounter_provision(
 )
     ensures { IsSavedAt (provisioning control.now (lanes_in lanes)) [] procedure.new }
 {
-    let begun = Kept::OfTasks(Procedure::provisioning(*control, LaneSet::from(lanes)));
+    let (control, lanes) = (*control, LaneSet::from(lanes));
+    let begun = Kept::OfTasks(TaskList::of(Work::Provisioning { control, lanes }));
     put_numbers(&begun, false, procedure);
 }
 
@@ -77,7 +76,8 @@ pub extern "C" fn dovecounter_activate(
 )
     ensures { IsSavedAt (activation control.now (lanes_in lanes)) [] procedure.new }
 {
-    let begun = Kept::OfTasks(Procedure::activation(*control, LaneSet::from(lanes)));
+    let (control, lanes) = (*control, LaneSet::from(lanes));
+    let begun = Kept::OfTasks(TaskList::of(Work::Activation { control, lanes }));
     put_numbers(&begun, false, procedure);
 }
 
@@ -100,12 +100,12 @@ pub extern "C" fn dovecounter_sleep(procedure: &mut KeptProcedure)
 }
 
 /// Puts into `operation` the operation that is to be made now.
-#[tactic(auto, using(crate::proofs::SavedLaws::saved_follows, crate::proofs::SavedLaws::saved_waits, crate::proofs::SavedLaws::saved_power_waits))]
+#[tactic(auto, using(crate::proofs::SavedLaws::saved_follows, crate::proofs::SavedLaws::saved_waits, crate::proofs::SavedLaws::saved_power_waits, crate::proofs::SavedLaws::asked_no_wait))]
 #[unsafe(no_mangle)]
 pub extern "C" fn dovecounter_next(procedure: &KeptProcedure, operation: &mut Operation) -> u32
     ensures told { IsNextTold result operation.new procedure.now.wait (asked procedure.now) }
     ensures refused { result ≢ done → operation.new ≡ operation.old }
-    ensures follows { (tasks : List Task) (history : History) (next : ProcedureNext) → IsSavedAt tasks history procedure.now →
+    ensures follows { (tasks : List Task) (history : History) (next : Wants) → IsSavedAt tasks history procedure.now →
         asked procedure.now ≡ Some next → Follows tasks history next }
     ensures waits { result ≡ done → (tasks : List Task) (history : History) (op : Op) → IsSavedAt tasks history procedure.now →
         asked procedure.now ≡ Some (nexts.Do op) → operation.new.wait ≡ wait_for history (nexts.Do op) }
@@ -113,11 +113,11 @@ pub extern "C" fn dovecounter_next(procedure: &KeptProcedure, operation: &mut Op
         asked procedure.now ≡ Some (nexts.Do op) → operation.new.wait ≡ wait_for history (nexts.Do op) }
 {
     match wanted(procedure) {
-        Some(ProcedureNext::Do(op)) => {
+        Some(Next::Do(op)) => {
             operation.put(&op, procedure.wait);
             DONE
         }
-        Some(ProcedureNext::Done(_)) => ENDED,
+        Some(Next::Wait(_) | Next::End(_)) => ENDED,
         None => NO_PROCEDURE,
     }
 }
@@ -137,13 +137,15 @@ pub extern "C" fn dovecounter_reply(procedure: &mut KeptProcedure, reply: u8, by
     let Some(mut kept) = restore(procedure) else {
         return NO_PROCEDURE;
     };
-    let ProcedureNext::Do(op) = kept.next() else {
+    let asked = kept.next();
+    let Next::Do(op) = &asked else {
         return ENDED;
     };
     match reply_of(reply, bytes) {
-        Some(reply) if can_have(&op, &reply) => {
+        Some(reply) if can_have(op, &reply) => {
             kept.take(&reply);
-            put_after(&kept, &op, &reply, procedure);
+            let wait = pauses_between(&asked, &reply, &kept.next());
+            put_numbers(&kept, wait, procedure);
             DONE
         }
         _ => NO_REPLY,
@@ -151,24 +153,24 @@ pub extern "C" fn dovecounter_reply(procedure: &mut KeptProcedure, reply: u8, by
 }
 
 /// Puts into `answer` how the procedure ended.
-#[tactic(auto, using(crate::proofs::SavedLaws::saved_follows, crate::proofs::SavedLaws::saved_power_ends))]
+#[tactic(auto, using(crate::proofs::SavedLaws::saved_follows, crate::proofs::SavedLaws::saved_power_ends, crate::proofs::SavedLaws::asked_no_wait))]
 #[unsafe(no_mangle)]
 pub extern "C" fn dovecounter_answer(procedure: &KeptProcedure, answer: &mut Answer) -> u32
     ensures told { IsAnswerTold result answer.new (asked procedure.now) }
     ensures refused { result ≢ done → answer.new ≡ answer.old }
-    ensures ended { (tasks : List Task) (history : History) (ended : Result ℕ ProvisionFault) →
-        IsSavedAt tasks history procedure.now → asked procedure.now ≡ Some (nexts.Done ended) →
-        HasEnded tasks history ended }
-    ensures ended_by_power { (power : Power) (history : History) (ended : Result ℕ ProvisionFault) (made room : ℕ) →
-        IsSavedPowerAt power history procedure.now → asked procedure.now ≡ Some (nexts.Done ended) →
-        IsPowerChange power (made ≡ room) history ended }
+    ensures ended { (tasks : List Task) (history : History) (spent : Spent (Option ProvisionFault)) →
+        IsSavedAt tasks history procedure.now → asked procedure.now ≡ Some (nexts.End spent) →
+        HasEnded tasks history (result_of spent) }
+    ensures ended_by_power { (power : Power) (history : History) (spent : Spent (Option ProvisionFault)) (made room : ℕ) →
+        IsSavedPowerAt power history procedure.now → asked procedure.now ≡ Some (nexts.End spent) →
+        IsPowerChange power (made ≡ room) history (result_of spent) }
 {
     match wanted(procedure) {
-        Some(ProcedureNext::Done(ended)) => {
-            *answer = answer_of(ended);
+        Some(Next::End(spent)) => {
+            *answer = answer_of(control_sets::answer_of(spent));
             DONE
         }
-        Some(ProcedureNext::Do(_)) => NOT_ENDED,
+        Some(Next::Do(_) | Next::Wait(_)) => NOT_ENDED,
         None => NO_PROCEDURE,
     }
 }
@@ -189,7 +191,7 @@ fn answer_of(ended: Result<u16, ProvisionFault>) -> Answer
 }
 
 // What the procedure with these numbers asks for, if one has them.
-fn wanted(saved: &KeptProcedure) -> Option<ProcedureNext>
+fn wanted(saved: &KeptProcedure) -> Option<Next<Spent<Option<ProvisionFault>>>>
     ensures { result ≡ asked saved.now }
 {
     match restore(saved) {
@@ -212,7 +214,7 @@ fn restore(kept: &KeptProcedure) -> Option<Kept>
 
 #[tactic(auto, unfolding(crate::specs::SavedProcedures::procedure_in))]
 fn put_numbers(kept: &Kept, wait: bool, procedure: &mut KeptProcedure)
-    ensures same { procedure_in procedure.new ≡ Some kept.now }
+    ensures same { procedure_in procedure.new ≡ Some (given_back kept.now) }
     ensures wait { procedure.new.wait ≡ wait_number wait }
 {
     *procedure = KeptProcedure {
@@ -220,45 +222,4 @@ fn put_numbers(kept: &Kept, wait: bool, procedure: &mut KeptProcedure)
         wait: if wait { 1 } else { 0 },
         saved: kept.save(),
     };
-}
-
-// The numbers of the procedure after the operation had this reply.
-fn put_after(kept: &Kept, op: &Op, reply: &Reply, procedure: &mut KeptProcedure)
-    ensures same { procedure_in procedure.new ≡ Some kept.now }
-    ensures wait { (before : History) → procedure.new.wait ≡ wait_for (step_with op.now reply.now ∷ before) (next_of kept.now) }
-{
-    put_numbers(kept, waits_after(op, reply, &kept.next()), procedure);
-}
-
-fn waits_after(op: &Op, reply: &Reply, wanted: &ProcedureNext) -> bool
-    ensures { result ≡ waits_after (step_with op.now reply.now) wanted.now }
-{
-    match wanted {
-        ProcedureNext::Do(next) => matches!(reply, Reply::Refused) || is_same_fetch(op, next),
-        ProcedureNext::Done(_) => false,
-    }
-}
-
-fn is_same_fetch(op: &Op, other: &Op) -> bool
-    ensures { result ≡ is_same_fetch op.now other.now }
-{
-    match (op, other) {
-        (
-            Op::Fetch { dev, offset, count },
-            Op::Fetch {
-                dev: other_dev,
-                offset: other_offset,
-                count: other_count,
-            },
-        ) => {
-            is_same_device(*dev, *other_dev) && *offset == *other_offset && *count == *other_count
-        }
-        _ => false,
-    }
-}
-
-fn is_same_device(dev: Dev, other: Dev) -> bool
-    ensures { result ≡ same_device dev other }
-{
-    matches!((dev, other), (Dev::A0, Dev::A0) | (Dev::A2, Dev::A2))
 }
