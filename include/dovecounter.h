@@ -477,8 +477,8 @@ struct dovecounter_progress {
     struct dovecounter_fault fault;
 };
 
-/* A procedure under way. Copy it and keep it as you like, but change nothing: other numbers are refused, or are another
-   procedure's. */
+/* A procedure under way. Copy it and keep it as you like, but change nothing: other numbers are refused, among them more
+   than 4096 steps, or are taken for another procedure, which may be one that no replies lead to. */
 struct dovecounter_procedure {
     uint32_t magic;
     uint8_t wait;

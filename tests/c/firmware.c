@@ -605,7 +605,7 @@ static void try_other_numbers(const struct dovecounter_plan *plan) {
     struct dovecounter_answer answer;
     memset(&procedure, 0, sizeof procedure);
     dovecounter_provision(plan->control, 0xFF, &procedure);
-    for (int i = 0; i < 7; i++) {
+    for (int i = 0; i < 10; i++) {
         other = procedure;
         if (i == 0) other.saved.work = 5;
         if (i == 1) other.saved.selection = 3;
@@ -614,6 +614,12 @@ static void try_other_numbers(const struct dovecounter_plan *plan) {
         if (i == 4) other.magic = 0;
         if (i == 5) other.wait = 2;
         if (i == 6) memset(&other, 0, sizeof other);
+        if (i == 7) other.saved.steps = 4097;
+        if (i == 8) other.saved.met = 9;
+        if (i == 9) {
+            other.saved.work = 2; /* activation has four tasks */
+            other.saved.met = 5;
+        }
         expect("no procedure has an operation", DOVECOUNTER_NO_PROCEDURE, dovecounter_next(&other, &operation));
         expect("no procedure has an answer", DOVECOUNTER_NO_PROCEDURE, dovecounter_answer(&other, &answer));
         refuse_reply("no procedure takes a reply", DOVECOUNTER_NO_PROCEDURE, other, DOVECOUNTER_REFUSED, 0);

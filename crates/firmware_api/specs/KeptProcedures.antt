@@ -1,5 +1,5 @@
 -- The two kinds of procedures that C keeps: those of tasks, and changes of power. (docs/firmware.md, "Procedures"; this project's own)
-use Rattle.std.specs.Prelude.{◌≡◌, List, ◌∷◌, Option, Some, None}
+use Rattle.std.specs.Prelude.{◌≡◌, ◌≤◌, List, ◌∷◌, length, Option, Some, None}
 use Rattle.bus_model.specs.declared.operation.Op.{Op}
 use Rattle.bus_model.specs.declared.operation.Reply.{Reply}
 use Rattle.conversations.specs.declared.next.Next.{Next}
@@ -15,7 +15,7 @@ use Rattle.control_sets.specs.declared.procedures.task.Task.{Task}
 use Rattle.control_sets.specs.OutcomeAnswers.{most_steps}
 use Rattle.control_sets.specs.Pages.{History}
 use Rattle.control_sets.specs.PowerProgress.{IsPowerAt, power_wants}
-use Rattle.control_sets.specs.Progress.{IsAt, Procedure, hand, page_by, procedure_of, wants}
+use Rattle.control_sets.specs.Progress.{IsAt, Procedure, hand, page_by, procedure_of, tasks_of, wants}
 use Rattle.firmware_api.specs.declared.kept.Kept.{Kept}
 use Rattle.firmware_api.specs.declared.kept.Kept.TheVariants.{OfTasks, OfPower}
 use Rattle.firmware_api.specs.Operations.{step_with}
@@ -36,6 +36,13 @@ power_given_back change = record { conversation = change.conversation; steps = c
 abbrev pub given_back : Kept → Kept
 given_back (OfTasks procedure) = OfTasks (tasks_given_back procedure)
 given_back (OfPower change) = OfPower (power_given_back change)
+
+-- it made no more steps than may be made, and met no more tasks than there are
+abbrev pub IsInRoom : Kept → Type 0
+IsInRoom (OfTasks procedure) =
+    let list = procedure.conversation.conversation in
+    (procedure.steps ≤ most_steps) × (list.met ≤ length (tasks_of list.work))
+IsInRoom (OfPower change) = change.steps ≤ most_steps
 
 -- an operation, or the end
 abbrev pub Wants : Type 0

@@ -1,6 +1,6 @@
 -- Procedures whose numbers C keeps: what they ask for, and what becomes of them. (docs/firmware.md, "Procedures"; this
 -- project's own)
-use Rattle.std.specs.Prelude.{◌≡◌, ◌==◌, ◌&&◌, ℕ, nat_le, List, Option, Some, None, Result, Ok, Err, if◌then◌else◌}
+use Rattle.std.specs.Prelude.{◌≡◌, ◌==◌, ◌&&◌, ℕ, nat_le, Bool, List, Option, Some, None, Result, Ok, Err, if◌then◌else◌}
 use Rattle.std.specs.Option.{option_map}
 use Rattle.bus_model.specs.declared.operation.Reply.{Reply}
 use Rattle.bus_model.specs.Operations.{Answers}
@@ -10,6 +10,8 @@ use Rattle.conversations.specs.declared.within.Within.{Within}
 use Rattle.control_sets.specs.declared.procedures.task.Task.{Task}
 use Rattle.control_sets.specs.declared.procedures.power.Power.{Power}
 use Rattle.control_sets.specs.declared.procedures.power.PowerChange.{PowerChange}
+use Rattle.control_sets.specs.declared.procedures.procedure.saved.SavedProcedure.{SavedProcedure}
+use Rattle.control_sets.specs.OutcomeAnswers.{most_steps}
 use Rattle.control_sets.specs.PowerProgress.{IsPowerAt}
 use Rattle.control_sets.specs.PowerProgress.{answer_of as result_of}
 use Rattle.control_sets.specs.SavedNumbers.{saved_fault, restored}
@@ -31,9 +33,18 @@ use Rattle.firmware_api.specs.Waits.{wait_for}
 abbrev pub procedure_magic : ℕ
 procedure_magic = 0x44435031
 
+-- how many tasks a procedure has by the number of its work: provisioning, activation, or a change of power
+abbrev pub tasks_numbered : ℕ → ℕ
+tasks_numbered work = if work == 1 then 8 else (if work == 2 then 4 else 3)
+
+-- no more steps than may be made, and no more tasks met than there are
+abbrev pub has_room : SavedProcedure → Bool
+has_room saved = nat_le saved.steps most_steps && nat_le saved.met (tasks_numbered saved.work)
+
 -- the procedure that has these numbers; none for memory that is no procedure
 unfoldable pub procedure_in : KeptProcedure → Option Kept
-procedure_in kept = if kept.magic == procedure_magic && nat_le kept.wait 1 then kept_as (restored kept.saved) (restored_power kept.saved) else None
+procedure_in kept =
+    if kept.magic == procedure_magic && (nat_le kept.wait 1 && has_room kept.saved) then kept_as (restored kept.saved) (restored_power kept.saved) else None
 
 -- these are the numbers of a procedure of these tasks that was told these steps, the newest first
 abbrev pub IsSavedAt : List Task → History → KeptProcedure → Type 0

@@ -1,8 +1,9 @@
-ghost use Rattle.std.specs.Prelude.{◌≡◌, None, Some};
+ghost use Rattle.std.specs.Prelude.{◌≡◌, None, Some, true};
 ghost use Rattle.conversations.specs.Wanted.{IsReplyTo};
 ghost use Rattle.control_sets.specs.SavedNumbers.{restored};
 ghost use Rattle.control_sets.specs.SavedPower.{restored_power};
-ghost use Rattle.firmware_api.specs.KeptProcedures.{Takes, given_back, kept_as, next_of};
+ghost use Rattle.firmware_api.specs.KeptProcedures.{IsInRoom, Takes, given_back, kept_as, next_of};
+ghost use Rattle.firmware_api.specs.SavedProcedures.{has_room};
 
 use bus_model::Reply;
 use control_sets::{PowerChange, Procedure, ProvisionFault, SavedProcedure, TaskList};
@@ -30,7 +31,8 @@ impl Kept {
 
     /// Its numbers.
     pub fn save(&self) -> SavedProcedure
-        ensures { kept_as (restored result) (restored_power result) ≡ Some (given_back self.now) }
+        ensures same { kept_as (restored result) (restored_power result) ≡ Some (given_back self.now) }
+        ensures room { IsInRoom self.now → has_room result ≡ true }
     {
         match self {
             Kept::OfTasks(procedure) => TaskList::save(procedure),

@@ -14,8 +14,8 @@ ghost use Rattle.control_sets.specs.declared.procedures.power.Power.TheVariants.
 ghost use Rattle.control_sets.specs.OutcomeOfPower.{IsPowerChange};
 ghost use Rattle.control_sets.specs.PowerProgress.{answer_of as result_of};
 ghost use Rattle.control_sets.specs.Tasks.{activation, provisioning};
-ghost use Rattle.firmware_api.specs.SavedProcedures.{IsAnswerTold, IsNextTold, IsReplyTold, IsSavedAt, IsSavedPowerAt, answer_of, asked, procedure_in};
-ghost use Rattle.firmware_api.specs.KeptProcedures.{Wants, given_back};
+ghost use Rattle.firmware_api.specs.SavedProcedures.{IsAnswerTold, IsNextTold, IsReplyTold, IsSavedAt, IsSavedPowerAt, answer_of, asked, has_room, procedure_in, tasks_numbered};
+ghost use Rattle.firmware_api.specs.KeptProcedures.{IsInRoom, Wants, given_back};
 ghost use Rattle.firmware_api.specs.Waits.{wait_for, wait_number};
 ghost use Rattle.firmware_api.specs.Operations.{reply_of, step_with};
 ghost use Rattle.firmware_api.specs.Statuses.{done};
@@ -24,7 +24,8 @@ use crate::kept::Kept;
 use crate::operation::{Operation, reply_of};
 use crate::status::{DONE, ENDED, NO_PROCEDURE, NO_REPLY, NOT_ENDED};
 use control_sets::{
-    ControlSet, Power, PowerChange, ProvisionFault, SavedFault, SavedProcedure, TaskList, Work,
+    ControlSet, MAX_STEPS, Power, PowerChange, ProvisionFault, SavedFault, SavedProcedure,
+    TaskList, Work,
 };
 use conversations::{Next, Spent, can_have, pauses_between};
 use field_tables::LaneSet;
@@ -205,16 +206,33 @@ fn wanted(saved: &KeptProcedure) -> Option<Next<Spent<Option<ProvisionFault>>>>
 fn restore(kept: &KeptProcedure) -> Option<Kept>
     ensures { result ≡ procedure_in kept.now }
 {
-    if kept.magic == PROCEDURE && kept.wait <= 1 {
+    if kept.magic == PROCEDURE && kept.wait <= 1 && has_room(&kept.saved) {
         Kept::restore(&kept.saved)
     } else {
         None
     }
 }
 
+// Whether no more steps were told than may be made, and no more tasks met than there are.
+fn has_room(saved: &SavedProcedure) -> bool
+    ensures { result ≡ has_room saved.now }
+{
+    saved.steps <= MAX_STEPS && saved.met <= tasks_numbered(saved.work)
+}
+
+fn tasks_numbered(work: u8) -> usize
+    ensures { result ≡ tasks_numbered work }
+{
+    match work {
+        1 => 8,
+        2 => 4,
+        _ => 3,
+    }
+}
+
 #[tactic(auto, unfolding(crate::specs::SavedProcedures::procedure_in))]
 fn put_numbers(kept: &Kept, wait: bool, procedure: &mut KeptProcedure)
-    ensures same { procedure_in procedure.new ≡ Some (given_back kept.now) }
+    ensures same { IsInRoom kept.now → procedure_in procedure.new ≡ Some (given_back kept.now) }
     ensures wait { procedure.new.wait ≡ wait_number wait }
 {
     *procedure = KeptProcedure {
