@@ -6,6 +6,7 @@ mod ToldJudgements
 mod Padding
 mod HeldModules
 mod ReadingLaws
+mod ReadingTurns
 mod RefusalTexts
 mod ShortTexts
 mod DecodersRefuse

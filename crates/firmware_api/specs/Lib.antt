@@ -8,6 +8,7 @@ pub mod KeptProcedures
 pub mod Waits
 pub mod SavedProcedures
 pub mod SimulatedModules
+pub mod PieceReadings
 pub mod SavedReadings
 pub mod Durations
 pub mod Texts

@@ -1,15 +1,14 @@
 ghost use Rattle.std.specs.Prelude.{◌≡◌, ◌≢◌, ◌≤◌, ◌<◌, ◌∷◌, [], IsTrue, Some, ℕ, length};
+ghost use Rattle.std.specs.FinMap as map;
 ghost use Rattle.bus_model.specs.declared.operation.Op.{Op};
 ghost use Rattle.bus_model.specs.declared.operation.Reply.{Reply};
-ghost use Rattle.control_sets.specs.Asking.{step_with};
+ghost use Rattle.conversations.specs.declared.next.Next.TheVariants as nexts;
+ghost use Rattle.conversations.specs.Wanted.{IsReplyTo};
 ghost use Rattle.paged_memory.specs.PageAddressing.{History};
-ghost use Rattle.module_reading.specs.declared.pieces.PieceReading.{PieceReading};
-ghost use Rattle.module_reading.specs.declared.reading.ReadingNext.TheVariants as nexts;
-ghost use Rattle.module_reading.specs.ImageReading.{IsReplyTo};
-ghost use Rattle.module_reading.specs.JoinedPieces.{HasJoinedOutcome};
-ghost use Rattle.module_reading.specs.PieceReading as pieces;
 ghost use Rattle.firmware_api.specs.Halves.{has_place, key_of};
-ghost use Rattle.firmware_api.specs.Operations.{reply_of};
+ghost use Rattle.firmware_api.specs.Operations.{reply_of, step_with};
+ghost use Rattle.firmware_api.specs.PieceReadings.{HasJoinedOutcome, PieceReading, WasToldPieces, halves_of, kept};
+ghost use Rattle.firmware_api.specs.PieceReadings as pieces;
 ghost use Rattle.firmware_api.specs.SavedReadings.{HasHalf, HasInFront, IsFit, IsReadAt, IsReadingNextTold, IsReadingReplyTold, asked, halves_in, is_refusal, piece_for, reading_in, size_refusal};
 ghost use Rattle.firmware_api.specs.Statuses.{done, status_by};
 
@@ -19,8 +18,8 @@ use crate::half::HalfBytes;
 use crate::operation::{Operation, reply_of};
 use crate::status::{DONE, ENDED, GAVE_UP, NO_PROCEDURE, NO_REPLY, TOO_FEW_BYTES};
 use bus_model::{Dev, Reply};
-use control_sets::can_have;
-use module_reading::{PieceReading, ReadingNext};
+use conversations::{Conversation, InPieces, NeedsPages, Next, OnPage, Spent, can_have};
+use module_reading::{Halves, Reading};
 pub use numbers::SavedReading;
 use numbers::{put_begun, put_with_half, put_without_half, restore};
 use paged_memory::{Key, PAGE_LEN};
@@ -50,6 +49,7 @@ fn piece_for(most: u8) -> u8
 }
 
 /// Puts into `operation` the operation that is to be made now.
+#[tactic(auto, using(crate::proofs::ReadingLaws::asked_no_pause))]
 #[unsafe(no_mangle)]
 pub extern "C" fn dovecounter_read_next(reading: &SavedReading, operation: &mut Operation) -> u32
     ensures told { IsReadingNextTold result operation.new reading.now.wait (asked reading.now) }
@@ -61,16 +61,18 @@ pub extern "C" fn dovecounter_read_next(reading: &SavedReading, operation: &mut 
         return NO_PROCEDURE;
     };
     match read.next() {
-        ReadingNext::Do(op) => {
+        Next::Do(op) => {
             operation.put(&op, reading.wait);
             DONE
         }
-        ReadingNext::Complete => ENDED,
-        ReadingNext::GiveUp => GAVE_UP,
+        Next::Wait(_) => ENDED,
+        Next::End(Spent { end: Some(()), .. }) => ENDED,
+        Next::End(Spent { end: None, .. }) => GAVE_UP,
     }
 }
 
 /// Tells the reading the reply to the operation that was to be made.
+#[tactic(auto, using(crate::proofs::ReadingLaws::asked_no_pause))]
 #[unsafe(no_mangle)]
 pub extern "C" fn dovecounter_read_reply(reading: &mut SavedReading, reply: u8, bytes: &[u8]) -> u32
     ensures told { IsReadingReplyTold result (reply_of reply bytes.now) (asked reading.old) }
@@ -83,7 +85,7 @@ pub extern "C" fn dovecounter_read_reply(reading: &mut SavedReading, reply: u8, 
     let Some(mut read) = restore(reading) else {
         return NO_PROCEDURE;
     };
-    let ReadingNext::Do(op) = read.next() else {
+    let Next::Do(op) = read.next() else {
         return ENDED;
     };
     match reply_of(reply, bytes) {
@@ -96,12 +98,13 @@ pub extern "C" fn dovecounter_read_reply(reading: &mut SavedReading, reply: u8, 
 }
 
 // The numbers of the reading after the reply.
-fn put_after(read: &mut PieceReading, reply: &Reply, reading: &mut SavedReading)
+fn put_after(read: &mut InPieces<Reading>, reply: &Reply, reading: &mut SavedReading)
     requires fit { IsFit reading.old read.old }
     requires reply { IsReplyTo (pieces.next read.old) reply.now }
     ensures after { reading_in reading.new ≡ Some (pieces.after read.old reply.now) }
+    ensures told { (history : History) (op : Op) → pieces.next read.old ≡ nexts.Do op → WasToldPieces history read.old →
+        WasToldPieces (step_with op reply.now ∷ history) (pieces.after read.old reply.now) }
     ensures wait { reading.new.wait ≡ is_refusal reply.now }
-    ensures answers { IsReplyTo (pieces.next read.old) reply.now }
     ensures halves { HasInFront (halves_in reading.old) (halves_in reading.new) }
 {
     let half = half_by(read, reply);
@@ -114,16 +117,41 @@ fn put_after(read: &mut PieceReading, reply: &Reply, reading: &mut SavedReading)
 }
 
 // The half that the reply makes whole.
-fn half_by(read: &PieceReading, reply: &Reply) -> Option<HalfBytes>
-    requires size { pieces.HasSize read.now }
+fn half_by(read: &InPieces<Reading>, reply: &Reply) -> Option<HalfBytes>
+    requires few { map.len (halves_of read.now).image ≤ 5 }
     requires reply { IsReplyTo (pieces.next read.now) reply.now }
-    ensures { HasHalf result read.now.reading (pieces.after read.now reply.now).reading }
+    ensures { HasHalf result (halves_of read.now) (halves_of (pieces.after read.now reply.now)) }
 {
-    let whole = read.whole_reply(reply)?;
-    let key = read.reading.kept(&whole)?;
-    match whole {
-        Reply::Bytes(bytes) => Some(half_at(key, &bytes)),
-        Reply::Done | Reply::Refused => None,
+    match read.whole_reply(reply) {
+        Some(whole) => half_in(&read.conversation, &whole),
+        None => None,
+    }
+}
+
+fn half_in(reading: &Reading, reply: &Reply) -> Option<HalfBytes>
+    requires few { map.len reading.now.conversation.conversation.image ≤ 5 }
+    requires reply { IsReplyTo (pieces.whole_next reading.now) reply.now }
+    ensures { HasHalf result reading.now.conversation.conversation (pieces.whole_after reading.now reply.now).conversation.conversation }
+{
+    match reply {
+        Reply::Bytes(bytes) => match kept(&reading.conversation, reply) {
+            Some(key) => Some(half_at(key, bytes)),
+            None => None,
+        },
+        Reply::Done => None,
+        Reply::Refused => None,
+    }
+}
+
+// The place of the half that the reply gives, unless it is one to the selection of a page.
+fn kept(on_page: &OnPage<Halves>, reply: &Reply) -> Option<Key>
+    ensures { result ≡ kept on_page.now reply.now }
+{
+    let halves = &on_page.conversation;
+    let selects = on_page.selection.is_open() || on_page.selection.missing(halves.page()).is_some();
+    match reply {
+        Reply::Bytes(_) if !selects => halves.key(),
+        _ => None,
     }
 }
 

@@ -1,17 +1,19 @@
 // A reading as plain numbers: from a reading its numbers, and from them the reading.
-ghost use Rattle.std.specs.Prelude.{◌≡◌, ◌≤◌, ◌<◌, ◌∷◌, [], IfSome, IsTrue, Some, length, take};
+ghost use Rattle.std.specs.Prelude.{◌≡◌, ◌≤◌, ◌<◌, ◌∷◌, [], IsTrue, Some, length, take};
 ghost use Rattle.std.specs.FinMap as map;
 ghost use Rattle.std.specs.List.{list_all};
 ghost use Rattle.control_sets.specs.SavedNumbers.{selected_numbered};
-ghost use Rattle.module_reading.specs.PieceReading as pieces;
-ghost use Rattle.module_reading.specs.PieceReading.{HasSize};
 ghost use Rattle.firmware_api.specs.Halves.{has_place, key_of, memory_of};
-ghost use Rattle.firmware_api.specs.SavedReadings.{IsFit, halves_in, is_sound, reading_in};
+ghost use Rattle.firmware_api.specs.PieceReadings.{halves_of};
+ghost use Rattle.firmware_api.specs.PieceReadings as pieces;
+ghost use Rattle.firmware_api.specs.SavedReadings.{IsFit, IsKept, accepted_number, halves_in, is_sound, reading_in, taken_for};
 ghost use Rattle.firmware_api.specs.Waits.{wait_number};
 
 use crate::half::{HalfBytes, all_have_places, image_of};
 use arrayvec::ArrayVec;
-use module_reading::{PieceReading, Reading};
+use control_sets::MAX_STEPS;
+use conversations::{InPieces, NeedsPages, OnPage, Within};
+use module_reading::{Halves, Reading};
 use paged_memory::{KnownPage, PAGE_LEN};
 
 /// What stands in each reading, so that other memory is not taken for one: `DCR1`.
@@ -87,7 +89,7 @@ pub fn put_begun(piece: u8, saved: &mut SavedReading)
 }
 
 /// Puts the numbers of a reading whose image has what it had before.
-pub fn put_without_half(read: &PieceReading, wait: bool, saved: &mut SavedReading)
+pub fn put_without_half(read: &InPieces<Reading>, wait: bool, saved: &mut SavedReading)
     requires fit { IsFit saved.old read.now }
     ensures same { reading_in saved.new ≡ Some read.now }
     ensures wait { saved.new.wait ≡ wait_number wait }
@@ -97,13 +99,18 @@ pub fn put_without_half(read: &PieceReading, wait: bool, saved: &mut SavedReadin
 }
 
 /// Puts the numbers of a reading whose image has this half in addition.
-pub fn put_with_half(read: &PieceReading, wait: bool, half: HalfBytes, saved: &mut SavedReading)
-    requires count { saved.old.count < read.now.reading.settled }
-    requires settled { read.now.reading.settled ≤ 5 }
+pub fn put_with_half(
+    read: &InPieces<Reading>,
+    wait: bool,
+    half: HalfBytes,
+    saved: &mut SavedReading,
+)
+    requires count { saved.old.count < (halves_of read.now).settled }
+    requires settled { (halves_of read.now).settled ≤ 5 }
     requires places { IsTrue (list_all has_place (halves_in saved.old)) }
     requires place { IsTrue (has_place half) }
-    requires image { read.now.reading.image ≡ map.insert (memory_of (halves_in saved.old)) (key_of half) half.bytes }
-    requires size { HasSize read.now }
+    requires image { (halves_of read.now).image ≡ map.insert (memory_of (halves_in saved.old)) (key_of half) half.bytes }
+    requires rest { IsKept read.now }
     ensures same { reading_in saved.new ≡ Some read.now }
     ensures wait { saved.new.wait ≡ wait_number wait }
     ensures halves { halves_in saved.new ≡ half ∷ halves_in saved.old }
@@ -117,27 +124,39 @@ pub fn put_with_half(read: &PieceReading, wait: bool, half: HalfBytes, saved: &m
 
 // Puts the numbers of a reading whose halves stand there.
 #[tactic(auto, unfolding(crate::specs::SavedReadings::reading_in))]
-fn put_numbers(read: &PieceReading, wait: bool, saved: &mut SavedReading)
-    requires size { HasSize read.now }
-    requires count { saved.old.count ≤ read.now.reading.settled }
-    requires settled { read.now.reading.settled ≤ 5 }
+fn put_numbers(read: &InPieces<Reading>, wait: bool, saved: &mut SavedReading)
+    requires rest { IsKept read.now }
+    requires count { saved.old.count ≤ (halves_of read.now).settled }
+    requires settled { (halves_of read.now).settled ≤ 5 }
     requires places { IsTrue (list_all has_place (halves_in saved.old)) }
-    requires image { read.now.reading.image ≡ memory_of (halves_in saved.old) }
+    requires image { (halves_of read.now).image ≡ memory_of (halves_in saved.old) }
     ensures same { reading_in saved.new ≡ Some read.now }
     ensures wait { saved.new.wait ≡ wait_number wait }
     ensures halves { halves_in saved.new ≡ halves_in saved.old }
 {
-    let (selection, page) = numbers_of_selected(read.reading.selected);
+    let on_page = &read.conversation.conversation;
+    let (selection, page) = numbers_of_selected(on_page.selection);
     saved.magic = READING;
-    saved.steps = read.reading.steps;
-    saved.settled = read.reading.settled as u8;
+    saved.steps = read.conversation.steps;
+    saved.settled = on_page.conversation.settled as u8;
     saved.selection = selection;
     saved.page = page;
-    saved.accepted = if read.reading.accepted { 1 } else { 0 };
+    saved.accepted = accepted(on_page.selection, on_page.taken, saved.accepted);
     saved.piece = read.piece;
     saved.read = read.part.len() as u8;
     saved.wait = if wait { 1 } else { 0 };
     put_part(&read.part, &mut saved.part);
+}
+
+// Once the selection was read back, the number stays as it was.
+fn accepted(selected: KnownPage, taken: Option<u8>, before: u8) -> u8
+    ensures { result ≡ accepted_number selected taken before }
+{
+    match (selected, taken) {
+        (KnownPage::Open, Some(_)) => 1,
+        (KnownPage::Open, None) => 0,
+        (KnownPage::Unknown | KnownPage::Page(_), _) => before,
+    }
 }
 
 // With zeros after them.
@@ -182,10 +201,9 @@ fn is_sound(saved: &SavedReading) -> bool
 }
 
 /// The reading that has these numbers, if one has.
-#[tactic(auto, using(crate::proofs::HalfMemories::memory_has_few), unfolding(crate::specs::SavedReadings::reading_in))]
-pub fn restore(saved: &SavedReading) -> Option<PieceReading>
-    ensures value { result ≡ reading_in saved.now }
-    ensures fit { IfSome result (λ read. IsFit saved.now read) }
+#[tactic(auto, unfolding(crate::specs::SavedReadings::reading_in))]
+pub fn restore(saved: &SavedReading) -> Option<InPieces<Reading>>
+    ensures { result ≡ reading_in saved.now }
 {
     if !is_sound(saved) {
         return None;
@@ -194,16 +212,35 @@ pub fn restore(saved: &SavedReading) -> Option<PieceReading>
     if !all_have_places(halves) {
         return None;
     }
-    let selected = selected(saved)?;
-    Some(PieceReading {
-        reading: Reading {
-            image: image_of(halves),
-            settled: usize::from(saved.settled),
+    let halves = Halves {
+        image: image_of(halves),
+        settled: usize::from(saved.settled),
+    };
+    let selection = selected(saved)?;
+    let taken = taken_for(selection, saved.accepted == 1, halves.page());
+    let on_page = OnPage {
+        conversation: halves,
+        selection,
+        taken,
+    };
+    Some(InPieces {
+        conversation: Within {
+            conversation: on_page,
             steps: saved.steps,
-            selected,
-            accepted: saved.accepted == 1,
+            limit: MAX_STEPS,
         },
         piece: saved.piece,
         part: ArrayVec::try_from(&saved.part[..usize::from(saved.read)]).unwrap(),
     })
+}
+
+// The page whose selection was accepted and is to be read back.
+fn taken_for(selected: KnownPage, accepted: bool, needed: Option<u8>) -> Option<u8>
+    ensures { result ≡ taken_for selected accepted needed }
+{
+    if selected.is_open() && accepted {
+        needed
+    } else {
+        None
+    }
 }
