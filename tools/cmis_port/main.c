@@ -100,9 +100,9 @@ static enum status run(const struct command *command, struct port *port, const c
     bool ready = (!command->plans || read_weights(weights, port->weights)) && open_port(port);
     hold_signals(&port->signals);
     enum status status = ready ? command->run(port) : REFUSED;
+    unlock_bus();
     release_signals(port);
     if (port->log != NULL) close_log(port);
-    unlock_bus();
     if (port->file >= 0) close(port->file);
     return status;
 }
