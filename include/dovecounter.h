@@ -493,7 +493,8 @@ struct dovecounter_procedure {
    held down begins to come up. The bytes of these other lanes in the Active Control Set already have to be those of
    the plan. Judge that before: compare the bytes 206 to 213 of page 11h with `control` at each lane that is not in
    `lanes`. If one differs, a kept path is not active; this procedure would take down lanes that are up, also of data
-   paths that share lanes with the kept one, and then end in PV1, PV3 or another fault. Nobody else may use the module meanwhile: no driver, no other process, no second master of the bus. */
+   paths that share lanes with the kept one, and then end in PV1, PV3 or another fault. Nobody else may use the module
+   meanwhile: no driver, no other process, no second master of the bus. */
 void dovecounter_provision(const uint8_t control[8], uint8_t lanes, struct dovecounter_procedure *procedure);
 
 /* Begins to bring up the data paths of `lanes`, those of a plan whose control bytes are in the Active Control Set,
