@@ -8,7 +8,7 @@ use Rattle.field_tables.specs.Readings.{IsWord}
 use Rattle.field_tables.specs.Units.{floor_div}
 use Rattle.external_calibration.proofs.Halves.{quotient_small}
 
-product_small : (slope : ℕ) (reading : ℤ) → slope < 2 ^ 16 → IsWord reading → unsigned_abs (pos slope *ℤ reading) ≤ 2 ^ 32
+pub product_small : (slope : ℕ) (reading : ℤ) → slope < 2 ^ 16 → IsWord reading → unsigned_abs (pos slope *ℤ reading) ≤ 2 ^ 32
 product_small slope reading small word =
     let size : unsigned_abs reading ≤ 2 ^ 16 = omega (arith, ints, word.0, word.1) in
     let wide : slope * unsigned_abs reading ≤ 2 ^ 16 * 2 ^ 16 = mul-le slope (unsigned_abs reading) (2 ^ 16) (2 ^ 16) (omega (arith, small)) size in
@@ -18,16 +18,13 @@ pub count_small : (slope : ℕ) (reading offset : ℤ) → slope < 2 ^ 16 → Is
 count_small slope reading offset small word fits =
     omega (arith, ints, product_small slope reading small word, fits)
 
--- as the code computes it, from what its conversions give
-pub count_is : (slope : ℕ) (reading offset first second third : ℤ) → slope < 2 ^ 16 → IsWord reading → FitsSigned w16 offset → first ≡ pos slope → second ≡ reading → third ≡ offset
-    → to_z w64 (of_z w64 (to_z w64 (of_z w64 (to_z w64 (of_z w64 first) *ℤ to_z w64 (of_z w64 second))) +ℤ to_z w64 (of_z w64 (to_z w64 (of_z w64 third) *ℤ pos 256))))
-    ≡ pos slope *ℤ reading +ℤ offset *ℤ pos 256
-count_is slope reading offset first second third small word fits first_is second_is third_is =
+-- the two factors, from what their conversions give
+pub product_is : (slope : ℕ) (reading first second : ℤ) → slope < 2 ^ 16 → IsWord reading → first ≡ pos slope → second ≡ reading
+    → to_z w64 (of_z w64 first) *ℤ to_z w64 (of_z w64 second) ≡ pos slope *ℤ reading
+product_is slope reading first second small word first_is second_is =
     let one : to_z w64 (of_z w64 first) ≡ pos slope = omega (arith, ints, first_is, small) in
     let two : to_z w64 (of_z w64 second) ≡ reading = omega (arith, ints, second_is, word.0, word.1) in
-    let product : to_z w64 (of_z w64 first) *ℤ to_z w64 (of_z w64 second) ≡ pos slope *ℤ reading = λ i. one i *ℤ two i in
-    let bound = product_small slope reading small word in
-    omega (arith, ints, product, bound, third_is, fits)
+    λ i. one i *ℤ two i
 
 -- thousandths of a count, as the code computes them
 pub scaled : (count quotient : ℤ) (thousandths parts : ℕ) → unsigned_abs count < 2 ^ 34 → thousandths ≤ 1000

@@ -11,20 +11,12 @@ neg_mul : (k d : ℕ) → neg_ℤ (pos k) *ℤ pos d ≡ neg_ℤ (pos (k * d))
 neg_mul zero d = ap pos (zero-mul d) ∙ sym (ap (λ n. neg_ℤ (pos n)) (zero-mul d))
 neg_mul (suc k) d = refl
 
-pub negated : (m : ℤ) (d n : ℕ) → pos 0 ≤ℤ m → m <ℤ pos (2 ^ 24) → m *ℤ pos d ≡ pos n
-    → to_z w32 (of_z w32 (pos 0 -ℤ to_z w32 (of_z w32 m))) *ℤ pos d ≡ neg_ℤ (pos n)
-negated (pos k) d n low high whole =
-    let sign : to_z w32 (of_z w32 (pos 0 -ℤ to_z w32 (of_z w32 (pos k)))) ≡ neg_ℤ (pos k) = omega (arith, ints, high) in
-    ap (λ z. z *ℤ pos d) sign ∙ (neg_mul k d ∙ ap neg_ℤ whole)
-negated (negsuc k) d n low high whole = absurd (omega (arith, ints, low))
+pub negated : (mantissa m : ℤ) (d n : ℕ) → pos 0 ≤ℤ m → mantissa ≡ neg_ℤ m → m *ℤ pos d ≡ pos n → mantissa *ℤ pos d ≡ neg_ℤ (pos n)
+negated mantissa (pos k) d n low is whole = ap (λ z. z *ℤ pos d) is ∙ (neg_mul k d ∙ ap neg_ℤ whole)
+negated mantissa (negsuc k) d n low is whole = absurd (omega (arith, ints, low))
 
-pub kept : (m : ℤ) (d n : ℕ) → pos 0 ≤ℤ m → m <ℤ pos (2 ^ 24) → m *ℤ pos d ≡ pos n → to_z w32 (of_z w32 m) *ℤ pos d ≡ pos n
-kept m d n low high whole =
-    let same : to_z w32 (of_z w32 m) ≡ m = omega (arith, ints, low, high) in
-    ap (λ z. z *ℤ pos d) same ∙ whole
-
-pub without_one : (fraction : ℕ) → fraction < 2 ^ 23 → to_z w32 fraction *ℤ pos 1 ≡ pos fraction
-without_one fraction small = omega (arith, ints, small)
+pub kept : (mantissa m : ℤ) (d n : ℕ) → mantissa ≡ m → m *ℤ pos d ≡ pos n → mantissa *ℤ pos d ≡ pos n
+kept mantissa m d n is whole = ap (λ z. z *ℤ pos d) is ∙ whole
 
 -- a 1 before a fraction of 23 bits, whether it is added or joined
 pub one_beside : (fraction : ℕ) → fraction < 2 ^ 23 → bit_or 8388608 fraction ≡ 8388608 + fraction

@@ -4,7 +4,7 @@ use Rattle.std.proofs.lemmas.Int.{ints}
 use Rattle.std.proofs.lemmas.Nat.{mod_below}
 use Rattle.external_calibration.specs.Floats.{exponent, fraction, size}
 use Rattle.external_calibration.proofs.FloatSizes.{size_by}
-use Rattle.external_calibration.proofs.Signs.{one_beside, with_one, without_one}
+use Rattle.external_calibration.proofs.Signs.{one_beside, with_one}
 use Rattle.external_calibration.proofs.binary32.magnitude.Goals as goal
 
 fraction_small : (bits : ℕ) → fraction bits < 2 ^ 23
@@ -15,7 +15,9 @@ unfolding size
 returns-in-0-clause-size c =
     let bits = c.args.bits in
     let none : exponent bits ≡ 0 = cc in
-    without_one (fraction bits) (fraction_small bits) ∙ ap (λ (e : ℕ). pos (size_by e (fraction bits))) (sym none)
+    let small = fraction_small bits in
+    let whole : size bits ≡ fraction bits = ap (λ (e : ℕ). size_by e (fraction bits)) none in
+    omega (arith, ints, small, whole)
 
 pub returns-in_default-clause-size : goal.returns-in_default-clause-size
 unfolding size

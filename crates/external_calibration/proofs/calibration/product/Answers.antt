@@ -18,7 +18,8 @@ overflow_mul-from c =
     let mantissa = c.parts-constant.result.mantissa in
     let factor = int_pow c.args.reading c.args.power in
     let small = c.parts-constant.ensures.mantissa in
-    let is = factor_is c.args.reading c.from-2.result c.pow.result c.args.power c.requires.word c.from-2.ensures c.pow.ensures in
+    let raised : c.pow.result ≡ int_pow (to_z w128 (of_z w128 c.from-2.result)) c.args.power = cc in
+    let is = factor_is c.args.reading c.from-2.result c.pow.result c.args.power c.requires.word c.from-2.ensures raised in
     subst (FitsSigned w128) (sym (product_is mantissa c.from.result c.pow.result factor small c.from.ensures (record { sfits = c.pow.type_inv }) is))
     (product_fits mantissa factor c.args.power c.requires.power small (power_small c.args.reading c.args.power c.requires.word))
 
@@ -27,7 +28,8 @@ number : (c : goal.After-pow) → to_z w128 (of_z w128 (to_z w128 (of_z w128 c.f
     ≡ c.parts-constant.result.mantissa *ℤ int_pow c.args.reading c.args.power
 number c =
     let bound = power_small c.args.reading c.args.power c.requires.word in
-    let is = factor_is c.args.reading c.from-2.result c.pow.result c.args.power c.requires.word c.from-2.ensures c.pow.ensures in
+    let raised : c.pow.result ≡ int_pow (to_z w128 (of_z w128 c.from-2.result)) c.args.power = cc in
+    let is = factor_is c.args.reading c.from-2.result c.pow.result c.args.power c.requires.word c.from-2.ensures raised in
     number_is c.parts-constant.result.mantissa c.from.result c.pow.result (int_pow c.args.reading c.args.power) c.args.power c.requires.power
     c.parts-constant.ensures.mantissa bound c.from.ensures (record { sfits = c.pow.type_inv }) is
 
@@ -53,7 +55,8 @@ returns-clause-value c =
     let found = c.parts-constant in
     let factor = int_pow c.args.reading c.args.power in
     let bound = power_small c.args.reading c.args.power c.requires.word in
-    let is = factor_is c.args.reading c.from-2.result c.pow.result c.args.power c.requires.word c.from-2.ensures c.pow.ensures in
+    let raised : c.pow.result ≡ int_pow (to_z w128 (of_z w128 c.from-2.result)) c.args.power = cc in
+    let is = factor_is c.args.reading c.from-2.result c.pow.result c.args.power c.requires.word c.from-2.ensures raised in
     let number_found =
     number_is found.result.mantissa c.from.result c.pow.result factor c.args.power c.requires.power found.ensures.mantissa bound c.from.ensures (record { sfits = c.pow.type_inv }) is
     in

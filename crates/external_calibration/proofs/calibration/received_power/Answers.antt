@@ -1,8 +1,11 @@
-use Rattle.std.proofs.Common.{◌∙◌, ap, arith, w32, w64}
+use Rattle.std.proofs.Common.{◌≡◌, ◌∙◌, ap, arith, to_z, of_z, w32, w64}
 use Rattle.std.specs.Prelude.{◌^◌, ℤ, pos, ◌*ℤ◌}
 use Rattle.std.proofs.lemmas.Int.{to_z-of_z}
 use Rattle.field_tables.specs.Units.{floor_div}
+use Rattle.std.specs.Int.{int_pow}
 use Rattle.external_calibration.specs.Amounts.{on_polynomial}
+use Rattle.external_calibration.specs.ExactSums.{value_of}
+use Rattle.external_calibration.specs.Floats.{parts_of}
 use Rattle.external_calibration.proofs.Sums.{added, small_of_fewer}
 use Rattle.external_calibration.proofs.Refused.{each_in_range}
 use Rattle.external_calibration.proofs.calibration.received_power.Goals as goal
@@ -43,11 +46,12 @@ pub returns : goal.returns
 unfolding on_polynomial
 returns c =
     let reading = to_z-of_z w32 c.args.reading c.ranges.reading in
-    let fourth = c.product-fourth.ensures.value in
-    let third = c.product-third.ensures.value in
-    let second = c.product-second.ensures.value in
-    let first = c.product-first.ensures.value in
-    let zeroth = c.product-zeroth.ensures.value in
+    let read : ℤ = to_z w32 (of_z w32 c.args.reading) in
+    let fourth : value_of c.product-fourth.result ≡ parts_of c.args.constants.fourth *ℤ int_pow read 4 = cc in
+    let third : value_of c.product-third.result ≡ parts_of c.args.constants.third *ℤ int_pow read 3 = cc in
+    let second : value_of c.product-second.result ≡ parts_of c.args.constants.second *ℤ int_pow read 2 = cc in
+    let first : value_of c.product-first.result ≡ parts_of c.args.constants.first *ℤ int_pow read 1 = cc in
+    let zeroth : value_of c.product-zeroth.result ≡ parts_of c.args.constants.zeroth *ℤ int_pow read 0 = cc in
     let two = c.plus.ensures.value ∙ added _ _ _ _ fourth third in
     let three = c.plus-2.ensures.value ∙ added _ _ _ _ two second in
     let four = c.plus-3.ensures.value ∙ added _ _ _ _ three first in

@@ -1,4 +1,5 @@
-use Rattle.std.proofs.Common.{◌∙◌, ap, sym, arith, w32}
+use Rattle.std.proofs.Common.{◌≡◌, ◌∙◌, ap, sym, arith, to_z, of_z, w32, w64}
+use Rattle.std.specs.Int.{int_div_euclid}
 use Rattle.std.specs.Prelude.{pos, ◌*ℤ◌}
 use Rattle.std.proofs.lemmas.Int.{to_z-of_z}
 use Rattle.field_tables.specs.declared.units.Unit.{Unit}
@@ -13,7 +14,8 @@ overflow_mul-count c = scaled_fits c.count-count.result 1000 c.count-count.ensur
 
 pub returns-in-Temperature : goal.returns-in-Temperature
 returns-in-Temperature c =
-    scaled c.count-count.result c.div_euclid.result 1000 65536 c.count-count.ensures.small (omega arith) c.div_euclid.ensures
+    let parts : c.div_euclid.result ≡ int_div_euclid (to_z w64 (of_z w64 (to_z w64 (of_z w64 c.count-count.result) *ℤ pos 1000))) (pos 65536) = cc in
+    scaled c.count-count.result c.div_euclid.result 1000 65536 c.count-count.ensures.small (omega arith) parts
     ∙ (ap (λ z. floor_div (z *ℤ pos 1000) 65536) (c.count-count.ensures.value ∙ ap (on_line c.args.self) (to_z-of_z w32 c.args.reading c.ranges.reading)) ∙ rounds_by_256 (on_line c.args.self c.args.reading *ℤ pos 1000)
     ∙ sym (ap (λ (unit : Unit). thousandths unit 8 (on_line c.args.self c.args.reading)) c.in-Temperature.is))
 
@@ -22,7 +24,8 @@ overflow_mul-count-in-Voltage c = scaled_fits c.count-count.result 100 c.count-c
 
 pub returns-in-Voltage : goal.returns-in-Voltage
 returns-in-Voltage c =
-    scaled c.count-count.result c.div_euclid-in-Voltage.result 100 256 c.count-count.ensures.small (omega arith) c.div_euclid-in-Voltage.ensures
+    let parts : c.div_euclid-in-Voltage.result ≡ int_div_euclid (to_z w64 (of_z w64 (to_z w64 (of_z w64 c.count-count.result) *ℤ pos 100))) (pos 256) = cc in
+    scaled c.count-count.result c.div_euclid-in-Voltage.result 100 256 c.count-count.ensures.small (omega arith) parts
     ∙ (ap (λ z. floor_div (z *ℤ pos 100) 256) (c.count-count.ensures.value ∙ ap (on_line c.args.self) (to_z-of_z w32 c.args.reading c.ranges.reading))
     ∙ sym (ap (λ (unit : Unit). thousandths unit 8 (on_line c.args.self c.args.reading)) c.in-Voltage.is))
 
@@ -31,7 +34,8 @@ overflow_mul-count-in-OpticalPower c = scaled_fits c.count-count.result 100 c.co
 
 pub returns-in-OpticalPower : goal.returns-in-OpticalPower
 returns-in-OpticalPower c =
-    scaled c.count-count.result c.div_euclid-in-OpticalPower.result 100 256 c.count-count.ensures.small (omega arith) c.div_euclid-in-OpticalPower.ensures
+    let parts : c.div_euclid-in-OpticalPower.result ≡ int_div_euclid (to_z w64 (of_z w64 (to_z w64 (of_z w64 c.count-count.result) *ℤ pos 100))) (pos 256) = cc in
+    scaled c.count-count.result c.div_euclid-in-OpticalPower.result 100 256 c.count-count.ensures.small (omega arith) parts
     ∙ (ap (λ z. floor_div (z *ℤ pos 100) 256) (c.count-count.ensures.value ∙ ap (on_line c.args.self) (to_z-of_z w32 c.args.reading c.ranges.reading))
     ∙ sym (ap (λ (unit : Unit). thousandths unit 8 (on_line c.args.self c.args.reading)) c.in-OpticalPower.is))
 
@@ -40,7 +44,8 @@ overflow_mul-count-in-Bias c = scaled_fits c.count-count.result 2 c.count-count.
 
 pub returns-in-Bias : goal.returns-in-Bias
 returns-in-Bias c =
-    scaled c.count-count.result c.div_euclid-in-Bias.result 2 256 c.count-count.ensures.small (omega arith) c.div_euclid-in-Bias.ensures
+    let parts : c.div_euclid-in-Bias.result ≡ int_div_euclid (to_z w64 (of_z w64 (to_z w64 (of_z w64 c.count-count.result) *ℤ pos 2))) (pos 256) = cc in
+    scaled c.count-count.result c.div_euclid-in-Bias.result 2 256 c.count-count.ensures.small (omega arith) parts
     ∙ (ap (λ z. floor_div (z *ℤ pos 2) 256) (c.count-count.ensures.value ∙ ap (on_line c.args.self) (to_z-of_z w32 c.args.reading c.ranges.reading))
     ∙ sym (ap (λ (unit : Unit). thousandths unit 8 (on_line c.args.self c.args.reading)) c.in-Bias.is))
 
@@ -49,6 +54,7 @@ overflow_mul-count-in-ModulePower c = scaled_fits c.count-count.result 250 c.cou
 
 pub returns-in-ModulePower : goal.returns-in-ModulePower
 returns-in-ModulePower c =
-    scaled c.count-count.result c.div_euclid-in-ModulePower.result 250 256 c.count-count.ensures.small (omega arith) c.div_euclid-in-ModulePower.ensures
+    let parts : c.div_euclid-in-ModulePower.result ≡ int_div_euclid (to_z w64 (of_z w64 (to_z w64 (of_z w64 c.count-count.result) *ℤ pos 250))) (pos 256) = cc in
+    scaled c.count-count.result c.div_euclid-in-ModulePower.result 250 256 c.count-count.ensures.small (omega arith) parts
     ∙ (ap (λ z. floor_div (z *ℤ pos 250) 256) (c.count-count.ensures.value ∙ ap (on_line c.args.self) (to_z-of_z w32 c.args.reading c.ranges.reading))
     ∙ sym (ap (λ (unit : Unit). thousandths unit 8 (on_line c.args.self c.args.reading)) c.in-ModulePower.is))

@@ -36,7 +36,9 @@ small_enough sum result small is =
 
 result_is : (c : goal.After-div_euclid-2) → c.div_euclid-2.result ≡ floor_div (c.args.self.high *ℤ pos 100 +ℤ floor_div (c.args.self.low *ℤ pos 100) (2 ^ 96)) (2 ^ 53)
 result_is c =
-    rounded c.args.self c.div_euclid.result c.div_euclid-2.result c.requires (carried c.args.self c.div_euclid.result c.requires c.div_euclid.ensures) c.div_euclid-2.ensures
+    let sum = c.args.self in
+    let parts : c.div_euclid.result ≡ int_div_euclid (to_z w128 (of_z w128 (to_z w128 (of_z w128 sum.low) *ℤ pos 100))) (pos (2 ^ 96)) = cc in
+    rounded sum c.div_euclid.result c.div_euclid-2.result c.requires (carried sum c.div_euclid.result c.requires parts) c.div_euclid-2.ensures
 
 pub overflow_cast-result : goal.overflow_cast-result
 overflow_cast-result c = omega (arith, ints, small_enough c.args.self c.div_euclid-2.result c.requires (result_is c))
