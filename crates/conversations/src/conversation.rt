@@ -57,9 +57,8 @@ pub trait Conversation {
         ensures told { (events : Events) (op : Op) → wants self.old ≡ Do op → told events self.old →
             told (made op reply.now ∷ events) self.new };
 
-    /// So long as was asked for has passed.
+    /// So long as was asked for has passed. Where no wait is wanted, all that it promises is that none is wanted then either.
     fn waited(&mut self)
-        requires { IsWait (wants self.old) }
         ensures topic { topic self.new ≡ topic self.old }
         ensures told { (events : Events) (time : ℕ) → wants self.old ≡ Wait time → told events self.old →
             told (Waited time ∷ events) self.new }
