@@ -168,7 +168,7 @@ class Round:
         twins = {name: judges_of(self.crate, it)[0][0] for it in self.edits for name, _, _, number in self.judges(it) if number}
         said = self.crate.copy.check(texts, {name for it in self.edits for name, _, _, _ in self.judges(it)}, twins)
         own = {twin.replace("::", "/"): it.replace("::", "/") for twin, it in twins.items()}
-        return said and with_shapes(said, lambda it: f"{ROOT}/crates/{self.crate.name}/proofs/{own.get(it, it)}")
+        return said and with_shapes(said, lambda it: f"{self.crate.copy.own}/proofs/{own.get(it, it)}")
 
 
 def twin_name(name, number):
