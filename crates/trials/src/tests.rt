@@ -1,7 +1,7 @@
+mod adapters;
 mod applies;
 mod certificates;
 mod control_bytes;
-mod conversations;
 mod keeping;
 mod lanes;
 mod lies;
