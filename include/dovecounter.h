@@ -477,8 +477,9 @@ struct dovecounter_progress {
     struct dovecounter_fault fault;
 };
 
-/* A procedure under way. Copy it and keep it as you like, but change nothing: other numbers are refused, among them more
-   than 4096 steps, or are taken for another procedure, which may be one that no replies lead to. */
+/* A procedure under way. Copy it and keep it as you like, but change nothing: other numbers are refused, or are taken
+   for another procedure, which may be one that no replies lead to. More than 4096 steps are always refused, and so are
+   more tasks done than the procedure has. */
 struct dovecounter_procedure {
     uint32_t magic;
     uint8_t wait;
@@ -567,7 +568,7 @@ struct dovecounter_answer {
 uint32_t dovecounter_answer(const struct dovecounter_procedure *procedure, struct dovecounter_answer *answer);
 
 /* The reading of a module under way, and what it has read. Copy it and keep it as you like, but change nothing: other
-   numbers are refused, or are another reading's. */
+   numbers are refused, or are taken for another reading, which may be one that no replies lead to. */
 struct dovecounter_reading {
     uint32_t magic;
     uint16_t steps;
@@ -640,7 +641,7 @@ struct dovecounter_lane {
 };
 
 /* What changes of a simulated module (docs/module.md); its halves never do. Read what you like, copy it and keep it,
-   and change nothing: other numbers are refused, or are another module. */
+   and change nothing: other numbers are refused, or are taken for a module, which may be one that nothing leads to. */
 struct dovecounter_module {
     struct dovecounter_delays delays;
     uint16_t left;       /* ticks until the work of the module's state is done, 0 if none runs */
