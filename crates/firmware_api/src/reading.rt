@@ -79,6 +79,8 @@ pub extern "C" fn dovecounter_read_reply(reading: &mut SavedReading, reply: u8, 
     ensures taken { result ≡ done → (piece : ℕ) (history : History) (op : Op) (made : Reply) →
         IsReadAt piece history reading.old → asked reading.old ≡ Some (nexts.Do op) →
         reply_of reply bytes.now ≡ Some made → IsReadAt piece (step_with op made ∷ history) reading.new }
+    ensures after { result ≡ done → (read : PieceReading) (made : Reply) → reading_in reading.old ≡ Some read →
+        reply_of reply bytes.now ≡ Some made → reading_in reading.new ≡ Some (pieces.after read made) }
     ensures halves { result ≡ done → HasInFront (halves_in reading.old) (halves_in reading.new) }
     ensures refused { result ≢ done → reading.new ≡ reading.old }
 {

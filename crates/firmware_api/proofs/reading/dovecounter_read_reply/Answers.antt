@@ -29,3 +29,12 @@ returns-in-Some-reply_of-clause-taken c done piece history op made (read, is, of
       subst (λ (m : Reply). WasToldPieces (step_with op m ∷ history) (after read m)) same_reply told_read,
       c.put_after.ensures.wait ∙ ap is_refusal same_reply,
     )
+
+pub returns-in-Some-reply_of-clause-after : goal.returns-in-Some-reply_of-clause-after
+returns-in-Some-reply_of-clause-after c done read made is replied =
+    let new = c.put_after.new.reading in
+    let reply = c.in-Some-reply_of.reply in
+    let same = same_some c.in-Some.read read (sym c.in-Some.is ∙ c.restore.ensures ∙ is) in
+    let same_reply = same_some reply made (sym c.in-Some-reply_of.is ∙ c.reply_of.ensures ∙ replied) in
+    subst (λ (m : Reply). reading_in new ≡ Some (after read m)) same_reply
+      (subst (λ (r : PieceReading). reading_in new ≡ Some (after r reply)) same c.put_after.ensures.after)
