@@ -5,6 +5,9 @@ from functions import BadEdit, constants_of, edit_of, functions_of, read, twin_o
 
 REFUSED, PROVED, WAITS, UNREADABLE, NAMES = "refused", "proved", "waits", "does not compile", "refused for a name alone"
 SHAPE = "(a term of another shape)"
+# the crates in which an answer whose two types differ is no word on the contract either: their proofs rest on facts, not on how a body's
+# terms look. In the others a wrong meaning and another shape of the right one can't be told apart by that yet
+STRICT = {"external_calibration"}
 
 
 class Tried:
@@ -168,7 +171,9 @@ class Round:
         twins = {name: judges_of(self.crate, it)[0][0] for it in self.edits for name, _, _, number in self.judges(it) if number}
         said = self.crate.copy.check(texts, {name for it in self.edits for name, _, _, _ in self.judges(it)}, twins)
         own = {twin.replace("::", "/"): it.replace("::", "/") for twin, it in twins.items()}
-        return said and with_shapes(said, lambda it: f"{self.crate.copy.own}/proofs/{own.get(it, it)}")
+        if not said or self.crate.name not in STRICT:
+            return said
+        return with_shapes(said, lambda it: f"{self.crate.copy.own}/proofs/{own.get(it, it)}")
 
 
 def twin_name(name, number):
