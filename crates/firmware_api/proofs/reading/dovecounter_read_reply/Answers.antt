@@ -37,4 +37,4 @@ returns-in-Some-reply_of-clause-after c done read made is replied =
     let same = same_some c.in-Some.read read (sym c.in-Some.is ∙ c.restore.ensures ∙ is) in
     let same_reply = same_some reply made (sym c.in-Some-reply_of.is ∙ c.reply_of.ensures ∙ replied) in
     subst (λ (m : Reply). reading_in new ≡ Some (after read m)) same_reply
-      (subst (λ (r : PieceReading). reading_in new ≡ Some (after r reply)) same c.put_after.ensures.after)
+    (subst (λ (r : PieceReading). reading_in new ≡ Some (after r reply)) same c.put_after.ensures.after)
