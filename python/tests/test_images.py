@@ -164,3 +164,24 @@ def test_a_bank_is_part_of_a_key() -> None:
     assert Key(0xA0, True, 1, 0x11) == page(0x11, 1) > page(0x12)
     assert [f"fault {fault_of(image.flags)}"] == cmisctl("flags", text)
     assert [f"fault {fault_of(image.advertisement)}"] == cmisctl("apps", text)
+
+
+def test_an_image_is_changed_and_reduced_at_places_that_it_has() -> None:
+    for key, address, data in (
+        (LOWER, 128, b"1"),
+        (LOWER, 127, b"12"),
+        (page(0x00), 0, b"1"),
+        (page(0x00), 127, b"12"),
+        (page(0x00), 255, b"12"),
+    ):
+        pytest.raises(ValueError, DR4.changed, key, address, data)
+    changed = DR4.changed(LOWER, 126, b"\xfe\xfd").changed(page(0x00), 255, b"\xfc")
+    assert changed != DR4 and changed.without(LOWER, page(0x00)) == DR4.without(LOWER, page(0x00))
+    assert changed.halves[LOWER] == DR4.halves[LOWER][:126] + b"\xfe\xfd"
+    assert changed.halves[page(0x00)] == DR4.halves[page(0x00)][:127] + b"\xfc"
+    assert pages_of(DR4.without(page(0x01), page(0x02))) == [
+        key for key in pages_of(DR4) if key[-2:] not in ("01", "02")
+    ]
+    again = Image.from_text(DR4.to_text())
+    assert hash(again) == hash(DR4) and again == DR4
+    assert repr(DR4.without(*list(DR4.halves)[2:])) == "<Image of lower A0, upper A0 00 00>"

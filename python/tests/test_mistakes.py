@@ -93,6 +93,14 @@ def test_numbers_out_of_range_are_refused_and_not_cut() -> None:
         lambda: read_weights(pathlib.Path("x")),  # type: ignore[arg-type]
         lambda: Image.from_text(None),  # type: ignore[arg-type]
         lambda: Key(0xA0, 0x11),  # type: ignore[arg-type]
+        lambda: plan(DR4, {True: 1}),
+        lambda: plan(DR4, {0x11: True}),
+        lambda: plan(DR4, WEIGHTS, [DataPath(2, True, 1)]),
+        lambda: module.tick(True),
+        lambda: Reading(True),
+        lambda: plan(DR4, WEIGHTS, paired=1),  # type: ignore[arg-type]
+        lambda: check(DR4, WEIGHTS, "", counts_by_id=0),  # type: ignore[arg-type]
+        lambda: DR4.applications(1),  # type: ignore[arg-type]
     ):
         pytest.raises(TypeError, call)
 
@@ -119,6 +127,12 @@ def test_values_of_the_wrong_type_are_refused_where_they_come_in() -> None:
         with pytest.raises(TypeError, match=f"^{told}"):
             call()
     assert Image.from_dump(bytearray(b"\x03" + bytes(127))).halves == {LOWER: b"\x03" + bytes(127)}
+
+
+def test_texts_may_be_bytes_that_change() -> None:
+    text = "[host]\n0Dh = 1\n"
+    assert read_weights(bytearray(text.encode())) == read_weights(text) == {0x0D: 1}
+    assert Image.from_text(bytearray(DR4.to_text().encode())) == DR4
 
 
 def imported(file: pathlib.Path) -> List[str]:
@@ -168,6 +182,11 @@ def test_a_kept_path_that_is_not_active_is_warned_of() -> None:
         assert told[0].filename == __file__
         fault = fault_of(Provisioning(best).run, SimulatedModule(image).transact)
         assert fault[:3] in ("PV1", "PV3")
+    for active_bytes in ("20 20 24 24 28 00 2c 2c", "20 20 24 24 00 28 2c 2c"):
+        image = DR4.changed(page(0x11), 206, bytes.fromhex(active_bytes))
+        with pytest.warns(KeptPathNotActive) as told:
+            plan(image, WEIGHTS, [DataPath(2, 1, 3), other])
+        assert [str(one.message).partition(" is to be")[0] for one in told] == [str(other)]
 
 
 def test_objects_show_what_they_are() -> None:

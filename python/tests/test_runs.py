@@ -99,6 +99,28 @@ def test_a_module_wakes_up_and_goes_to_sleep_whatever_is_refused() -> None:
         assert (module.state, module.fetch(0xA0, 26, 1)) == (state, controls)
 
 
+def test_the_low_power_pin_is_held_and_left() -> None:
+    module = SimulatedModule(DR4, Delays(power_up=3, power_down=5))
+    assert module.store(0xA0, 26, b"\x40")
+    module.hold_low_power_pin(True)
+    states = []
+    for pin in (True, False, True):
+        module.hold_low_power_pin(pin)
+        module.tick(100)
+        states.append(module.state)
+    low, ready = ModuleState.ModuleLowPwr, ModuleState.ModuleReady
+    assert states == [low, ready, low]
+    slow, fast = module.copy(), module.copy()
+    for each in (slow, fast):
+        each.hold_low_power_pin(False)
+    for _ in range(2):
+        slow.tick()
+    fast.tick(2)
+    assert fast.__getstate__() == slow.__getstate__() != module.__getstate__()
+    fast.tick(0)
+    assert fast.__getstate__() == slow.__getstate__()
+
+
 def test_a_silent_bus_ends_in_a_fault() -> None:
     best = plan(DR4, WEIGHTS)
     assert fault_of(Reading().run, lambda operation: False) == "RP3"
