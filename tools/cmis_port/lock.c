@@ -56,14 +56,12 @@ static bool say_locked(const char *name, const char *locked) {
 }
 
 /* Locks the file of the bus too, against programs of other users, and in containers that have a /run of their own. Who may only read it can
-   keep this lock away by a shared one. Root goes on then, unless there is an exclusive one, which takes more than to read. */
+   keep this lock away by a shared one. Root goes on then, with a shared one too: it can't be had beside an exclusive one, which takes more
+   than to read, and keeps that away until this run ends, also if the reader ends before. */
 static bool lock_file(const struct port *port, bool is_root) {
-    struct flock own = {.l_type = F_WRLCK, .l_whence = SEEK_SET}, other = {.l_type = F_RDLCK, .l_whence = SEEK_SET};
+    struct flock own = {.l_type = F_WRLCK, .l_whence = SEEK_SET}, shared = {.l_type = F_RDLCK, .l_whence = SEEK_SET};
     if (fcntl(port->file, F_OFD_SETLK, &own) == 0) return true;
-    int error = errno;
-    bool is_readers = fcntl(port->file, F_OFD_GETLK, &other) == 0 && other.l_type == F_UNLCK;
-    errno = error;
-    if (!is_root || !is_readers) return say_locked(port->name, port->name);
+    if (!is_root || fcntl(port->file, F_OFD_SETLK, &shared) != 0) return say_locked(port->name, port->name);
     warnx("%s: a program that may only read it has locked it (fuser -v names it)", port->name);
     return true;
 }
