@@ -49,7 +49,7 @@ void fill_streams(void) {
     if (file >= 0) close(file);
 }
 
-/* Holds signals back, but for those that are ignored, as nohup has it. Before, they end the program at once. */
+/* Holds back the signals that end the program, except those that are ignored, as under nohup. Until then they end it at once. */
 void hold_signals(sigset_t *signals) {
     struct sigaction action;
     sigemptyset(signals);
@@ -58,7 +58,7 @@ void hold_signals(sigset_t *signals) {
     sigprocmask(SIG_BLOCK, signals, NULL);
 }
 
-/* Prints what was said so far, before anything is stored: a reader that stands still can be left by a signal. */
+/* Prints what was said so far, before anything is stored. If its reader stands still, a signal ends the program. */
 void print_now(struct port *port) {
     sigprocmask(SIG_UNBLOCK, &port->signals, NULL);
     fflush(stdout);
@@ -124,7 +124,7 @@ static void name_driver(const struct port *port) {
         warnx("%s: the kernel has the module too, by the driver %s", port->name, basename(driver));
 }
 
-/* Opens a file, under a number that no standard stream has, even where fill_streams found no /dev/null. */
+/* Opens a file, with a number above those of the standard streams even if fill_streams found no /dev/null. */
 static int open_apart(const char *name, int flags) {
     int file = open(name, flags | O_CLOEXEC, 0666);
     if (file < 0 || file > STDERR_FILENO) return file;
@@ -142,7 +142,7 @@ static bool open_bus(struct port *port) {
     return true;
 }
 
-/* Who reads the log may stand still: then lines are lost, and no procedure waits for it. */
+/* If the log's reader stands still, lines are lost, and no procedure waits for it. */
 static bool open_log(struct port *port) {
     int file = open_apart(port->log_name, O_WRONLY | O_CREAT | O_TRUNC);
     port->log = file < 0 ? NULL : fdopen(file, "w");

@@ -1,4 +1,4 @@
-/* The lock of a bus. Root's is a file where nobody else can open it: who can open a file can lock it. */
+/* The lock of a bus. Root's is a file that nobody else can open, since whoever can open a file can lock it. */
 #define _GNU_SOURCE
 #include "port.h"
 
@@ -14,7 +14,7 @@ static char path[96];
 static int lock = -1;
 static bool has_lock;
 
-/* Whether there is the folder, and root alone may enter it; says why not. */
+/* Whether the folder is there, and only root may enter it; says why not. */
 static bool is_own_folder(void) {
     struct stat about;
     bool is_there = mkdir(folder, 0700) == 0 || errno == EEXIST;
@@ -23,7 +23,7 @@ static bool is_own_folder(void) {
     return warnx("%s: it is no folder that root alone may enter (mode 0700)", folder), false;
 }
 
-/* A lock is named after what the bus's file is, under whatever name it was opened. */
+/* A lock is named after the device or the inode of the bus's file, whatever name it was opened by. */
 static void name_lock(int file) {
     struct stat about = {0};
     fstat(file, &about);
@@ -32,7 +32,7 @@ static void name_lock(int file) {
     snprintf(path, sizeof path, "%s/port_%jx_%jx.lock", folder, place, number);
 }
 
-/* Whether the file that was locked still has its name: who held the lock before may have removed it. */
+/* Whether the file that was locked still has its name: whoever held the lock before may have removed it. */
 static bool has_name(void) {
     struct stat opened, named;
     return fstat(lock, &opened) == 0 && stat(path, &named) == 0 && opened.st_ino == named.st_ino;

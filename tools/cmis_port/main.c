@@ -95,7 +95,7 @@ static void close_log(struct port *port) {
     if (fclose(port->log) != 0 || !is_whole) warnx("%s: not each operation could be written there", port->log_name);
 }
 
-/* All that may have to be waited for is read before signals are held back, and before the module is touched. */
+/* Whatever may keep the program waiting is read before signals are held back, and before the module is touched. */
 static enum status run(const struct command *command, struct port *port, const char *weights) {
     bool ready = (!command->plans || read_weights(weights, port->weights)) && open_port(port);
     hold_signals(&port->signals);
@@ -108,7 +108,7 @@ static enum status run(const struct command *command, struct port *port, const c
 }
 
 int main(int count, char **words) {
-    static char output[1 << 14]; /* all of it: it is written where a signal may come */
+    static char output[1 << 14]; /* holds all of it, to be written where a signal may end the program */
     struct port port = {.file = -1, .most = 128};
     const char *weights = NULL;
     fill_streams();
