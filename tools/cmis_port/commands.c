@@ -32,7 +32,7 @@ enum status image(struct port *port) {
 
 enum status state(struct port *port) {
     bool whole = read_module(port, false);
-    if (!whole) print_flags(port);
+    if (!whole || is_other_family(port)) print_flags(port);
     if (!whole) return REFUSED;
     if (is_other_family(port)) return refuse_by(port, DOVECOUNTER_NOT_CMIS);
     const uint8_t *states = bytes_at(port, PATH_STATES), *statuses = bytes_at(port, CONFIG_STATUSES);
