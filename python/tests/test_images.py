@@ -11,7 +11,7 @@ from typing import List
 import pytest
 
 from shared import IMAGES, ROOT, cmisctl, example, fault_of, image_of
-from dovecounter import LOWER, Image, Key, page
+from dovecounter import LOWER, Image, Key, SimulatedModule, page
 
 DR4 = example("qsfp_dd_400g_dr4.txt")
 
@@ -163,7 +163,7 @@ def test_a_bank_is_part_of_a_key() -> None:
     assert image.to_text() == text
     assert Key(0xA0, True, 1, 0x11) == page(0x11, 1) > page(0x12)
     assert [f"fault {fault_of(image.flags)}"] == cmisctl("flags", text)
-    assert [f"fault {fault_of(image.advertisement)}"] == cmisctl("apps", text)
+    assert fault_of(SimulatedModule, image) == "SM1 upper A0 00 11"
 
 
 def test_an_image_is_changed_and_reduced_at_places_that_it_has() -> None:

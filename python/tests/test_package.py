@@ -41,6 +41,9 @@ from dovecounter import (
 )
 from dovecounter.faults import CODES, sentence_of
 
+# what is planned here needn't be in use
+pytestmark = pytest.mark.filterwarnings("ignore::dovecounter.KeptPathNotActive")
+
 DR4 = example("qsfp_dd_400g_dr4.txt")
 
 
