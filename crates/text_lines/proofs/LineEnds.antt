@@ -1,7 +1,8 @@
 -- Where the first line of a text ends.
-use Rattle.std.proofs.Common.{◌≡◌, ◌≢◌, ℕ, ◌+◌, ◌<◌, Bool, true, false, cond, not, List, [], ◌∷◌, Option, Some, None, length, take, drop, map, refl, sym, ap, ◌∙◌, arith, add-one}
+use Rattle.std.proofs.Common.{◌≡◌, ◌≢◌, ℕ, ◌+◌, ◌<◌, Bool, true, false, cond, not, List, [], ◌∷◌, Option, Some, None, length, take, drop, map, refl, sym, ap, inl, inr, ◌∙◌, arith, add-one}
 use Rattle.std.specs.Prelude.{unwrap_or}
-use Rattle.std.specs.List.{position_or_len, before_first, onto_first}
+use Rattle.std.specs.List.{position, position_or_len, before_first, onto_first}
+use Rattle.std.proofs.lemmas.Bool.{cases_lt, lt-ltb, le-ltb}
 use Rattle.std.proofs.lemmas.List.{get_or-take, length-take, take-take}
 use Rattle.std.proofs.lemmas.List.Sums.{fails_before_first, passes_at_first, position_or_len_is, prefix_len-le-length}
 use Rattle.memchr.specs.Find.{IsFirstByte}
@@ -17,6 +18,16 @@ first_place_or_length p bytes None nowhere =
     sym (position_or_len_is p bytes (length bytes) 0 (omega arith) (λ k below. fails _ (nowhere k (omega arith) below)) (λ past. absurd (omega arith)))
 first_place_or_length p bytes (Some place) found =
     sym (position_or_len_is p bytes place 0 (omega (arith, found.0.high)) (λ k below. fails _ (found.0.before k (omega arith) below)) (λ within. found.1))
+
+-- what a search by position finds
+pub place_or_length : (p : ℕ → Bool) (bytes : List ℕ) → unwrap_or (position p bytes) (length bytes) ≡ position_or_len p bytes
+place_or_length p bytes =
+    let place = position_or_len p bytes in
+    elim (cases_lt place (length bytes)) [
+      | inl within ↦ ap (λ b. unwrap_or (cond b (Some place) None) (length bytes)) (lt-ltb _ _ within)
+      | inr past ↦
+          ap (λ b. unwrap_or (cond b (Some place) None) (length bytes)) (le-ltb _ _ past) ∙ omega (arith, past, prefix_len-le-length (λ byte. not (p byte)) bytes)
+    ]
 
 -- one more byte before a line that is known, or an LF
 first_line_more : (byte n : ℕ) (text : List ℕ) (b : Bool) → onto_first byte (ended_lines text) ≡ (byte ∷ take n text) ∷ ended_lines (drop n text)

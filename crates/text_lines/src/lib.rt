@@ -10,6 +10,6 @@ mod words;
 
 pub use decimal::read_decimal;
 pub use hexadecimal::{HexByte, Hexadecimal, read_hex_byte, read_hexadecimal};
-pub use lines::{LF, Lines, split_ended_line, split_line};
+pub use lines::{LF, Lines, split_ended_line, split_line, split_long_line};
 pub use printed_words::{PrintedWords, ToWords, Word};
 pub use words::split_words;

@@ -10,7 +10,7 @@ ghost use Rattle.bus_model.specs.ScriptFaults.{IsLineFault, IsFirstFault};
 use super::{Directive, MAX_DIRECTIVES, Script};
 use crate::fault::ScriptFault;
 use arrayvec::ArrayVec;
-use text_lines::{read_decimal, split_line, split_words};
+use text_lines::{read_decimal, split_long_line, split_words};
 
 impl Script {
     /// The script of a text, or the text's first fault.
@@ -20,7 +20,7 @@ impl Script {
     {
         let mut directives = ArrayVec::new();
         let mut rest = text;
-        while let Some((line, after)) = split_line(rest) {
+        while let Some((line, after)) = split_long_line(rest) {
             if let Err(fault) = take_line(&mut directives, line) {
                 return Err(fault);
             }

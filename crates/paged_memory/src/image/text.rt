@@ -21,7 +21,7 @@ use crate::page_line::read_page_line;
 use arrayvec::ArrayVec;
 use std::alloc::{AllocError, Global};
 use std::fmt::Write;
-use text_lines::{Hexadecimal, split_line};
+use text_lines::{Hexadecimal, split_long_line};
 
 const HEADER: &[u8] = b"module-image 1";
 
@@ -37,9 +37,9 @@ impl Image {
             return Err(ImageFault::BadHeader);
         };
         let mut entries = ArrayVec::new();
-        while let Some((line, after)) = split_line(rest) {
+        while let Some((line, after)) = split_long_line(rest) {
             if is_end(line) {
-                return match split_line(after) {
+                return match split_long_line(after) {
                     None => Ok(Image { entries }),
                     Some(_) => Err(ImageFault::AfterEnd),
                 };
@@ -90,7 +90,7 @@ fn push_page(text: &mut String, key: Key, page: &[u8]) -> Result<(), AllocError>
 fn strip_header(text: &[u8]) -> Option<&[u8]>
     ensures { MatchOption result ((rest : List (List ℕ)) → lines_of text.now ≢ header ∷ rest) (λ rest. lines_of text.now ≡ header ∷ lines_of rest.now) }
 {
-    let Some((first, rest)) = split_line(text) else {
+    let Some((first, rest)) = split_long_line(text) else {
         return None;
     };
     if first != HEADER {

@@ -13,34 +13,34 @@ loop-line-init c = record {
 
 pub returns-in-None-clause-ok : goal.returns-in-None-clause-ok
 returns-in-None-clause-ok c =
-    let end : c.in-Some-split_line.line.now ≡ end_line = search rules in
-    let nothing : lines_of c.in-Some-split_line.after.now ≡ [] = rw c.in-None.ensures.lines refl in
-    is_text (lines_of c.args.text.now) c.loop-line.entries.items (rw (c.in-Some-split_line.ensures.lines, end, nothing) at c.loop-line.invariant.begins)
+    let end : c.in-Some-split_long_line.line.now ≡ end_line = search rules in
+    let nothing : lines_of c.in-Some-split_long_line.after.now ≡ [] = rw c.in-None.ensures.lines refl in
+    is_text (lines_of c.args.text.now) c.loop-line.entries.items (rw (c.in-Some-split_long_line.ensures.lines, end, nothing) at c.loop-line.invariant.begins)
 
-pub returns-in-Some-split_line-2-clause-err : goal.returns-in-Some-split_line-2-clause-err
-returns-in-Some-split_line-2-clause-err c =
-    let end : c.in-Some-split_line.line.now ≡ end_line = search rules in
-    let more = c.in-Some-split_line-2 in
-    (image_of c.loop-line.entries.items, more.field-0.0.now, lines_of more.field-0.1.now, rw (c.in-Some-split_line.ensures.lines, end, more.ensures.lines) at c.loop-line.invariant.begins)
+pub returns-in-Some-split_long_line-2-clause-err : goal.returns-in-Some-split_long_line-2-clause-err
+returns-in-Some-split_long_line-2-clause-err c =
+    let end : c.in-Some-split_long_line.line.now ≡ end_line = search rules in
+    let more = c.in-Some-split_long_line-2 in
+    (image_of c.loop-line.entries.items, more.field-0.0.now, lines_of more.field-0.1.now, rw (c.in-Some-split_long_line.ensures.lines, end, more.ensures.lines) at c.loop-line.invariant.begins)
 
 pub returns-in-Err-clause-err : goal.returns-in-Err-clause-err
 returns-in-Err-clause-err c =
-    fault_after (lines_of c.args.text.now) (lines_of c.in-Some-split_line.after.now) (image_of c.loop-line.entries.items) c.in-Some-split_line.line.now c.in-Err.fault
-    (rw c.in-Some-split_line.ensures.lines at c.loop-line.invariant.begins) c.in-Err.ensures.fault
+    fault_after (lines_of c.args.text.now) (lines_of c.in-Some-split_long_line.after.now) (image_of c.loop-line.entries.items) c.in-Some-split_long_line.line.now c.in-Err.fault
+    (rw c.in-Some-split_long_line.ensures.lines at c.loop-line.invariant.begins) c.in-Err.ensures.fault
 
 pub loop-line-preserved : goal.loop-line-preserved
 loop-line-preserved c =
     let taken = c.in_default-take_line.ensures in
     record {
       sorted = taken.sorted;
-      begins = begins_more (lines_of c.args.text.now) (lines_of c.in-Some-split_line.after.now) c.in-Some-split_line.line.now c.loop-line.entries.items c.take_line.new.entries.items
+      begins = begins_more (lines_of c.args.text.now) (lines_of c.in-Some-split_long_line.after.now) c.in-Some-split_long_line.line.now c.loop-line.entries.items c.take_line.new.entries.items
           taken.added.0 taken.added.1 c.loop-line.invariant.sorted taken.sorted taken.added.3 taken.room taken.added.2
-          (rw c.in-Some-split_line.ensures.lines at c.loop-line.invariant.begins);
+          (rw c.in-Some-split_long_line.ensures.lines at c.loop-line.invariant.begins);
     }
 
 pub returns-clause-err : goal.returns-clause-err
 returns-clause-err c =
-    let nothing : lines_of c.loop-line.rest.now ≡ [] = rw c.in_default-split_line.ensures.lines refl in
+    let nothing : lines_of c.loop-line.rest.now ≡ [] = rw c.in_default-split_long_line.ensures.lines refl in
     (image_of c.loop-line.entries.items, rw nothing at c.loop-line.invariant.begins)
 
 pub invariant_of-result : goal.invariant_of-result
