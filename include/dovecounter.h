@@ -403,7 +403,7 @@ uint32_t dovecounter_plan(const struct dovecounter_half *halves, size_t half_cou
 struct dovecounter_judgement {
     uint8_t reason; /* 0: it is good, and no plan with the paths that the text keeps weighs more than its own; else the number in
                        VR1 to VR10 */
-    size_t number;  /* for VR1 and VR2 the path's number from 1, for VR8 and VR9 the kept path's, for VR5 and VR6 the entry's,
+    uint64_t number; /* for VR1 and VR2 the path's number from 1, for VR8 and VR9 the kept path's, for VR5 and VR6 the entry's,
                        else 0 */
 };
 
@@ -467,7 +467,7 @@ struct dovecounter_fault {
 
 /* How far a procedure has come. */
 struct dovecounter_progress {
-    size_t met;
+    uint64_t met;
     uint16_t steps;
     uint8_t work;
     uint8_t lanes;

@@ -116,7 +116,7 @@ class Plan(Structure):
 
 
 class Judgement(Structure):
-    _fields_ = [("reason", c_uint8), ("number", c_size_t)]
+    _fields_ = [("reason", c_uint8), ("number", c_uint64)]
 
 
 class Fault(Structure):
@@ -125,7 +125,7 @@ class Fault(Structure):
 
 class Progress(Structure):
     _fields_ = [
-        ("met", c_size_t),
+        ("met", c_uint64),
         ("steps", c_uint16),
         *_members(c_uint8, "work lanes"),
         ("control", Lanes),
