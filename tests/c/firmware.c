@@ -384,8 +384,8 @@ static void expect_good_text(const char *what, const struct dovecounter_path *ke
     expect(what, DOVECOUNTER_DONE,
            dovecounter_check(halves, 3, 0, 0, weights, 0, (const uint8_t *)text, length, &judgement));
     expect(what, 0, judgement.reason);
-    int end =
-        snprintf(head, sizeof head, "certificate %d\nweight %lu\n", kept_count ? 2 : 1, (unsigned long)plan.weight);
+    int end = snprintf(head, sizeof head, "certificate %d\nweight %llu\n", kept_count ? 2 : 1,
+                       (unsigned long long)plan.weight);
     for (size_t i = 0; i < kept_count; i++)
         end += snprintf(head + end, sizeof head - (size_t)end, "keep %d %d %d\n", kept[i].application, kept[i].host,
                         kept[i].media);

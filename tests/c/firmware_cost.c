@@ -1,15 +1,7 @@
-/* Says how deep the stack of each call of the library for firmware is, by a thread whose stack was painted before. Reads the
-   text of a module's image on standard input. */
+/* Says how deep the stack of each call of the library for firmware is. */
 #include "dovecounter.h"
-#include "image.h"
+#include "painted.h"
 
-#include <pthread.h>
-#include <stdio.h>
-#include <string.h>
-
-enum { STACK = 1 << 20, PAINT = 0xA5 };
-
-static _Alignas(4096) uint8_t stack[STACK];
 static uint32_t weights[256];
 static struct dovecounter_path kept[1];
 static struct dovecounter_plan plan;
@@ -133,24 +125,6 @@ static void *reads_weights(void *x) {
 static void *wakes(void *x) {
     dovecounter_wake(&procedure);
     return x;
-}
-
-static size_t used(void *(*run)(void *)) {
-    pthread_attr_t attributes;
-    pthread_t thread;
-    size_t unused = 0;
-    memset(stack, PAINT, STACK);
-    pthread_attr_init(&attributes);
-    pthread_attr_setstack(&attributes, stack, STACK);
-    pthread_create(&thread, &attributes, run, 0);
-    pthread_join(thread, 0);
-    while (unused < STACK && stack[unused] == PAINT) unused++;
-    return STACK - unused;
-}
-
-static void print_used(const char *name, void *(*run)(void *), size_t alone) {
-    size_t with = used(run);
-    printf("stack %s %zu\n", name, with > alone ? with - alone : 0);
 }
 
 int main(void) {

@@ -1,5 +1,5 @@
-/* The layout of each structure of the header, which the library has too: a compiler that lays one out otherwise fails here. The
-   library is compiled for x86-64, and for the processors that docs/firmware.md names with it. */
+/* The layout of each structure of the header, which the library has too: a compiler that lays one out otherwise fails here. It is the
+   same on each machine that docs/firmware.md names, of 64 and of 32 bits. */
 #include "dovecounter.h"
 
 #include <stddef.h>

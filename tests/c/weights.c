@@ -111,7 +111,7 @@ static int read_one(void) {
     size_t line = 0;
     uint32_t status = call(text, fread(text, 1, sizeof text, stdin), weights, &line);
     if (status != DOVECOUNTER_DONE) {
-        printf("status %lu line %zu\n", (unsigned long)status, line);
+        printf("status %lu line %lu\n", (unsigned long)status, (unsigned long)line);
         return 0;
     }
     puts("[host]");
