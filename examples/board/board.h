@@ -1,0 +1,13 @@
+/* What the loop needs of its board. On another board, fill in the bus's two functions and the pause, and print as you like. */
+#include <stdbool.h>
+#include <stdint.h>
+
+/* The I2C driver's two functions: one transaction with the module, from the address `offset` on. `device` is the 8-bit address, so a
+   driver that takes 7 bits gets device >> 1. Each is true if the module gave, or took, all of the bytes. */
+bool bus_fetch(uint8_t device, uint8_t offset, uint8_t *bytes, uint8_t count);
+bool bus_store(uint8_t device, uint8_t offset, const uint8_t *bytes, uint8_t count);
+
+/* Waits for the module, 100 ms or longer: docs/for_firmware.md, "Pauses". */
+void bus_pause(void);
+
+void print(const char *text);

@@ -1,0 +1,25 @@
+/* In place of an I2C driver: a simulated module, to which each transaction lets one tick pass, and which refuses every fifth. */
+#include "board.h"
+#include "dovecounter.h"
+#include "image.h"
+
+static struct dovecounter_module module;
+static unsigned transactions;
+
+/* Whether the module may be asked: it has begun, and does not refuse. */
+static bool begin(void) {
+    static const struct dovecounter_delays delays = {4, 4, 4, 4, 4, 4, 4};
+    if (transactions == 0 && dovecounter_module_begin(image, IMAGE, &delays, &module) != DOVECOUNTER_DONE) return false;
+    dovecounter_module_tick(&module);
+    return ++transactions % 5 != 0;
+}
+
+bool bus_fetch(uint8_t device, uint8_t offset, uint8_t *bytes, uint8_t count) {
+    return begin() && dovecounter_module_fetch(image, IMAGE, &module, device, offset, bytes, count) == DOVECOUNTER_DONE;
+}
+
+bool bus_store(uint8_t device, uint8_t offset, const uint8_t *bytes, uint8_t count) {
+    return begin() && dovecounter_module_store(image, IMAGE, &module, device, offset, bytes, count) == DOVECOUNTER_DONE;
+}
+
+void bus_pause(void) { dovecounter_module_tick(&module); }
