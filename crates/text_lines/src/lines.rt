@@ -34,8 +34,8 @@ pub fn split_line(text: &[u8]) -> Option<(&[u8], &[u8])>
     Some(parts_at(text, line_len(text)))
 }
 
-/// The same for long lines, whose end is searched for by vectors: that takes a tenth of the time, and on a processor
-/// without vectors 15 KB of code.
+/// The same, faster for long lines, whose end is searched for by vectors; on a processor without vectors that takes 15 KB
+/// of code.
 pub fn split_long_line(text: &[u8]) -> Option<(&[u8], &[u8])>
     ensures lines { MatchOption result (text.now ≡ []) (λ x. lines_of text.now ≡ x.0.now ∷ lines_of x.1.now) }
     ensures behind { IfSome result (λ x. x.1.now ≡ after_first is_lf text.now) }
