@@ -8,6 +8,7 @@ use Rattle.std.specs.Option.{option_map}
 use Rattle.std.proofs.lemmas.Bool.{ltb-true, ltb-false}
 use Rattle.std.proofs.Math.Seq.{drop-cons}
 use Rattle.bus_model.specs.declared.bus.BusFault.{BusFault}
+use Rattle.bus_model.specs.declared.bus.BusFault.TheVariants.{TraceFull}
 use Rattle.bus_model.specs.declared.operation.Op.{Op}
 use Rattle.bus_model.specs.declared.operation.Reply.{Reply}
 use Rattle.bus_model.specs.declared.operation.Step.{Step}
@@ -27,9 +28,8 @@ use Rattle.conversations.specs.declared.within.Spent.{Spent}
 use Rattle.conversations.specs.Budgets as budget
 use Rattle.conversations.specs.Budgets.{HasSpent, next_within}
 use Rattle.conversations.specs.Carried as carried
-use Rattle.conversations.specs.Carried.{IsCarriedOut}
 use Rattle.conversations.specs.Events.{Events, made, steps_of}
-use Rattle.conversations.specs.Selecting.{AddsSelections, IsSelecting, next_on}
+use Rattle.conversations.specs.Selecting.{AddsSelections, IsSelecting, next_on, trusted}
 use Rattle.conversations.specs.Selecting as selecting
 use Rattle.conversations.specs.Wanted.{IsReplyTo}
 use Rattle.control_sets.specs.declared.procedures.task.Task.{Task}
@@ -44,7 +44,7 @@ use Rattle.control_sets.specs.Pages.{History, is_open, may_select, read_selectio
 use Rattle.control_sets.specs.OutcomeAnswers.{most_steps}
 use Rattle.control_sets.specs.PowerProgress.{answer_at, answer_of}
 use Rattle.control_sets.specs.Procedures.{EachAnswers, EachGoesOn, EachIsNext, EndsFirst, HasEnded, IsOutcome, all_apart, is_on, next_operation, operation_on}
-use Rattle.control_sets.specs.Progress.{EachIsWanted, EndsList, Follows, GoesOnList, IsAt, IsTold, Procedure, Standing, ToldProcedure, after_reply, hand_after, hand as hand_of, list_at, procedure_of, judged_at, needed_after, page_by, standing, task_at, tasks_of, told_at, WithOwn, wants, wants_by}
+use Rattle.control_sets.specs.Progress.{EachIsWanted, Ends, EndsList, Follows, GoesOn, GoesOnList, IsAt, IsTold, Procedure, Standing, ToldProcedure, after_reply, hand_after, hand as hand_of, list_at, procedure_of, judged_at, needed_after, page_by, standing, task_at, tasks_of, told_at, WithOwn, wants, wants_by}
 use Rattle.control_sets.specs.Judgements.{judgement}
 use Rattle.control_sets.specs.Tasks.{operation, page_of}
 use Rattle.control_sets.proofs.UnderWayLaws.{IsNext, UnderWay, all_met, begun, each_next, ends, goes_on, hand, moves, stays}
@@ -191,7 +191,7 @@ abbrev pub StandsBy : List Task → History → History → Type 0
 StandsBy tasks history own = Stands tasks history (standing tasks own).0 (standing tasks own).1
 
 -- the bridge: from own steps to all of them
-pub stands : (tasks : List Task) → all_apart tasks ≡ true → (events own : Events) → AddsSelections false BankAndPage (λ own. needed_after tasks (steps_of own)) own events → EachIsWanted tasks (steps_of own) →
+pub stands : (tasks : List Task) → all_apart tasks ≡ true → (events own : Events) → AddsSelections false false BankAndPage (λ own. needed_after tasks (steps_of own)) own events → EachIsWanted tasks (steps_of own) →
     StandsBy tasks (steps_of events) (steps_of own)
 stands tasks apart [] own none each =
     subst (λ (own : Events). StandsBy tasks [] (steps_of own)) (sym none) (at_start tasks)
@@ -247,20 +247,13 @@ pub works_apart : (work : Work) → all_apart (tasks_of work) ≡ true
 works_apart (Provisioning control lanes) = refl
 works_apart (Activation control lanes) = refl
 
--- how a procedure ends that was driven
-abbrev pub Ends : Work → Events → Option ProvisionFault → Type 0
-Ends work events fault = WithOwn work (λ own. EndsList (tasks_of work) (steps_of own) fault) events
-
-abbrev pub GoesOn : Work → Events → Type 0
-GoesOn work events = WithOwn work (λ own. GoesOnList (tasks_of work) (steps_of own)) events
-
-on_all : (work : Work) (events : Events) → GoesOn work events → GoesOnAt (tasks_of work) (steps_of events)
+on_all : (work : Work) (events : Events) → GoesOn false work events → GoesOnAt (tasks_of work) (steps_of events)
 on_all work events (own, adds, on) =
     let tasks = tasks_of work in
     let s = standing tasks (steps_of own) in
     goes_on_at tasks (steps_of events) s.0 s.1 on.task (works_apart work) on.some (stands tasks (works_apart work) events own adds on.each)
 
-ended_in : (work : Work) (steps : ℕ) (events : Events) (end : Option (Option ProvisionFault)) → steps ≡ length (steps_of events) → length (steps_of events) ≤ most_steps → budget.HasEnded most_steps (GoesOn work) (Ends work) events end →
+ended_in : (work : Work) (steps : ℕ) (events : Events) (end : Option (Option ProvisionFault)) → steps ≡ length (steps_of events) → length (steps_of events) ≤ most_steps → budget.HasEnded most_steps (GoesOn false work) (Ends false work) events end →
     HasEnded (tasks_of work) (steps_of events) (answer_at steps end)
 ended_in work steps events None counted few (all, on) =
     let at = on_all work events on in
@@ -272,25 +265,25 @@ ended_in work steps events (Some fault) counted few (own, adds, ends) =
     subst (λ (steps : ℕ). HasEnded tasks (steps_of events) (answer_at steps (Some fault))) (sym counted)
     (subst (λ (fault : Option ProvisionFault). HasEnded tasks (steps_of events) (answer_at (length (steps_of events)) (Some fault))) ends.fault ended)
 
-pub spent_is : (work : Work) (events : Events) (spent : Spent (Option ProvisionFault)) → HasSpent most_steps (GoesOn work) (Ends work) events spent → HasEnded (tasks_of work) (steps_of events) (answer_of spent)
+pub spent_is : (work : Work) (events : Events) (spent : Spent (Option ProvisionFault)) → HasSpent most_steps (GoesOn false work) (Ends false work) events spent → HasEnded (tasks_of work) (steps_of events) (answer_of spent)
 spent_is work events spent has = ended_in work spent.steps events spent.end has.counted has.few has.ended
 
 -- and on a bus
-abbrev pub CarriesOut : {S : Type 0} → Procedure → Seen S → Events → Result (Spent (Option ProvisionFault)) BusFault → Type 0
-CarriesOut procedure after events answer =
-    IsCarriedOut procedure.limit (GoesOn procedure.conversation.conversation.work) (Ends procedure.conversation.conversation.work) (IsFull after) events answer
-
 module _ {S : Type 0} (work : Work) (procedure : Procedure) (after : Seen S) (events : Events) (is : procedure ≡ procedure_of (list_at work (0, None)) Unknown 0) where
-  pub carried_out : (spent : Spent (Option ProvisionFault)) → CarriesOut procedure after events (Ok spent) → IsOutcome (tasks_of work) after (steps_of events) (answer_of spent)
-  carried_out spent has =
-      let has' : HasSpent most_steps (GoesOn work) (Ends work) events spent = subst (λ (p : Procedure). CarriesOut p after events (Ok spent)) is has in
-      inl (spent_is work events spent has')
+  abbrev Spends : Procedure → Spent (Option ProvisionFault) → Type 0
+  Spends p spent = HasSpent p.limit (GoesOn p.conversation.doubts p.conversation.conversation.work) (Ends p.conversation.doubts p.conversation.conversation.work) events spent
 
-  pub filled : (fault : BusFault) → CarriesOut procedure after events (Err fault) → IsOutcome (tasks_of work) after (steps_of events) (Err (Bus fault))
-  filled fault out =
-      let out' : carried.RunsOut most_steps (GoesOn work) (IsFull after) events fault = subst (λ (p : Procedure). CarriesOut p after events (Err fault)) is out in
+  abbrev Stops : Procedure → Type 0 → Type 0
+  Stops p fails = carried.RunsOut p.limit (GoesOn p.conversation.doubts p.conversation.conversation.work) fails events
+
+  pub carried_out : (spent : Spent (Option ProvisionFault)) → Spends procedure spent → IsOutcome (tasks_of work) after (steps_of events) (answer_of spent)
+  carried_out spent has = inl (spent_is work events spent (subst (λ (p : Procedure). Spends p spent) is has))
+
+  pub filled : (fault : BusFault) (same : Type 0) → Stops procedure ((fault ≡ TraceFull) × IsFull after × same) → IsOutcome (tasks_of work) after (steps_of events) (Err (Bus fault))
+  filled fault same out =
+      let out' = subst (λ (p : Procedure). Stops p ((fault ≡ TraceFull) × IsFull after × same)) is out in
       let at = on_all work events out'.goes_on in
-      inr (record { each = at.each; answers = at.answers; fault = ap (λ (f : BusFault). Err (Bus f)) out'.fault; full = out'.is_full; fewer = out'.fewer; goes_on = at.goes_on })
+      inr (record { each = at.each; answers = at.answers; fault = ap (λ (f : BusFault). Err (Bus f)) out'.failed.0; full = out'.failed.1; fewer = out'.fewer; goes_on = at.goes_on })
 
 -- ---- a procedure that is driven by hand
 
@@ -337,12 +330,13 @@ pub begun_at : (work : Work) → IsAt (tasks_of work) [] (procedure_of (list_at 
 begun_at work = record {
   has = refl;
   limit = refl;
+  trusts = refl;
   events = [];
   made = refl;
   told = (((λ none. refl, (tells_nothing BankAndPage, record { was = λ page e. absurd cc; is = λ may. absurd cc })), ([], refl, record { stands = refl; each = tt })), refl, omega arith);
 }
 
-follows_in : (list : TaskList) (selected : KnownPage) (steps : ℕ) (events : Events) → Tells BankAndPage selected (steps_of events) → WithOwn list.work (λ own. IsTold (steps_of own) list) events →
+follows_in : (list : TaskList) (selected : KnownPage) (steps : ℕ) (events : Events) → Tells BankAndPage selected (steps_of events) → WithOwn false list.work (λ own. IsTold (steps_of own) list) events →
     length (steps_of events) ≡ steps → steps ≤ most_steps → Follows (tasks_of list.work) (steps_of events) (next_within steps most_steps (next_on BankAndPage selected (page_by (hand_of list)) (wants list)))
 follows_in list selected steps events tells (own, adds, told) count few =
     let tasks = tasks_of list.work in
@@ -350,35 +344,30 @@ follows_in list selected steps events tells (own, adds, told) count few =
     follows_at tasks (works_apart list.work) (steps_of events) steps count few selected tells list.met list.fault (hand_of list) refl
     (subst (λ (s : Standing). Stands tasks (steps_of events) s.0 s.1) told.stands at)
 
+abbrev ToldAt : TaskList → KnownPage → Events → Bool → Type 0
+ToldAt list selected events doubts = Tells BankAndPage selected (trusted doubts (steps_of events)) × WithOwn doubts list.work (λ own. IsTold (steps_of own) list) events
+
 pub follows : (tasks : List Task) (history : History) (procedure : Procedure) → IsAt tasks history procedure →
     Follows tasks history (next_within procedure.steps procedure.limit (next_on BankAndPage procedure.conversation.selection (page_by (hand_of procedure.conversation.conversation)) (wants procedure.conversation.conversation)))
 follows tasks history procedure at =
     let list = procedure.conversation.conversation in
     let wanted_by : ℕ → Next (Spent (Option ProvisionFault)) = λ limit. next_within procedure.steps limit (next_on BankAndPage procedure.conversation.selection (page_by (hand_of list)) (wants list)) in
     let few = subst (λ (n : ℕ). procedure.steps ≤ n) at.limit at.told.2 in
-    let here = follows_in list procedure.conversation.selection procedure.steps at.events at.told.0.0.1.0 at.told.0.1 at.told.1 few in
+    let told : ToldAt list procedure.conversation.selection at.events false = subst (ToldAt list procedure.conversation.selection at.events) at.trusts (at.told.0.0.1.0, at.told.0.1) in
+    let here = follows_in list procedure.conversation.selection procedure.steps at.events told.0 told.1 at.told.1 few in
     subst (λ (tasks : List Task). Follows tasks history (wanted_by procedure.limit)) at.has
     (subst (λ (history : History). Follows (tasks_of list.work) history (wanted_by procedure.limit)) at.made
     (subst (λ (n : ℕ). Follows (tasks_of list.work) (steps_of at.events) (wanted_by n)) (sym at.limit) here))
 
 -- one step more
 pub told_step : (tasks : List Task) (history : History) (old new : Procedure) (op : Op) (reply : Reply) →
-    ◌≡◌ {A = ℕ × Work} (new.limit, new.conversation.conversation.work) (old.limit, old.conversation.conversation.work) →
+    ◌≡◌ {A = ℕ × (Bool × Work)} (new.limit, (new.conversation.doubts, new.conversation.conversation.work)) (old.limit, (old.conversation.doubts, old.conversation.conversation.work)) →
     ((events : Events) → ToldProcedure events old → ToldProcedure (made op reply ∷ events) new) → IsAt tasks history old → IsAt tasks (record { op = op; reply = reply } ∷ history) new
 told_step tasks history old new op reply same takes at = record {
-  has = ap (λ (t : ℕ × Work). tasks_of t.1) same ∙ at.has;
-  limit = ap (λ (t : ℕ × Work). t.0) same ∙ at.limit;
+  has = ap (λ (t : ℕ × (Bool × Work)). tasks_of t.1.1) same ∙ at.has;
+  limit = ap (λ (t : ℕ × (Bool × Work)). t.0) same ∙ at.limit;
+  trusts = ap (λ (t : ℕ × (Bool × Work)). t.1.0) same ∙ at.trusts;
   events = made op reply ∷ at.events;
   made = ap (λ (history : History). record { op = op; reply = reply } ∷ history) at.made;
   told = takes at.events at.told;
-}
-
--- as it is restored
-pub kept_at : (tasks : List Task) (history : History) (procedure : Procedure) → IsAt tasks history procedure → IsAt tasks history (procedure_of procedure.conversation.conversation procedure.conversation.selection procedure.steps)
-kept_at tasks history procedure at = record {
-  has = at.has;
-  limit = refl;
-  events = at.events;
-  made = at.made;
-  told = (((at.told.0.0.0, (at.told.0.0.1.0, record { was = λ page e. absurd cc; is = λ may. absurd cc })), at.told.0.1), at.told.1, subst (λ (n : ℕ). procedure.steps ≤ n) at.limit at.told.2);
 }

@@ -1,8 +1,9 @@
 -- How long states of a module and of its data paths last, as it advertises, and how long to pause between two polls of them.
 -- (OIF-CMIS-05.0, "Durations Advertising" of page 01h; docs/bus.md, "Pauses"; the pauses are this project's own)
-use Rattle.std.specs.Prelude.{ℕ, max, List, [], ◌∷◌, Option, unwrap_or}
+use Rattle.std.specs.Prelude.{ℕ, ◌*◌, max, List, [], ◌∷◌, Option, unwrap_or}
 use Rattle.std.specs.Int.{div_ceil}
 use Rattle.std.specs.List.{slice_get}
+use Rattle.conversations.specs.declared.pausing.Patience.{Patience}
 use Rattle.paged_memory.specs.Images.{Memory}
 use Rattle.field_tables.specs.declared.field.Field.{Field}
 use Rattle.field_tables.specs.declared.field.Field.TheVariants as fields
@@ -50,3 +51,13 @@ pause_after longest = max shortest_pause (div_ceil longest 2000)
 
 abbrev pub pause_for : Memory → ℕ
 pause_for memory = pause_after (longest_of (states_of memory))
+
+abbrev pub shortest_limit : ℕ
+shortest_limit = 10000
+
+-- twice as long as this
+abbrev pub limit_after : ℕ → ℕ
+limit_after longest = max shortest_limit (2 * longest)
+
+abbrev pub patience_for : Memory → Patience
+patience_for memory = record { pause = pause_for memory; limit = limit_after (longest_of (states_of memory)) }

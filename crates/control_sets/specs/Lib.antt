@@ -26,3 +26,4 @@ pub mod PowerProgress
 pub mod Progress
 pub mod SavedNumbers
 pub mod SavedPower
+pub mod PatientProcedures

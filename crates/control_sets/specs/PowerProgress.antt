@@ -1,6 +1,6 @@
 -- How far waking a module up, or putting it to sleep, has come. Steps stand with the newest first. (docs/bus.md, "Waking and
 -- sleeping"; this project's own)
-use Rattle.std.specs.Prelude.{◌≡◌, ◌⊎◌, ◌≤◌, ℕ, [], ◌∷◌, length, Option, Some, None, Result, Ok, Err, slice_index}
+use Rattle.std.specs.Prelude.{◌≡◌, ◌⊎◌, ◌≤◌, ℕ, Bool, [], ◌∷◌, length, Option, Some, None, Result, Ok, Err, slice_index}
 use Rattle.bus_model.specs.declared.operation.Op.{Op}
 use Rattle.bus_model.specs.declared.operation.Reply.{Reply}
 use Rattle.bus_model.specs.declared.operation.Reply.TheVariants.{Bytes, Refused}
@@ -15,8 +15,13 @@ use Rattle.control_sets.specs.declared.procedures.judgement.ReplyJudgement.{Repl
 use Rattle.control_sets.specs.declared.procedures.judgement.ReplyJudgement.TheVariants.{Met, NotYet, Fails}
 use Rattle.conversations.specs.declared.next.Next.{Next}
 use Rattle.conversations.specs.declared.next.Next.TheVariants.{Do, End}
+use Rattle.conversations.specs.declared.pausing.Patience.{Patience}
+use Rattle.conversations.specs.declared.pausing.Pausing.{Pausing}
 use Rattle.conversations.specs.declared.within.Spent.{Spent}
 use Rattle.conversations.specs.declared.within.Within.{Within}
+use Rattle.conversations.specs.Events.{Events, steps_of}
+use Rattle.conversations.specs.Pauses.{WithPauses}
+use Rattle.conversations.specs.Wanted.{op_of}
 use Rattle.control_sets.specs.declared.procedures.power.Power.{Power}
 use Rattle.control_sets.specs.declared.procedures.power.Power.TheVariants.{Awake, Asleep}
 use Rattle.control_sets.specs.declared.procedures.power.PowerChange.{PowerChange}
@@ -150,6 +155,21 @@ pub record GoesOnAt (power : Power) (history : History) : Type 0 where
   pub shape : EachStep (IsPowerStep power) history
   pub order : IsPowerOrder history
   pub none : NoneEnds (EndsPower power) history
+
+-- for a real bus
+abbrev pub PatientPower : Type 0
+PatientPower = Within (Pausing PowerChange)
+
+abbrev pub patient_power : PowerChange → Patience → Bool → ℕ → ℕ → PatientPower
+patient_power change patience due idle steps = record { conversation = record { conversation = change; patience = patience; due = due; idle = idle }; steps = steps; limit = most_steps }
+
+-- it was told these events
+abbrev pub ToldPower : Events → PatientPower → Type 0
+ToldPower events change =
+    WithPauses change.conversation.patience (λ own. HasComeTo change.conversation.conversation.power change.conversation.conversation.stage change.conversation.conversation.fault (steps_of own))
+    (op_of (power_wants change.conversation.conversation)) change.conversation.due change.conversation.idle events
+    × (length (steps_of events) ≡ change.steps)
+    × (change.steps ≤ change.limit)
 
 -- the change of power was told these steps
 pub record IsPowerAt (history : History) (change : Within PowerChange) : Type 0 where

@@ -1,6 +1,6 @@
 -- How far a list of tasks has come by the replies that it was told, what it asks for, and how it ends. Its steps are its own,
 -- without those that select pages, the newest first. (docs/bus.md, "Procedures"; this project's own)
-use Rattle.std.specs.Prelude.{◌≡◌, ◌<◌, ◌≤◌, ℕ, ◌+◌, false, List, [], ◌∷◌, length, Option, Some, None, slice_get}
+use Rattle.std.specs.Prelude.{◌≡◌, ◌<◌, ◌≤◌, ℕ, ◌+◌, Bool, true, false, List, [], ◌∷◌, length, Option, Some, None, slice_get}
 use Rattle.std.specs.Option.{option_map}
 use Rattle.bus_model.specs.declared.operation.Op.{Op}
 use Rattle.bus_model.specs.declared.operation.Reply.{Reply}
@@ -8,10 +8,14 @@ use Rattle.bus_model.specs.Operations.{Answers}
 use Rattle.conversations.specs.declared.next.Next.{Next}
 use Rattle.conversations.specs.declared.next.Next.TheVariants.{Do, Wait, End}
 use Rattle.conversations.specs.declared.on_page.OnPage.{OnPage}
+use Rattle.conversations.specs.declared.pausing.Patience.{Patience}
+use Rattle.conversations.specs.declared.pausing.Pausing.{Pausing}
 use Rattle.conversations.specs.declared.within.Spent.{Spent}
 use Rattle.conversations.specs.declared.within.Within.{Within}
 use Rattle.conversations.specs.Events.{Events, steps_of}
-use Rattle.conversations.specs.Selecting.{Knows, WithSelections}
+use Rattle.conversations.specs.Pauses.{WithPauses}
+use Rattle.conversations.specs.Selecting.{Knows, WithSelections, next_on, trusted}
+use Rattle.conversations.specs.Wanted.{op_of}
 use Rattle.paged_memory.specs.declared.page_addressing.PageAddressing.TheVariants.{BankAndPage}
 use Rattle.paged_memory.specs.declared.page_addressing.KnownPage.{KnownPage}
 use Rattle.control_sets.specs.declared.fault.ProvisionFault.{ProvisionFault}
@@ -116,18 +120,46 @@ pub record GoesOnList (tasks : List Task) (own : History) : Type 0 where
 abbrev pub Procedure : Type 0
 Procedure = Within (OnPage TaskList)
 
+abbrev pub on_page_of : TaskList → KnownPage → Bool → OnPage TaskList
+on_page_of list selection doubts = record { conversation = list; selection = selection; taken = None; doubts = doubts }
+
 abbrev pub procedure_of : TaskList → KnownPage → ℕ → Procedure
-procedure_of list selection steps = record { conversation = record { conversation = list; selection = selection; taken = None }; steps = steps; limit = most_steps }
+procedure_of list selection steps = record { conversation = on_page_of list selection false; steps = steps; limit = most_steps }
+
+-- for a real bus
+abbrev pub PatientProcedure : Type 0
+PatientProcedure = Within (Pausing (OnPage TaskList))
+
+abbrev pub patient_of : TaskList → KnownPage → Patience → Bool → ℕ → ℕ → PatientProcedure
+patient_of list selection patience due idle steps =
+    record { conversation = record { conversation = on_page_of list selection true; patience = patience; due = due; idle = idle }; steps = steps; limit = most_steps }
 
 -- its tasks' own events, with selections added
-abbrev pub WithOwn : Work → (Events → Type 0) → Events → Type 0
-WithOwn work P events = WithSelections false (λ own. Some BankAndPage) (λ own. needed_after (tasks_of work) (steps_of own)) P events
+abbrev pub WithOwn : Bool → Work → (Events → Type 0) → Events → Type 0
+WithOwn doubts work P events = WithSelections doubts false (λ own. Some BankAndPage) (λ own. needed_after (tasks_of work) (steps_of own)) P events
+
+-- so it ended, and so it goes on
+abbrev pub Ends : Bool → Work → Events → Option ProvisionFault → Type 0
+Ends doubts work events fault = WithOwn doubts work (λ own. EndsList (tasks_of work) (steps_of own) fault) events
+
+abbrev pub GoesOn : Bool → Work → Events → Type 0
+GoesOn doubts work events = WithOwn doubts work (λ own. GoesOnList (tasks_of work) (steps_of own)) events
 
 -- the procedure was told these events
 abbrev pub ToldProcedure : Events → Procedure → Type 0
 ToldProcedure events procedure =
-    (Knows false (Some BankAndPage) procedure.conversation.selection procedure.conversation.taken (steps_of events)
-    × WithOwn procedure.conversation.conversation.work (λ own. IsTold (steps_of own) procedure.conversation.conversation) events)
+    (Knows false (Some BankAndPage) procedure.conversation.selection procedure.conversation.taken (trusted procedure.conversation.doubts (steps_of events))
+    × WithOwn procedure.conversation.doubts procedure.conversation.conversation.work (λ own. IsTold (steps_of own) procedure.conversation.conversation) events)
+    × (length (steps_of events) ≡ procedure.steps)
+    × (procedure.steps ≤ procedure.limit)
+
+abbrev pub ToldPatient : Events → PatientProcedure → Type 0
+ToldPatient events procedure =
+    WithPauses procedure.conversation.patience (λ own.
+      Knows false (Some BankAndPage) procedure.conversation.conversation.selection procedure.conversation.conversation.taken (trusted procedure.conversation.conversation.doubts (steps_of own))
+      × WithOwn procedure.conversation.conversation.doubts procedure.conversation.conversation.conversation.work (λ own. IsTold (steps_of own) procedure.conversation.conversation.conversation) own)
+    (op_of (next_on BankAndPage procedure.conversation.conversation.selection (page_by (hand procedure.conversation.conversation.conversation)) (wants procedure.conversation.conversation.conversation)))
+    procedure.conversation.due procedure.conversation.idle events
     × (length (steps_of events) ≡ procedure.steps)
     × (procedure.steps ≤ procedure.limit)
 
@@ -135,6 +167,7 @@ ToldProcedure events procedure =
 pub record IsAt (tasks : List Task) (history : History) (procedure : Procedure) : Type 0 where
   pub has : tasks_of procedure.conversation.conversation.work ≡ tasks
   pub limit : procedure.limit ≡ most_steps
+  pub trusts : procedure.conversation.doubts ≡ false
   pub events : Events
   pub made : steps_of events ≡ history
   pub told : ToldProcedure events procedure

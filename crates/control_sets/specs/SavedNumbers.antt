@@ -1,6 +1,6 @@
 -- A procedure as plain numbers: which numbers are a procedure's, and of which. (docs/firmware.md, "The procedure's numbers";
 -- this project's own)
-use Rattle.std.specs.Prelude.{ℕ, ◌==◌, List, Option, Some, None, if◌then◌else◌}
+use Rattle.std.specs.Prelude.{ℕ, ◌==◌, ◌&&◌, nat_le, nat_lt, Bool, true, false, List, length, Option, Some, None, if◌then◌else◌}
 use Rattle.std.specs.Option.{option_map}
 use Rattle.field_tables.specs.LaneSets.{lanes_in}
 use Rattle.bus_model.specs.declared.bus.BusFault.{BusFault}
@@ -13,7 +13,9 @@ use Rattle.control_sets.specs.declared.procedures.procedure.saved.SavedProcedure
 use Rattle.control_sets.specs.declared.procedures.saved_fault.SavedFault.{SavedFault}
 use Rattle.control_sets.specs.declared.procedures.procedure.Work.{Work}
 use Rattle.control_sets.specs.declared.procedures.procedure.Work.TheVariants.{Provisioning, Activation}
-use Rattle.control_sets.specs.Progress.{Procedure, procedure_of}
+use Rattle.control_sets.specs.declared.procedures.task.Task.{Task}
+use Rattle.control_sets.specs.OutcomeAnswers.{most_steps}
+use Rattle.control_sets.specs.Progress.{PatientProcedure, patient_of, tasks_of}
 
 -- 1 for provisioning, 2 for activation
 abbrev pub work_numbered : ℕ → List ℕ → ℕ → Option Work
@@ -22,19 +24,26 @@ work_numbered number control lanes =
     else (if number == 2 then Some (Activation control (lanes_in lanes))
     else None)
 
--- 0 if nothing is known, 1 if a read back is awaited, 2 if the page was read back
+-- 0 if nothing is known, 1 if a read back is awaited, 2 if the page was read back; there is no page else
 abbrev pub selected_numbered : ℕ → ℕ → Option KnownPage
 selected_numbered number page =
-    if number == 0 then Some Unknown
-    else (if number == 1 then Some Open
-    else (if number == 2 then Some (Page page)
+    if number == 2 then Some (Page page)
+    else (if number == 1 && page == 0 then Some Open
+    else (if number == 0 && page == 0 then Some Unknown
     else None))
+
+abbrev pub due_numbered : ℕ → Option Bool
+due_numbered number = if number == 0 then Some false else (if number == 1 then Some true else None)
 
 -- the page that was read back; 0 if none was
 abbrev pub page_read_back : KnownPage → ℕ
 page_read_back Unknown = 0
 page_read_back Open = 0
 page_read_back (Page page) = page
+
+abbrev pub number_of_due : Bool → ℕ
+number_of_due false = 0
+number_of_due true = 1
 
 -- by the number in its code: 1 for BU1
 abbrev pub bus_fault_numbered : ℕ → Option BusFault
@@ -43,21 +52,23 @@ bus_fault_numbered number =
     else (if number == 2 then Some BadShape
     else None)
 
--- by the number in its code, as 1 for PV1, and its values
+-- by the number in its code, as 1 for PV1, and its values; those that it doesn't have are 0
 abbrev pub fault_numbered : SavedFault → Option ProvisionFault
 fault_numbered saved =
     if saved.code == 1 then Some (Rejected saved.first saved.second)
-    else (if saved.code == 2 then Some (StagedDiffers saved.first)
-    else (if saved.code == 3 then Some (ActiveDiffers saved.first)
-    else (if saved.code == 4 then Some GaveUp
-    else (if saved.code == 5 then option_map Bus (bus_fault_numbered saved.first)
-    else (if saved.code == 6 then Some (ModuleState saved.first)
-    else (if saved.code == 7 then Some (Reserved saved.first)
+    else (if saved.code == 2 && saved.second == 0 then Some (StagedDiffers saved.first)
+    else (if saved.code == 3 && saved.second == 0 then Some (ActiveDiffers saved.first)
+    else (if saved.code == 4 && (saved.first == 0 && saved.second == 0) then Some GaveUp
+    else (if saved.code == 5 && saved.second == 0 then option_map Bus (bus_fault_numbered saved.first)
+    else (if saved.code == 6 && saved.second == 0 then Some (ModuleState saved.first)
+    else (if saved.code == 7 && saved.second == 0 then Some (Reserved saved.first)
     else None))))))
 
 -- whether there is a fault, and which; none if the numbers are no fault's
 abbrev pub fault_in : SavedFault → Option (Option ProvisionFault)
-fault_in saved = if saved.code == 0 then Some None else option_map Some (fault_numbered saved)
+fault_in saved =
+    if saved.code == 0 && (saved.first == 0 && saved.second == 0) then Some None
+    else option_map Some (fault_numbered saved)
 
 abbrev pub numbers : ℕ → ℕ → ℕ → SavedFault
 numbers code first second = record { code = code; first = first; second = second }
@@ -80,11 +91,29 @@ abbrev pub saved_fault : Option ProvisionFault → SavedFault
 saved_fault None = numbers 0 0 0
 saved_fault (Some fault) = numbers_of fault
 
-abbrev pub numbered : SavedProcedure → Option Work → Option KnownPage → Option (Option ProvisionFault) → Option Procedure
-numbered saved (Some work) (Some selected) (Some fault) = Some (procedure_of (record { work = work; met = saved.met; fault = fault }) selected saved.steps)
-numbered saved work selected fault = None
+-- a reply shows the fault
+abbrev pub is_found : ProvisionFault → Bool
+is_found (Rejected lane status) = true
+is_found (StagedDiffers lane) = true
+is_found (ActiveDiffers lane) = true
+is_found GaveUp = false
+is_found (Bus fault) = false
+is_found (ModuleState code) = true
+is_found (Reserved code) = true
 
--- the procedure that has these numbers; none if those of its work, its selection or its fault stand for nothing
-unfoldable pub restored : SavedProcedure → Option Procedure
+-- no more tasks can be met than there are, and a fault is found by one that isn't
+abbrev pub can_stand : List Task → ℕ → Option ProvisionFault → Bool
+can_stand tasks met None = nat_le met (length tasks)
+can_stand tasks met (Some fault) = nat_lt met (length tasks) && is_found fault
+
+abbrev pub numbered : SavedProcedure → Option Work → Option KnownPage → Option (Option ProvisionFault) → Option Bool → Option PatientProcedure
+numbered saved (Some work) (Some selected) (Some fault) (Some due) =
+    if nat_le saved.steps most_steps && can_stand (tasks_of work) saved.met fault
+    then Some (patient_of (record { work = work; met = saved.met; fault = fault }) selected (record { pause = saved.pause; limit = saved.limit }) due saved.idle saved.steps)
+    else None
+numbered saved work selected fault due = None
+
+-- the procedure that has these numbers; none if they are those of none
+unfoldable pub restored : SavedProcedure → Option PatientProcedure
 restored saved =
-    numbered saved (work_numbered saved.work saved.control saved.lanes) (selected_numbered saved.selection saved.page) (fault_in saved.fault)
+    numbered saved (work_numbered saved.work saved.control saved.lanes) (selected_numbered saved.selection saved.page) (fault_in saved.fault) (due_numbered saved.due)

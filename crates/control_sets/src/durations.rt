@@ -1,7 +1,8 @@
 //! How long states last, as a module advertises, and how long to pause between two polls of them.
-ghost use Rattle.std.specs.Prelude.{◌≡◌, max};
+ghost use Rattle.std.specs.Prelude.{◌≡◌, ◌≤◌, max};
 ghost use Rattle.control_sets.specs.Durations as spec;
 
+use conversations::Patience;
 use field_tables::{Field, number};
 use paged_memory::Image;
 
@@ -15,6 +16,19 @@ pub fn pause_for(image: &Image) -> u32
 
 const SHORTEST_PAUSE: u32 = 100;
 
+/// How patient a conversation is on a real bus, if the module has this memory: it pauses so long, and gives up after pauses that last
+/// twice as long as the longest state that the module advertises, and at least ten seconds.
+pub fn patience_for(image: &Image) -> Patience
+    ensures { result ≡ spec.patience_for image.now }
+{
+    Patience {
+        pause: pause_for(image),
+        limit: larger(SHORTEST_LIMIT, 2 * longest_state(image)),
+    }
+}
+
+const SHORTEST_LIMIT: u32 = 10_000;
+
 /// The end of the range that a code stands for, in milliseconds; none of a code without an upper end or without a meaning.
 pub fn longest_duration(code: u8) -> Option<u32>
     ensures { result ≡ spec.longest_duration code }
@@ -27,7 +41,8 @@ const DURATIONS: [u32; 13] = [
 ];
 
 fn longest_state(image: &Image) -> u32
-    ensures { result ≡ spec.longest_of (spec.states_of image.now) }
+    ensures value { result ≡ spec.longest_of (spec.states_of image.now) }
+    ensures few { result ≤ 3000000 }
 {
     let module = larger(
         lasts(number(image, Field::CMaxDurationModulePwrUp)),
@@ -44,8 +59,10 @@ fn longest_state(image: &Image) -> u32
     larger(module, larger(path, output))
 }
 
+#[tactic(auto, using(crate::proofs::PauseLaws::lasts_few))]
 fn lasts(code: u8) -> u32
-    ensures { result ≡ spec.lasts code }
+    ensures value { result ≡ spec.lasts code }
+    ensures few { result ≤ 3000000 }
 {
     longest_duration(code).unwrap_or(3_000_000)
 }

@@ -1,6 +1,6 @@
 //! What holds of control bytes, over all plans. Each function is a theorem: its contract says it, and its body is empty. In those over
 //! histories, `made` is the length of the whole list of steps that the bus keeps, and `room` how many steps that list takes.
-ghost use Rattle.std.specs.Prelude.{◌≡◌, ◌≢◌, ℕ, ◌<◌, ◌≤◌, List, Option, None, All, Any, IsTrue, length, ◌+◌, ◌*◌, [], ◌∷◌, Ok, Err, false};
+ghost use Rattle.std.specs.Prelude.{◌≡◌, ◌≢◌, ℕ, ◌<◌, ◌≤◌, Bool, true, List, Option, None, All, Any, IsTrue, length, ◌+◌, ◌*◌, [], ◌∷◌, Ok, Err, false};
 ghost use Rattle.std.specs.List.{AllByRecursion};
 ghost use Rattle.applications.specs.Advertised.{Advertised, InOrder};
 ghost use Rattle.plan_certificate.specs.declared.path.Path.{Path};
@@ -33,20 +33,25 @@ ghost use Rattle.conversations.specs.declared.within.Within.{Within};
 ghost use Rattle.conversations.specs.declared.within.Spent.{Spent};
 ghost use Rattle.conversations.specs.declared.next.Next.TheVariants.{End};
 ghost use Rattle.conversations.specs.Budgets.{next_within};
-ghost use Rattle.conversations.specs.Events.{Events, made};
+ghost use Rattle.conversations.specs.Events.{Events, made, steps_of};
 ghost use Rattle.bus_model.specs.declared.operation.Op.{Op};
 ghost use Rattle.bus_model.specs.declared.operation.Reply.{Reply};
 ghost use Rattle.paged_memory.specs.declared.page_addressing.KnownPage.TheVariants.{Unknown};
-ghost use Rattle.control_sets.specs.Progress.{Follows, IsAt, Procedure, list_at, procedure_of, tasks_of};
+ghost use Rattle.control_sets.specs.Progress.{Ends, Follows, GoesOn, IsAt, Procedure, list_at, needed_after, procedure_of, tasks_of};
 ghost use Rattle.control_sets.specs.declared.procedures.task.Task.{Task};
 ghost use Rattle.control_sets.specs.declared.procedures.procedure.Work.{Work};
-ghost use Rattle.control_sets.specs.PowerProgress.{IsPowerAt, answer_of, power_wants};
+ghost use Rattle.control_sets.specs.PowerProgress.{GoesOnAt, IsEndedIn, IsPowerAt, answer_of, power_wants};
 ghost use Rattle.control_sets.specs.declared.procedures.power.Power.{Power};
 ghost use Rattle.control_sets.specs.declared.procedures.power.Power.TheVariants.{Asleep, Awake};
 ghost use Rattle.control_sets.specs.declared.procedures.power.PowerChange.{PowerChange};
 ghost use Rattle.control_sets.specs.declared.procedures.power.PowerStage.TheVariants.{Unread};
 ghost use Rattle.control_sets.specs.StoredBits.{HasBitsOf, LeavesOthers};
-ghost use Rattle.control_sets.specs.Durations.{pause_for, polls, states_of};
+ghost use Rattle.control_sets.specs.Durations.{patience_for, polls, states_of};
+ghost use Rattle.conversations.specs.declared.pausing.Patience.{Patience};
+ghost use Rattle.conversations.specs.declared.pausing.Timed.{Timed};
+ghost use Rattle.conversations.specs.Pauses.{AddsPauses, AreMade, AreSpaced, EndsPausing, GoesOnPausing, paused_for};
+ghost use Rattle.conversations.specs.Selecting.{ConfirmsStores};
+ghost use Rattle.paged_memory.specs.declared.page_addressing.PageAddressing.TheVariants.{BankAndPage};
 ghost use Rattle.paged_memory.specs.Images.{Memory};
 
 use crate::procedures::{PowerChange, Procedure};
@@ -103,8 +108,8 @@ pub fn operations_are_at_registers()
 {}
 
 /// Procedures that were told their replies, without a bus, have the outcomes of provisioning, activation and changes of power. A
-/// procedure asks for what comes next after the steps that it was told, and a reply that it takes is one step more; it does so
-/// too once its numbers were saved and restored. So it is with a change of power.
+/// procedure asks for what comes next after the steps that it was told, and a reply that it takes is one step more. So it is with a
+/// change of power.
 pub fn procedures_have_their_outcomes()
     ensures provisioning { (control : List ℕ) (lanes : Lanes) (made room : ℕ) (history : History) (answer : Answer) →
         length control ≡ 8 → HasEnded (provisioning control lanes) history answer →
@@ -119,8 +124,6 @@ pub fn procedures_have_their_outcomes()
         ⟦<Procedure as Conversation>⟧.topic new ≡ ⟦<Procedure as Conversation>⟧.topic old →
         ((events : Events) → ⟦<Procedure as Conversation>⟧.told events old → ⟦<Procedure as Conversation>⟧.told (made op reply ∷ events) new) →
         IsAt tasks history old → IsAt tasks (record { op = op; reply = reply } ∷ history) new }
-    ensures kept { (tasks : List Task) (history : History) (procedure : Procedure) → IsAt tasks history procedure →
-        IsAt tasks history (procedure_of procedure.conversation.conversation procedure.conversation.selection procedure.steps) }
     ensures power_begun { (power : Power) →
         IsPowerAt [] (record { conversation = record { power = power; stage = Unread; fault = None }; steps = 0; limit = most_steps }) }
     ensures power_told { (history : History) (old new : Within PowerChange) (op : Op) (reply : Reply) →
@@ -261,9 +264,33 @@ pub fn what_changes_of_power_may_do()
         ¬ (IsPowerChange power (made ≡ room) (took (set_controls byte) ∷ took (set_controls other) ∷ before) answer) }
 {}
 
-/// As many polls as a procedure's steps leave room for, each with the pause before it, last twice as long as each state that the
-/// module advertises.
-pub fn pauses_outlast_states()
+/// A conversation with a module's patience waits for twice as long as each state that the module advertises before it gives up, and its
+/// steps leave room for that: as many pauses as there may be polls last as long, and no more than two pauses more are made in a row.
+pub fn patience_outlasts_states()
+    ensures longer { (memory : Memory) → AllByRecursion (λ time. 2 * time ≤ (patience_for memory).limit) (states_of memory) }
+    ensures within { (memory : Memory) → (patience_for memory).limit ≤ polls * (patience_for memory).pause }
     ensures room { polls + 96 ≤ most_steps }
-    ensures each { (memory : Memory) → AllByRecursion (λ time. 2 * time ≤ polls * pause_for memory) (states_of memory) }
+    ensures fruitless { (memory : Memory) (own events : Events) (wanted : Option Op) (due : Bool) (idle : ℕ) →
+        AddsPauses (patience_for memory) own events wanted due idle → AreMade own →
+        paused_for (patience_for memory).pause wanted (steps_of events) ≤ (polls + 2) * (patience_for memory).pause }
+{}
+
+/// Whatever a real bus answers to provisioning, activation and changes of power: between a fruitless transaction and the next one there is
+/// a wait, also where they are out of patience.
+pub fn procedures_pause()
+    ensures work { (patience : Patience) (work : Work) (events : Events) → GoesOnPausing patience (GoesOn true work) events → AreSpaced patience.pause events }
+    ensures work_ended { (patience : Patience) (work : Work) (events : Events) (end : Timed (Option ProvisionFault)) →
+        EndsPausing patience (GoesOn true work) (Ends true work) events end → AreSpaced patience.pause events }
+    ensures power { (patience : Patience) (power : Power) (events : Events) →
+        GoesOnPausing patience (λ own. GoesOnAt power (steps_of own)) events → AreSpaced patience.pause events }
+    ensures power_ended { (patience : Patience) (power : Power) (events : Events) (end : Timed (Option ProvisionFault)) →
+        EndsPausing patience (λ own. GoesOnAt power (steps_of own)) (λ own fault. IsEndedIn power fault (steps_of own)) events end → AreSpaced patience.pause events }
+{}
+
+/// On a real bus provisioning and activation store nothing on a page that wasn't read back since the newest refusal.
+pub fn procedures_doubt()
+    ensures going { (work : Work) (events : Events) → GoesOn true work events →
+        ConfirmsStores false BankAndPage (λ own. needed_after (tasks_of work) (steps_of own)) events }
+    ensures ended { (work : Work) (events : Events) (fault : Option ProvisionFault) → Ends true work events fault →
+        ConfirmsStores false BankAndPage (λ own. needed_after (tasks_of work) (steps_of own)) events }
 {}

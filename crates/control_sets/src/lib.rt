@@ -13,12 +13,13 @@ mod procedures;
 
 pub use control_byte::ControlByte;
 pub use control_set::ControlSet;
-pub use durations::{longest_duration, pause_for};
+pub use durations::{longest_duration, patience_for, pause_for};
 pub use fault::{ControlFault, ProvisionFault};
 pub use host_path::{HostPath, agree, control_at, paths_of};
 pub use plan_bytes::{bytes_of, lanes_of, lanes_outside};
 pub use procedures::{
-    Activated, MAX_STEPS, Power, PowerChange, PowerStage, Procedure, Provisioned, SavedFault,
-    SavedProcedure, TaskList, Work, activate, activate_pausing, answer_of, change_power,
-    change_power_pausing, provision, provision_keeping, provision_pausing,
+    Activated, MAX_STEPS, PatientFault, PatientPower, PatientProcedure, Power, PowerChange,
+    PowerStage, Procedure, Provisioned, SavedFault, SavedProcedure, TaskList, Work, activate,
+    activate_on, answer_in_time, answer_of, change_power, change_power_on, provision,
+    provision_keeping, provision_on,
 };

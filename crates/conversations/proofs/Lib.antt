@@ -1,6 +1,6 @@
-pub mod RunMore
+pub mod BusRuns
 pub mod RunTold
 pub mod PausingLaws
-pub mod DeadlineLaws
 pub mod OnPageLaws
 pub mod InPiecesLaws
+pub mod DoubtLaws

@@ -6,20 +6,23 @@ use Rattle.bus_model.specs.declared.operation.Op.{Op}
 use Rattle.bus_model.specs.declared.operation.Op.TheVariants.{Fetch, Store}
 use Rattle.bus_model.specs.declared.operation.Reply.{Reply}
 use Rattle.bus_model.specs.declared.operation.Reply.TheVariants.{Bytes, Done, Refused}
+use Rattle.bus_model.specs.declared.operation.Step.{Step}
 use Rattle.bus_model.specs.Operations.{Answers}
 use Rattle.conversations.specs.declared.event.Event.{Event}
 use Rattle.conversations.specs.declared.event.Event.TheVariants.{Asked, Lacked, Waited}
 use Rattle.conversations.specs.declared.next.Next.{Next}
 use Rattle.conversations.specs.declared.next.Next.TheVariants.{Do, Wait, End}
+use Rattle.conversations.specs.declared.on_page.OnPage.{OnPage}
 use Rattle.conversations.specs.Events.{Events, made, steps_of}
-use Rattle.conversations.specs.Selecting.{AddsSelections, ByAddressing, IsFetch, IsSelecting, KeepsTaken, Knows, LacksNone, ShowsNone, WasTaken, WithSelections, chosen, is_on, lacked, lacked_by, next_on, taken_after, taken_by}
+use Rattle.conversations.specs.Pauses.{is_refused}
+use Rattle.conversations.specs.Selecting.{AddsSelections, ByAddressing, IsFetch, IsSelecting, KeepsTaken, Knows, LacksNone, ShowsNone, WasTaken, WithSelections, chosen, doubting, is_on, lacked, lacked_by, next_on, taken_after, taken_by, since_refusal, trusted}
 use Rattle.paged_memory.specs.declared.page_addressing.PageAddressing.{PageAddressing}
 use Rattle.paged_memory.specs.declared.page_addressing.PageAddressing.TheVariants.{BankAndPage, PageAlone}
 use Rattle.paged_memory.specs.declared.page_addressing.KnownPage.{KnownPage}
 use Rattle.paged_memory.specs.declared.page_addressing.KnownPage.TheVariants.{Open, Unknown}
 use Rattle.paged_memory.specs.KnownPages.{IsApart, Tells, is_awaited, is_known, missing_page, selected_after, selecting_first, selection_read, selection_told, wanted}
 use Rattle.paged_memory.specs.PageAddressing.{History, is_open, read_selection, selection}
-use Rattle.paged_memory.proofs.KnownPageLaws.{after_read, after_selection, after_work, is_confirmed, read_closes, read_tells, step_of, tells_next}
+use Rattle.paged_memory.proofs.KnownPageLaws.{after_read, after_selection, after_work, is_confirmed, read_closes, read_tells, step_of, tells_next, tells_nothing}
 
 pub record Asks {E : Type 0} (addressing : PageAddressing) (selected : KnownPage) (page : Option ℕ) (within : Next E) (op : Op) : Type 0 where
   pub inner : Op
@@ -80,7 +83,7 @@ on_needed addressing selected (Some page) history told missing = is_confirmed ad
 
 -- ---- the page whose selection was accepted
 
-read_is_fetch : (addressing : PageAddressing) → IsFetch (read_selection addressing)
+pub read_is_fetch : (addressing : PageAddressing) → IsFetch (read_selection addressing)
 read_is_fetch BankAndPage = tt
 read_is_fetch PageAlone = tt
 
@@ -286,53 +289,53 @@ module _ (may : Bool) (selected : KnownPage) (taken page : Option ℕ) (inner op
 
 -- ---- what the conversation within is told
 
-module _ (may : Bool) (addressed : Events → Option PageAddressing) (needs : Events → Option ℕ) where
+module _ (doubts may : Bool) (addressed : Events → Option PageAddressing) (needs : Events → Option ℕ) where
   module _ (P : Events → Type 0) (op : Op) (reply : Reply) (events : Events) (page : Option ℕ) (by : Option PageAddressing) (knows : (own : Events) → P own → by ≡ addressed own) (needed : (own : Events) → P own → page ≡ needs own) where
     known_own : (own : Events) → P own → (addressing : PageAddressing) → by ≡ Some addressing → addressed own ≡ Some addressing
     known_own own at addressing is = sym (knows own at) ∙ is
 
     -- a transaction for the selection alone
-    pub selecting_more : (addressing : PageAddressing) → by ≡ Some addressing → IsSelecting addressing page op (steps_of events) → LacksNone may addressing page (step_of op reply) (steps_of events) → Answers op reply → WithSelections may addressed needs P events → WithSelections may addressed needs P (made op reply ∷ events)
+    pub selecting_more : (addressing : PageAddressing) → by ≡ Some addressing → IsSelecting addressing page op (trusted doubts (steps_of events)) → LacksNone may addressing page (step_of op reply) (trusted doubts (steps_of events)) → Answers op reply → WithSelections doubts may addressed needs P events → WithSelections doubts may addressed needs P (made op reply ∷ events)
     selecting_more addressing is selecting none answers (own, adds, at) =
         let e = known_own own at addressing is in
-        let before = subst (λ (by : Option PageAddressing). ByAddressing by (λ a. AddsSelections may a needs own events)) e adds in (
+        let before = subst (λ (by : Option PageAddressing). ByAddressing by (λ a. AddsSelections doubts may a needs own events)) e adds in (
           own,
-          subst (λ (by : Option PageAddressing). ByAddressing by (λ a. AddsSelections may a needs own (made op reply ∷ events))) (sym e)
-              (inl (subst (λ (p : Option ℕ). IsSelecting addressing p op (steps_of events)) (needed own at) selecting, subst (λ (p : Option ℕ). LacksNone may addressing p (step_of op reply) (steps_of events)) (needed own at) none, answers, before)),
+          subst (λ (by : Option PageAddressing). ByAddressing by (λ a. AddsSelections doubts may a needs own (made op reply ∷ events))) (sym e)
+              (inl (subst (λ (p : Option ℕ). IsSelecting addressing p op (trusted doubts (steps_of events))) (needed own at) selecting, subst (λ (p : Option ℕ). LacksNone may addressing p (step_of op reply) (trusted doubts (steps_of events))) (needed own at) none, answers, before)),
           at,
         )
 
     module _ (Q : Events → Type 0) where
       -- one of the conversation within
-      pub own_more : ByAddressing by (λ a. (is_open a (steps_of events) ≡ false) × (is_on a page (steps_of events) ≡ true)) → ((own : Events) → P own → Q (made op reply ∷ own)) →
-          ((own : Events) → P own → (a : PageAddressing) → addressed own ≡ Some a → addressed (made op reply ∷ own) ≡ Some a) → WithSelections may addressed needs P events → WithSelections may addressed needs Q (made op reply ∷ events)
+      pub own_more : ByAddressing by (λ a. (is_open a (trusted doubts (steps_of events)) ≡ false) × (is_on a page (trusted doubts (steps_of events)) ≡ true)) → ((own : Events) → P own → Q (made op reply ∷ own)) →
+          ((own : Events) → P own → (a : PageAddressing) → addressed own ≡ Some a → addressed (made op reply ∷ own) ≡ Some a) → WithSelections doubts may addressed needs P events → WithSelections doubts may addressed needs Q (made op reply ∷ events)
       own_more stands more steady (own, adds, at) =
-          let stands' = subst (λ (by : Option PageAddressing). ByAddressing by (λ a. (is_open a (steps_of events) ≡ false) × (is_on a page (steps_of events) ≡ true))) (knows own at) stands in
-          let adds' = by_both (addressed own) (λ a. (is_open a (steps_of events) ≡ false) × (is_on a page (steps_of events) ≡ true)) (λ a. AddsSelections may a needs own events) (λ a. AddsSelections may a needs (made op reply ∷ own) (made op reply ∷ events))
-          (λ a s adds. inr (inl (own, refl, s.0, ap (λ (p : Option ℕ). is_on a p (steps_of events)) (sym (needed own at)) ∙ s.1, adds))) stands' adds in
-          (made op reply ∷ own, by_next (addressed own) (addressed (made op reply ∷ own)) (λ a. AddsSelections may a needs (made op reply ∷ own) (made op reply ∷ events)) (steady own at) adds', more own at)
+          let stands' = subst (λ (by : Option PageAddressing). ByAddressing by (λ a. (is_open a (trusted doubts (steps_of events)) ≡ false) × (is_on a page (trusted doubts (steps_of events)) ≡ true))) (knows own at) stands in
+          let adds' = by_both (addressed own) (λ a. (is_open a (trusted doubts (steps_of events)) ≡ false) × (is_on a page (trusted doubts (steps_of events)) ≡ true)) (λ a. AddsSelections doubts may a needs own events) (λ a. AddsSelections doubts may a needs (made op reply ∷ own) (made op reply ∷ events))
+          (λ a s adds. inr (inl (own, refl, s.0, ap (λ (p : Option ℕ). is_on a p (trusted doubts (steps_of events))) (sym (needed own at)) ∙ s.1, adds))) stands' adds in
+          (made op reply ∷ own, by_next (addressed own) (addressed (made op reply ∷ own)) (λ a. AddsSelections doubts may a needs (made op reply ∷ own) (made op reply ∷ events)) (steady own at) adds', more own at)
 
       -- a page that it needs isn't there
-      pub lacks_more : (addressing : PageAddressing) → by ≡ Some addressing → (number : ℕ) → may ≡ true → page ≡ Some number → ShowsNone addressing number (record { op = op; reply = reply }) (steps_of events) → Answers op reply → ((own : Events) → P own → Q (Lacked number ∷ own)) →
-          ((own : Events) → P own → (a : PageAddressing) → addressed own ≡ Some a → addressed (Lacked number ∷ own) ≡ Some a) → WithSelections may addressed needs P events → WithSelections may addressed needs Q (made op reply ∷ events)
+      pub lacks_more : (addressing : PageAddressing) → by ≡ Some addressing → (number : ℕ) → may ≡ true → page ≡ Some number → ShowsNone addressing number (record { op = op; reply = reply }) (trusted doubts (steps_of events)) → Answers op reply → ((own : Events) → P own → Q (Lacked number ∷ own)) →
+          ((own : Events) → P own → (a : PageAddressing) → addressed own ≡ Some a → addressed (Lacked number ∷ own) ≡ Some a) → WithSelections doubts may addressed needs P events → WithSelections doubts may addressed needs Q (made op reply ∷ events)
       lacks_more addressing is number must here shows answers more steady (own, adds, at) =
           let e = known_own own at addressing is in
-          let before = subst (λ (by : Option PageAddressing). ByAddressing by (λ a. AddsSelections may a needs own events)) e adds in (
+          let before = subst (λ (by : Option PageAddressing). ByAddressing by (λ a. AddsSelections doubts may a needs own events)) e adds in (
             Lacked number ∷ own,
-            subst (λ (by : Option PageAddressing). ByAddressing by (λ a. AddsSelections may a needs (Lacked number ∷ own) (made op reply ∷ events))) (sym (steady own at addressing e))
+            subst (λ (by : Option PageAddressing). ByAddressing by (λ a. AddsSelections doubts may a needs (Lacked number ∷ own) (made op reply ∷ events))) (sym (steady own at addressing e))
                 (inr (inr (number, own, refl, must, sym (needed own at) ∙ here, shows, answers, before))),
             more own at,
           )
 
   -- an event that is no transaction
   abbrev pub Passes : Event → Events → Type 0
-  Passes event events = (addressing : PageAddressing) (own : Events) → AddsSelections may addressing needs own events → AddsSelections may addressing needs (event ∷ own) (event ∷ events)
+  Passes event events = (addressing : PageAddressing) (own : Events) → AddsSelections doubts may addressing needs own events → AddsSelections doubts may addressing needs (event ∷ own) (event ∷ events)
 
   event_more : (P Q : Events → Type 0) (event : Event) (events : Events) → Passes event events → ((own : Events) → P own → Q (event ∷ own)) → ((own : Events) → P own → (a : PageAddressing) → addressed own ≡ Some a → addressed (event ∷ own) ≡ Some a) →
-      WithSelections may addressed needs P events → WithSelections may addressed needs Q (event ∷ events)
+      WithSelections doubts may addressed needs P events → WithSelections doubts may addressed needs Q (event ∷ events)
   event_more P Q event events passes more steady (own, adds, at) =
-      let adds' = by_both (addressed own) (λ a. AddsSelections may a needs own events) (λ a. AddsSelections may a needs own events) (λ a. AddsSelections may a needs (event ∷ own) (event ∷ events)) (λ a adds again. passes a own adds) adds adds in
-      (event ∷ own, by_next (addressed own) (addressed (event ∷ own)) (λ a. AddsSelections may a needs (event ∷ own) (event ∷ events)) (steady own at) adds', more own at)
+      let adds' = by_both (addressed own) (λ a. AddsSelections doubts may a needs own events) (λ a. AddsSelections doubts may a needs own events) (λ a. AddsSelections doubts may a needs (event ∷ own) (event ∷ events)) (λ a adds again. passes a own adds) adds adds in
+      (event ∷ own, by_next (addressed own) (addressed (event ∷ own)) (λ a. AddsSelections doubts may a needs (event ∷ own) (event ∷ events)) (steady own at) adds', more own at)
 
   pub wait_passes : (time : ℕ) (events : Events) → Passes (Waited time) events
   wait_passes time events addressing own adds = (own, refl, adds)
@@ -342,7 +345,7 @@ module _ (may : Bool) (addressed : Events → Option PageAddressing) (needs : Ev
 
 -- ---- one event more of any conversation within
 
-module _ {C T : Type 0} (may : T → Bool) (told : Events → C → Type 0) (topic : C → T) (addressing : C → Option PageAddressing) (addressed : T → Events → Option PageAddressing) (needs : T → Events → Option ℕ) where
+module _ {C T : Type 0} (doubts : Bool) (may : T → Bool) (told : Events → C → Type 0) (topic : C → T) (addressing : C → Option PageAddressing) (addressed : T → Events → Option PageAddressing) (needs : T → Events → Option ℕ) where
   -- what its methods ensure
   pub record Follows (old new : C) (event : Event) : Type 0 where
     pub same : topic new ≡ topic old
@@ -352,7 +355,7 @@ module _ {C T : Type 0} (may : T → Bool) (told : Events → C → Type 0) (top
     pub steady : (own : Events) (by : PageAddressing) → told (event ∷ own) new → addressed (topic new) own ≡ Some by → addressing new ≡ Some by
 
   abbrev pub Within : C → C → Events → Type 0
-  Within kept now events = WithSelections (may (topic kept)) (addressed (topic kept)) (needs (topic kept)) (λ own. told own now) events
+  Within kept now events = WithSelections doubts (may (topic kept)) (addressed (topic kept)) (needs (topic kept)) (λ own. told own now) events
 
   module _ (old new : C) (event : Event) (f : Follows old new event) where
     pub steady_own : (own : Events) → told own old → (by : PageAddressing) → addressed (topic old) own ≡ Some by → addressed (topic old) (event ∷ own) ≡ Some by
@@ -366,13 +369,42 @@ module _ {C T : Type 0} (may : T → Bool) (told : Events → C → Type 0) (top
     pub in_topic : (selected : KnownPage) (taken : Option ℕ) (history : History) (events : Events) → Knows (may (topic old)) (addressing new) selected taken history × Within old new events →
         Knows (may (topic new)) (addressing new) selected taken history × Within new new events
     in_topic selected taken history events all =
-        subst (λ (t : T). Knows (may t) (addressing new) selected taken history × WithSelections (may t) (addressed t) (needs t) (λ own. told own new) events) (sym f.same) all
+        subst (λ (t : T). Knows (may t) (addressing new) selected taken history × WithSelections doubts (may t) (addressed t) (needs t) (λ own. told own new) events) (sym f.same) all
 
-    pub event_told : (selected : KnownPage) (taken : Option ℕ) (events : Events) → Passes (may (topic old)) (addressed (topic old)) (needs (topic old)) event events → steps_of (event ∷ events) ≡ steps_of events →
-        Knows (may (topic old)) (addressing old) selected taken (steps_of events) × Within old old events → Knows (may (topic new)) (addressing new) selected taken (steps_of (event ∷ events)) × Within new new (event ∷ events)
+    pub event_told : (selected : KnownPage) (taken : Option ℕ) (events : Events) → Passes doubts (may (topic old)) (addressed (topic old)) (needs (topic old)) event events → steps_of (event ∷ events) ≡ steps_of events →
+        Knows (may (topic old)) (addressing old) selected taken (trusted doubts (steps_of events)) × Within old old events →
+        Knows (may (topic new)) (addressing new) selected taken (trusted doubts (steps_of (event ∷ events))) × Within new new (event ∷ events)
     event_told selected taken events passes same (knows, within) =
-        let still = knows_next (may (topic old)) (addressing old) (addressing new) selected taken (steps_of events) (steady_by events within) knows in
-        in_topic selected taken (steps_of (event ∷ events)) (event ∷ events) (
-          subst (λ (history : History). Knows (may (topic old)) (addressing new) selected taken history) (sym same) still,
-          event_more (may (topic old)) (addressed (topic old)) (needs (topic old)) (λ own. told own old) (λ own. told own new) event events passes f.more steady_own within,
+        let still = knows_next (may (topic old)) (addressing old) (addressing new) selected taken (trusted doubts (steps_of events)) (steady_by events within) knows in
+        in_topic selected taken (trusted doubts (steps_of (event ∷ events))) (event ∷ events) (
+          subst (λ (history : History). Knows (may (topic old)) (addressing new) selected taken (trusted doubts history)) (sym same) still,
+          event_more doubts (may (topic old)) (addressed (topic old)) (needs (topic old)) (λ own. told own old) (λ own. told own new) event events passes f.more steady_own within,
         )
+
+-- ---- after a refusal
+
+unknown_by : (may : Bool) (by : Option PageAddressing) → Knows may by Unknown None []
+unknown_by may None = (λ none. refl, λ addressing. (tells_nothing addressing, none_taken may addressing [] refl))
+unknown_by may (Some addressing) = (λ none. refl, (tells_nothing addressing, none_taken may addressing [] refl))
+
+-- where nothing is doubted, the step is believed
+believed : (may doubts : Bool) (by : Option PageAddressing) (selected : KnownPage) (taken : Option ℕ) (step : Step) (history : History) → (doubts && is_refused step.reply) ≡ false →
+    Knows may by selected taken (step ∷ trusted doubts history) → Knows may by selected taken (trusted doubts (step ∷ history))
+believed may false by selected taken step history e knows = knows
+believed may true by selected taken step history e knows = subst (λ (b : Bool). Knows may by selected taken (if b then [] else step ∷ since_refusal history)) (sym e) knows
+
+doubted : (may doubts : Bool) (by : Option PageAddressing) (step : Step) (history : History) → (doubts && is_refused step.reply) ≡ true → Knows may by Unknown None (trusted doubts (step ∷ history))
+doubted may false by step history e = absurd cc
+doubted may true by step history e = subst (λ (b : Bool). Knows may by Unknown None (if b then [] else step ∷ since_refusal history)) (sym e) (unknown_by may by)
+
+-- one step more, for those who doubt and those who don't
+pub after_doubt : {C : Type 0} (may : C → Bool) (by : C → Option PageAddressing) (Rest : Bool → C → Type 0) (on : OnPage C) (op : Op) (reply : Reply) (history : History) →
+    Knows (may on.conversation) (by on.conversation) on.selection on.taken (step_of op reply ∷ trusted on.doubts history) × Rest on.doubts on.conversation →
+    let new = doubting on reply in Knows (may new.conversation) (by new.conversation) new.selection new.taken (trusted new.doubts (step_of op reply ∷ history)) × Rest new.doubts new.conversation
+after_doubt {C} may by Rest on op reply history (knows, rest) = told (on.doubts && is_refused reply) refl
+  where
+    told : (b : Bool) → (on.doubts && is_refused reply) ≡ b →
+        let new : OnPage C = if b then record { conversation = on.conversation; selection = Unknown; taken = None; doubts = on.doubts } else on in
+        Knows (may new.conversation) (by new.conversation) new.selection new.taken (trusted new.doubts (step_of op reply ∷ history)) × Rest new.doubts new.conversation
+    told true e = (doubted (may on.conversation) on.doubts (by on.conversation) (step_of op reply) history e, rest)
+    told false e = (believed (may on.conversation) on.doubts (by on.conversation) on.selection on.taken (step_of op reply) history e knows, rest)

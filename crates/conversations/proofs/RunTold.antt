@@ -2,16 +2,11 @@
 use Rattle.std.proofs.Common.{◌≡◌, ◌≤◌, ◌<◌, ◌+◌, ◌-◌, ◌*◌, ℕ, Bool, cond, length, refl, sym, subst, ap, inl, inr, ◌∙◌, arith}
 use Rattle.std.proofs.lemmas.Bool.{cases_lt, lt-ltb, le-ltb}
 use Rattle.std.specs.Prelude.{◌≢◌, Err, None, reverse}
-use Rattle.bus_model.specs.declared.bus.BusFault.{BusFault}
-use Rattle.bus_model.specs.declared.bus.BusFault.TheVariants.{BadShape, TraceFull}
 use Rattle.bus_model.specs.declared.operation.Op.{Op}
-use Rattle.bus_model.specs.Runs.{IsFull, Ran, Rules, Seen}
 use Rattle.conversations.specs.declared.next.Next.{Next}
 use Rattle.conversations.specs.declared.next.Next.TheVariants.{Do, Wait, End}
 use Rattle.conversations.specs.declared.within.Spent.{Spent}
 use Rattle.conversations.specs.Budgets.{next_within}
-use Rattle.conversations.specs.Carried.{IsCarriedOut}
-use Rattle.conversations.specs.Events.{Events, steps_of}
 use Rattle.conversations.specs.Wanted.{IsWait}
 
 -- 1 if it waits now
@@ -70,13 +65,3 @@ fewer_turns steps more limit old new e fewer = omega (arith, e, fewer, waits_few
 
 pub fewer_waits : {E : Type 0} (steps same limit : ℕ) (old new : Next E) → same ≡ steps → waits old ≡ 1 → waits new ≡ 0 → turns_left same limit new < turns_left steps limit old
 fewer_waits steps same limit old new e was is = omega (arith, e, was, is)
-
--- a bus that makes no more transactions
-pub runs_out : {S E : Type 0} (rules : Rules S) (old now new : Seen S) (limit : ℕ) (GoesOn : Events → Type 0) (Ends : Events → E → Type 0) (events : Events) (fault : BusFault)
-    → Ran rules old now (reverse (steps_of events)) → GoesOn events × (length (steps_of events) < limit) → (fault ≡ TraceFull → IsFull now) → fault ≢ BadShape → new ≡ now
-    → Ran rules old new (reverse (steps_of events)) × IsCarriedOut limit GoesOn Ends (IsFull new) events (Err fault)
-runs_out {S} {E} rules old now new limit GoesOn Ends events TraceFull ran on full shaped is = (
-  subst (λ (s : Seen S). Ran rules old s (reverse (steps_of events))) (sym is) ran,
-  record { fault = refl; is_full = subst (λ (s : Seen S). IsFull s) (sym is) (full refl); fewer = on.1; goes_on = on.0 },
-)
-runs_out rules old now new limit GoesOn Ends events BadShape ran on full shaped is = absurd (shaped refl)

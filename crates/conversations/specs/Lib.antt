@@ -5,4 +5,3 @@ pub mod Carried
 pub mod Pauses
 pub mod Selecting
 pub mod Pieces
-pub mod Deadlines

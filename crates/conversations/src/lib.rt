@@ -6,11 +6,12 @@
 mod conversation;
 mod event;
 mod in_pieces;
+pub mod laws;
 mod next;
 mod on_page;
 mod pausing;
 mod runner;
-mod until;
+mod timed_bus;
 mod within;
 
 pub use conversation::{Conversation, try_take};
@@ -18,7 +19,7 @@ pub use event::Event;
 pub use in_pieces::InPieces;
 pub use next::{Next, can_have};
 pub use on_page::{NeedsPages, OnPage};
-pub use pausing::{Pausing, pauses_between};
-pub use runner::{run, run_pausing};
-pub use until::{Last, Timed, Until};
+pub use pausing::{Patience, Pausing, Timed};
+pub use runner::run;
+pub use timed_bus::TimedBus;
 pub use within::{Spent, Within};

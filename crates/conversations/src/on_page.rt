@@ -3,6 +3,7 @@ ghost use Rattle.conversations.specs.Selecting.{chosen, lacked_by, taken_by};
 
 use crate::conversation::Conversation;
 use crate::next::Next;
+use crate::pausing::is_refused;
 use bus_model::Reply;
 use paged_memory::{KnownPage, PageAddressing};
 
@@ -68,6 +69,8 @@ pub struct OnPage<C> {
     pub selection: KnownPage,
     /// The page whose selection was accepted, until it is read back, if it may be lacked.
     pub taken: Option<u8>,
+    /// Whether nothing is known of the selection after a refusal, since the module may have reset itself.
+    pub doubts: bool,
 }
 
 impl<C: NeedsPages> Conversation for OnPage<C>
@@ -75,24 +78,24 @@ where
     C::End: Drop,
 {
     ghost use Rattle.conversations.specs.Events.{steps_of};
-    ghost use Rattle.conversations.specs.Selecting.{Knows, WithSelections, chosen, next_on, on_after};
+    ghost use Rattle.conversations.specs.Selecting.{Knows, WithSelections, chosen, next_on, on_after, trusted};
 
-    type Topic = C::Topic;
+    type Topic = (bool, C::Topic);
 
     type End = C::End;
 
-    ghost topic = { λ on. C.topic on.conversation };
+    ghost topic = { λ on. (on.doubts, C.topic on.conversation) };
 
     ghost wants = { λ on. next_on (chosen (C.addressing on.conversation)) on.selection (C.page on.conversation) (C.wants on.conversation) };
 
     ghost after = { λ on reply. on_after (λ c r. C.after c r) (λ c number. C.lacking c number) (C.may_lack (C.topic on.conversation)) (chosen (C.addressing on.conversation)) (C.page on.conversation) on reply };
 
-    ghost told = { λ events on. Knows (C.may_lack (C.topic on.conversation)) (C.addressing on.conversation) on.selection on.taken (steps_of events)
-        × WithSelections (C.may_lack (C.topic on.conversation)) (C.addressed (C.topic on.conversation)) (C.needs (C.topic on.conversation)) (λ own. C.told own on.conversation) events };
+    ghost told = { λ events on. Knows (C.may_lack (C.topic on.conversation)) (C.addressing on.conversation) on.selection on.taken (trusted on.doubts (steps_of events))
+        × WithSelections on.doubts (C.may_lack (C.topic on.conversation)) (C.addressed (C.topic on.conversation)) (C.needs (C.topic on.conversation)) (λ own. C.told own on.conversation) events };
 
-    ghost ends = { λ topic events end. WithSelections (C.may_lack topic) (C.addressed topic) (C.needs topic) (λ own. C.ends topic own end) events };
+    ghost ends = { λ topic events end. WithSelections topic.0 (C.may_lack topic.1) (C.addressed topic.1) (C.needs topic.1) (λ own. C.ends topic.1 own end) events };
 
-    ghost goes_on = { λ topic events. WithSelections (C.may_lack topic) (C.addressed topic) (C.needs topic) (λ own. C.goes_on topic own) events };
+    ghost goes_on = { λ topic events. WithSelections topic.0 (C.may_lack topic.1) (C.addressed topic.1) (C.needs topic.1) (λ own. C.goes_on topic.1 own) events };
 
     fn next(&self) -> Next<C::End> {
         match self.conversation.next() {
@@ -106,6 +109,46 @@ where
     }
 
     fn take(&mut self, reply: &Reply) {
+        self.take_trusting(reply);
+        self.doubt(reply);
+    }
+
+    fn waited(&mut self) {
+        let _known = self.conversation.addressing();
+        self.conversation.waited();
+        let _same = self.conversation.addressing();
+    }
+
+    fn asked(&mut self, number: u32) {
+        let _known = self.conversation.addressing();
+        self.conversation.asked(number);
+        let _same = self.conversation.addressing();
+    }
+}
+
+impl<C: NeedsPages> OnPage<C> {
+    ghost use Rattle.std.specs.Prelude.{◌≡◌, ◌∷◌};
+    ghost use Rattle.bus_model.specs.declared.operation.Op.{Op};
+    ghost use Rattle.bus_model.specs.declared.operation.Step.{Step};
+    ghost use Rattle.conversations.specs.declared.next.Next.TheVariants.{Do};
+    ghost use Rattle.conversations.specs.Events.{Events, made, steps_of};
+    ghost use Rattle.conversations.specs.Selecting.{Knows, WithSelections, after_trusting, chosen, next_on, trusted};
+    ghost use Rattle.conversations.specs.Wanted.{IsReplyTo};
+
+    // As if a refusal left the selection as it is.
+    fn take_trusting(&mut self, reply: &Reply)
+    where
+        C::End: Drop,
+        requires { IsReplyTo (next_on (chosen (C.addressing self.old.conversation)) self.old.selection (C.page self.old.conversation) (C.wants self.old.conversation)) reply.now }
+        ensures after { self.new ≡ after_trusting (λ c r. C.after c r) (λ c number. C.lacking c number) (C.may_lack (C.topic self.old.conversation)) (chosen (C.addressing self.old.conversation)) (C.page self.old.conversation) self.old reply.now }
+        ensures doubts { self.new.doubts ≡ self.old.doubts }
+        ensures topic { C.topic self.new.conversation ≡ C.topic self.old.conversation }
+        ensures told { (events : Events) (op : Op) → next_on (chosen (C.addressing self.old.conversation)) self.old.selection (C.page self.old.conversation) (C.wants self.old.conversation) ≡ Do op →
+            Knows (C.may_lack (C.topic self.old.conversation)) (C.addressing self.old.conversation) self.old.selection self.old.taken (trusted self.old.doubts (steps_of events)) →
+            WithSelections self.old.doubts (C.may_lack (C.topic self.old.conversation)) (C.addressed (C.topic self.old.conversation)) (C.needs (C.topic self.old.conversation)) (λ own. C.told own self.old.conversation) events →
+            Knows (C.may_lack (C.topic self.new.conversation)) (C.addressing self.new.conversation) self.new.selection self.new.taken (record { op = op; reply = reply.now } ∷ trusted self.old.doubts (steps_of events))
+            × WithSelections self.old.doubts (C.may_lack (C.topic self.new.conversation)) (C.addressed (C.topic self.new.conversation)) (C.needs (C.topic self.new.conversation)) (λ own. C.told own self.new.conversation) (made op reply.now ∷ events) }
+    {
         let addressing = chosen(self.conversation.addressing());
         let page = self.conversation.page();
         if self.selection.is_open() {
@@ -130,24 +173,22 @@ where
             }
         }
     }
-
-    fn waited(&mut self) {
-        let _known = self.conversation.addressing();
-        self.conversation.waited();
-        let _same = self.conversation.addressing();
-    }
-
-    fn asked(&mut self, number: u32) {
-        let _known = self.conversation.addressing();
-        self.conversation.asked(number);
-        let _same = self.conversation.addressing();
-    }
 }
 
 impl<C> OnPage<C> {
     ghost use Rattle.std.specs.Prelude.{◌≡◌};
-    ghost use Rattle.conversations.specs.Selecting.{lacked, taken_after};
+    ghost use Rattle.conversations.specs.Selecting.{doubting, lacked, taken_after};
     ghost use Rattle.paged_memory.specs.KnownPages.{selection_told};
+
+    // After a refusal, forgets what is known of the selection, if it doubts.
+    fn doubt(&mut self, reply: &Reply)
+        ensures { self.new ≡ doubting self.old reply.now }
+    {
+        if self.doubts && is_refused(reply) {
+            self.selection = KnownPage::Unknown;
+            self.taken = None;
+        }
+    }
 
     // Answers the page that is needed, if it isn't there.
     fn read_back(
@@ -160,6 +201,7 @@ impl<C> OnPage<C> {
           conversation = self.old.conversation;
           selection = selection_told addressing self.old.selection reply.now;
           taken = taken_after self.old.taken reply.now;
+          doubts = self.old.doubts;
         } }
         ensures lacked { result ≡ lacked addressing page self.old.taken reply.now }
     {

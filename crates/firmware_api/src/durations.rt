@@ -5,6 +5,7 @@ ghost use Rattle.firmware_api.specs.Statuses.{done, status_by};
 
 use crate::half::{HalfBytes, image_of, read_advert};
 use crate::status::DONE;
+use control_sets::longest_duration;
 use field_tables::{Field, number};
 use paged_memory::Image;
 
@@ -51,20 +52,5 @@ fn put_durations(image: &Image, durations: &mut Durations)
 fn longest(code: u8) -> u32
     ensures { result ≡ longest code }
 {
-    match code {
-        0 => 1,
-        1 => 5,
-        2 => 10,
-        3 => 50,
-        4 => 100,
-        5 => 500,
-        6 => 1_000,
-        7 => 5_000,
-        8 => 10_000,
-        9 => 60_000,
-        10 => 300_000,
-        11 => 600_000,
-        12 => 3_000_000,
-        _ => u32::MAX,
-    }
+    longest_duration(code).unwrap_or(u32::MAX)
 }

@@ -24,7 +24,7 @@ use Rattle.conversations.specs.declared.next.Next.TheVariants.{Do, Wait, End}
 use Rattle.conversations.specs.declared.within.Spent.{Spent}
 use Rattle.conversations.specs.Budgets.{next_within}
 use Rattle.conversations.specs.Events.{Events, steps_of}
-use Rattle.conversations.specs.Selecting.{AddsSelections, ByAddressing, Knows, IsSelecting, LacksNone, ShowsNone, chosen, is_on, next_on}
+use Rattle.conversations.specs.Selecting.{AddsSelections, ByAddressing, Knows, IsSelecting, LacksNone, ShowsNone, WithSelections, chosen, is_on, next_on}
 use Rattle.paged_memory.specs.declared.page_addressing.PageAddressing.TheVariants.{BankAndPage}
 use Rattle.module_reading.specs.ImageReading.{IsTold, Reading, put_in}
 use Rattle.module_reading.specs.ReadingRuns.{HasOutcome, WithOwn}
@@ -354,7 +354,7 @@ fits_before addressing event own fits not_first =
       with_test true t e = absurd cc
       with_test false t e = (λ zero_is. true≢false (sym (eq-eqb halves.settled 0 zero_is) ∙ t), cc)
 
-comes : (addressing : PageAddressing) (events own : Events) → AddsSelections true addressing reader.needed_after own events → reader.EachIsWanted own → Fits addressing (reader.halves_after own) → Comes addressing (reader.halves_after own) (steps_of events)
+comes : (addressing : PageAddressing) (events own : Events) → AddsSelections false true addressing reader.needed_after own events → reader.EachIsWanted own → Fits addressing (reader.halves_after own) → Comes addressing (reader.halves_after own) (steps_of events)
 comes addressing [] own none each fits =
     subst (λ (own : Events). Comes addressing (reader.halves_after own) []) (sym none) (record { at = starts; closed = (λ first. refl, λ ended. refl) })
 comes addressing (Made step ∷ before) own (inl (selecting, none, answers, adds)) each fits =
@@ -412,21 +412,26 @@ outcome events halves few (own, adds, told) =
     let at = by_place after.settled refl in
     subst (λ (h : Halves). HasOutcome (steps_of events) h) (sym told.is) (outcome_at after (steps_of events) few at)
   where
-    with_addressing : (addressing : PageAddressing) → AddsSelections true addressing reader.needed_after own events → Fits addressing (reader.halves_after own) → IsAt (reader.halves_after own) (steps_of events)
+    with_addressing : (addressing : PageAddressing) → AddsSelections false true addressing reader.needed_after own events → Fits addressing (reader.halves_after own) → IsAt (reader.halves_after own) (steps_of events)
     with_addressing addressing adds fits = (comes addressing events own adds told.each fits).at
 
     by_place : (n : ℕ) → (reader.halves_after own).settled ≡ n → IsAt (reader.halves_after own) (steps_of events)
     by_place zero e =
-        let adds' = subst (λ (b : Option PageAddressing). ByAddressing b (λ a. AddsSelections true a reader.needed_after own events)) (ap (λ (m : ℕ). reader.addressing_by m (reader.halves_after own).image) e) adds in
+        let adds' = subst (λ (b : Option PageAddressing). ByAddressing b (λ a. AddsSelections false true a reader.needed_after own events)) (ap (λ (m : ℕ). reader.addressing_by m (reader.halves_after own).image) e) adds in
         with_addressing BankAndPage (adds' BankAndPage) (λ not_first. absurd (not_first e))
     by_place (suc n) e =
-        let adds' = subst (λ (b : Option PageAddressing). ByAddressing b (λ a. AddsSelections true a reader.needed_after own events)) (ap (λ (m : ℕ). reader.addressing_by m (reader.halves_after own).image) e ∙ known_later n (reader.halves_after own).image) adds in
+        let adds' = subst (λ (b : Option PageAddressing). ByAddressing b (λ a. AddsSelections false true a reader.needed_after own events)) (ap (λ (m : ℕ). reader.addressing_by m (reader.halves_after own).image) e ∙ known_later n (reader.halves_after own).image) adds in
         with_addressing (addressing_of (reader.halves_after own).image) adds' (λ not_first. refl)
 
 -- ---- readings that are driven
 
 pub begins_told : Knows true None Unknown None [] × WithOwn (λ own. IsTold own reader.begun) []
 begins_told = ((λ none. refl, λ addressing. (tells_nothing addressing, record { was = λ page e. absurd cc; is = λ may awaited. absurd cc })), ([], λ addressing. refl, record { is = refl; each = tt }))
+
+-- a reading that doesn't doubt
+pub trusting : (events : Events) (reading : Reading) → reading.conversation.doubts ≡ false →
+    WithSelections reading.conversation.doubts true reader.addressed_after reader.needed_after (λ own. IsTold own reading.conversation.conversation) events → WithOwn (λ own. IsTold own reading.conversation.conversation) events
+trusting events reading trusts told = subst (λ (doubts : Bool). WithSelections doubts true reader.addressed_after reader.needed_after (λ own. IsTold own reading.conversation.conversation) events) trusts told
 
 pub reading_outcome : (events : Events) (reading : Reading) → WithOwn (λ own. IsTold own reading.conversation.conversation) events → length (steps_of events) ≡ reading.steps → reading.steps ≤ reading.limit → reading.limit ≡ most_steps →
     HasOutcome (steps_of events) reading.conversation.conversation

@@ -1,6 +1,6 @@
 -- How far the reading of a module has come: what it asks for, and what a reply makes of it. Its events are its own, without the
 -- selection of pages, the newest first. (docs/bus.md, "Reading an image"; this project's own)
-use Rattle.std.specs.Prelude.{◌≡◌, ℕ, ◌+◌, ◌==◌, ◌&&◌, not, List, [], ◌∷◌, Option, Some, None, slice_get, if◌then◌else◌}
+use Rattle.std.specs.Prelude.{◌≡◌, ℕ, ◌+◌, ◌==◌, ◌&&◌, not, false, List, [], ◌∷◌, Option, Some, None, slice_get, if◌then◌else◌}
 use Rattle.std.specs.FinMap as map
 use Rattle.bus_model.specs.declared.operation.Reply.{Reply}
 use Rattle.bus_model.specs.declared.operation.Reply.TheVariants.{Bytes, Done, Refused}
@@ -28,7 +28,7 @@ abbrev pub Reading : Type 0
 Reading = Within (OnPage Halves)
 
 abbrev pub begun_reading : Reading
-begun_reading = record { conversation = record { conversation = begun; selection = Unknown; taken = None }; steps = 0; limit = most_steps }
+begun_reading = record { conversation = record { conversation = begun; selection = Unknown; taken = None; doubts = false }; steps = 0; limit = most_steps }
 
 -- the half in hand is the first that was neither read nor left out
 abbrev pub in_hand : Halves → Option Region

@@ -1,6 +1,6 @@
 -- What comes of the reading of a module's memory without a bus, by the events that it was told. (docs/bus.md, "Reading an image";
 -- this project's own)
-use Rattle.std.specs.Prelude.{◌≡◌, length, None, true}
+use Rattle.std.specs.Prelude.{◌≡◌, length, None, false, true}
 use Rattle.control_sets.specs.OutcomeAnswers.{most_steps}
 use Rattle.conversations.specs.Events.{Events}
 use Rattle.conversations.specs.Selecting.{WithSelections}
@@ -11,7 +11,7 @@ use Rattle.module_reading.specs.ReadImages.{IsGivenUp, IsImageOf, IsReading, IsU
 
 -- its own events, with selections added
 abbrev pub WithOwn : (Events → Type 0) → Events → Type 0
-WithOwn P events = WithSelections true addressed_after needed_after P events
+WithOwn P events = WithSelections false true addressed_after needed_after P events
 
 -- if it asks for nothing more, its steps are the reading of the image that it has; if it gives up, of none
 pub record HasOutcome (history : History) (halves : Halves) : Type 0 where

@@ -38,6 +38,7 @@ impl Halves {
             conversation: halves,
             selection: KnownPage::Unknown,
             taken: None,
+            doubts: false,
         };
         Within::new(on_page, MAX_STEPS)
     }

@@ -4,7 +4,7 @@ ghost use Rattle.bus_model.specs.Operations.{Answers, IsWellShaped};
 ghost use Rattle.bus_model.specs.declared.operation.Op.{Op};
 ghost use Rattle.control_sets.specs.OutcomeAnswers.{most_steps};
 ghost use Rattle.control_sets.specs.PowerControls.{wanted_controls};
-ghost use Rattle.control_sets.specs.PowerProgress.{answer_of, judged_power, operation_at, stage_after, stage_judged};
+ghost use Rattle.control_sets.specs.PowerProgress.{answer_of, judged_power, operation_at, patient_power, stage_after, stage_judged};
 
 mod runner;
 mod saved;
@@ -14,10 +14,10 @@ use crate::procedures::judgement::ReplyJudgement;
 use crate::procedures::procedure::MAX_STEPS;
 use crate::procedures::task::{read_of, store_byte};
 use bus_model::{Op, Reply};
-use conversations::{Conversation, Next, Spent, Within};
+use conversations::{Conversation, Next, Patience, Pausing, Spent, Within};
 use field_tables::{Field, Register, number_in_byte};
 use module_states::{ModuleState, state_of};
-pub use runner::{change_power, change_power_pausing};
+pub use runner::change_power;
 
 /// What a module is to be.
 #[derive(Clone, Copy, Debug, PartialEq, Eq)]
@@ -49,20 +49,36 @@ pub struct PowerChange {
     pub fault: Option<ProvisionFault>,
 }
 
+/// A change of power on a real bus: it pauses, and ends if it does that for too long.
+pub type PatientPower = Within<Pausing<PowerChange>>;
+
 impl PowerChange {
-    ghost use Rattle.std.specs.Prelude.{None};
+    ghost use Rattle.std.specs.Prelude.{None, false};
     ghost use Rattle.control_sets.specs.declared.procedures.power.PowerStage.TheVariants.{Unread};
 
     /// Brings a module to this power, within as many steps as a procedure may make.
     pub fn to(power: Power) -> Within<PowerChange>
         ensures { result ≡ record { conversation = record { power = power; stage = Unread; fault = None }; steps = 0; limit = most_steps } }
     {
-        let change = PowerChange {
+        Within::new(PowerChange::begun(power), MAX_STEPS)
+    }
+
+    /// The same on a real bus, with so much patience.
+    pub fn patient(power: Power, patience: Patience) -> PatientPower
+        ensures { result ≡ patient_power (record { power = power; stage = Unread; fault = None }) patience false 0 0 }
+    {
+        let pausing = Pausing::new(PowerChange::begun(power), patience);
+        Within::new(pausing, MAX_STEPS)
+    }
+
+    fn begun(power: Power) -> PowerChange
+        ensures { result ≡ record { power = power; stage = Unread; fault = None } }
+    {
+        PowerChange {
             power,
             stage: PowerStage::Unread,
             fault: None,
-        };
-        Within::new(change, MAX_STEPS)
+        }
     }
 
     fn op(&self) -> Option<Op>

@@ -8,10 +8,10 @@ use crate::fault::ProvisionFault;
 use crate::procedures::judgement::ReplyJudgement;
 use crate::procedures::task::Task;
 use bus_model::Reply;
-use conversations::{Conversation, NeedsPages, Next, OnPage, Within};
+use conversations::{Conversation, NeedsPages, Next, OnPage, Patience, Pausing, Within};
 use field_tables::LaneSet;
 use paged_memory::{KnownPage, PageAddressing};
-pub use saved::SavedProcedure;
+pub use saved::{SavedProcedure, number_of_due};
 
 /// How many steps a procedure makes at most.
 pub const MAX_STEPS: u16 = 4096;
@@ -78,27 +78,44 @@ pub struct TaskList {
 /// A procedure without a bus: tasks on confirmed pages, within as many steps as may be made.
 pub type Procedure = Within<OnPage<TaskList>>;
 
+/// The same for a real bus: it pauses, ends if it does that for too long, and doubts the selection of a page after a refusal.
+pub type PatientProcedure = Within<Pausing<OnPage<TaskList>>>;
+
 impl TaskList {
-    ghost use Rattle.std.specs.Prelude.{None};
+    ghost use Rattle.std.specs.Prelude.{None, false};
     ghost use Rattle.conversations.specs.Wanted.{IsReplyTo};
     ghost use Rattle.paged_memory.specs.declared.page_addressing.KnownPage.TheVariants.{Unknown};
-    ghost use Rattle.control_sets.specs.Progress.{after_reply, hand, list_at, procedure_of, wants};
+    ghost use Rattle.control_sets.specs.Progress.{after_reply, hand, list_at, on_page_of, patient_of, procedure_of, wants};
 
     /// Brings the work about, within as many steps as a procedure may make.
     pub fn of(work: Work) -> Procedure
         ensures { result ≡ procedure_of (list_at work (0, None)) Unknown 0 }
+    {
+        Within::new(TaskList::begun(work, false), MAX_STEPS)
+    }
+
+    /// Brings the work about on a real bus, within as many steps and with so much patience.
+    pub fn patient(work: Work, patience: Patience) -> PatientProcedure
+        ensures { result ≡ patient_of (list_at work (0, None)) Unknown patience false 0 0 }
+    {
+        let pausing = Pausing::new(TaskList::begun(work, true), patience);
+        Within::new(pausing, MAX_STEPS)
+    }
+
+    fn begun(work: Work, doubts: bool) -> OnPage<TaskList>
+        ensures { result ≡ on_page_of (list_at work (0, None)) Unknown doubts }
     {
         let list = TaskList {
             work,
             met: 0,
             fault: None,
         };
-        let on_page = OnPage {
+        OnPage {
             conversation: list,
             selection: KnownPage::Unknown,
             taken: None,
-        };
-        Within::new(on_page, MAX_STEPS)
+            doubts,
+        }
     }
 
     // The task in hand, if there is one.

@@ -8,9 +8,6 @@ ghost use Rattle.control_sets.specs.Answers.{activated_steps, provisioned_steps}
 ghost use Rattle.control_sets.specs.OutcomeOfProvisioning.{IsProvisioning};
 ghost use Rattle.control_sets.specs.OutcomeOfActivation.{IsActivation};
 ghost use Rattle.bus_model.specs.Runs.{IsFull};
-ghost use Rattle.conversations.specs.Carried.{MakesEvents};
-ghost use Rattle.conversations.specs.Events.{steps_of};
-ghost use Rattle.conversations.specs.Pauses.{AreSpaced};
 
 use crate::fault::ProvisionFault;
 use crate::plan_bytes::{bytes_of, lanes_of, lanes_outside};
@@ -19,7 +16,7 @@ use crate::procedures::procedure::{TaskList, Work};
 use applications::Advert;
 use arrayvec::ArrayVec;
 use bus_model::Bus;
-use conversations::{run, run_pausing};
+use conversations::run;
 use plan_certificate::Plan;
 
 /// A plan was provisioned.
@@ -102,53 +99,6 @@ pub fn activate<B: Bus>(
     }
 }
 
-/// `provision_keeping` with a pause of so many milliseconds wherever the transaction before brought nothing.
-pub fn provision_pausing<B: Bus>(
-    bus: &mut B,
-    advert: &Advert,
-    plan: &Plan,
-    kept: &Plan,
-    pause: u32,
-) -> Result<Provisioned, ProvisionFault>
-    requires admissible { IsAdmissible advert.now plan.now }
-    requires kept { Keeps kept.now plan.now }
-    ensures { let control = control_bytes advert.now plan.now in
-        let lanes = lanes_outside advert.now kept.now in
-        MakesEvents B.rules (B.seen bus.old) (B.seen bus.new) (λ events. AreSpaced pause events
-        × IsProvisioning control lanes (IsFull (B.seen bus.new)) (steps_of events) (provisioned_steps result)) }
-{
-    let work = Work::Provisioning {
-        control: bytes_of(advert, plan),
-        lanes: lanes_outside(advert, kept),
-    };
-    match carry_out_pausing(bus, work, pause) {
-        Ok(steps) => Ok(Provisioned { steps }),
-        Err(fault) => Err(fault),
-    }
-}
-
-/// `activate` with a pause of so many milliseconds wherever the transaction before brought nothing.
-pub fn activate_pausing<B: Bus>(
-    bus: &mut B,
-    advert: &Advert,
-    plan: &Plan,
-    pause: u32,
-) -> Result<Activated, ProvisionFault>
-    requires { IsAdmissible advert.now plan.now }
-    ensures { let lanes = plan_lanes advert.now plan.now in
-        MakesEvents B.rules (B.seen bus.old) (B.seen bus.new) (λ events. AreSpaced pause events
-        × IsActivation (control_bytes advert.now plan.now) lanes (IsFull (B.seen bus.new)) (steps_of events) (activated_steps result)) }
-{
-    let work = Work::Activation {
-        control: bytes_of(advert, plan),
-        lanes: lanes_of(advert, plan),
-    };
-    match carry_out_pausing(bus, work, pause) {
-        Ok(steps) => Ok(Activated { steps }),
-        Err(fault) => Err(fault),
-    }
-}
-
 // Brings the work about; answers the number of steps.
 fn carry_out<B: Bus>(bus: &mut B, work: Work) -> Result<u16, ProvisionFault>
     ensures { MakesHistory B.rules (B.seen bus.old) (B.seen bus.new) (λ history.
@@ -156,16 +106,6 @@ fn carry_out<B: Bus>(bus: &mut B, work: Work) -> Result<u16, ProvisionFault>
 {
     let mut procedure = TaskList::of(work);
     match run(bus, &mut procedure) {
-        Ok(spent) => answer_of(spent),
-        Err(fault) => Err(ProvisionFault::Bus(fault)),
-    }
-}
-
-fn carry_out_pausing<B: Bus>(bus: &mut B, work: Work, pause: u32) -> Result<u16, ProvisionFault>
-    ensures { MakesEvents B.rules (B.seen bus.old) (B.seen bus.new) (λ events. AreSpaced pause events
-        × IsOutcome (tasks_of work) (B.seen bus.new) (steps_of events) result) }
-{
-    match run_pausing(bus, TaskList::of(work), pause) {
         Ok(spent) => answer_of(spent),
         Err(fault) => Err(ProvisionFault::Bus(fault)),
     }

@@ -32,8 +32,8 @@ impl SavedFault {
     pub fn fault(&self) -> Option<Option<ProvisionFault>>
         ensures { result ≡ fault_in self.now }
     {
-        match self.code {
-            0 => Some(None),
+        match (self.code, self.first, self.second) {
+            (0, 0, 0) => Some(None),
             _ => Some(Some(self.numbered()?)),
         }
     }
@@ -41,14 +41,14 @@ impl SavedFault {
     fn numbered(&self) -> Option<ProvisionFault>
         ensures { result ≡ fault_numbered self.now }
     {
-        match self.code {
-            1 => Some(ProvisionFault::Rejected(self.first, self.second)),
-            2 => Some(ProvisionFault::StagedDiffers(self.first)),
-            3 => Some(ProvisionFault::ActiveDiffers(self.first)),
-            4 => Some(ProvisionFault::GaveUp),
-            5 => Some(ProvisionFault::Bus(bus_fault_numbered(self.first)?)),
-            6 => Some(ProvisionFault::ModuleState(self.first)),
-            7 => Some(ProvisionFault::Reserved(self.first)),
+        match (self.code, self.first, self.second) {
+            (1, lane, status) => Some(ProvisionFault::Rejected(lane, status)),
+            (2, lane, 0) => Some(ProvisionFault::StagedDiffers(lane)),
+            (3, lane, 0) => Some(ProvisionFault::ActiveDiffers(lane)),
+            (4, 0, 0) => Some(ProvisionFault::GaveUp),
+            (5, number, 0) => Some(ProvisionFault::Bus(bus_fault_numbered(number)?)),
+            (6, code, 0) => Some(ProvisionFault::ModuleState(code)),
+            (7, code, 0) => Some(ProvisionFault::Reserved(code)),
             _ => None,
         }
     }

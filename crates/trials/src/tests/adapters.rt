@@ -4,11 +4,8 @@ use super::plans::{FOUR_PAIRS, bus_of, plan_of};
 use applications::Advert;
 use arrayvec::ArrayVec;
 use bus_model::{Bus, Dev, Device, ScriptBus};
-use control_sets::{
-    Activated, Power, PowerChange, Provisioned, activate_pausing, change_power_pausing,
-    provision_pausing,
-};
-use conversations::{Conversation, InPieces, Next, Pausing, Timed, Until, Within, run};
+use control_sets::{PatientFault, Power, PowerChange, activate_on, change_power_on, provision_on};
+use conversations::{Conversation, InPieces, Next, Patience, Timed, run};
 use module_reading::{Halves, Reading};
 use paged_memory::{Key, Window};
 use plan_certificate::{Plan, admissible};
@@ -41,23 +38,20 @@ where
     Ok(None)
 }
 
-fn pausing(change: Within<PowerChange>, pause: u32) -> Pausing<Within<PowerChange>> {
-    Pausing {
-        conversation: change,
-        pause,
-        due: false,
-    }
-}
+const LASTING: Patience = Patience {
+    pause: 7,
+    limit: u32::MAX,
+};
 
-// Three refusals, of which the last is of a store, and what the caller says before anything is made.
+// Three refusals, of which the last is of a store; what the caller says lifts no pause, and makes none.
 #[test]
 fn each_refusal_is_followed_by_a_pause(rt: HostRuntime) -> Result<(), Fail> {
     for (script, says, time) in [
         (b"".as_slice(), false, 0),
         (b"nack 2\nok 1\nnack 1\n", false, 21),
-        (b"nack 2\nok 1\nnack 1\n", true, 28),
+        (b"nack 2\nok 1\nnack 1\n", true, 21),
     ] {
-        let mut change = pausing(PowerChange::to(Power::Awake), 7);
+        let mut change = PowerChange::patient(Power::Awake, LASTING);
         if says {
             change.asked(1);
         }
@@ -73,9 +67,13 @@ fn a_state_that_never_comes_is_overdue(rt: HostRuntime) -> Result<(), Fail> {
     for (limit, time) in [(0, 7), (48, 49), (49, 56)] {
         let asleep = with(image()?, Key::lower(Dev::A0), &[(3, 0x02)])?;
         let mut bus = bus_of(rt.alloc(), Window::<16>::of(&asleep)?, b"", 50)?;
-        let mut change = Until::new(pausing(PowerChange::to(Power::Awake), 7), limit);
+        let patience = Patience { pause: 7, limit };
+        let mut change = PowerChange::patient(Power::Awake, patience);
         assert_eq!(rt; waited(&mut change, &mut bus)?, Some(time));
-        assert!(rt; matches!(change.next(), Next::End(Timed::Overdue)));
+        assert!(rt; matches!(change.conversation.next(), Next::End(Timed::Overdue)));
+        let mut bus = bus_of(rt.alloc(), Window::<16>::of(&asleep)?, b"", 50)?;
+        let told = change_power_on(&mut bus, Power::Awake, patience);
+        assert!(rt; matches!(told, Err(PatientFault::Overdue)));
     }
     Ok(())
 }
@@ -87,12 +85,10 @@ fn pauses_change_no_answer(rt: HostRuntime) -> Result<(), Fail> {
         paths: ArrayVec::new(),
     };
     let mut bus = bus_of(rt.alloc(), module()?, b"nack 2\n", 5000)?;
-    assert!(rt; change_power_pausing(&mut bus, Power::Awake, 5).is_ok());
+    assert!(rt; change_power_on(&mut bus, Power::Awake, LASTING).is_ok());
     assert!(rt; admissible(&advert, &plan));
-    let told = provision_pausing(&mut bus, &advert, &plan, &none, 5);
-    assert!(rt; matches!(told, Ok(Provisioned { .. })));
-    let told = activate_pausing(&mut bus, &advert, &plan, 5);
-    assert!(rt; matches!(told, Ok(Activated { .. })));
+    assert!(rt; provision_on(&mut bus, &advert, &plan, &none, LASTING).is_ok());
+    assert!(rt; activate_on(&mut bus, &advert, &plan, LASTING).is_ok());
     Ok(())
 }
 

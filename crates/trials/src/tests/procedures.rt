@@ -4,8 +4,11 @@ use super::plans::bus_of;
 use applications::LaneSet;
 use arrayvec::ArrayVec;
 use bus_model::{Bus, BusFault, Device, Reply, ScriptBus};
-use control_sets::{Procedure, ProvisionFault, TaskList, Work, answer_of};
-use conversations::{Conversation, Next, try_take};
+use control_sets::{
+    PatientFault, PatientProcedure, Procedure, ProvisionFault, TaskList, Work, answer_in_time,
+    answer_of,
+};
+use conversations::{Conversation, Next, Patience, try_take};
 use paged_memory::Window;
 use sample_modules::{with, with_run};
 use std::test::Fail;
@@ -52,12 +55,24 @@ fn other_lanes_are_not_looked_at(rt: HostRuntime) -> Result<(), Fail> {
     Ok(())
 }
 
+fn patient(lanes: LaneSet) -> PatientProcedure {
+    let work = Work::Provisioning {
+        control: PAIRS,
+        lanes,
+    };
+    let patience = Patience {
+        pause: 100,
+        limit: 1000,
+    };
+    TaskList::patient(work, patience)
+}
+
 // How it ended, if it has.
-fn answered(procedure: &Procedure) -> Option<Result<u16, ProvisionFault>> {
+fn answered(procedure: &PatientProcedure) -> Option<Result<u16, PatientFault<BusFault>>> {
     match procedure.next() {
         Next::Do(_op) => None,
         Next::Wait(_time) => None,
-        Next::End(spent) => Some(answer_of(spent)),
+        Next::End(spent) => Some(answer_in_time(spent)),
     }
 }
 
@@ -70,7 +85,7 @@ fn bytes_read(bytes: &[u8]) -> Reply {
 
 #[test]
 fn only_fitting_replies_are_taken(rt: HostRuntime) {
-    let mut procedure = provisioning(LaneSet::run(1, 8));
+    let mut procedure = patient(LaneSet::run(1, 8));
     let first = TaskList::save(&procedure);
     assert!(rt; !try_take(&mut procedure, &Reply::Done));
     assert!(rt; !try_take(&mut procedure, &bytes_read(&[6, 0])));
@@ -79,7 +94,7 @@ fn only_fitting_replies_are_taken(rt: HostRuntime) {
     assert!(rt; try_take(&mut procedure, &bytes_read(&[0])));
     assert_eq!(rt;
         answered(&procedure),
-        Some(Err(ProvisionFault::Reserved(0)))
+        Some(Err(PatientFault::Failed(ProvisionFault::Reserved(0))))
     );
     assert!(rt; !try_take(&mut procedure, &Reply::Refused));
 }

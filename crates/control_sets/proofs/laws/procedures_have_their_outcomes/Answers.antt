@@ -3,7 +3,7 @@ use Rattle.control_sets.proofs.OutcomeIsProvisioning.{ended_is_provisioning}
 use Rattle.control_sets.proofs.OutcomeIsActivation.{ended_is_activation}
 use Rattle.control_sets.proofs.PowerLaws.{driven_is}
 use Rattle.control_sets.proofs.PowerTold.{power_begun, power_told}
-use Rattle.control_sets.proofs.Turns.{begun_at, follows, kept_at, told_step}
+use Rattle.control_sets.proofs.Turns.{begun_at, follows, told_step}
 use Rattle.control_sets.proofs.laws.procedures_have_their_outcomes.Goals as goal
 
 pub returns-clause-provisioning : goal.returns-clause-provisioning
@@ -20,9 +20,6 @@ returns-clause-follows c tasks history procedure at = follows tasks history proc
 
 pub returns-clause-told : goal.returns-clause-told
 returns-clause-told c tasks history old new op reply same takes at = told_step tasks history old new op reply same takes at
-
-pub returns-clause-kept : goal.returns-clause-kept
-returns-clause-kept c tasks history procedure at = kept_at tasks history procedure at
 
 pub returns-clause-power_begun : goal.returns-clause-power_begun
 returns-clause-power_begun c power = power_begun power

@@ -1,19 +1,26 @@
-use Rattle.std.proofs.Common.{◌≡◌, false, ap, sym, ◌∙◌}
+use Rattle.std.proofs.Common.{◌≡◌, ◌∷◌, ℕ, Bool, false, Option, Some, ap, refl, subst, ◌∙◌}
+use Rattle.bus_model.specs.declared.operation.Op.{Op}
 use Rattle.conversations.specs.declared.next.Next.{Next}
-use Rattle.conversations.specs.declared.next.Next.TheVariants.{Do}
-use Rattle.conversations.specs.Pauses.{is_due, must_wait, pauses_between}
-use Rattle.conversations.proofs.PausingLaws.{due_next, pausing_do, pausing_made}
+use Rattle.conversations.specs.Events.{made}
+use Rattle.conversations.specs.Pauses.{AddsPauses, idle_after, is_fruitless, is_fruitless_in, is_selecting, is_selecting_in}
+use Rattle.conversations.specs.Wanted.{op_of}
+use Rattle.conversations.proofs.PausingLaws.{pausing_do}
 use Rattle.conversations.proofs.pausing.PausingConversation.take.Goals as goal
 
 pub returns-clause-told : goal.returns-clause-told
-returns-clause-told g c events op asks told =
+returns-clause-told g c events op asks (own, adds, at) =
     let old = c.args.self.now in
     let reply = c.args.reply.now in
-    let new = c.take.new.self in
-    let (no_due, wants) = pausing_do old.due old.pause (g.C.Conversation.wants old.conversation) op asks in
-    let no_wait : must_wait op events ≡ false = ap (λ (n : Next g.row.C-End.Denot). is_due n events) (sym wants) ∙ sym told.1 ∙ no_due in
-    let asked = c.next-asked.ensures.value ∙ wants in (
-      pausing_made old.pause (λ own. g.C.Conversation.told own old.conversation) (λ own. g.C.Conversation.told own new) op reply events no_wait told.0 (λ own at. c.take.ensures.told own op wants at),
-      c.pauses_between-self.ensures ∙ ap (λ (n : Next g.row.C-End.Denot). pauses_between n reply c.next.result) asked
-          ∙ ap (λ (n : Next g.row.C-End.Denot). pauses_between (Do op) reply n) c.next.ensures.value ∙ due_next op reply (g.C.Conversation.wants new) events,
-    )
+    let new = g.C.Conversation.wants c.take.new.self in
+    let (no_due, wants) = pausing_do old.due old.idle old.patience (g.C.Conversation.wants old.conversation) op asks in
+    let op_is = ap (λ (n : Next g.row.C-End.Denot). op_of n) wants in
+    let before : AddsPauses old.patience own events (Some op) false old.idle =
+    subst (λ (due : Bool). AddsPauses old.patience own events (Some op) due old.idle) no_due
+    (subst (λ (w : Option Op). AddsPauses old.patience own events w old.due old.idle) op_is adds) in
+    let asked : c.op_in-asked.result ≡ Some op = c.op_in-asked.ensures ∙ ap (λ (n : Next g.row.C-End.Denot). op_of n) c.next.ensures.value ∙ op_is in
+    let next : c.op_in-next.result ≡ op_of new = c.op_in-next.ensures ∙ ap (λ (n : Next g.row.C-End.Denot). op_of n) c.next-2.ensures.value in
+    let due : c.is_fruitless-self.result ≡ is_fruitless op reply (op_of new) =
+    c.is_fruitless-self.ensures ∙ ap (λ (a : Option Op). is_fruitless_in a reply c.op_in-next.result) asked ∙ ap (is_fruitless op reply) next in
+    let idle : c.idle_after-self.result ≡ idle_after c.is_fruitless-self.result (is_selecting op) old.idle =
+    c.idle_after-self.ensures ∙ ap (λ (s : Bool). idle_after c.is_fruitless-self.result s old.idle) (c.is_selecting.ensures ∙ ap is_selecting_in asked) in
+    (made op reply ∷ own, (own, old.idle, refl, before, due, idle), c.take.ensures.told own op wants at)

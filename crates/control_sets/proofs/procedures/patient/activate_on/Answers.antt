@@ -1,0 +1,12 @@
+use Rattle.std.proofs.Common.{◌≡◌, subst}
+use Rattle.conversations.specs.Carried.{MakesEvents}
+use Rattle.control_sets.specs.declared.procedures.procedure.Work.{Work}
+use Rattle.control_sets.specs.declared.procedures.procedure.Work.TheVariants.{Activation}
+use Rattle.control_sets.specs.PatientProcedures.{IsPatientWork}
+use Rattle.control_sets.proofs.procedures.patient.activate_on.Goals as goal
+
+pub returns : goal.returns
+returns g c =
+    let new = c.carry_out_on.new.bus in
+    subst (λ (work : Work). MakesEvents (λ old step new. g.B.TimedBus.makes old step new) (λ old time new. g.B.TimedBus.passes old time new) c.args.bus.now (λ last events.
+        IsPatientWork c.args.patience work (last ≡ new) (λ fault. g.B.TimedBus.fails last fault new) events c.carry_out_on.result)) (λ i. Activation (c.bytes_of.ensures i) (c.lanes_of.ensures i)) c.carry_out_on.ensures
