@@ -132,6 +132,7 @@ told_can tasks met (Some fault) (Some task) e can reply = absurd cc
 told_can tasks met None (Some task) e can reply = by (judgement task reply) (reply_found task reply) where
   more : met < length tasks
   more = slice_get_within tasks met task e
+
   by : (judged : ReplyJudgement) → found_in judged ≡ true → can_stand tasks (judged_at (met, None) judged).0 (judged_at (met, None) judged).1 ≡ true
   by Met found = le-leb (met + 1) (length tasks) (omega (arith, more))
   by NotYet found = can

@@ -156,8 +156,8 @@ ToldProcedure events procedure =
 abbrev pub ToldPatient : Events → PatientProcedure → Type 0
 ToldPatient events procedure =
     WithPauses procedure.conversation.patience (λ own.
-      Knows false (Some BankAndPage) procedure.conversation.conversation.selection procedure.conversation.conversation.taken (trusted procedure.conversation.conversation.doubts (steps_of own))
-      × WithOwn procedure.conversation.conversation.doubts procedure.conversation.conversation.conversation.work (λ own. IsTold (steps_of own) procedure.conversation.conversation.conversation) own)
+    Knows false (Some BankAndPage) procedure.conversation.conversation.selection procedure.conversation.conversation.taken (trusted procedure.conversation.conversation.doubts (steps_of own))
+    × WithOwn procedure.conversation.conversation.doubts procedure.conversation.conversation.conversation.work (λ own. IsTold (steps_of own) procedure.conversation.conversation.conversation) own)
     (op_of (next_on BankAndPage procedure.conversation.conversation.selection (page_by (hand procedure.conversation.conversation.conversation)) (wants procedure.conversation.conversation.conversation)))
     procedure.conversation.due procedure.conversation.idle events
     × (length (steps_of events) ≡ procedure.steps)

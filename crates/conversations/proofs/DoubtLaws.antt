@@ -42,10 +42,15 @@ module _ (may : Bool) (addressing : PageAddressing) (needs : Events → Option �
       (λ stores plain. absurd (stores (subst IsFetch (sym reads) (read_is_fetch addressing))), confirms_stores own before adds)
   confirms_stores own (Made step ∷ before) (inl (inr (closed, (page, needed, unconfirmed, selects)), none, answers, adds)) =
       (λ stores plain. absurd (not_both (may_select addressing step.op) (ap (may_select addressing) selects ∙ selection_selects addressing page) plain), confirms_stores own before adds)
-  confirms_stores own (Made step ∷ before) (inr (inl (earlier, is, closed, on, adds))) =
-      (λ stores plain. (earlier, adds, λ page needed since older refusal split refused. confirmed_since addressing page refusal older refused since
-      (ap (λ (history : History). is_page_confirmed addressing page (since_refusal history)) (sym split) ∙ ap (λ (p : Option ℕ). is_on addressing p (since_refusal (steps_of before))) (sym needed) ∙ on)),
-      confirms_stores earlier before adds)
+  confirms_stores own (Made step ∷ before) (inr (inl (earlier, is, closed, on, adds))) = (
+    λ stores plain. (
+      earlier,
+      adds,
+      λ page needed since older refusal split refused. confirmed_since addressing page refusal older refused since
+          (ap (λ (history : History). is_page_confirmed addressing page (since_refusal history)) (sym split) ∙ ap (λ (p : Option ℕ). is_on addressing p (since_refusal (steps_of before))) (sym needed) ∙ on),
+    ),
+    confirms_stores earlier before adds,
+  )
   confirms_stores own (Made step ∷ before) (inr (inr (page, earlier, is, must, needed, shows, answers, adds))) =
       (λ stores plain. absurd (stores (subst IsFetch (sym shows.reads) (read_is_fetch addressing))), confirms_stores earlier before adds)
   confirms_stores own (Waited time ∷ before) (earlier, is, adds) = confirms_stores earlier before adds

@@ -10,7 +10,7 @@ use Rattle.conversations.specs.declared.pausing.Patience.{Patience}
 use Rattle.conversations.specs.declared.pausing.Timed.{Timed}
 use Rattle.conversations.specs.declared.pausing.Timed.TheVariants.{InTime, Overdue}
 use Rattle.conversations.specs.Events.{Events, steps_of}
-use Rattle.conversations.specs.Pauses.{AddsPauses, AreMade, AreSpaced, EndsPausing, GoesOnPausing,  at_least, counted, is_fruitless, is_refused, is_selecting, idle_after, must_wait, next_pausing, paused_for, was_refused}
+use Rattle.conversations.specs.Pauses.{AddsPauses, AreMade, AreSpaced, EndsPausing, GoesOnPausing, at_least, counted, is_fruitless, is_refused, is_selecting, idle_after, must_wait, next_pausing, paused_for, was_refused}
 use Rattle.conversations.specs.Wanted.{op_of}
 
 by_limit : {E : Type 0} (late : Bool) (pause : ℕ) (op : Op) → ◌≡◌ {A = Next (Timed E)} (if late then End Overdue else Wait pause) (Do op) → ⊥

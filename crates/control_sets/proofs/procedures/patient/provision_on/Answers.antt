@@ -13,4 +13,4 @@ pub returns : goal.returns
 returns g c =
     let new = c.carry_out_on.new.bus in
     subst (λ (work : Work). MakesEvents (λ old step new. g.B.TimedBus.makes old step new) (λ old time new. g.B.TimedBus.passes old time new) c.args.bus.now (λ last events.
-        IsPatientWork c.args.patience work (last ≡ new) (λ fault. g.B.TimedBus.fails last fault new) events c.carry_out_on.result)) (λ i. Provisioning (c.bytes_of.ensures i) (c.lanes_outside.ensures i)) c.carry_out_on.ensures
+    IsPatientWork c.args.patience work (last ≡ new) (λ fault. g.B.TimedBus.fails last fault new) events c.carry_out_on.result)) (λ i. Provisioning (c.bytes_of.ensures i) (c.lanes_outside.ensures i)) c.carry_out_on.ensures
