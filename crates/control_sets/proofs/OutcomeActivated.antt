@@ -1,8 +1,9 @@
 -- The steps of activation, each of which is what comes next, in the words of its outcome.
-use Rattle.std.proofs.Common.{◌≡◌, ◌≢◌, ◌⊎◌, ℕ, ◌-◌, true, false, List, [], ◌∷◌, Some, None, Ok, Err, length, refl, sym, ap, subst, ◌∙◌, inl, inr}
+use Rattle.std.proofs.Common.{Bool, ◌≡◌, ◌≢◌, ◌⊎◌, ℕ, ◌-◌, true, false, List, [], ◌∷◌, Some, None, Ok, Err, length, refl, sym, ap, subst, ◌∙◌, inl, inr}
 use Rattle.std.proofs.lemmas.Bool.{or_cases, or_left}
 use Rattle.field_tables.specs.LaneSets.{Lanes, byte_of}
 use Rattle.bus_model.specs.declared.operation.Step.{Step}
+use Rattle.conversations.specs.Selecting.{trusted}
 use Rattle.control_sets.specs.declared.fault.ProvisionFault.{ProvisionFault}
 use Rattle.control_sets.specs.declared.fault.ProvisionFault.TheVariants.{Rejected, StagedDiffers, ActiveDiffers, GaveUp, Bus, ModuleState, Reserved}
 use Rattle.control_sets.specs.declared.procedures.task.Task.{Task}
@@ -16,7 +17,7 @@ use Rattle.control_sets.specs.OutcomeSteps.{Gives, IsAccepted, IsAnswered, Reads
 use Rattle.control_sets.specs.OutcomeOperations.{Confirms, control_page, status_page}
 use Rattle.control_sets.specs.OutcomeAnswers.{Answer}
 use Rattle.control_sets.specs.OutcomeOfProvisioning.{FindsReady, IsStore}
-use Rattle.control_sets.specs.OutcomeOfActivation.{EndsActivation, IsActivationStep}
+use Rattle.control_sets.specs.OutcomeOfActivation.{EndsActivation, IsActivationStepBy}
 use Rattle.control_sets.proofs.OutcomeWords.{confirms_page, contradicts, unconfirmed}
 use Rattle.control_sets.proofs.OutcomeTurns.{meets_by, meets_is, peel}
 use Rattle.control_sets.proofs.OutcomeReplies.{Shows}
@@ -85,11 +86,11 @@ module _ (control : List ℕ) (lanes : Lanes) where
   unfolding judged
   active_decides bytes e = bytes_decide ActiveDiffers (differing_lane bytes control) e
 
-  module _ (step : Step) (before : History) (here : Here (activation control lanes) step before) where
+  module _ {doubts : Bool} (step : Step) (before : History) (here : Here doubts (activation control lanes) step before) where
     -- ---- shape
 
     abbrev Shape : Type 0
-    Shape = IsActivationStep lanes step before
+    Shape = IsActivationStepBy doubts lanes step before
 
     among_pages : (page : ℕ) → step.op ≡ selection page → (page ≡ control_page) ⊎ (page ≡ status_page) → Shape
     among_pages page is (inl e) = inl (inr (inr (inl (is ∙ ap selection e))))
@@ -99,11 +100,11 @@ module _ (control : List ℕ) (lanes : Lanes) where
     shaped = elim here.turn.does as (λ _. Shape) [
       | inl reads ↦ inl (inr (inl reads.is))
       | inr (inl selects) ↦ among_pages selects.page selects.is (page_is here.turn.task selects.page selects.needs)
-      | inr (inr works) ↦ which (λ task. step.op ≡ operation task → is_on (page_of task) before ≡ true → Shape) before here.turn.task here.turn.hand
+      | inr (inr works) ↦ which (λ task. step.op ≡ operation task → is_on (page_of task) (trusted doubts before) ≡ true → Shape) before here.turn.task here.turn.hand
           (λ _ is _. inl (inl is))
-          (λ _ _ is on. inr (inl (inl is, confirms_page status_page before on)))
-          (λ _ _ _ is on. inr (inr (inl is, confirms_page control_page before on)))
-          (λ _ _ _ is on. inr (inl (inr (inl is), confirms_page status_page before on)))
+          (λ _ _ is on. inr (inl (inl is, confirms_page status_page (trusted doubts before) on)))
+          (λ _ _ _ is on. inr (inr (inl is, confirms_page control_page (trusted doubts before) on)))
+          (λ _ _ _ is on. inr (inl (inr (inl is), confirms_page status_page (trusted doubts before) on)))
           works.is works.there
     ]
 
@@ -114,7 +115,7 @@ module _ (control : List ℕ) (lanes : Lanes) where
         (the_last to_active (CheckActive control) before (at_it to_release (Deinitialize bits) from_up refl refl step before here.turn is).met)
 
     pub released_once : IsAccepted (operation (Deinitialize bits)) step → Stands (IsAccepted (operation (Deinitialize bits))) before → ⊥
-    released_once accepted = stands_not to_release (Deinitialize bits) from_up refl refl before tt here.turns here.fits
+    released_once accepted = stands_not to_release (Deinitialize bits) from_up refl refl doubts before tt here.turns here.fits
         (at_it to_release (Deinitialize bits) from_up refl refl step before here.turn accepted.0).unmet
 
     pub path_states_after : step.op ≡ operation (AwaitActivated lanes) → Stands (IsAccepted (operation (Deinitialize bits))) before
@@ -198,33 +199,33 @@ module _ (control : List ℕ) (lanes : Lanes) where
         elim (or_cases (meets (AwaitActivated lanes) step before) (was_met (AwaitActivated lanes) before) now) as (λ _. Finds (AwaitActivated lanes) step) [
           | inl meets_now ↦ finds (AwaitActivated lanes) step before tt here.fit (meets_is (AwaitActivated lanes) step before meets_now)
           | inr earlier ↦ absurd (unmet (none_in_hand (activation control lanes) before
-              (all_with to_up (AwaitActivated lanes) before (all_first to_up (AwaitActivated lanes) last refl refl before here.turns earlier) earlier)))
+              (all_with to_up (AwaitActivated lanes) before (all_first to_up (AwaitActivated lanes) last refl refl doubts before here.turns earlier) earlier)))
         ]
 
     -- ---- no needless step
 
     pub selects_controls : length control ≡ 8 → step.op ≡ selection control_page →
-        (¬ (Confirms control_page before)) × Stands (Gives (operation (CheckActive control)) control) before × (¬ (Stands (IsAccepted (operation (Deinitialize bits))) before))
+        (¬ (Confirms control_page (trusted doubts before))) × Stands (Gives (operation (CheckActive control)) control) before × (¬ (Stands (IsAccepted (operation (Deinitialize bits))) before))
     selects_controls eight is =
         let missing = missing_page (activation control lanes) control_page step before here.turn is in
         let wants = which (λ task. page_of task ≡ Some control_page → Stands (Gives (operation (CheckActive control)) control) before × (¬ (Stands (IsAccepted (operation (Deinitialize bits))) before))) before here.turn.task here.turn.hand
         (λ _ needs. absurd (no_page needs))
         (λ _ _ needs. absurd (other_page needs))
-        (λ _ m2 unmet _. (stands (CheckActive control) before eight here.fits m2, stands_not to_release (Deinitialize bits) from_up refl refl before tt here.turns here.fits unmet))
+        (λ _ m2 unmet _. (stands (CheckActive control) before eight here.fits m2, stands_not to_release (Deinitialize bits) from_up refl refl doubts before tt here.turns here.fits unmet))
         (λ _ _ _ needs. absurd (other_page needs))
         missing.needs in
-        (unconfirmed control_page before missing.missing, wants.0, wants.1) where
+        (unconfirmed control_page (trusted doubts before) missing.missing, wants.0, wants.1) where
           no_page : None ≡ Some control_page → ⊥
           no_page e = cc
 
     pub selects_status : length control ≡ 8 → step.op ≡ selection status_page →
-        (¬ (Confirms status_page before)) × ((¬ (Stands (Gives (operation (CheckActive control)) control) before)) ⊎ Stands (IsAccepted (operation (Deinitialize bits))) before)
+        (¬ (Confirms status_page (trusted doubts before))) × ((¬ (Stands (Gives (operation (CheckActive control)) control) before)) ⊎ Stands (IsAccepted (operation (Deinitialize bits))) before)
     selects_status eight is =
         let missing = missing_page (activation control lanes) status_page step before here.turn is in (
-          unconfirmed status_page before missing.missing,
+          unconfirmed status_page (trusted doubts before) missing.missing,
           which (λ task. page_of task ≡ Some status_page → (¬ (Stands (Gives (operation (CheckActive control)) control) before)) ⊎ Stands (IsAccepted (operation (Deinitialize bits))) before) before here.turn.task here.turn.hand
               (λ _ needs. absurd (no_page needs))
-              (λ _ unmet _. inl (stands_not to_active (CheckActive control) from_release refl refl before eight here.turns here.fits unmet))
+              (λ _ unmet _. inl (stands_not to_active (CheckActive control) from_release refl refl doubts before eight here.turns here.fits unmet))
               (λ _ _ _ needs. absurd (other_page (sym needs)))
               (λ _ m3 _ _. inr (stands (Deinitialize bits) before tt here.fits m3))
               missing.needs,
@@ -234,10 +235,10 @@ module _ (control : List ℕ) (lanes : Lanes) where
 
     pub module_once : IsAnswered (operation FindReady) step → Stands (IsAnswered (operation FindReady)) before → ⊥
     module_once read earlier = contradicts
-        (answered_met [] FindReady from_active refl refl before tt module_decides here.turns here.goes_on earlier)
+        (answered_met [] FindReady from_active refl refl doubts before tt module_decides here.turns here.goes_on earlier)
         (at_it [] FindReady from_active refl refl step before here.turn read.1.0).unmet
 
     pub active_once : length control ≡ 8 → IsAnswered (operation (CheckActive control)) step → Stands (IsAnswered (operation (CheckActive control))) before → ⊥
     active_once eight read earlier = contradicts
-        (answered_met to_active (CheckActive control) from_release refl refl before eight active_decides here.turns here.goes_on earlier)
+        (answered_met to_active (CheckActive control) from_release refl refl doubts before eight active_decides here.turns here.goes_on earlier)
         (at_it to_active (CheckActive control) from_release refl refl step before here.turn read.1.0).unmet

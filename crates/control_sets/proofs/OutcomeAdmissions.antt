@@ -37,7 +37,7 @@ module _ (full : Type 0) where
 
   -- the list was full from the start
   pub none_made : full → Filled []
-  none_made is_full = filled_is_provisioning pairs every_lane refl full [] tt tt is_full (omega arith) at_start
+  none_made is_full = filled_is_provisioning false pairs every_lane refl full [] tt tt is_full (omega arith) at_start
 
   after_ready : EachGoesOn tasks (ready ∷ [])
   unfolding judged
@@ -46,12 +46,12 @@ module _ (full : Type 0) where
   -- the module is in ModuleLowPwr, and so after two refused reads
   pub in_low_power : IsProvisioning pairs every_lane full (low_power ∷ []) (Err (ModuleState 1))
   unfolding judged
-  in_low_power = ended_is_provisioning pairs every_lane refl full (low_power ∷ []) (Err (ModuleState 1))
+  in_low_power = ended_is_provisioning false pairs every_lane refl full (low_power ∷ []) (Err (ModuleState 1))
       (record { each = (refl, tt); answers = (refl, tt); few = omega arith; answered = inl (refl, at_start) })
 
   pub read_after_refusals : IsProvisioning pairs every_lane full (low_power ∷ refused read_module_state ∷ refused read_module_state ∷ []) (Err (ModuleState 1))
   unfolding judged
-  read_after_refusals = ended_is_provisioning pairs every_lane refl full (low_power ∷ refused read_module_state ∷ refused read_module_state ∷ []) (Err (ModuleState 1))
+  read_after_refusals = ended_is_provisioning false pairs every_lane refl full (low_power ∷ refused read_module_state ∷ refused read_module_state ∷ []) (Err (ModuleState 1))
       (record {
         each = (refl, (refl, (refl, tt)));
         answers = (refl, (tt, (tt, tt)));
@@ -62,7 +62,7 @@ module _ (full : Type 0) where
   -- it tells the reserved code 7
   pub in_no_state : IsProvisioning pairs every_lane full (gave read_module_state (0x0E ∷ []) ∷ []) (Err (Reserved 7))
   unfolding judged
-  in_no_state = ended_is_provisioning pairs every_lane refl full (gave read_module_state (0x0E ∷ []) ∷ []) (Err (Reserved 7))
+  in_no_state = ended_is_provisioning false pairs every_lane refl full (gave read_module_state (0x0E ∷ []) ∷ []) (Err (Reserved 7))
       (record { each = (refl, tt); answers = (refl, tt); few = omega arith; answered = inl (refl, at_start) })
 
   after_controls : EachGoesOn tasks on_controls
@@ -72,7 +72,7 @@ module _ (full : Type 0) where
   -- page 10h is read back
   pub controls_selected : full → Filled on_controls
   unfolding judged
-  controls_selected is_full = filled_is_provisioning pairs every_lane refl full on_controls (refl, (refl, (refl, tt))) (refl, (tt, (refl, tt))) is_full (omega arith) after_controls
+  controls_selected is_full = filled_is_provisioning false pairs every_lane refl full on_controls (refl, (refl, (refl, tt))) (refl, (tt, (refl, tt))) is_full (omega arith) after_controls
 
   after_refused : EachGoesOn tasks (refused (selection control_page) ∷ ready ∷ [])
   unfolding judged
@@ -81,18 +81,18 @@ module _ (full : Type 0) where
   -- a refused selection and a refused read back, and page 10h is read all the same
   pub selection_was_refused : full → Filled refused_selection
   unfolding judged
-  selection_was_refused is_full = filled_is_provisioning pairs every_lane refl full refused_selection (refl, (refl, (refl, (refl, tt)))) (refl, (tt, (tt, (refl, tt)))) is_full (omega arith)
+  selection_was_refused is_full = filled_is_provisioning false pairs every_lane refl full refused_selection (refl, (refl, (refl, (refl, tt)))) (refl, (tt, (tt, (refl, tt)))) is_full (omega arith)
       (goes tasks refused_selection _ refl refl, (goes tasks (refused read_selection ∷ refused (selection control_page) ∷ ready ∷ []) _ refl refl, after_refused))
 
   -- another page is read back
   pub selection_was_repeated : full → Filled repeated_selection
   unfolding judged
-  selection_was_repeated is_full = filled_is_provisioning pairs every_lane refl full repeated_selection (refl, (refl, (refl, (refl, tt)))) (tt, (refl, (tt, (refl, tt)))) is_full (omega arith)
+  selection_was_repeated is_full = filled_is_provisioning false pairs every_lane refl full repeated_selection (refl, (refl, (refl, (refl, tt)))) (tt, (refl, (tt, (refl, tt)))) is_full (omega arith)
       (goes tasks repeated_selection _ refl refl, (goes tasks (gave read_selection (0 ∷ 0 ∷ []) ∷ refused (selection control_page) ∷ ready ∷ []) _ refl refl, after_refused))
 
   pub bank_was_another : full → Filled other_bank
   unfolding judged
-  bank_was_another is_full = filled_is_provisioning pairs every_lane refl full other_bank (refl, (refl, (refl, (refl, tt)))) (tt, (refl, (tt, (refl, tt)))) is_full (omega arith) (
+  bank_was_another is_full = filled_is_provisioning false pairs every_lane refl full other_bank (refl, (refl, (refl, (refl, tt)))) (tt, (refl, (tt, (refl, tt)))) is_full (omega arith) (
     goes tasks other_bank _ refl refl,
     (
       goes tasks (gave read_selection (1 ∷ control_page ∷ []) ∷ took (selection control_page) ∷ ready ∷ []) _ refl refl,
@@ -143,13 +143,13 @@ so_many (suc count) = ap suc (so_many count)
 
 -- after 4,096 it is given up
 pub given_up : (full : Type 0) → IsProvisioning pairs every_lane full (refused_reads 4096) (Err GaveUp)
-given_up full = let many = so_many 4096 in ended_is_provisioning pairs every_lane refl full (refused_reads 4096) (Err GaveUp)
+given_up full = let many = so_many 4096 in ended_is_provisioning false pairs every_lane refl full (refused_reads 4096) (Err GaveUp)
     (record { each = each_asked 4096; answers = each_answers 4096; few = omega (arith, many); answered = inr (record { fault = refl; all = many; goes_on = each_goes 4096 }) })
 
 -- activation where the active byte of lane 2 is another
 pub active_is_another : (full : Type 0) → IsActivation pairs every_lane full (gave read_active almost_pairs ∷ on_status_at_once) (Err (ActiveDiffers 2))
 unfolding judged
-active_is_another full = ended_is_activation pairs every_lane refl full (gave read_active almost_pairs ∷ on_status_at_once) (Err (ActiveDiffers 2))
+active_is_another full = ended_is_activation false pairs every_lane refl full (gave read_active almost_pairs ∷ on_status_at_once) (Err (ActiveDiffers 2))
     (record {
       each = (refl, (refl, (refl, (refl, tt))));
       answers = (refl, (refl, (tt, (refl, tt))));
@@ -169,7 +169,7 @@ active_is_another full = ended_is_activation pairs every_lane refl full (gave re
 -- activation that finds the list full when page 11h is read back
 pub status_selected : (full : Type 0) → full → IsActivation pairs every_lane full on_status_at_once (Err (Bus TraceFull))
 unfolding judged
-status_selected full is_full = filled_is_activation pairs every_lane refl full on_status_at_once (refl, (refl, (refl, tt))) (refl, (tt, (refl, tt))) is_full (omega arith) (
+status_selected full is_full = filled_is_activation false pairs every_lane refl full on_status_at_once (refl, (refl, (refl, tt))) (refl, (tt, (refl, tt))) is_full (omega arith) (
   goes (activation pairs every_lane) on_status_at_once _ refl refl,
   (
     goes (activation pairs every_lane) (took (selection status_page) ∷ ready ∷ []) _ refl refl,

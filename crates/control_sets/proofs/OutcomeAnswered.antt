@@ -1,12 +1,12 @@
 -- What is known at all steps of a procedure that was carried out, and what its answer is.
-use Rattle.std.proofs.Common.{◌≡◌, ◌≢◌, ◌≤◌, ◌<◌, ℕ, List, [], ◌∷◌, Some, None, Ok, Err, IfOk, length, refl, sym, subst, inl, inr, arith}
+use Rattle.std.proofs.Common.{Bool, ◌≡◌, ◌≢◌, ◌≤◌, ◌<◌, ℕ, List, [], ◌∷◌, Some, None, Ok, Err, IfOk, length, refl, sym, subst, inl, inr, arith}
 use Rattle.bus_model.specs.declared.bus.BusFault.TheVariants.{TraceFull}
 use Rattle.bus_model.specs.declared.operation.Step.{Step}
 use Rattle.control_sets.specs.declared.fault.ProvisionFault.{ProvisionFault}
 use Rattle.control_sets.specs.declared.fault.ProvisionFault.TheVariants.{GaveUp, Bus}
 use Rattle.control_sets.specs.declared.procedures.task.Task.{Task}
 use Rattle.control_sets.specs.Pages.{EachStep, History}
-use Rattle.control_sets.specs.Procedures.{EachAnswers, EachGoesOn, EachIsNext, EndsFirst, EndsTasks, GivesTasksUp, GoesOn, fault_by, in_hand}
+use Rattle.control_sets.specs.Procedures.{EachAnswers, EachGoesOn, EachIsNextBy, EndsFirst, EndsTasks, GivesTasksUp, GoesOn, fault_by, in_hand}
 use Rattle.control_sets.specs.OutcomeAnswers.{Answer, EndsIn, IsAnswer, NoneEnds}
 use Rattle.control_sets.proofs.OutcomeTurns.{each_turn}
 use Rattle.control_sets.proofs.OutcomeSelections.{Here, each_here}
@@ -16,9 +16,9 @@ abbrev pub GoesOnBefore : List Task → History → Type 0
 GoesOnBefore tasks [] = Unit {0}
 GoesOnBefore tasks (step ∷ before) = EachGoesOn tasks before
 
-pub all_here : (tasks : List Task) (history : History) → EachIsNext tasks history → EachAnswers history → GoesOnBefore tasks history → EachStep (Here tasks) history
-all_here tasks [] each answers on = tt
-all_here tasks (step ∷ before) each answers on = each_here tasks step before (each_turn tasks (step ∷ before) each) answers on
+pub all_here : (doubts : Bool) (tasks : List Task) (history : History) → EachIsNextBy doubts tasks history → EachAnswers history → GoesOnBefore tasks history → EachStep (Here doubts tasks) history
+all_here doubts tasks [] each answers on = tt
+all_here doubts tasks (step ∷ before) each answers on = each_here tasks step before (each_turn doubts tasks (step ∷ before) each) answers on
 
 pub ends_before : (tasks : List Task) (history : History) (answer : Answer) → EndsFirst tasks history answer → GoesOnBefore tasks history
 ends_before tasks [] answer ends = tt
@@ -33,22 +33,22 @@ still_unmet tasks [] on = on.unmet
 still_unmet tasks (step ∷ before) on = on.0.unmet
 
 -- what is shown of single steps, whatever the procedure
-pub record Ending (tasks : List Task) (Ends : Answer → Step → Type 0) : Type 0 where
+pub record Ending (doubts : Bool) (tasks : List Task) (Ends : Answer → Step → Type 0) : Type 0 where
   pub begins : in_hand tasks [] ≢ None
-  pub none : (step : Step) (before : History) → Here tasks step before → GoesOn tasks (step ∷ before) → (answer : Answer) → Ends answer step → ⊥
-  pub fault : (step : Step) (before : History) → Here tasks step before → (fault : ProvisionFault) → fault_by tasks step before ≡ Some fault → Ends (Err fault) step
-  pub well : (step : Step) (before : History) → Here tasks step before → in_hand tasks before ≢ None → in_hand tasks (step ∷ before) ≡ None → (steps : ℕ) → Ends (Ok steps) step
+  pub none : (step : Step) (before : History) → Here doubts tasks step before → GoesOn tasks (step ∷ before) → (answer : Answer) → Ends answer step → ⊥
+  pub fault : (step : Step) (before : History) → Here doubts tasks step before → (fault : ProvisionFault) → fault_by tasks step before ≡ Some fault → Ends (Err fault) step
+  pub well : (step : Step) (before : History) → Here doubts tasks step before → in_hand tasks before ≢ None → in_hand tasks (step ∷ before) ≡ None → (steps : ℕ) → Ends (Ok steps) step
 
-module _ (tasks : List Task) (Ends : Answer → Step → Type 0) (ending : Ending tasks Ends) where
-  none_ends : (history : History) → EachStep (Here tasks) history → EachGoesOn tasks history → NoneEnds Ends history
+module _ {doubts : Bool} (tasks : List Task) (Ends : Answer → Step → Type 0) (ending : Ending doubts tasks Ends) where
+  none_ends : (history : History) → EachStep (Here doubts tasks) history → EachGoesOn tasks history → NoneEnds Ends history
   none_ends [] each on = tt
   none_ends (step ∷ before) each on = (λ answer end. ending.none step before each.0 on.0 answer end, none_ends before each.1 on.1)
 
-  last_ends : (step : Step) (before : History) (answer : Answer) → Here tasks step before → EachGoesOn tasks before → EndsTasks tasks (step ∷ before) answer → Ends answer step
+  last_ends : (step : Step) (before : History) (answer : Answer) → Here doubts tasks step before → EachGoesOn tasks before → EndsTasks tasks (step ∷ before) answer → Ends answer step
   last_ends step before (Ok steps) here on ends = ending.well step before here (still_unmet tasks before on) ends.0 steps
   last_ends step before (Err fault) here on ends = ending.fault step before here fault ends
 
-  ends_of : (history : History) (answer : Answer) → EachStep (Here tasks) history → EndsFirst tasks history answer → EndsIn Ends history answer
+  ends_of : (history : History) (answer : Answer) → EachStep (Here doubts tasks) history → EndsFirst tasks history answer → EndsIn Ends history answer
   ends_of [] (Ok steps) each ends = absurd (ending.begins ends.0)
   ends_of [] (Err fault) each ends = cc
   ends_of (step ∷ before) answer each ends = record {
@@ -68,17 +68,17 @@ module _ (tasks : List Task) (Ends : Answer → Step → Type 0) (ending : Endin
   not_counted : (history : History) (answer : Answer) (fault : ProvisionFault) → answer ≡ Err fault → IfOk answer (λ steps. steps ≡ length history)
   not_counted history answer fault e = subst (λ (answer : Answer). IfOk answer (λ steps. steps ≡ length history)) (sym e) tt
 
-  pub ended_answer : (full : Type 0) (history : History) (answer : Answer) → EachStep (Here tasks) history → length history ≤ 4096 → EndsFirst tasks history answer → IsAnswer Ends full history answer
+  pub ended_answer : (full : Type 0) (history : History) (answer : Answer) → EachStep (Here doubts tasks) history → length history ≤ 4096 → EndsFirst tasks history answer → IsAnswer Ends full history answer
   ended_answer full history answer each few ends = record { at_most = few; counted = counted_of history answer ends; answered = inl (ends_of history answer each ends) }
 
-  pub given_up_answer : (full : Type 0) (history : History) (answer : Answer) → EachStep (Here tasks) history → length history ≤ 4096 → GivesTasksUp tasks history answer → IsAnswer Ends full history answer
+  pub given_up_answer : (full : Type 0) (history : History) (answer : Answer) → EachStep (Here doubts tasks) history → length history ≤ 4096 → GivesTasksUp tasks history answer → IsAnswer Ends full history answer
   given_up_answer full history answer each few gives_up = record {
     at_most = few;
     counted = not_counted history answer GaveUp gives_up.fault;
     answered = inr (inl (record { fault = gives_up.fault; all = gives_up.all; none = none_ends history each gives_up.goes_on }));
   }
 
-  pub filled_answer : (full : Type 0) (history : History) (answer : Answer) → EachStep (Here tasks) history → answer ≡ Err (Bus TraceFull) → full → length history < 4096 → EachGoesOn tasks history → IsAnswer Ends full history answer
+  pub filled_answer : (full : Type 0) (history : History) (answer : Answer) → EachStep (Here doubts tasks) history → answer ≡ Err (Bus TraceFull) → full → length history < 4096 → EachGoesOn tasks history → IsAnswer Ends full history answer
   filled_answer full history answer each fault is_full fewer on = record {
     at_most = omega (arith, fewer);
     counted = not_counted history answer (Bus TraceFull) fault;

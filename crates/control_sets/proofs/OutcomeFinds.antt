@@ -229,22 +229,22 @@ module _ (first : List Task) (task : Task) (rest : List Task) (before_differs : 
   abbrev tasks : List Task
   tasks = first ++ task ∷ rest
 
-  pub at_it : (step : Step) (before : History) → Turn tasks step before → step.op ≡ operation task → IsAt first task before
+  pub at_it : {doubts : Bool} (step : Step) (before : History) → Turn doubts tasks step before → step.op ≡ operation task → IsAt first task before
   at_it step before turn is = is_at first task rest step before before_differs after_differs turn is
 
   -- where a step found it, the task was met
-  pub standing : (history : History) → HasEight task → EachStep (Turn tasks) history → EachAnswers history → Stands (Finds task) history → was_met task history ≡ true
-  standing [] eight turns fits s = absurd s
-  standing (step ∷ before) eight turns fits (inl now) =
+  pub standing : (doubts : Bool) (history : History) → HasEight task → EachStep (Turn doubts tasks) history → EachAnswers history → Stands (Finds task) history → was_met task history ≡ true
+  standing doubts [] eight turns fits s = absurd s
+  standing doubts (step ∷ before) eight turns fits (inl now) =
       or_left _ _ (meets_by task step before (found task step before eight fits.0 (at_it step before turns.0 (its_op task step now)).there now))
-  standing (step ∷ before) eight turns fits (inr earlier) = or_right _ _ (standing before eight turns.1 fits.1 earlier)
+  standing doubts (step ∷ before) eight turns fits (inr earlier) = or_right _ _ (standing doubts before eight turns.1 fits.1 earlier)
 
   -- where it wasn't, none did
-  pub stands_not : (history : History) → HasEight task → EachStep (Turn tasks) history → EachAnswers history → was_met task history ≡ false → Stands (Finds task) history → ⊥
-  stands_not history eight turns fits e s = contradicts (standing history eight turns fits s) e
+  pub stands_not : (doubts : Bool) (history : History) → HasEight task → EachStep (Turn doubts tasks) history → EachAnswers history → was_met task history ≡ false → Stands (Finds task) history → ⊥
+  stands_not doubts history eight turns fits e s = contradicts (standing doubts history eight turns fits s) e
 
   -- what a step shows of the task, in its judgement
-  pub shows_fault : (step : Step) (before : History) (fault : ProvisionFault) → HasEight task → Answers step.op step.reply → Turn tasks step before → Reads (operation task) (Shows task fault) step →
+  pub shows_fault : {doubts : Bool} (step : Step) (before : History) (fault : ProvisionFault) → HasEight task → Answers step.op step.reply → Turn doubts tasks step before → Reads (operation task) (Shows task fault) step →
       (shown : ProvisionFault) × (judgement_at task step before ≡ Fails shown)
   shows_fault step before fault eight fit turn (bytes, gives, s) =
       let at = at_it step before turn gives.0 in
@@ -253,15 +253,15 @@ module _ (first : List Task) (task : Task) (rest : List Task) (before_differs : 
       shows_by task step before bytes fault (judged task bytes) e (told task bytes (whole task (record { items = bytes }) eight answers)) s
 
   -- where it was met, all the first ones were
-  pub all_first : (history : History) → EachStep (Turn tasks) history → was_met task history ≡ true → list_all (λ task. was_met task history) first ≡ true
-  all_first [] turns e = cc
-  all_first (step ∷ before) turns e = elim (or_cases (meets task step before) (was_met task before) e) as (λ _. list_all (λ task. was_met task (step ∷ before)) first ≡ true) [
+  pub all_first : (doubts : Bool) (history : History) → EachStep (Turn doubts tasks) history → was_met task history ≡ true → list_all (λ task. was_met task history) first ≡ true
+  all_first doubts [] turns e = cc
+  all_first doubts (step ∷ before) turns e = elim (or_cases (meets task step before) (was_met task before) e) as (λ _. list_all (λ task. was_met task (step ∷ before)) first ≡ true) [
     | inl now ↦ stay step before first (at_it step before turns.0 (meets_is task step before now).is).met
-    | inr earlier ↦ stay step before first (all_first before turns.1 earlier)
+    | inr earlier ↦ stay step before first (all_first doubts before turns.1 earlier)
   ]
 
   -- a fault of it is a fault of the step
-  pub faulty : (step : Step) (before : History) (fault : ProvisionFault) → HasEight task → Answers step.op step.reply → Turn tasks step before → Reads (operation task) (Shows task fault) step →
+  pub faulty : {doubts : Bool} (step : Step) (before : History) (fault : ProvisionFault) → HasEight task → Answers step.op step.reply → Turn doubts tasks step before → Reads (operation task) (Shows task fault) step →
       fault_by tasks step before ≡ None → ⊥
   faulty step before fault eight fit turn s none =
       let (shown, e) = shows_fault step before fault eight fit turn s in
@@ -269,11 +269,11 @@ module _ (first : List Task) (task : Task) (rest : List Task) (before_differs : 
       cc
 
   -- where each answer decides it, one that was read and ended nothing met it
-  pub answered_met : (history : History) → HasEight task → ((bytes : List ℕ) → judged task bytes ≡ NotYet → ⊥) → EachStep (Turn tasks) history → EachGoesOn tasks history →
+  pub answered_met : (doubts : Bool) (history : History) → HasEight task → ((bytes : List ℕ) → judged task bytes ≡ NotYet → ⊥) → EachStep (Turn doubts tasks) history → EachGoesOn tasks history →
       Stands (IsAnswered (operation task)) history → was_met task history ≡ true
-  answered_met [] eight decides turns on s = absurd s
-  answered_met (step ∷ before) eight decides turns on (inr earlier) = or_right _ _ (answered_met before eight decides turns.1 on.1 earlier)
-  answered_met (step ∷ before) eight decides turns on (inl (bytes, gives, _)) =
+  answered_met doubts [] eight decides turns on s = absurd s
+  answered_met doubts (step ∷ before) eight decides turns on (inr earlier) = or_right _ _ (answered_met doubts before eight decides turns.1 on.1 earlier)
+  answered_met doubts (step ∷ before) eight decides turns on (inl (bytes, gives, _)) =
       let at = at_it step before turns.0 gives.0 in
       let e = judged_at task step before gives.0 at.there ∙ ap (judgement task) gives.1 in
       or_left _ _ (met_as first task rest step before (judged task bytes) e (decides bytes) (no_fault_of first task rest step before on.0.no_fault))

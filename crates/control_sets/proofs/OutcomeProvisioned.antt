@@ -1,5 +1,5 @@
 -- The steps of provisioning, each of which is what comes next, are its outcome.
-use Rattle.std.proofs.Common.{◌≡◌, ◌≢◌, ◌⊎◌, ℕ, true, false, List, [], ◌∷◌, ◌++◌, Option, Some, None, Ok, Err, length, refl, sym, ap, subst, ◌∙◌, inl, inr, arith}
+use Rattle.std.proofs.Common.{Bool, ◌≡◌, ◌≢◌, ◌⊎◌, ℕ, true, false, List, [], ◌∷◌, ◌++◌, Option, Some, None, Ok, Err, length, refl, sym, ap, subst, ◌∙◌, inl, inr, arith}
 use Rattle.std.proofs.lemmas.Bool.{cases_Bool, or_cases, or_left}
 use Rattle.std.specs.List.{list_all}
 use Rattle.field_tables.specs.LaneSets.{Lanes, byte_of}
@@ -7,6 +7,7 @@ use Rattle.module_states.specs.declared.state.ModuleState.{ModuleState as State}
 use Rattle.module_states.specs.declared.state.ModuleState.TheVariants.{Ready}
 use Rattle.module_states.specs.Codes.{state_at as module_state_at}
 use Rattle.bus_model.specs.declared.operation.Step.{Step}
+use Rattle.conversations.specs.Selecting.{trusted}
 use Rattle.control_sets.specs.declared.fault.ProvisionFault.{ProvisionFault}
 use Rattle.control_sets.specs.declared.fault.ProvisionFault.TheVariants.{Rejected, StagedDiffers, ActiveDiffers, GaveUp, Bus, ModuleState, Reserved}
 use Rattle.control_sets.specs.declared.procedures.task.Task.{Task}
@@ -20,7 +21,7 @@ use Rattle.control_sets.specs.OutcomeSteps.{Gives, IsAccepted, IsAnswered, Reads
 use Rattle.control_sets.specs.OutcomeOperations.{Confirms, control_page, status_page}
 use Rattle.control_sets.specs.OutcomeCodes.{module_code}
 use Rattle.control_sets.specs.OutcomeAnswers.{Answer}
-use Rattle.control_sets.specs.OutcomeOfProvisioning.{EndsProvisioning, FindsApplied, FindsDeactivated, FindsReady, IsProvisioningStep, IsStore, WantsControls, WantsStatuses}
+use Rattle.control_sets.specs.OutcomeOfProvisioning.{EndsProvisioning, FindsApplied, FindsDeactivated, FindsReady, IsProvisioningStepBy, IsStore, WantsControls, WantsStatuses}
 use Rattle.control_sets.proofs.OutcomeWords.{confirms_page, contradicts, unconfirmed}
 use Rattle.control_sets.proofs.OutcomeTurns.{IsAt, meets_by, meets_is, peel}
 use Rattle.control_sets.proofs.OutcomeReplies.{Shows}
@@ -142,11 +143,11 @@ module _ (control : List ℕ) (lanes : Lanes) where
         nothing : (task : Task) → None ≡ Some task → ⊥
         nothing task e = cc
 
-  module _ (step : Step) (before : History) (here : Here (provisioning control lanes) step before) where
+  module _ {doubts : Bool} (step : Step) (before : History) (here : Here doubts (provisioning control lanes) step before) where
     -- ---- shape
 
     abbrev Shape : Type 0
-    Shape = IsProvisioningStep control lanes step before
+    Shape = IsProvisioningStepBy doubts control lanes step before
 
     among_pages : (page : ℕ) → step.op ≡ selection page → (page ≡ control_page) ⊎ (page ≡ status_page) → Shape
     among_pages page is (inl e) = inl (inr (inr (inl (is ∙ ap selection e))))
@@ -156,15 +157,15 @@ module _ (control : List ℕ) (lanes : Lanes) where
     shaped = elim here.turn.does as (λ _. Shape) [
       | inl reads ↦ inl (inr (inl reads.is))
       | inr (inl selects) ↦ among_pages selects.page selects.is (page_is here.turn.task selects.page selects.needs)
-      | inr (inr works) ↦ which (λ task. step.op ≡ operation task → is_on (page_of task) before ≡ true → Shape) before here.turn.task here.turn.hand
+      | inr (inr works) ↦ which (λ task. step.op ≡ operation task → is_on (page_of task) (trusted doubts before) ≡ true → Shape) before here.turn.task here.turn.hand
           (λ _ is _. inl (inl is))
-          (λ _ _ is on. inr (inr (inl is, confirms_page control_page before on)))
-          (λ _ _ _ is on. inr (inl (inl is, confirms_page status_page before on)))
-          (λ _ _ _ is on. inr (inr (inr (inl is), confirms_page control_page before on)))
-          (λ _ _ _ is on. inr (inr (inr (inr (inl is)), confirms_page control_page before on)))
-          (λ _ _ _ is on. inr (inr (inr (inr (inr (inl is))), confirms_page control_page before on)))
-          (λ _ _ _ is on. inr (inl (inr (inl is), confirms_page status_page before on)))
-          (λ _ _ _ is on. inr (inl (inr (inr (inl is)), confirms_page status_page before on)))
+          (λ _ _ is on. inr (inr (inl is, confirms_page control_page (trusted doubts before) on)))
+          (λ _ _ _ is on. inr (inl (inl is, confirms_page status_page (trusted doubts before) on)))
+          (λ _ _ _ is on. inr (inr (inr (inl is), confirms_page control_page (trusted doubts before) on)))
+          (λ _ _ _ is on. inr (inr (inr (inr (inl is)), confirms_page control_page (trusted doubts before) on)))
+          (λ _ _ _ is on. inr (inr (inr (inr (inr (inl is))), confirms_page control_page (trusted doubts before) on)))
+          (λ _ _ _ is on. inr (inl (inr (inl is), confirms_page status_page (trusted doubts before) on)))
+          (λ _ _ _ is on. inr (inl (inr (inr (inl is)), confirms_page status_page (trusted doubts before) on)))
           works.is works.there
     ]
 
@@ -305,7 +306,7 @@ module _ (control : List ℕ) (lanes : Lanes) where
         elim (or_cases (meets (CheckActive control) step before) (was_met (CheckActive control) before) now) as (λ _. Gives (operation (CheckActive control)) control step) [
           | inl meets_now ↦ finds (CheckActive control) step before eight here.fit (meets_is (CheckActive control) step before meets_now)
           | inr earlier ↦ absurd (unmet (none_in_hand (provisioning control lanes) before
-              (all_with to_active (CheckActive control) before (all_first to_active (CheckActive control) last refl refl before here.turns earlier) earlier)))
+              (all_with to_active (CheckActive control) before (all_first to_active (CheckActive control) last refl refl doubts before here.turns earlier) earlier)))
         ]
 
     -- ---- no needless step
@@ -313,7 +314,7 @@ module _ (control : List ℕ) (lanes : Lanes) where
     -- while an earlier task wasn't met, none was applied
     not_applied : (task : Task) → (list_all (λ task. was_met task before) to_apply ≡ true → was_met task before ≡ true) → was_met task before ≡ false → was_met (Apply bits) before ≡ false
     not_applied task among unmet = elim (cases_Bool (was_met (Apply bits) before)) as (λ _. was_met (Apply bits) before ≡ false) [
-      | inl met ↦ absurd (contradicts (among (all_first to_apply (Apply bits) from_applied refl refl before here.turns met)) unmet)
+      | inl met ↦ absurd (contradicts (among (all_first to_apply (Apply bits) from_applied refl refl doubts before here.turns met)) unmet)
       | inr no_ ↦ no_
     ]
 
@@ -324,15 +325,15 @@ module _ (control : List ℕ) (lanes : Lanes) where
     staged_among e = the_last to_staged (CheckStaged control) before e
 
     stands_no_apply : was_met (Apply bits) before ≡ false → Stands (IsAccepted (operation (Apply bits))) before → ⊥
-    stands_no_apply unmet = stands_not to_apply (Apply bits) from_applied refl refl before tt here.turns here.fits unmet
+    stands_no_apply unmet = stands_not to_apply (Apply bits) from_applied refl refl doubts before tt here.turns here.fits unmet
 
-    pub selects_controls : step.op ≡ selection control_page → (¬ (Confirms control_page before)) × WantsControls lanes before
+    pub selects_controls : step.op ≡ selection control_page → (¬ (Confirms control_page (trusted doubts before))) × WantsControls lanes before
     selects_controls is =
         let missing = missing_page (provisioning control lanes) control_page step before here.turn is in (
-          unconfirmed control_page before missing.missing,
+          unconfirmed control_page (trusted doubts before) missing.missing,
           which (λ task. page_of task ≡ Some control_page → WantsControls lanes before) before here.turn.task here.turn.hand
               (λ _ needs. absurd (no_page needs))
-              (λ _ unmet _. inl (stands_not to_deinit (Deinitialize bits) from_down refl refl before tt here.turns here.fits unmet))
+              (λ _ unmet _. inl (stands_not to_deinit (Deinitialize bits) from_down refl refl doubts before tt here.turns here.fits unmet))
               (λ _ _ _ needs. absurd (other_page needs))
               (λ _ m3 unmet _. inr (stands (AwaitDeactivated lanes) before tt here.fits m3, stands_no_apply (not_applied (Stage control) stage_among unmet)))
               (λ _ m3 unmet _. inr (stands (AwaitDeactivated lanes) before tt here.fits m3, stands_no_apply (not_applied (CheckStaged control) staged_among unmet)))
@@ -344,16 +345,16 @@ module _ (control : List ℕ) (lanes : Lanes) where
           no_page : None ≡ Some control_page → ⊥
           no_page e = cc
 
-    pub selects_status : step.op ≡ selection status_page → (¬ (Confirms status_page before)) × WantsStatuses lanes before
+    pub selects_status : step.op ≡ selection status_page → (¬ (Confirms status_page (trusted doubts before))) × WantsStatuses lanes before
     selects_status is =
         let missing = missing_page (provisioning control lanes) status_page step before here.turn is in (
-          unconfirmed status_page before missing.missing,
+          unconfirmed status_page (trusted doubts before) missing.missing,
           which (λ task. page_of task ≡ Some status_page → WantsStatuses lanes before) before here.turn.task here.turn.hand
               (λ _ needs. absurd (no_page needs))
               (λ _ _ needs. absurd (other_page (sym needs)))
               (λ _ m2 unmet _. inl (
                 stands (Deinitialize bits) before tt here.fits m2,
-                stands_not to_down (AwaitDeactivated lanes) from_stage refl refl before tt here.turns here.fits unmet,
+                stands_not to_down (AwaitDeactivated lanes) from_stage refl refl doubts before tt here.turns here.fits unmet,
               ))
               (λ _ _ _ needs. absurd (other_page (sym needs)))
               (λ _ _ _ needs. absurd (other_page (sym needs)))
@@ -367,7 +368,7 @@ module _ (control : List ℕ) (lanes : Lanes) where
 
     pub module_once : IsAnswered (operation FindReady) step → Stands (IsAnswered (operation FindReady)) before → ⊥
     module_once read earlier = contradicts
-        (answered_met [] FindReady from_deinit refl refl before tt module_decides here.turns here.goes_on earlier)
+        (answered_met [] FindReady from_deinit refl refl doubts before tt module_decides here.turns here.goes_on earlier)
         (at_it [] FindReady from_deinit refl refl step before here.turn read.1.0).unmet
 
     staged_decides : (bytes : List ℕ) → judged (CheckStaged control) bytes ≡ NotYet → ⊥
@@ -376,13 +377,13 @@ module _ (control : List ℕ) (lanes : Lanes) where
 
     pub staged_once : length control ≡ 8 → IsAnswered (operation (CheckStaged control)) step → Stands (IsAnswered (operation (CheckStaged control))) before → ⊥
     staged_once eight read earlier = contradicts
-        (answered_met to_staged (CheckStaged control) from_apply refl refl before eight staged_decides here.turns here.goes_on earlier)
+        (answered_met to_staged (CheckStaged control) from_apply refl refl doubts before eight staged_decides here.turns here.goes_on earlier)
         (at_it to_staged (CheckStaged control) from_apply refl refl step before here.turn read.1.0).unmet
 
     pub states_found_once : step.op ≡ operation (AwaitDeactivated lanes) → Stands (FindsDeactivated lanes) before → ⊥
-    states_found_once is = stands_not to_down (AwaitDeactivated lanes) from_stage refl refl before tt here.turns here.fits
+    states_found_once is = stands_not to_down (AwaitDeactivated lanes) from_stage refl refl doubts before tt here.turns here.fits
         (at_it to_down (AwaitDeactivated lanes) from_stage refl refl step before here.turn is).unmet
 
     pub statuses_found_once : step.op ≡ operation (AwaitApplied lanes) → Stands (FindsApplied lanes) before → ⊥
-    statuses_found_once is = stands_not to_applied (AwaitApplied lanes) from_active refl refl before tt here.turns here.fits
+    statuses_found_once is = stands_not to_applied (AwaitApplied lanes) from_active refl refl doubts before tt here.turns here.fits
         (at_it to_applied (AwaitApplied lanes) from_active refl refl step before here.turn is).unmet

@@ -16,6 +16,7 @@ use Rattle.control_sets.specs.Tasks.{operation, page_of, provisioning}
 use Rattle.control_sets.specs.Procedures.{is_met, is_on, meets, was_met}
 use Rattle.control_sets.specs.Judgements.{judgement}
 use Rattle.control_sets.specs.OutcomeOfProvisioning.{IsPrefix, accepted_store, accepted_stores}
+use Rattle.control_sets.proofs.Doubts.{on_all}
 use Rattle.control_sets.proofs.OutcomeWords.{contradicts}
 use Rattle.bus_model.proofs.SameOperations.{ops_same}
 use Rattle.control_sets.proofs.OutcomeTurns.{meets_by, meets_is}
@@ -70,7 +71,7 @@ module _ (control : List ℕ) (lanes : Lanes) where
   abbrev AreExpected : History → Type 0
   AreExpected history = accepted_stores history ≡ expected (was_met (Deinitialize bits) history) (was_met (Stage control) history) (was_met (Apply bits) history)
 
-  module _ (step : Step) (before : History) (here : Here (provisioning control lanes) step before) (so_far : AreExpected before) where
+  module _ {doubts : Bool} (step : Step) (before : History) (here : Here doubts (provisioning control lanes) step before) (so_far : AreExpected before) where
     quiet : accepted_store step.op step.reply ≡ [] → meets (Deinitialize bits) step before ≡ false → meets (Stage control) step before ≡ false → meets (Apply bits) step before ≡ false → AreExpected (step ∷ before)
     quiet none first second third =
         ap (λ (more : List Op). accepted_stores before ++ more) none ∙ append-nil (accepted_stores before) ∙ so_far
@@ -96,11 +97,11 @@ module _ (control : List ℕ) (lanes : Lanes) where
 
     stage_after_deinit : was_met (Stage control) before ≡ true → was_met (Deinitialize bits) before ≡ true
     stage_after_deinit met = one_of (FindReady ∷ []) (Deinitialize bits) (AwaitDeactivated lanes ∷ []) before
-        (all_first (to_stage control lanes) (Stage control) (from_staged control lanes) refl refl before here.turns met)
+        (all_first (to_stage control lanes) (Stage control) (from_staged control lanes) refl refl doubts before here.turns met)
 
     apply_after_stage : was_met (Apply bits) before ≡ true → was_met (Stage control) before ≡ true
     apply_after_stage met = one_of (to_stage control lanes) (Stage control) (CheckStaged control ∷ []) before
-        (all_first (to_apply control lanes) (Apply bits) (from_applied control lanes) refl refl before here.turns met)
+        (all_first (to_apply control lanes) (Apply bits) (from_applied control lanes) refl refl doubts before here.turns met)
 
     grown_by : (old new made : List Op) → accepted_stores before ≡ old → accepted_store step.op step.reply ≡ made → old ++ made ≡ new → accepted_stores (step ∷ before) ≡ new
     grown_by old new made e f g = (λ i. e i ++ f i) ∙ g
@@ -167,15 +168,15 @@ module _ (control : List ℕ) (lanes : Lanes) where
           (one_of (to_stage control lanes) (Stage control) (CheckStaged control ∷ []) before (met_to_apply is)) unmet)
           (λ _ _ _ is _. quiet_by (operation (AwaitApplied lanes)) is refl refl refl refl)
           (λ _ _ _ is _. quiet_by (operation (CheckActive control)) is refl refl refl refl)
-          works.is works.there
+          works.is (on_all doubts (page_of here.turn.task) before works.there)
     ]
 
-  are_expected : (history : History) → EachStep (Here (provisioning control lanes)) history → AreExpected history
+  are_expected : (doubts : Bool) (history : History) → EachStep (Here doubts (provisioning control lanes)) history → AreExpected history
   unfolding expected
-  are_expected [] each = refl
-  are_expected (step ∷ before) each = grown step before each.0 (are_expected before each.1)
+  are_expected doubts [] each = refl
+  are_expected doubts (step ∷ before) each = grown step before each.0 (are_expected doubts before each.1)
 
-  pub in_order : (history : History) → EachStep (Here (provisioning control lanes)) history → IsPrefix (accepted_stores history) (deinit ∷ stages ∷ applies ∷ [])
-  in_order history each =
-      subst (λ (stored : List Op). IsPrefix stored (deinit ∷ stages ∷ applies ∷ [])) (sym (are_expected history each))
+  pub in_order : (doubts : Bool) (history : History) → EachStep (Here doubts (provisioning control lanes)) history → IsPrefix (accepted_stores history) (deinit ∷ stages ∷ applies ∷ [])
+  in_order doubts history each =
+      subst (λ (stored : List Op). IsPrefix stored (deinit ∷ stages ∷ applies ∷ [])) (sym (are_expected doubts history each))
       (is_prefix (was_met (Deinitialize bits) history) (was_met (Stage control) history) (was_met (Apply bits) history))

@@ -63,7 +63,7 @@ byte_of_run first count byte from to is fits = ap byte_of (sym (lanes_in-mask fi
 
 -- so many tasks are met
 abbrev Comes : Work → History → ℕ → Type 0
-Comes work history met = Stands (tasks_of work) history met None
+Comes work history met = Stands false (tasks_of work) history met None
 
 abbrev nth_task : Work → ℕ → Task
 nth_task work met = get_or (tasks_of work) met FindReady
@@ -71,20 +71,20 @@ nth_task work met = get_or (tasks_of work) met FindReady
 -- by the step of a task
 makes : (work : Work) (met : ℕ) (history : History) (reply : Reply) (judged : ReplyJudgement) → slice_get (tasks_of work) met ≡ Some (nth_task work met) → Answers (operation (nth_task work met)) reply →
     judgement (nth_task work met) reply ≡ judged → is_open history ≡ false → is_on (page_of (nth_task work met)) history ≡ true → Comes work history met →
-    let s = judged_at (met, None) judged in Stands (tasks_of work) (record { op = operation (nth_task work met); reply = reply } ∷ history) s.0 s.1
+    let s = judged_at (met, None) judged in Stands false (tasks_of work) (record { op = operation (nth_task work met); reply = reply } ∷ history) s.0 s.1
 makes work met history reply judged found answers says closed on at =
     let step : Step = record { op = operation (nth_task work met); reply = reply } in
     record {
-      come = works (tasks_of work) (works_apart work) history step answers met (nth_task work met) found at.come refl closed on judged says;
-      closed = λ none. stays_closed (tasks_of work) (works_apart work) history step answers met (nth_task work met) found at.come refl closed on;
+      come = works false (tasks_of work) (works_apart work) history step answers met (nth_task work met) found at.come refl closed on judged says;
+      closed = λ none. stays_closed false (tasks_of work) (works_apart work) history step answers met (nth_task work met) found at.come refl closed on;
     }
 
 -- and by those that select a page that is missing
 chooses : (work : Work) (met page : ℕ) (history : History) → slice_get (tasks_of work) met ≡ Some (nth_task work met) → page_of (nth_task work met) ≡ Some page → is_open history ≡ false → is_page_confirmed page history ≡ false →
     Comes work history met → Comes work (on_page page history) met
 chooses work met page history found needs closed unconfirmed at =
-    let asked = selected (tasks_of work) (works_apart work) history (took (selection page)) tt met None (Some (nth_task work met)) found (inr (closed, (page, needs, unconfirmed, refl))) at in
-    selected (tasks_of work) (works_apart work) (took (selection page) ∷ history) (gave read_selection (0 ∷ page ∷ [])) refl met None (Some (nth_task work met)) found (inl (refl, refl)) asked
+    let asked = selected false (tasks_of work) (works_apart work) history (took (selection page)) tt met None (Some (nth_task work met)) found (inr (closed, (page, needs, unconfirmed, refl))) at in
+    selected false (tasks_of work) (works_apart work) (took (selection page) ∷ history) (gave read_selection (0 ∷ page ∷ [])) refl met None (Some (nth_task work met)) found (inl (refl, refl)) asked
 
 -- ---- provisioning
 
@@ -107,7 +107,7 @@ module _ (lanes : Lanes) (bits : ℕ) (states early late : List ℕ) (is : byte_
 
   found_ready : Comes work (ready ∷ []) 1
   unfolding judged
-  found_ready = makes work 0 [] (Bytes (record { items = 0x06 ∷ [] })) Met refl refl refl refl refl (at_start (provisioning pairs lanes))
+  found_ready = makes work 0 [] (Bytes (record { items = 0x06 ∷ [] })) Met refl refl refl refl refl (at_start false (provisioning pairs lanes))
 
   to_controls : Comes work on_controls 1
   to_controls = chooses work 1 control_page (ready ∷ []) refl refl refl refl found_ready
@@ -140,8 +140,8 @@ module _ (lanes : Lanes) (bits : ℕ) (states early late : List ℕ) (is : byte_
 
   succeeds : (full : Type 0) → IsProvisioning pairs lanes full (provisioned_on bits states early late) (Ok 17)
   succeeds full =
-      let ended : HasEnded (provisioning pairs lanes) (provisioned_on bits states early late) (Ok 17) = ended_at (provisioning pairs lanes) (provisioned_on bits states early late) (omega arith) 8 None refl ends in
-      ended_is_provisioning pairs lanes refl full (provisioned_on bits states early late) (Ok 17) ended
+      let ended : HasEnded (provisioning pairs lanes) (provisioned_on bits states early late) (Ok 17) = ended_at false (provisioning pairs lanes) (provisioned_on bits states early late) (omega arith) 8 None refl ends in
+      ended_is_provisioning false pairs lanes refl full (provisioned_on bits states early late) (Ok 17) ended
 
 every_byte : byte_of every_lane ≡ 0xFF
 every_byte = byte_of_run 1 8 0xFF (omega arith) (omega arith) refl (omega arith)
@@ -175,7 +175,7 @@ released = took (set_deinit 0x00) ∷ on_page control_page found_active
 to_active : Comes bringing_up found_active 2
 unfolding judged
 to_active =
-    let found = makes bringing_up 0 [] (Bytes (record { items = 0x06 ∷ [] })) Met refl refl refl refl refl (at_start (activation pairs every_lane)) in
+    let found = makes bringing_up 0 [] (Bytes (record { items = 0x06 ∷ [] })) Met refl refl refl refl refl (at_start false (activation pairs every_lane)) in
     makes bringing_up 1 on_status_at_once (Bytes (record { items = pairs })) Met refl refl refl refl refl (chooses bringing_up 1 status_page (ready ∷ []) refl refl refl refl found)
 
 to_released : Comes bringing_up released 3
@@ -192,5 +192,5 @@ comes_up =
 
 pub all_activated : (full : Type 0) → IsActivation pairs every_lane full activated (Ok 11)
 all_activated full =
-    let ended : HasEnded (activation pairs every_lane) activated (Ok 11) = ended_at (activation pairs every_lane) activated (omega arith) 4 None refl comes_up in
-    ended_is_activation pairs every_lane refl full activated (Ok 11) ended
+    let ended : HasEnded (activation pairs every_lane) activated (Ok 11) = ended_at false (activation pairs every_lane) activated (omega arith) 4 None refl comes_up in
+    ended_is_activation false pairs every_lane refl full activated (Ok 11) ended

@@ -5,6 +5,7 @@ use Rattle.std.specs.List.{list_all}
 use Rattle.std.specs.Option.{option_map}
 use Rattle.bus_model.specs.declared.operation.Op.{Op}
 use Rattle.bus_model.specs.declared.operation.Step.{Step}
+use Rattle.conversations.specs.Selecting.{trusted}
 use Rattle.control_sets.specs.declared.procedures.task.Task.{Task}
 use Rattle.control_sets.specs.declared.procedures.task.Task.TheVariants.{FindReady, Deinitialize, AwaitDeactivated, Stage, CheckStaged, Apply, AwaitApplied, CheckActive, AwaitActivated}
 use Rattle.control_sets.specs.declared.procedures.judgement.ReplyJudgement.{ReplyJudgement}
@@ -13,7 +14,8 @@ use Rattle.bus_model.specs.SameOperation.{same_op}
 use Rattle.control_sets.specs.Pages.{EachStep, History, is_page_confirmed, is_open, read_selection, selection}
 use Rattle.control_sets.specs.Tasks.{operation, page_of}
 use Rattle.control_sets.specs.Judgements.{judgement}
-use Rattle.control_sets.specs.Procedures.{EachIsNext, in_hand, is_met, is_on, judgement_at, meets, next_operation, operation_on, was_met}
+use Rattle.control_sets.specs.Procedures.{EachIsNextBy, in_hand, is_met, is_on, judgement_at, meets, next_operation, operation_on, was_met}
+use Rattle.control_sets.proofs.Doubts.{on_all}
 use Rattle.control_sets.proofs.OutcomeWords.{contradicts}
 use Rattle.bus_model.proofs.SameOperations.{ops_are, ops_same}
 
@@ -36,10 +38,10 @@ pub record Works (task : Task) (op : Op) (before : History) : Type 0 where
   pub closed : is_open before ≡ false
   pub there : is_on (page_of task) before ≡ true
 
-pub record Turn (tasks : List Task) (step : Step) (before : History) : Type 0 where
+pub record Turn (doubts : Bool) (tasks : List Task) (step : Step) (before : History) : Type 0 where
   pub task : Task
   pub hand : in_hand tasks before ≡ Some task
-  pub does : ReadsBack step.op before ⊎ (Selects task step.op before ⊎ Works task step.op before)
+  pub does : ReadsBack step.op (trusted doubts before) ⊎ (Selects task step.op (trusted doubts before) ⊎ Works task step.op (trusted doubts before))
 
 on_page : (task : Task) (op : Op) (before : History) (page : Option ℕ) → page_of task ≡ page → is_open before ≡ false → op ≡ operation_on before task page → Selects task op before ⊎ Works task op before
 on_page task op before None needs closed e = inr (record { is = e; closed = closed; there = ap (λ (page : Option ℕ). is_on page before) needs })
@@ -72,16 +74,16 @@ some_is {X} d x y e = ap (held d) e where
   held d None = d
   held d (Some x) = x
 
-turn_with : (tasks : List Task) (step : Step) (before : History) (hand : Option Task) → in_hand tasks before ≡ hand → option_map (next_operation before) hand ≡ Some step.op → Turn tasks step before
-turn_with tasks step before None e next = cc
-turn_with tasks step before (Some task) e next =
-    record { task = task; hand = e; does = does_by task step.op before (sym (some_is step.op (next_operation before task) step.op next)) }
+turn_with : (doubts : Bool) (tasks : List Task) (step : Step) (before : History) (hand : Option Task) → in_hand tasks before ≡ hand → option_map (next_operation (trusted doubts before)) hand ≡ Some step.op → Turn doubts tasks step before
+turn_with doubts tasks step before None e next = cc
+turn_with doubts tasks step before (Some task) e next =
+    record { task = task; hand = e; does = does_by task step.op (trusted doubts before) (sym (some_is step.op (next_operation (trusted doubts before) task) step.op next)) }
 
 -- each step is somebody's turn
-pub each_turn : (tasks : List Task) (history : History) → EachIsNext tasks history → EachStep (Turn tasks) history
-each_turn tasks [] each = tt
-each_turn tasks (step ∷ before) each =
-    (turn_with tasks step before (in_hand tasks before) refl each.0, each_turn tasks before each.1)
+pub each_turn : (doubts : Bool) (tasks : List Task) (history : History) → EachIsNextBy doubts tasks history → EachStep (Turn doubts tasks) history
+each_turn doubts tasks [] each = tt
+each_turn doubts tasks (step ∷ before) each =
+    (turn_with doubts tasks step before (in_hand tasks before) refl each.0, each_turn doubts tasks before each.1)
 
 -- ---- which task is in hand
 
@@ -159,15 +161,15 @@ at_hand (other ∷ first) wanted task rest before before_differs after_differs i
           (and_from _ _ later.0 found.0, found.1, found.2)
     ]
 
-pub is_at : (first : List Task) (wanted : Task) (rest : List Task) (step : Step) (before : History) → list_all (differs (operation wanted)) first ≡ true → list_all (differs (operation wanted)) rest ≡ true →
-    Turn (first ++ wanted ∷ rest) step before → step.op ≡ operation wanted → IsAt first wanted before
-is_at first wanted rest step before before_differs after_differs turn is =
+pub is_at : {doubts : Bool} (first : List Task) (wanted : Task) (rest : List Task) (step : Step) (before : History) → list_all (differs (operation wanted)) first ≡ true → list_all (differs (operation wanted)) rest ≡ true →
+    Turn doubts (first ++ wanted ∷ rest) step before → step.op ≡ operation wanted → IsAt first wanted before
+is_at {doubts} first wanted rest step before before_differs after_differs turn is =
     elim turn.does as (λ _. IsAt first wanted before) [
       | inl reads ↦ absurd (no_read_back wanted (sym is ∙ reads.is))
       | inr (inl selects) ↦ absurd (no_selection wanted selects.page (sym is ∙ selects.is))
       | inr (inr works) ↦
           let found = at_hand first wanted turn.task rest before before_differs after_differs (sym works.is ∙ is) turn.hand in
-          record { met = found.0; unmet = found.2; there = ap (λ (task : Task). is_on (page_of task) before) (sym found.1) ∙ works.there }
+          record { met = found.0; unmet = found.2; there = ap (λ (task : Task). is_on (page_of task) before) (sym found.1) ∙ on_all doubts (page_of turn.task) before works.there }
     ]
 
 -- ---- meeting a task

@@ -1,15 +1,16 @@
 -- What activation does on a bus and answers, over the whole list of its steps. (docs/bus.md, "Outcomes"; OIF-CMIS-05.0, Data
 -- Path State Machine)
-use Rattle.std.specs.Prelude.{◌≡◌, ◌⊎◌, ◌-◌, ℕ, List, [], ◌∷◌, Ok, Err}
+use Rattle.std.specs.Prelude.{Bool, false, ◌≡◌, ◌⊎◌, ◌-◌, ℕ, List, [], ◌∷◌, Ok, Err}
 use Rattle.bus_model.specs.declared.operation.Op.{Op}
 use Rattle.bus_model.specs.declared.operation.Step.{Step}
+use Rattle.conversations.specs.Selecting.{trusted}
 use Rattle.control_sets.specs.declared.fault.ProvisionFault.TheVariants.{Rejected, StagedDiffers, ActiveDiffers, GaveUp, Bus, ModuleState, Reserved}
 use Rattle.field_tables.specs.LaneSets.{Lanes, byte_of, every_lane}
 use Rattle.datapath_states.specs.declared.state.PathState.TheVariants.{Activated}
 use Rattle.datapath_states.specs.StateCodes.{code_of}
 use Rattle.control_sets.specs.Pages.{EachStep, History, read_selection, selection}
 use Rattle.control_sets.specs.OutcomeSteps.{Gives, IsAccepted, IsAmong, Reads, ReadsOnce, Stands, StandsAfter}
-use Rattle.control_sets.specs.OutcomeOperations.{Confirms, ReadsSelectionsBack, control_page, read_active, read_module_state, read_path_states, set_deinit, status_page}
+use Rattle.control_sets.specs.OutcomeOperations.{Confirms, ReadsSelectionsBackBy, control_page, read_active, read_module_state, read_path_states, set_deinit, status_page}
 use Rattle.control_sets.specs.OutcomeCodes.{AllHave, DiffersAt, IsInNoState, IsInOtherState, IsLowestReserved, IsReservedPathState, NoneHas}
 use Rattle.control_sets.specs.OutcomeAnswers.{Answer, IsAnswer}
 use Rattle.control_sets.specs.OutcomeOfProvisioning.{FindsReady, IsStore}
@@ -19,11 +20,14 @@ abbrev pub release : Lanes → Op
 release lanes = set_deinit (255 - byte_of lanes)
 
 -- the step makes an operation of activation, on the page that it needs
-abbrev pub IsActivationStep : Lanes → Step → History → Type 0
-IsActivationStep lanes step before =
+abbrev pub IsActivationStepBy : Bool → Lanes → Step → History → Type 0
+IsActivationStepBy doubts lanes step before =
     IsAmong (read_module_state ∷ read_selection ∷ selection control_page ∷ selection status_page ∷ []) step.op
-    ⊎ ((IsAmong (read_active ∷ read_path_states ∷ []) step.op × Confirms status_page before)
-    ⊎ (IsAmong (release lanes ∷ []) step.op × Confirms control_page before))
+    ⊎ ((IsAmong (read_active ∷ read_path_states ∷ []) step.op × Confirms status_page (trusted doubts before))
+    ⊎ (IsAmong (release lanes ∷ []) step.op × Confirms control_page (trusted doubts before)))
+
+abbrev pub IsActivationStep : Lanes → Step → History → Type 0
+IsActivationStep lanes step before = IsActivationStepBy false lanes step before
 
 -- in which order the steps stand
 pub record IsActivationOrder (control : List ℕ) (lanes : Lanes) (history : History) : Type 0 where
@@ -51,20 +55,27 @@ EndsActivation control lanes (Err GaveUp) step = ⊥
 EndsActivation control lanes (Err (Bus fault)) step = ⊥
 
 -- no step is needless
-pub record IsActivationBrief (control : List ℕ) (lanes : Lanes) (history : History) : Type 0 where
-  pub selections : ReadsSelectionsBack history
+pub record IsActivationBriefBy (doubts : Bool) (control : List ℕ) (lanes : Lanes) (history : History) : Type 0 where
+  pub selections : ReadsSelectionsBackBy doubts history
   -- a page is selected only if it isn't confirmed, and something is to be done on it
   pub controls : EachStep (λ step before. step.op ≡ selection control_page →
-      (¬ (Confirms control_page before)) × Stands (Gives read_active control) before × (¬ (Stands (IsAccepted (release lanes)) before))) history
+      (¬ (Confirms control_page (trusted doubts before))) × Stands (Gives read_active control) before × (¬ (Stands (IsAccepted (release lanes)) before))) history
   pub status : EachStep (λ step before. step.op ≡ selection status_page →
-      (¬ (Confirms status_page before)) × ((¬ (Stands (Gives read_active control) before)) ⊎ Stands (IsAccepted (release lanes)) before)) history
+      (¬ (Confirms status_page (trusted doubts before))) × ((¬ (Stands (Gives read_active control) before)) ⊎ Stands (IsAccepted (release lanes)) before)) history
   pub module_state : ReadsOnce read_module_state history
   pub active : ReadsOnce read_active history
 
+abbrev pub IsActivationBrief : List ℕ → Lanes → History → Type 0
+IsActivationBrief control lanes history = IsActivationBriefBy false control lanes history
+
 -- these steps, the newest first, and this answer are activation of these lanes, which needs the control bytes active; full says
 -- that the bus's list is full after them
-pub record IsActivation (control : List ℕ) (lanes : Lanes) (full : Type 0) (history : History) (answer : Answer) : Type 0 where
-  pub shape : EachStep (IsActivationStep lanes) history
+pub record IsActivationBy (doubts : Bool) (control : List ℕ) (lanes : Lanes) (full : Type 0) (history : History) (answer : Answer) : Type 0 where
+  pub shape : EachStep (IsActivationStepBy doubts lanes) history
   pub order : IsActivationOrder control lanes history
   pub answered : IsAnswer (EndsActivation control lanes) full history answer
-  pub brief : IsActivationBrief control lanes history
+  pub brief : IsActivationBriefBy doubts control lanes history
+
+-- without doubt
+abbrev pub IsActivation : List ℕ → Lanes → Type 0 → History → Answer → Type 0
+IsActivation control lanes full history answer = IsActivationBy false control lanes full history answer

@@ -1,11 +1,12 @@
 -- What provisioning does on a bus and answers, over the whole list of its steps. (docs/bus.md, "Outcomes"; OIF-CMIS-05.0,
 -- Data Path Configuration)
-use Rattle.std.specs.Prelude.{◌≡◌, ◌⊎◌, ◌++◌, ◌==◌, ℕ, List, [], ◌∷◌, Ok, Err, if◌then◌else◌}
+use Rattle.std.specs.Prelude.{Bool, false, ◌≡◌, ◌⊎◌, ◌++◌, ◌==◌, ℕ, List, [], ◌∷◌, Ok, Err, if◌then◌else◌}
 use Rattle.bus_model.specs.declared.operation.Op.{Op}
 use Rattle.bus_model.specs.declared.operation.Op.TheVariants.{Fetch, Store}
 use Rattle.bus_model.specs.declared.operation.Reply.{Reply}
 use Rattle.bus_model.specs.declared.operation.Reply.TheVariants.{Bytes, Done, Refused}
 use Rattle.bus_model.specs.declared.operation.Step.{Step}
+use Rattle.conversations.specs.Selecting.{trusted}
 use Rattle.control_sets.specs.declared.fault.ProvisionFault.TheVariants.{Rejected, StagedDiffers, ActiveDiffers, GaveUp, Bus, ModuleState, Reserved}
 use Rattle.field_tables.specs.declared.field.Register.TheVariants.{CPageMapping}
 use Rattle.field_tables.specs.Registers.{first_byte}
@@ -16,7 +17,7 @@ use Rattle.datapath_states.specs.StateCodes.{code_of}
 use Rattle.datapath_states.specs.StatusCodes.{status_code_of}
 use Rattle.control_sets.specs.Pages.{EachStep, History, read_selection, selection}
 use Rattle.control_sets.specs.OutcomeSteps.{Gives, IsAccepted, IsAmong, Reads, ReadsOnce, Stands, StandsAfter, StandsAfterNo}
-use Rattle.control_sets.specs.OutcomeOperations.{Confirms, ReadsSelectionsBack, apply, control_page, read_active, read_module_state, read_path_states, read_staged, read_statuses, set_deinit, stage, status_page}
+use Rattle.control_sets.specs.OutcomeOperations.{Confirms, ReadsSelectionsBackBy, apply, control_page, read_active, read_module_state, read_path_states, read_staged, read_statuses, set_deinit, stage, status_page}
 use Rattle.control_sets.specs.OutcomeCodes.{AllHave, DiffersAt, IsInNoState, IsInOtherState, IsLowestReserved, IsReady, IsRejectedAt, IsReservedPathState, IsReservedStatus}
 use Rattle.control_sets.specs.OutcomeAnswers.{Answer, IsAnswer}
 
@@ -33,11 +34,14 @@ abbrev pub FindsApplied : Lanes → Step → Type 0
 FindsApplied lanes = Reads read_statuses (AllHave (status_code_of Success) lanes)
 
 -- the step makes an operation of provisioning, on the page that it needs
-abbrev pub IsProvisioningStep : List ℕ → Lanes → Step → History → Type 0
-IsProvisioningStep control lanes step before =
+abbrev pub IsProvisioningStepBy : Bool → List ℕ → Lanes → Step → History → Type 0
+IsProvisioningStepBy doubts control lanes step before =
     IsAmong (read_module_state ∷ read_selection ∷ selection control_page ∷ selection status_page ∷ []) step.op
-    ⊎ ((IsAmong (read_path_states ∷ read_statuses ∷ read_active ∷ []) step.op × Confirms status_page before)
-    ⊎ (IsAmong (set_deinit (byte_of lanes) ∷ stage control ∷ read_staged ∷ apply (byte_of lanes) ∷ []) step.op × Confirms control_page before))
+    ⊎ ((IsAmong (read_path_states ∷ read_statuses ∷ read_active ∷ []) step.op × Confirms status_page (trusted doubts before))
+    ⊎ (IsAmong (set_deinit (byte_of lanes) ∷ stage control ∷ read_staged ∷ apply (byte_of lanes) ∷ []) step.op × Confirms control_page (trusted doubts before)))
+
+abbrev pub IsProvisioningStep : List ℕ → Lanes → Step → History → Type 0
+IsProvisioningStep control lanes step before = IsProvisioningStepBy false control lanes step before
 
 -- a store, a selection or not
 abbrev pub IsStore : Op → Type 0
@@ -107,21 +111,28 @@ WantsStatuses lanes before =
     ⊎ Stands (IsAccepted (apply (byte_of lanes))) before
 
 -- no step is needless
-pub record IsProvisioningBrief (lanes : Lanes) (history : History) : Type 0 where
-  pub selections : ReadsSelectionsBack history
+pub record IsProvisioningBriefBy (doubts : Bool) (lanes : Lanes) (history : History) : Type 0 where
+  pub selections : ReadsSelectionsBackBy doubts history
   -- a page is selected only if it isn't confirmed, and something is to be done on it
-  pub controls : EachStep (λ step before. step.op ≡ selection control_page → (¬ (Confirms control_page before)) × WantsControls lanes before) history
-  pub status : EachStep (λ step before. step.op ≡ selection status_page → (¬ (Confirms status_page before)) × WantsStatuses lanes before) history
+  pub controls : EachStep (λ step before. step.op ≡ selection control_page → (¬ (Confirms control_page (trusted doubts before))) × WantsControls lanes before) history
+  pub status : EachStep (λ step before. step.op ≡ selection status_page → (¬ (Confirms status_page (trusted doubts before))) × WantsStatuses lanes before) history
   pub module_state : ReadsOnce read_module_state history
   pub staged : ReadsOnce read_staged history
   -- what was found is awaited no more
   pub path_states : StandsAfterNo read_path_states (FindsDeactivated lanes) history
   pub statuses : StandsAfterNo read_statuses (FindsApplied lanes) history
 
+abbrev pub IsProvisioningBrief : Lanes → History → Type 0
+IsProvisioningBrief lanes history = IsProvisioningBriefBy false lanes history
+
 -- these steps, the newest first, and this answer are provisioning of the control bytes, by the lanes of the mask; full says
 -- that the bus's list is full after them
-pub record IsProvisioning (control : List ℕ) (lanes : Lanes) (full : Type 0) (history : History) (answer : Answer) : Type 0 where
-  pub shape : EachStep (IsProvisioningStep control lanes) history
+pub record IsProvisioningBy (doubts : Bool) (control : List ℕ) (lanes : Lanes) (full : Type 0) (history : History) (answer : Answer) : Type 0 where
+  pub shape : EachStep (IsProvisioningStepBy doubts control lanes) history
   pub order : IsProvisioningOrder control lanes history
   pub answered : IsAnswer (EndsProvisioning control lanes) full history answer
-  pub brief : IsProvisioningBrief lanes history
+  pub brief : IsProvisioningBriefBy doubts lanes history
+
+-- without doubt
+abbrev pub IsProvisioning : List ℕ → Lanes → Type 0 → History → Answer → Type 0
+IsProvisioning control lanes full history answer = IsProvisioningBy false control lanes full history answer

@@ -1,6 +1,6 @@
 -- The operations of provisioning and activation, and when the steps before a step confirm a page. (docs/bus.md, "Outcomes";
 -- OIF-CMIS-05.0: Bank and Page Select of the lower memory, Staged Control Set 0 on page 10h, the lane statuses on page 11h)
-use Rattle.std.specs.Prelude.{◌≡◌, ◌⊎◌, ◌++◌, ◌+◌, ◌<◌, ℕ, List, [], ◌∷◌, length, Option, Some, None}
+use Rattle.std.specs.Prelude.{Bool, false, ◌≡◌, ◌⊎◌, ◌++◌, ◌+◌, ◌<◌, ℕ, List, [], ◌∷◌, length, Option, Some, None}
 use Rattle.std.specs.List.{AllByRecursion}
 use Rattle.bus_model.specs.declared.device.Dev.TheVariants.{A0, A2}
 use Rattle.bus_model.specs.declared.operation.Op.{Op}
@@ -10,6 +10,7 @@ use Rattle.bus_model.specs.declared.operation.Step.{Step}
 use Rattle.field_tables.specs.declared.field.Register.{Register}
 use Rattle.field_tables.specs.declared.field.Register.TheVariants.{CActiveControl, CApplyDPInit, CConfigStatus, CDPDeinit, CGlobalStatus, CPageMapping, CPathStates, CStagedControl}
 use Rattle.field_tables.specs.Registers.{byte_count, first_byte, page_of, span_of}
+use Rattle.conversations.specs.Selecting.{trusted}
 use Rattle.control_sets.specs.RegisterOperations.{IsWholly, read_of, store_to}
 use Rattle.control_sets.specs.Pages.{EachStep, History, read_selection, selection}
 use Rattle.control_sets.specs.OutcomeSteps.{IsRefused, Newest}
@@ -76,12 +77,15 @@ IsSelection step = (step.op ≡ selection control_page) ⊎ (step.op ≡ selecti
 abbrev pub AwaitsReadBack : Step → Type 0
 AwaitsReadBack step = IsSelection step ⊎ IsRefused read_selection step
 
--- selections are read back
-pub record ReadsSelectionsBack (history : History) : Type 0 where
+-- selections are read back, of which the steps tell that are trusted
+pub record ReadsSelectionsBackBy (doubts : Bool) (history : History) : Type 0 where
   -- the step next after a selection reads the selection, and so again until that is answered
-  pub at_once : EachStep (λ step before. Newest AwaitsReadBack before → step.op ≡ read_selection) history
+  pub at_once : EachStep (λ step before. Newest AwaitsReadBack (trusted doubts before) → step.op ≡ read_selection) history
   -- else the selection isn't read
-  pub only : EachStep (λ step before. step.op ≡ read_selection → Newest AwaitsReadBack before) history
+  pub only : EachStep (λ step before. step.op ≡ read_selection → Newest AwaitsReadBack (trusted doubts before)) history
+
+abbrev pub ReadsSelectionsBack : History → Type 0
+ReadsSelectionsBack history = ReadsSelectionsBackBy false history
 
 -- the page, if one is needed, is confirmed
 abbrev pub IsConfirmed : Option ℕ → History → Type 0

@@ -8,6 +8,7 @@ use Rattle.bus_model.specs.declared.operation.Op.{Op}
 use Rattle.bus_model.specs.declared.operation.Step.{Step}
 use Rattle.bus_model.specs.Operations.{Answers}
 use Rattle.bus_model.specs.Runs.{IsFull, Ran, Rules, Seen}
+use Rattle.conversations.specs.Selecting.{trusted}
 use Rattle.control_sets.specs.declared.fault.ProvisionFault.{ProvisionFault}
 use Rattle.control_sets.specs.declared.fault.ProvisionFault.TheVariants.{GaveUp, Bus}
 use Rattle.control_sets.specs.declared.procedures.task.Task.{Task}
@@ -54,11 +55,15 @@ operation_on history task (Some page) = if is_page_confirmed page history then o
 abbrev pub next_operation : History → Task → Op
 next_operation history task = if is_open history then read_selection else operation_on history task (page_of task)
 
--- each step is what comes next after those before it
+-- each step is what comes next after those before it; of the selection, those tell that are trusted
+abbrev pub EachIsNextBy : Bool → List Task → History → Type 0
+EachIsNextBy doubts tasks [] = Unit {0}
+EachIsNextBy doubts tasks (step ∷ before) =
+    (option_map (next_operation (trusted doubts before)) (in_hand tasks before) ≡ Some step.op) × EachIsNextBy doubts tasks before
+
+-- without doubt
 abbrev pub EachIsNext : List Task → History → Type 0
-EachIsNext tasks [] = Unit {0}
-EachIsNext tasks (step ∷ before) =
-    (option_map (next_operation before) (in_hand tasks before) ≡ Some step.op) × EachIsNext tasks before
+EachIsNext tasks history = EachIsNextBy false tasks history
 
 -- each reply is one that its operation can have
 abbrev pub EachAnswers : History → Type 0
@@ -119,11 +124,14 @@ pub record GivesTasksUp (tasks : List Task) (history : History) (answer : Result
   pub goes_on : EachGoesOn tasks history
 
 -- these steps end in the answer
-pub record HasEnded (tasks : List Task) (history : History) (answer : Result ℕ ProvisionFault) : Type 0 where
-  pub each : EachIsNext tasks history
+pub record HasEndedBy (doubts : Bool) (tasks : List Task) (history : History) (answer : Result ℕ ProvisionFault) : Type 0 where
+  pub each : EachIsNextBy doubts tasks history
   pub answers : EachAnswers history
   pub few : length history ≤ most_steps
   pub answered : EndsFirst tasks history answer ⊎ GivesTasksUp tasks history answer
+
+abbrev pub HasEnded : List Task → History → Result ℕ ProvisionFault → Type 0
+HasEnded tasks history answer = HasEndedBy false tasks history answer
 
 -- the bus's list is full, and the steps end in no answer
 pub record RunsOut {S : Type 0} (tasks : List Task) (after : Seen S) (history : History) (answer : Result ℕ ProvisionFault) : Type 0 where

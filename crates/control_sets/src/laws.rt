@@ -1,6 +1,6 @@
 //! What holds of control bytes, over all plans. Each function is a theorem: its contract says it, and its body is empty. In those over
 //! histories, `made` is the length of the whole list of steps that the bus keeps, and `room` how many steps that list takes.
-ghost use Rattle.std.specs.Prelude.{◌≡◌, ◌≢◌, ℕ, ◌<◌, ◌≤◌, Bool, true, List, Option, None, All, Any, IsTrue, length, ◌+◌, ◌*◌, [], ◌∷◌, Ok, Err, false};
+ghost use Rattle.std.specs.Prelude.{◌≡◌, ◌≢◌, ℕ, ◌<◌, ◌≤◌, Bool, true, List, Option, None, Some, All, Any, IsTrue, length, ◌+◌, ◌*◌, [], ◌∷◌, Ok, Err, false};
 ghost use Rattle.std.specs.List.{AllByRecursion};
 ghost use Rattle.applications.specs.Advertised.{Advertised, InOrder};
 ghost use Rattle.plan_certificate.specs.declared.path.Path.{Path};
@@ -19,10 +19,10 @@ ghost use Rattle.control_sets.specs.OutcomeSteps.{Gives, IsAccepted, IsAnswered,
 ghost use Rattle.control_sets.specs.OutcomeOperations.{IsAtRegister, apply, control_page, read_active, read_module_state, read_path_states, read_staged, read_statuses, stage, status_page};
 ghost use Rattle.control_sets.specs.OutcomeExamples.{activated, almost_pairs, gave, low_power, on_controls, on_status_at_once, other_bank, pairs, provisioned, provisioned_beside_reserved_codes, ready, refused, refused_reads, refused_selection, repeated_selection, took};
 ghost use Rattle.control_sets.specs.Tasks.{activation, provisioning};
-ghost use Rattle.control_sets.specs.Procedures.{HasEnded};
+ghost use Rattle.control_sets.specs.Procedures.{HasEndedBy};
 ghost use Rattle.control_sets.specs.OutcomeAnswers.{Answer, most_steps};
-ghost use Rattle.control_sets.specs.OutcomeOfProvisioning.{IsProvisioning};
-ghost use Rattle.control_sets.specs.OutcomeOfActivation.{IsActivation, release};
+ghost use Rattle.control_sets.specs.OutcomeOfProvisioning.{IsProvisioning, IsProvisioningBy};
+ghost use Rattle.control_sets.specs.OutcomeOfActivation.{IsActivation, IsActivationBy, release};
 ghost use Rattle.control_sets.specs.OutcomeCodes.{IsOf, IsReservedPathState};
 ghost use Rattle.datapath_states.specs.Lanes.{code_in};
 ghost use Rattle.control_sets.specs.OutcomeOfPower.{IsPowerChange};
@@ -49,6 +49,7 @@ ghost use Rattle.control_sets.specs.StoredBits.{HasBitsOf, LeavesOthers};
 ghost use Rattle.control_sets.specs.Durations.{patience_for, polls, states_of};
 ghost use Rattle.conversations.specs.declared.pausing.Patience.{Patience};
 ghost use Rattle.conversations.specs.declared.pausing.Timed.{Timed};
+ghost use Rattle.conversations.specs.declared.pausing.Timed.TheVariants.{InTime};
 ghost use Rattle.conversations.specs.Pauses.{AddsPauses, AreMade, AreSpaced, EndsPausing, GoesOnPausing, paused_for};
 ghost use Rattle.conversations.specs.Selecting.{ConfirmsStores};
 ghost use Rattle.paged_memory.specs.declared.page_addressing.PageAddressing.TheVariants.{BankAndPage};
@@ -111,12 +112,12 @@ pub fn operations_are_at_registers()
 /// procedure asks for what comes next after the steps that it was told, and a reply that it takes is one step more. So it is with a
 /// change of power.
 pub fn procedures_have_their_outcomes()
-    ensures provisioning { (control : List ℕ) (lanes : Lanes) (made room : ℕ) (history : History) (answer : Answer) →
-        length control ≡ 8 → HasEnded (provisioning control lanes) history answer →
-        IsProvisioning control lanes (made ≡ room) history answer }
-    ensures activation { (control : List ℕ) (lanes : Lanes) (made room : ℕ) (history : History) (answer : Answer) →
-        length control ≡ 8 → HasEnded (activation control lanes) history answer →
-        IsActivation control lanes (made ≡ room) history answer }
+    ensures provisioning { (doubts : Bool) (control : List ℕ) (lanes : Lanes) (made room : ℕ) (history : History) (answer : Answer) →
+        length control ≡ 8 → HasEndedBy doubts (provisioning control lanes) history answer →
+        IsProvisioningBy doubts control lanes (made ≡ room) history answer }
+    ensures activation { (doubts : Bool) (control : List ℕ) (lanes : Lanes) (made room : ℕ) (history : History) (answer : Answer) →
+        length control ≡ 8 → HasEndedBy doubts (activation control lanes) history answer →
+        IsActivationBy doubts control lanes (made ≡ room) history answer }
     ensures begun { (work : Work) → IsAt (tasks_of work) [] (procedure_of (list_at work (0, None)) Unknown 0) }
     ensures follows { (tasks : List Task) (history : History) (procedure : Procedure) → IsAt tasks history procedure →
         Follows tasks history (⟦<Procedure as Conversation>⟧.wants procedure) }
@@ -273,6 +274,16 @@ pub fn patience_outlasts_states()
     ensures fruitless { (memory : Memory) (own events : Events) (wanted : Option Op) (due : Bool) (idle : ℕ) →
         AddsPauses (patience_for memory) own events wanted due idle → AreMade own →
         paused_for (patience_for memory).pause wanted (steps_of events) ≤ (polls + 2) * (patience_for memory).pause }
+{}
+
+/// Provisioning and activation on a real bus that ended in time, or gave up, did so as they may without pauses: their steps and answer
+/// have the outcome, with the selections of those who doubt.
+pub fn patient_procedures_have_their_outcomes()
+    ensures ended { (patience : Patience) (work : Work) (events : Events) (fault : Option ProvisionFault) → length (steps_of events) ≤ most_steps →
+        EndsPausing patience (GoesOn true work) (Ends true work) events (InTime fault) →
+        HasEndedBy true (tasks_of work) (steps_of events) (answer_of (record { steps = length (steps_of events); end = Some fault })) }
+    ensures gave_up { (patience : Patience) (work : Work) (events : Events) → length (steps_of events) ≡ most_steps →
+        GoesOnPausing patience (GoesOn true work) events → HasEndedBy true (tasks_of work) (steps_of events) (Err GaveUp) }
 {}
 
 /// Whatever a real bus answers to provisioning, activation and changes of power: between a fruitless transaction and the next one there is

@@ -7,10 +7,10 @@ use Rattle.control_sets.proofs.Turns.{begun_at, follows, told_step}
 use Rattle.control_sets.proofs.laws.procedures_have_their_outcomes.Goals as goal
 
 pub returns-clause-provisioning : goal.returns-clause-provisioning
-returns-clause-provisioning c control lanes made room history answer eight ended = ended_is_provisioning control lanes eight (made ≡ room) history answer ended
+returns-clause-provisioning c doubts control lanes made room history answer eight ended = ended_is_provisioning doubts control lanes eight (made ≡ room) history answer ended
 
 pub returns-clause-activation : goal.returns-clause-activation
-returns-clause-activation c control lanes made room history answer eight ended = ended_is_activation control lanes eight (made ≡ room) history answer ended
+returns-clause-activation c doubts control lanes made room history answer eight ended = ended_is_activation doubts control lanes eight (made ≡ room) history answer ended
 
 pub returns-clause-begun : goal.returns-clause-begun
 returns-clause-begun c work = begun_at work
