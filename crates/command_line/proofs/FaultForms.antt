@@ -6,7 +6,7 @@ use Rattle.json.specs.Print.{escape_byte}
 use Rattle.notices.specs.Sentences.{sentences}
 use Rattle.report_entries.specs.EntryJson.{count_members, form_members, json_text, string_members}
 use Rattle.report_entries.specs.Shown.{printable}
-use Rattle.reports.specs.FaultJson.{code_members, fault_members, reason_json, reason_members, sentence_members, values_json, values_members}
+use Rattle.plan_reports.specs.FaultJson.{code_members, fault_members, reason_json, reason_members, sentence_members, values_json, values_members}
 use Rattle.command_line.specs.FaultForms.{fault_in, form_of_reading, output_in}
 use Rattle.command_line.specs.FaultTexts.{after_code, after_sentence, before_code, fault_text, fault_tree, is_of_reading, reading_fault_text}
 use Rattle.command_line.specs.Runs.{Answer, answer_of, output_of}

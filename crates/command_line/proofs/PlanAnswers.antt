@@ -18,7 +18,7 @@ use Rattle.plan_certificate.specs.declared.path.Path.{Path}
 use Rattle.plan_certificate.specs.declared.state.State.{State}
 use Rattle.plan_certificate.specs.declared.verdict.Verdict.TheVariants.{Good}
 use Rattle.report_entries.specs.EntryJson.{IsJsonText, json_text}
-use Rattle.reports.specs.PlanJson.{plan_json}
+use Rattle.plan_reports.specs.PlanJson.{plan_json}
 use Rattle.command_line.specs.Faults.{fault_of_weights}
 use Rattle.command_line.specs.GivenPlan.{IsGiven}
 use Rattle.command_line.specs.PlanCommand.{IsPlanAnswer, IsPlannedAs, TellsPlan}

@@ -36,7 +36,7 @@ use Rattle.sim_module.proofs.SoundRuns.{runs_leave_sound}
 use Rattle.command_line.specs.Faults.{fault_of_weights}
 use Rattle.command_line.specs.PlanningInputs.{Advertises, IsAdvertRefusal}
 use Rattle.command_line.specs.ProvisionCommand.{Activates, BusProcedure, CarriesOut, IsCarriedOut, IsProcedureAnswer, IsSetUpRefusal, MakesIf, ModuleBus, Provisions, StepsOrFault, Wakes, control_words, delays, fault_of, line_if, outcome_fault, outcome_lines, outcome_of, active_line, activated_line, provisioned_line, steps_of, told_output, woken_line}
-use Rattle.reports.specs.declared.json_procedure.Outcome.{Outcome}
+use Rattle.plan_reports.specs.declared.json_procedure.Outcome.{Outcome}
 use Rattle.command_line.specs.Runs.{IsOwnAnswer}
 use Rattle.command_line.proofs.OwnAnswers.{if_known}
 use Rattle.command_line.specs.Sessions.{IsSessionOf}

@@ -19,8 +19,8 @@ use Rattle.plan_certificate.specs.declared.verdict.Verdict.{Verdict}
 use Rattle.plan_certificate.specs.declared.verdict.Verdict.TheVariants.{Good, Bad}
 use Rattle.lane_planner.specs.FirstBest.{IsFirstBest}
 use Rattle.report_entries.specs.EntryJson.{json_text}
-use Rattle.reports.specs.PlanText.{plan_lines}
-use Rattle.reports.specs.VerdictJson.{good_json}
+use Rattle.plan_reports.specs.PlanText.{plan_lines}
+use Rattle.plan_reports.specs.VerdictJson.{good_json}
 use Rattle.plan_certificate.specs.Limits.{most_states}
 use Rattle.command_line.specs.declared.fault.Fault.TheVariants as fault
 use Rattle.command_line.specs.PlanningInputs.{Advertises, IsAdvertText, IsAdvertRefusal, IsWeightsRefusal}

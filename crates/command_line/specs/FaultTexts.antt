@@ -4,8 +4,8 @@ use Rattle.std.specs.Prelude.{ℕ, Bool, true, false, is_some, List, [], ◌∷�
 use Rattle.notices.specs.Sentences.{row_by_code}
 use Rattle.json.specs.Json.{Json}
 use Rattle.report_entries.specs.EntryJson.{json_text}
-use Rattle.reports.specs.FaultJson.{fault_json}
-use Rattle.reports.specs.VerdictJson.{bad_json}
+use Rattle.plan_reports.specs.FaultJson.{fault_json}
+use Rattle.plan_reports.specs.VerdictJson.{bad_json}
 use Rattle.command_line.specs.Faults.{fault_line, fault_words}
 use Rattle.command_line.specs.Places.{first_word}
 use Rattle.command_line.specs.Remarks.{sentence_key, sentence_of}

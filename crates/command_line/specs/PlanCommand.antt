@@ -5,7 +5,7 @@ use Rattle.plan_certificate.specs.Certificates.{Claim}
 use Rattle.plan_certificate.specs.CertificateText.{IsTextOf, certificate_lines}
 use Rattle.plan_certificate.specs.Limits.{most_states}
 use Rattle.report_entries.specs.EntryJson.{json_text}
-use Rattle.reports.specs.PlanJson.{plan_json}
+use Rattle.plan_reports.specs.PlanJson.{plan_json}
 use Rattle.command_line.specs.declared.fault.Fault.TheVariants as fault
 use Rattle.command_line.specs.GivenPlan.{IsGiven}
 use Rattle.command_line.specs.PlanningInputs.{Advertises, IsAdvertRefusal, IsKeptRefusal, IsWeightsRefusal}

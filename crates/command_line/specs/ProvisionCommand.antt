@@ -35,9 +35,9 @@ use Rattle.sim_module.specs.declared.fault.SimFault.{SimFault}
 use Rattle.sim_module.specs.declared.module.SimModule.{SimModule}
 use Rattle.json.specs.Json.{Json}
 use Rattle.report_entries.specs.EntryJson.{json_text}
-use Rattle.reports.specs.ProcedureJson.{procedure_json}
-use Rattle.reports.specs.Trace.{trace_lines}
-use Rattle.reports.specs.declared.json_procedure.Outcome.{Outcome}
+use Rattle.plan_reports.specs.ProcedureJson.{procedure_json}
+use Rattle.plan_reports.specs.Trace.{trace_lines}
+use Rattle.plan_reports.specs.declared.json_procedure.Outcome.{Outcome}
 use Rattle.command_line.specs.Faults.{fault_words}
 use Rattle.command_line.specs.FaultTexts.{fault_sentence}
 use Rattle.command_line.specs.declared.remark.opening.Opening.TheVariants.{Other}

@@ -1,15 +1,40 @@
-// The path that the plan takes at a state.
+// The path that the plan takes at each state.
 ghost use Rattle.std.specs.Prelude.{◌≡◌, ◌||◌, ◌+◌, ◌≤◌, ◌<◌, nat_lt, All, find};
 ghost use Rattle.plan_certificate.specs.KeptPaths as spec;
+ghost use Rattle.plan_certificate.specs.Plans.{IsAdmissible};
 ghost use Rattle.plan_certificate.specs.Moves.{LeadsOn};
-ghost use Rattle.lane_planner.specs.Tables.{IsTable, move_keeps_gain};
+ghost use Rattle.lane_planner.specs.Tables.{HasGains, IsReadOff, IsTable, move_keeps_gain};
 
 use crate::table::Table;
-use plan_certificate::{Move, Path, State, is_among};
+use applications::{Advert, AppWeights};
+use arrayvec::ArrayVec;
+use plan_certificate::{HOST_LANES, Move, Path, Plan, State, is_among, put_moves};
 
-/// The first move that is open, weighs something or is a kept path's, and after which the state's whole gain can still be
-/// had.
-pub fn chosen(moves: &[Move], kept: &[Path], table: &Table, state: &State) -> Option<Move>
+/// The plan that the gains lead to, from the start upwards.
+pub fn read_off(advert: &Advert, weights: &AppWeights, kept: &[Path], table: &Table) -> Plan
+    requires kept { IsAdmissible advert.now kept.now }
+    requires gains { HasGains advert.now weights.now kept.now 0 table.now }
+    ensures { IsReadOff advert.now weights.now kept.now table.now result }
+{
+    let mut state = State::start();
+    let mut paths = ArrayVec::new();
+    let mut moves = ArrayVec::new();
+    while state.boundary < HOST_LANES {
+        put_moves(&mut moves, advert, weights, kept, state.boundary + 1);
+        match chosen(moves.as_slice(), kept, table, &state) {
+            Some(one) => {
+                paths.push(one.path);
+                state = one.decision(&state).end;
+            }
+            None => state = state.free_decision().end,
+        }
+    }
+    Plan { paths }
+}
+
+// The first move that is open, weighs something or is a kept path's, and after which the state's whole gain can still be
+// had.
+fn chosen(moves: &[Move], kept: &[Path], table: &Table, state: &State) -> Option<Move>
     requires table { IsTable table.now }
     requires open { state.now.boundary < 8 }
     requires lead_on { All (LeadsOn state.now.boundary) moves.now }

@@ -5,14 +5,16 @@ mod choices;
 mod first;
 mod gains;
 pub mod laws;
-mod planned;
 mod planner;
+mod problem;
 mod reached;
+mod solution;
 mod table;
 mod written;
 
 pub use first::first_best;
-pub use planned::{Planned, plan_with_gains};
 pub use planner::{first_plan, plan, plan_keeping};
+pub use problem::Problem;
+pub use solution::Solution;
 pub use table::Table;
 pub use written::{certificate_text, put_certificate};

@@ -5,15 +5,13 @@ ghost use Rattle.text_lines.specs.Lines.{text_of};
 ghost use Rattle.plan_certificate.specs.declared.line.Line.{Line};
 ghost use Rattle.plan_certificate.specs.declared.line.Line.TheVariants.{StateLine};
 ghost use Rattle.plan_certificate.specs.Plans.{IsAdmissible};
-ghost use Rattle.plan_certificate.specs.CertificateText.{IsEntryInRange, IsReadable, certificate_lines, line_text};
-ghost use Rattle.plan_certificate.specs.Limits.{most_states};
+ghost use Rattle.plan_certificate.specs.CertificateText.{IsEntryInRange, line_text};
 ghost use Rattle.lane_planner.specs.Buffers.{Puts, buffer_with};
-ghost use Rattle.lane_planner.specs.CertifiedPlans.{IsPlanText, claim_by};
+ghost use Rattle.lane_planner.specs.CertifiedPlans.{IsPlanText, IsReadBack, claim_text};
 ghost use Rattle.lane_planner.specs.Tables.{marked_entries};
 
-use crate::gains::put_gains;
-use crate::planner::{entry_at, read_off};
-use crate::reached::reached;
+use crate::problem::Problem;
+use crate::solution::{Solution, entry_at};
 use crate::table::Table;
 use applications::{Advert, AppWeights};
 use plan_certificate::{ENTRY_LINE, HEAD, Plan, STATES, end_line, entry_line, head_of};
@@ -32,10 +30,14 @@ pub fn certificate_text(
     requires { IsAdmissible advert.now kept.now }
     ensures { IfOk result (λ text. IsPlanText advert.now weights.now kept.now text.items) }
 {
-    let mut text = Vec::from_elem(alloc, 0, MOST_TEXT)?;
-    let len = put_certificate(text.as_mut_slice(), advert, weights, kept);
-    text.truncate(len);
-    Ok(text)
+    let problem = Problem {
+        advert,
+        weights,
+        kept,
+    };
+    let mut solution = Solution::blank();
+    solution.solve(&problem);
+    solution.text(alloc, &problem)
 }
 
 /// Puts that text into a buffer that has room for it, and answers how many bytes it has.
@@ -50,57 +52,61 @@ pub fn put_certificate(
         × (result ≡ length text) × (buffer.new ≡ buffer_with buffer.old text) }
     ensures small { result ≤ 74046 }
 {
-    let paths = kept.paths.as_slice();
-    let mut marks = [false; STATES];
-    reached(advert, weights, paths, &mut marks);
-    let mut table = Table::blank();
-    put_gains(advert, weights, paths, &marks, &mut table);
-    let plan = read_off(advert, weights, paths, &table);
-    put_if_room(buffer, advert.is_paired(), kept, &plan, &marks, &table)
+    let problem = Problem {
+        advert,
+        weights,
+        kept,
+    };
+    let mut solution = Solution::blank();
+    solution.solve(&problem);
+    solution.put_text(&problem, buffer)
 }
 
-fn put_if_room(
-    buffer: &mut [u8],
-    paired: bool,
-    kept: &Plan,
-    plan: &Plan,
-    marks: &[bool],
-    table: &Table,
-) -> usize
-    requires { length marks.now ≡ STATES }
-    ensures readable { IsReadable most_states (claim_by paired kept.now plan.now marks.now table.now) }
-    ensures len { result ≡ length (text_of (certificate_lines (claim_by paired kept.now plan.now marks.now table.now))) }
-    ensures put { buffer.new ≡ buffer_with buffer.old (text_of (certificate_lines (claim_by paired kept.now plan.now marks.now table.now))) }
-    ensures small { result ≤ 74046 }
-{
-    if buffer.len() < MOST_TEXT {
-        let mut nothing = [0; 0];
-        let len = put_text(&mut nothing, paired, kept, plan, marks, table);
-        if buffer.len() < len {
-            return len;
-        }
+impl Solution {
+    /// The text of the certificate that `certificate` gives, without that, which is large.
+    pub fn text(&self, alloc: Global, problem: &Problem) -> Result<Vec<u8>, AllocError>
+        ensures { IfOk result (λ text. (text.items ≡ claim_text problem.now self.now) × IsReadBack problem.now self.now) }
+    {
+        let mut text = Vec::from_elem(alloc, 0, MOST_TEXT)?;
+        let len = self.put_text(problem, text.as_mut_slice());
+        text.truncate(len);
+        Ok(text)
     }
-    put_text(buffer, paired, kept, plan, marks, table)
+
+    /// Puts that text into a buffer that has room for it, and answers how many bytes it has.
+    pub fn put_text(&self, problem: &Problem, buffer: &mut [u8]) -> usize
+        ensures read_back { IsReadBack problem.now self.now }
+        ensures len { result ≡ length (claim_text problem.now self.now) }
+        ensures put { buffer.new ≡ buffer_with buffer.old (claim_text problem.now self.now) }
+        ensures small { result ≤ 74046 }
+    {
+        if buffer.len() < MOST_TEXT {
+            let mut nothing = [0; 0];
+            let len = put_at_front(&mut nothing, problem, self);
+            if buffer.len() < len {
+                return len;
+            }
+        }
+        put_at_front(buffer, problem, self)
+    }
 }
 
 // Puts the text at the front of a buffer; if this has no room for it, nobody is to look at the buffer again.
-fn put_text(
-    buffer: &mut [u8],
-    paired: bool,
-    kept: &Plan,
-    plan: &Plan,
-    marks: &[bool],
-    table: &Table,
-) -> usize
-    requires { length marks.now ≡ STATES }
-    ensures readable { IsReadable most_states (claim_by paired kept.now plan.now marks.now table.now) }
-    ensures put { Puts (text_of (certificate_lines (claim_by paired kept.now plan.now marks.now table.now))) buffer.old 0 buffer.new result }
+fn put_at_front(buffer: &mut [u8], problem: &Problem, solution: &Solution) -> usize
+    ensures read_back { IsReadBack problem.now solution.now }
+    ensures put { Puts (claim_text problem.now solution.now) buffer.old 0 buffer.new result }
     ensures small { result ≤ 74046 }
 {
     let mut len = 0;
-    let head = head_of(paired, table.at(0), kept, plan);
+    let weight = solution.gains.at(0);
+    let head = head_of(
+        problem.advert.is_paired(),
+        weight,
+        problem.kept,
+        &solution.plan,
+    );
     put(buffer, &mut len, head.as_slice());
-    put_entries(buffer, &mut len, marks, table);
+    put_entries(buffer, &mut len, &solution.marks, &solution.gains);
     put(buffer, &mut len, &end_line());
     len
 }

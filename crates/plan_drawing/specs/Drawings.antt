@@ -7,7 +7,7 @@ use Rattle.applications.specs.AppWeights.{PathWeights}
 use Rattle.plan_certificate.specs.declared.path.Path.{Path}
 use Rattle.lane_planner.specs.FirstBest.{IsFirstBest}
 use Rattle.lane_planner.specs.Tables.{HasGains}
-use Rattle.reports.specs.PlanText.{plan_lines}
+use Rattle.plan_reports.specs.PlanText.{plan_lines}
 use Rattle.plan_drawing.specs.Picture.{picture_lines}
 use Rattle.plan_drawing.specs.Svg.{svg_lines}
 use Rattle.plan_drawing.specs.UsedApps.{app_lines}

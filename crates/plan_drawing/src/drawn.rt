@@ -1,5 +1,5 @@
 // The drawing of the plan that is given.
-ghost use Rattle.std.specs.Prelude.{◌≡◌, ◌++◌, IfOk, OnOk};
+ghost use Rattle.std.specs.Prelude.{◌≡◌, ◌++◌, length, nat_lt, IfOk, OnOk};
 ghost use Rattle.text_lines.specs.Lines.{text_of};
 ghost use Rattle.plan_certificate.specs.Plans.{AreAllowed, IsAdmissible};
 ghost use Rattle.lane_planner.specs.Tables.{IsTable};
@@ -9,10 +9,9 @@ use crate::picture::push_picture;
 use crate::svg::push_svg;
 use crate::used_apps::push_apps;
 use crate::why::push_why;
-use applications::{Advert, AppWeights};
-use lane_planner::{Planned, plan_with_gains};
-use plan_certificate::{Path, Plan};
-use reports::plan_text;
+use lane_planner::{Problem, Solution};
+use plan_certificate::Plan;
+use plan_reports::plan_text;
 use std::alloc::{AllocError, Global};
 
 /// The drawing of a plan.
@@ -30,81 +29,92 @@ pub fn draw(
     alloc: Global,
     as_svg: bool,
     media_type: u8,
-    advert: &Advert,
-    weights: &AppWeights,
-    kept: &Plan,
+    problem: &Problem,
 ) -> Result<Drawing, AllocError>
-    requires { IsAdmissible advert.now kept.now }
-    ensures { IfOk result (λ drawn. IsDrawing as_svg media_type advert.now weights.now kept.now drawn.text.items drawn.has_paths) }
+    requires { IsAdmissible problem.now.advert.now problem.now.kept.now }
+    ensures { IfOk result (λ drawn. IsDrawing as_svg media_type problem.now.advert.now problem.now.weights.now problem.now.kept.now drawn.text.items drawn.has_paths) }
 {
-    let planned = plan_with_gains(advert, weights, kept);
-    let kept = kept.paths.as_slice();
-    let text = drawn_as(alloc, as_svg, media_type, advert, weights, kept, &planned)?;
-    let paths = planned.plan.paths.len();
+    let mut solution = Solution::blank();
+    solution.solve(problem);
+    let text = drawn_as(alloc, as_svg, media_type, problem, &solution)?;
     Ok(Drawing {
         text,
-        has_paths: paths > 0,
+        has_paths: has_paths(&solution.plan),
     })
+}
+
+fn has_paths(plan: &Plan) -> bool
+    ensures { result ≡ nat_lt 0 (length plan.now) }
+{
+    !plan.paths.is_empty()
 }
 
 fn drawn_as(
     alloc: Global,
     as_svg: bool,
     media_type: u8,
-    advert: &Advert,
-    weights: &AppWeights,
-    kept: &[Path],
-    planned: &Planned,
+    problem: &Problem,
+    solution: &Solution,
 ) -> Result<Vec<u8>, AllocError>
-    requires plan { IsAdmissible advert.now planned.now.plan }
-    requires kept { AreAllowed advert.now kept.now }
-    requires gains { IsTable planned.now.gains }
-    ensures { IfOk result (λ text. text.items ≡ text_of (lines_as as_svg media_type advert.now weights.now kept.now planned.now.gains planned.now.plan)) }
+    requires plan { IsAdmissible problem.now.advert.now solution.now.plan }
+    requires kept { AreAllowed problem.now.advert.now problem.now.kept.now }
+    requires gains { IsTable solution.now.gains }
+    ensures { IfOk result (λ text. text.items ≡ text_of (lines_as as_svg media_type problem.now.advert.now problem.now.weights.now problem.now.kept.now solution.now.gains solution.now.plan)) }
 {
     if as_svg {
-        drawn_as_svg(alloc, media_type, advert, weights, kept, planned)
+        drawn_as_svg(alloc, media_type, problem, solution)
     } else {
-        drawn_as_text(alloc, media_type, advert, weights, kept, planned)
+        drawn_as_text(alloc, media_type, problem, solution)
     }
 }
 
 fn drawn_as_text(
     alloc: Global,
     media_type: u8,
-    advert: &Advert,
-    weights: &AppWeights,
-    kept: &[Path],
-    planned: &Planned,
+    problem: &Problem,
+    solution: &Solution,
 ) -> Result<Vec<u8>, AllocError>
-    requires plan { IsAdmissible advert.now planned.now.plan }
-    requires kept { AreAllowed advert.now kept.now }
-    requires gains { IsTable planned.now.gains }
-    ensures { IfOk result (λ text. text.items ≡ text_of (drawing_lines media_type advert.now weights.now kept.now planned.now.gains planned.now.plan)) }
+    requires plan { IsAdmissible problem.now.advert.now solution.now.plan }
+    requires kept { AreAllowed problem.now.advert.now problem.now.kept.now }
+    requires gains { IsTable solution.now.gains }
+    ensures { IfOk result (λ text. text.items ≡ text_of (drawing_lines media_type problem.now.advert.now problem.now.weights.now problem.now.kept.now solution.now.gains solution.now.plan)) }
 {
-    let mut out = plan_text(alloc, advert, weights, &planned.plan)?;
+    let mut out = plan_text(alloc, problem.advert, problem.weights, &solution.plan)?;
     out.push(b'\n')?;
-    push_picture(alloc, &mut out, advert, kept, &planned.plan)?;
-    push_told(alloc, &mut out, media_type, advert, weights, kept, planned)?;
+    let kept = problem.kept;
+    push_picture(
+        alloc,
+        &mut out,
+        problem.advert,
+        kept.paths.as_slice(),
+        &solution.plan,
+    )?;
+    push_told(alloc, &mut out, media_type, problem, solution)?;
     Ok(out)
 }
 
 fn drawn_as_svg(
     alloc: Global,
     media_type: u8,
-    advert: &Advert,
-    weights: &AppWeights,
-    kept: &[Path],
-    planned: &Planned,
+    problem: &Problem,
+    solution: &Solution,
 ) -> Result<Vec<u8>, AllocError>
-    requires plan { IsAdmissible advert.now planned.now.plan }
-    requires kept { AreAllowed advert.now kept.now }
-    requires gains { IsTable planned.now.gains }
-    ensures { IfOk result (λ text. text.items ≡ text_of (drawing_svg media_type advert.now weights.now kept.now planned.now.gains planned.now.plan)) }
+    requires plan { IsAdmissible problem.now.advert.now solution.now.plan }
+    requires kept { AreAllowed problem.now.advert.now problem.now.kept.now }
+    requires gains { IsTable solution.now.gains }
+    ensures { IfOk result (λ text. text.items ≡ text_of (drawing_svg media_type problem.now.advert.now problem.now.weights.now problem.now.kept.now solution.now.gains solution.now.plan)) }
 {
-    let mut told = plan_text(alloc, advert, weights, &planned.plan)?;
-    push_told(alloc, &mut told, media_type, advert, weights, kept, planned)?;
+    let mut told = plan_text(alloc, problem.advert, problem.weights, &solution.plan)?;
+    push_told(alloc, &mut told, media_type, problem, solution)?;
     let mut out = Vec::new(alloc);
-    push_svg(&mut out, advert, kept, &planned.plan, &told)?;
+    let kept = problem.kept;
+    push_svg(
+        &mut out,
+        problem.advert,
+        kept.paths.as_slice(),
+        &solution.plan,
+        &told,
+    )?;
     Ok(out)
 }
 
@@ -113,18 +123,26 @@ fn push_told(
     alloc: Global,
     out: &mut Vec<u8>,
     media_type: u8,
-    advert: &Advert,
-    weights: &AppWeights,
-    kept: &[Path],
-    planned: &Planned,
+    problem: &Problem,
+    solution: &Solution,
 ) -> Result<(), AllocError>
-    requires plan { AreAllowed advert.now planned.now.plan }
-    requires kept { AreAllowed advert.now kept.now }
-    requires gains { IsTable planned.now.gains }
-    ensures { OnOk result (out.new.items ≡ out.old.items ++ text_of (told_lines media_type advert.now weights.now kept.now planned.now.gains planned.now.plan)) }
+    requires plan { AreAllowed problem.now.advert.now solution.now.plan }
+    requires kept { AreAllowed problem.now.advert.now problem.now.kept.now }
+    requires gains { IsTable solution.now.gains }
+    ensures { OnOk result (out.new.items ≡ out.old.items ++ text_of (told_lines media_type problem.now.advert.now problem.now.weights.now problem.now.kept.now solution.now.gains solution.now.plan)) }
 {
-    let paths = planned.plan.paths.as_slice();
-    push_apps(out, media_type, advert, paths)?;
+    let paths = solution.plan.paths.as_slice();
+    push_apps(out, media_type, problem.advert, paths)?;
     out.push(b'\n')?;
-    push_why(alloc, out, advert, weights, kept, &planned.gains, paths)
+    let kept = problem.kept;
+    let kept = kept.paths.as_slice();
+    push_why(
+        alloc,
+        out,
+        problem.advert,
+        problem.weights,
+        kept,
+        &solution.gains,
+        paths,
+    )
 }

@@ -10,6 +10,4 @@ pub mod SameFlags
 pub mod FetchedReports
 pub mod SameRows
 pub mod SameFlagRows
-pub mod JsonDepths
-pub mod JsonKeys
 mod UniqueDetails

@@ -12,13 +12,6 @@ pub mod Inventory
 pub mod Details
 pub mod UniqueDetails
 pub mod Apps
-pub mod PlanText
 pub mod FaultWords
-pub mod Trace
 pub mod FetchedImages
 pub mod SameReports
-pub mod PlanJson
-pub mod FaultJson
-pub mod VerdictJson
-pub mod ProcedureJson
-pub mod UniqueKeys

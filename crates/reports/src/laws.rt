@@ -1,22 +1,14 @@
-//! What holds of reports over a bus, and of the keys of JSON. The functions are theorems: their contracts say it, and their
+//! What holds of reports over a bus, and of the names in details. The functions are theorems: their contracts say it, and their
 //! bodies are empty.
 
 ghost use Rattle.reports.specs.SameReports.{FetchedReportsSame};
 ghost use Rattle.reports.specs.UniqueDetails.{DetailsHaveUniqueKeys};
-ghost use Rattle.reports.specs.UniqueKeys.{FaultsHaveUniqueKeys, PlansHaveUniqueKeys, VerdictsHaveUniqueKeys};
 
 /// Over a scripted bus with a new window of an image, whatever the script refuses or cuts short: the image that
 /// `fetch_image` answers has the reports of the window's image. Their faults are the same, and if there is none,
 /// what they say: the entries, of which both text and JSON are made.
 pub fn what_is_fetched_has_the_reports_of_the_module()
     ensures { FetchedReportsSame }
-{}
-
-/// No object in the JSON of a plan, a fault or a verdict has a key twice.
-pub fn no_object_has_a_key_twice()
-    ensures plans { PlansHaveUniqueKeys }
-    ensures faults { FaultsHaveUniqueKeys }
-    ensures verdicts { VerdictsHaveUniqueKeys }
 {}
 
 /// No key stands twice in what the rows of a module's details say.

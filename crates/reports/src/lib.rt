@@ -10,18 +10,11 @@ mod detail_report;
 mod family;
 mod fault;
 mod fetching;
-mod json_fault;
-mod json_plan;
-mod json_procedure;
-mod json_verdict;
 pub mod laws;
-mod plan;
 mod sff_flags;
 mod sff_inventory;
 mod sff_monitors;
-mod shown_plan;
 mod tables;
-mod trace;
 
 pub use by_family::{
     flags, flags_entries, flags_json, flags_told, inventory, inventory_entries, inventory_json,
@@ -31,10 +24,4 @@ pub use cmis_apps::{apps, apps_json};
 pub use detail_report::{details, details_json};
 pub use fault::ReportFault;
 pub use fetching::fetch_image;
-pub use json_fault::fault_json;
-pub use json_plan::plan_json;
-pub use json_procedure::{Outcome, procedure_json};
-pub use json_verdict::{bad_json, good_json};
-pub use plan::plan_text;
 pub use tables::{cmis_inventory_lines, qsfp_inventory_lines, sfp_inventory_lines};
-pub use trace::trace_text;

@@ -12,9 +12,9 @@ use crate::command_output::CommandOutput;
 use crate::fault::Fault;
 use crate::remark::Warnings;
 use applications::{Advert, AppWeights, Conventions, Weights};
-use lane_planner::first_best;
+use lane_planner::{Problem, first_best};
 use plan_certificate::{Certificate, STATES, Verdict};
-use reports::{good_json, plan_text};
+use plan_reports::{good_json, plan_text};
 use std::alloc::{AllocError, Global};
 use text_lines::ToWords;
 
@@ -80,14 +80,12 @@ fn good_output(
 {
     let is_first = said_first(tells_first, advert, weights, certificate);
     if is_json {
-        good_json(
-            alloc,
-            is_first,
+        let problem = Problem {
             advert,
             weights,
-            &certificate.kept,
-            &certificate.plan,
-        )
+            kept: &certificate.kept,
+        };
+        good_json(alloc, is_first, &problem, &certificate.plan)
     } else {
         good_text(alloc, is_first, advert, weights, certificate)
     }

@@ -8,6 +8,7 @@ use crate::fault::Fault;
 use crate::remark::Warnings;
 use applications::{AppWeights, Conventions, Weights};
 use field_tables::{Field, number};
+use lane_planner::Problem;
 use std::alloc::Global;
 
 /// The drawing of the plan that weighs most of those that keep the kept paths, as text or as an SVG.
@@ -27,7 +28,12 @@ pub fn draw(
     let kept = read_kept(&advert, kept)?;
     let media_type = number(&image, Field::CMediaType);
     let weighed = AppWeights::of(&advert, &weights);
-    let drawing = plan_drawing::draw(alloc, as_svg, media_type, &advert, &weighed, &kept)?;
+    let problem = Problem {
+        advert: &advert,
+        weights: &weighed,
+        kept: &kept,
+    };
+    let drawing = plan_drawing::draw(alloc, as_svg, media_type, &problem)?;
     let warnings = Warnings::of(&advert, &weights, drawing.has_paths);
     Ok(CommandOutput {
         text: drawing.text,

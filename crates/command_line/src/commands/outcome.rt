@@ -6,7 +6,7 @@ ghost use Rattle.text_lines.specs.Words.{spaced};
 ghost use Rattle.command_line.specs.ProvisionCommand.{active_line, active_unless, activated_line, fault_of, line_if, outcome_fault, outcome_lines, outcome_of, provisioned_line, steps_of, woken_line};
 
 use control_sets::{ControlSet, ProvisionFault};
-use reports::Outcome;
+use plan_reports::Outcome;
 use std::alloc::AllocError;
 use text_lines::{HexByte, PrintedWords, ToWords};
 

@@ -7,12 +7,10 @@ use super::planning_inputs::{read_advert, read_kept};
 use crate::command_output::CommandOutput;
 use crate::fault::Fault;
 use crate::remark::Warnings;
-use applications::{Advert, AppWeights, Conventions, Weights};
-use lane_planner::{certificate_text, first_plan};
-use plan_certificate::Plan;
-use reports::plan_json;
+use applications::{AppWeights, Conventions, Weights};
+use lane_planner::{Problem, Solution};
+use plan_reports::plan_json;
 use std::alloc::{AllocError, Global};
-use text_lines::Lines;
 
 /// The plan that weighs most of those that keep the kept paths: its certificate, or, as JSON, the plan alone.
 pub fn plan(
@@ -30,7 +28,12 @@ pub fn plan(
     let weights = Weights::read(alloc, weights)?;
     let kept = read_kept(&advert, kept)?;
     let weighed = AppWeights::of(&advert, &weights);
-    let (text, has_paths) = planned(alloc, is_json, &advert, &weighed, &kept)?;
+    let problem = Problem {
+        advert: &advert,
+        weights: &weighed,
+        kept: &kept,
+    };
+    let (text, has_paths) = planned(alloc, is_json, &problem)?;
     let warnings = Warnings::of(&advert, &weights, has_paths);
     Ok(CommandOutput {
         text,
@@ -40,28 +43,18 @@ pub fn plan(
 }
 
 // What is told of the plan, and whether it has paths.
-fn planned(
-    alloc: Global,
-    is_json: bool,
-    advert: &Advert,
-    weights: &AppWeights,
-    kept: &Plan,
-) -> Result<(Vec<u8>, bool), AllocError>
-    requires { IsAdmissible advert.now kept.now }
-    ensures { IfOk result (λ told. TellsPlan is_json advert.now weights.now kept.now told.0.items) }
+fn planned(alloc: Global, is_json: bool, problem: &Problem) -> Result<(Vec<u8>, bool), AllocError>
+    requires { IsAdmissible problem.now.advert.now problem.now.kept.now }
+    ensures { IfOk result (λ told. TellsPlan is_json problem.now.advert.now problem.now.weights.now problem.now.kept.now told.0.items) }
 {
+    let mut solution = Solution::blank();
+    solution.solve(problem);
+    let has_paths = !solution.plan.paths.is_empty();
     if is_json {
-        let plan = first_plan(advert, weights, kept);
-        let text = plan_json(alloc, advert, weights, kept, &plan)?;
-        Ok((text, !plan.paths.is_empty()))
+        let text = plan_json(alloc, problem, &solution.plan)?;
+        Ok((text, has_paths))
     } else {
-        let text = certificate_text(alloc, advert, weights, kept)?;
-        let has_paths = has_path(&text);
+        let text = solution.text(alloc, problem)?;
         Ok((text, has_paths))
     }
-}
-
-// Whether the text of a certificate has the line of a path.
-fn has_path(text: &[u8]) -> bool {
-    Lines::of(text).any(|line| line.starts_with(b"path "))
 }

@@ -14,7 +14,7 @@ use applications::Conventions;
 use bus_model::Step;
 use control_sets::ProvisionFault;
 use plan_certificate::Path;
-use reports::{Outcome, procedure_json, trace_text};
+use plan_reports::{Outcome, procedure_json, trace_text};
 use std::alloc::{AllocError, Global};
 use text_lines::ToWords;
 

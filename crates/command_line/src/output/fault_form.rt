@@ -8,7 +8,7 @@ ghost use Rattle.command_line.specs.Runs.{answer_of, output_of};
 use crate::command_output::CommandOutput;
 use crate::fault::Fault;
 use crate::remark::{Clue, Explained};
-use reports::{bad_json, fault_json};
+use plan_reports::{bad_json, fault_json};
 use std::alloc::{AllocError, Global};
 use text_lines::ToWords;
 

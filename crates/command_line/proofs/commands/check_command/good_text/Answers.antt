@@ -2,7 +2,7 @@ use Rattle.std.proofs.Common.{◌≡◌, ◌∙◌, ℕ, List, ◌++◌, length,
 use Rattle.text_lines.specs.Lines.{text_of}
 use Rattle.plan_certificate.specs.Certificates.{Claim}
 use Rattle.plan_certificate.specs.declared.path.Path.{Path}
-use Rattle.reports.specs.PlanText.{plan_lines}
+use Rattle.plan_reports.specs.PlanText.{plan_lines}
 use Rattle.command_line.specs.CheckCommand.{first_lines, kept_lines}
 use Rattle.command_line.proofs.GoodTexts.{good_told}
 use Rattle.command_line.proofs.commands.check_command.good_text.Goals as goal

@@ -1,0 +1,34 @@
+use Rattle.std.proofs.Common.{◌≡◌, ◌+◌, ◌++◌, ◌∷◌, [], ℕ, List, false, get_or, sym, subst, ap, ◌∙◌, inl, inr, arith}
+use Rattle.std.proofs.lemmas.Bool.{cases_Bool}
+use Rattle.plan_certificate.specs.declared.certificate.Entry.{Entry}
+use Rattle.lane_planner.specs.Tables.{AreEntries, entry_at, marked_entries}
+use Rattle.lane_planner.proofs.MarkedEntries.{are_marked, no_entries, none_marked, not_marked, one_marked}
+use Rattle.lane_planner.proofs.solution.entries_of.Goals as goal
+use Rattle.lane_planner.proofs.solution.entries_of.Goals.{then-marks-place, else-marks-place}
+
+pub loop-place-init : goal.loop-place-init
+loop-place-init c = record {
+  same = c.new-entries.ensures ∙ sym (none_marked c.args.marks.now c.args.table.now);
+  are = subst (AreEntries c.args.marks.now c.args.table.now 0) (sym c.new-entries.ensures) (no_entries c.args.marks.now c.args.table.now);
+}
+
+pub loop-place-preserved : goal.loop-place-preserved
+loop-place-preserved c =
+    let marks = c.args.marks.now in
+    let table = c.args.table.now in
+    let place : ℕ = c.loop-place.place in
+    let same : c.if-marks-place.entries ≡ marked_entries marks table (place + 1) = elim c.if-marks-place.branch [
+      | then-marks-place w ↦
+          w.entries-is ∙ w.push.ensures ∙ ap (λ (entry : Entry). c.loop-place.entries ++ entry ∷ []) w.entry_at.ensures
+          ∙ ap (λ (entries : List Entry). entries ++ entry_at table place ∷ []) c.loop-place.invariant.same ∙ sym (one_marked marks table place w.if-marks-place.true)
+      | else-marks-place w ↦
+          let none : get_or marks place false ≡ false = elim (cases_Bool (get_or marks place false)) [
+            | inl marked ↦ absurd (let not = w.if-marks-place.false in cc)
+            | inr unmarked ↦ unmarked
+          ] in
+          w.entries-is ∙ c.loop-place.invariant.same ∙ sym (not_marked marks table place none)
+    ] in
+    record {
+      same = same;
+      are = subst (AreEntries marks table (place + 1)) (sym same) (are_marked marks table (place + 1) (omega (arith, c.loop-place-test.true)));
+    }

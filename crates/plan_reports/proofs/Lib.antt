@@ -1,0 +1,2 @@
+pub mod JsonDepths
+pub mod JsonKeys

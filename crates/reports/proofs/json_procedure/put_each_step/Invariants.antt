@@ -1,8 +1,0 @@
-use Rattle.std.proofs.Common.{◌≡◌, ◌++◌, map, take}
-use Rattle.reports.specs.ProcedureJson.{step_json}
-use Rattle.report_entries.specs.JsonTrees.{all_tokens}
-use Rattle.reports.proofs.json_procedure.put_each_step.Given as goal
-
--- the steps so far
-abbrev pub invariant-loop-step : goal.invariant-loop-step
-invariant-loop-step l = l.out ≡ l.initial.out ++ all_tokens (map step_json (take l.step-index l.steps))
