@@ -19,6 +19,7 @@ from .faults import (
     sentence_of,
 )
 from .image import HALF, Image, page
+from .showing import Record, picture
 
 _plan = library.function("plan")
 _check = library.function("check")
@@ -36,7 +37,7 @@ class KeptPathNotActive(UserWarning):
 
 
 @dataclass(frozen=True)
-class DataPath:
+class DataPath(Record):
     """A data path: an Application on consecutive host lanes and consecutive media lanes."""
 
     application: int
@@ -48,7 +49,7 @@ class DataPath:
 
 
 @dataclass(frozen=True)
-class Plan:
+class Plan(Record):
     """A division of a module's lanes into data paths. In a byte of lanes, bit i-1 stands for lane
     i."""
 
@@ -63,9 +64,13 @@ class Plan:
     outside: int
     """the byte of host lanes that no kept path takes; 0xFF if nothing is kept"""
 
+    def _repr_svg_(self) -> str:
+        paths = [(path.application, path.host, path.media) for path in self.paths]
+        return picture(self.control, paths)
+
 
 @dataclass(frozen=True)
-class Judgement:
+class Judgement(Record):
     """What a certificate is worth."""
 
     reason: Optional[str]

@@ -4,14 +4,16 @@ from __future__ import annotations
 
 from dataclasses import dataclass
 from enum import IntEnum
+from math import log10
 from typing import Any, Dict, Optional, Tuple, Union
 
 from . import library
+from .showing import Record, Report
 from .states import ConfigStatus, ModuleState, PathState, known
 
 
 @dataclass(frozen=True)
-class Application:
+class Application(Record):
     """What a data path may carry, and where it may begin. In a byte of lanes, bit i-1 stands for
     lane i."""
 
@@ -32,7 +34,7 @@ class Application:
 
 
 @dataclass(frozen=True)
-class Advertisement:
+class Advertisement(Report):
     """What a module advertises."""
 
     applications: Tuple[Application, ...]
@@ -41,7 +43,7 @@ class Advertisement:
 
 
 @dataclass(frozen=True)
-class Durations:
+class Durations(Report):
     """How long states last at most, in milliseconds, as the module advertises; None if there is no
     limit, or its code is reserved."""
 
@@ -62,7 +64,7 @@ class Family(IntEnum):
 
 
 @dataclass(frozen=True)
-class Inventory:
+class Inventory(Report):
     """What a module is. Texts come without the padding at their end, and with `?` for a byte that
     is no printable ASCII. What only modules of CMIS have is None in others."""
 
@@ -100,7 +102,7 @@ class Inventory:
 
 
 @dataclass(frozen=True)
-class Levels:
+class Levels(Record):
     """Which limits are passed: 0 or 1 of a value of the module itself, a byte of lanes of a value of
     the lanes."""
 
@@ -111,7 +113,7 @@ class Levels:
 
 
 @dataclass(frozen=True)
-class Flags:
+class Flags(Report):
     """The states of a module, and the flags that it raises, a byte of lanes each: bit i-1 stands for
     lane i. A flag that a family does not have is 0."""
 
@@ -158,7 +160,7 @@ class Flags:
 
 
 @dataclass(frozen=True)
-class Limits:
+class Limits(Record):
     """Of a value, in its unit."""
 
     high_alarm: int
@@ -177,7 +179,7 @@ class Support(IntEnum):
 
 
 @dataclass(frozen=True)
-class Value:
+class Value(Record):
     """What a module measures of itself."""
 
     value: int
@@ -185,8 +187,26 @@ class Value:
     """None if the memory is flat"""
 
 
+class Temperature(Value):
+    """In thousandths of a degree Celsius."""
+
+    @property
+    def celsius(self) -> float:
+        """The same in degrees."""
+        return self.value / 1000
+
+
+class Voltage(Value):
+    """In microvolts."""
+
+    @property
+    def volts(self) -> float:
+        """The same in volts."""
+        return self.value / 10**6
+
+
 @dataclass(frozen=True)
-class LaneValues:
+class LaneValues(Record):
     """What a module measures in each lane."""
 
     support: Support
@@ -196,22 +216,45 @@ class LaneValues:
     """None unless they are measured, and if the memory is flat"""
 
 
+class LanePowers(LaneValues):
+    """Light, in nanowatts."""
+
+    @property
+    def watts(self) -> Tuple[float, ...]:
+        """The same in watts."""
+        return tuple(value / 10**9 for value in self.values)
+
+    @property
+    def dbm(self) -> Tuple[Optional[float], ...]:
+        """The same in dBm, in which 0 is a milliwatt; None for a lane that measures no light."""
+        return tuple(10 * log10(value) - 60 if value > 0 else None for value in self.values)
+
+
+class LaneCurrents(LaneValues):
+    """In microamperes."""
+
+    @property
+    def amperes(self) -> Tuple[float, ...]:
+        """The same in amperes."""
+        return tuple(value / 10**6 for value in self.values)
+
+
 @dataclass(frozen=True)
-class Monitors:
+class Monitors(Report):
     """What a module measures, of CMIS in its media lanes. Numbers are rounded down, below zero too."""
 
     family: Family
     lanes: int
     """how many lanes are told of: 8, 4 or 1; 0 if a CMIS module has flat memory"""
-    temperature: Value
+    temperature: Temperature
     """in thousandths of a degree Celsius"""
-    vcc: Value
+    vcc: Voltage
     """the supply voltage, in microvolts"""
-    tx_power: LaneValues
+    tx_power: LanePowers
     """transmitted light, in nanowatts"""
-    tx_bias: LaneValues
+    tx_bias: LaneCurrents
     """a laser's bias current, in microamperes"""
-    rx_power: LaneValues
+    rx_power: LanePowers
     """received light, in nanowatts"""
     sum_right: Optional[bool]
     """whether the sum of page 02h (CMIS) or CC_DMI (SFF-8472), in which the limits are, is right;
@@ -288,21 +331,21 @@ def monitors_of(found: library.Monitors) -> Monitors:
         levels = (getattr(of.limits, level) for level, _ in library.Limits._fields_)
         return Limits(*levels) if found.has_limits else None
 
-    def of_lanes(of: Any) -> LaneValues:
+    def of_lanes(of: Any) -> Tuple[Support, Tuple[int, ...], Optional[Limits]]:
         support = Support(of.support)
         if support != Support.MEASURED:
-            return LaneValues(support, (), None)
-        return LaneValues(support, tuple(of.values[: found.lanes]), limits(of))
+            return support, (), None
+        return support, tuple(of.values[: found.lanes]), limits(of)
 
     family = Family(found.family)
     has_sum = found.has_limits and family != Family.SFF_8636
     return Monitors(
         family=family,
         lanes=found.lanes,
-        temperature=Value(found.temperature.value, limits(found.temperature)),
-        vcc=Value(found.vcc.value, limits(found.vcc)),
-        tx_power=of_lanes(found.tx_power),
-        tx_bias=of_lanes(found.tx_bias),
-        rx_power=of_lanes(found.rx_power),
+        temperature=Temperature(found.temperature.value, limits(found.temperature)),
+        vcc=Voltage(found.vcc.value, limits(found.vcc)),
+        tx_power=LanePowers(*of_lanes(found.tx_power)),
+        tx_bias=LaneCurrents(*of_lanes(found.tx_bias)),
+        rx_power=LanePowers(*of_lanes(found.rx_power)),
         sum_right=bool(found.sum) if has_sum else None,
     )
