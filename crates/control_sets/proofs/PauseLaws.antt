@@ -1,6 +1,6 @@
 -- The pauses that a budget allows last twice as long as each of six states.
-use Rattle.std.proofs.Common.{◌≡◌, ◌≤◌, ◌<◌, ◌+◌, ◌-◌, ◌*◌, ◌^◌, ℕ, zero, suc, Bool, List, [], ◌∷◌, Option, arith}
-use Rattle.std.specs.Prelude.{max, unwrap_or}
+use Rattle.std.proofs.Common.{◌≤◌, ◌<◌, ◌+◌, ◌-◌, ◌*◌, ◌^◌, ℕ, zero, suc, Bool, List, [], ◌∷◌, Option, arith}
+use Rattle.std.specs.Prelude.{unwrap_or}
 use Rattle.std.specs.List.{AllByRecursion, slice_get}
 use Rattle.std.proofs.lemmas.Grind.{div_ceil_times}
 use Rattle.bus_model.specs.declared.operation.Op.{Op}

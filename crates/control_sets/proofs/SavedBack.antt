@@ -1,6 +1,5 @@
 -- The numbers of a procedure are those of that procedure.
 use Rattle.std.proofs.Common.{◌≡◌, ◌<◌, ◌≤◌, ◌+◌, ℕ, ◌&&◌, Bool, true, false, List, [], ◌∷◌, length, nat_le, Option, Some, None, refl, sym, subst, lt-ltb, arith}
-use Rattle.std.specs.List.{slice_get}
 use Rattle.std.specs.Prelude.{slice_index}
 use Rattle.std.proofs.lemmas.Bool.{and_from, le-leb}
 use Rattle.std.proofs.lemmas.Option.{slice_get_within}

@@ -1,7 +1,6 @@
 -- The numbers of a change of power are those of that change, and of no procedure.
 use Rattle.std.proofs.Common.{◌≡◌, ◌≤◌, ℕ, ◌&&◌, Bool, true, [], ◌∷◌, nat_le, Option, Some, None, refl, sym, subst, get_or}
 use Rattle.std.proofs.lemmas.Bool.{and_from, le-leb}
-use Rattle.bus_model.specs.declared.operation.Step.{Step}
 use Rattle.conversations.specs.Events.{Events, steps_of}
 use Rattle.control_sets.specs.declared.fault.ProvisionFault.{ProvisionFault}
 use Rattle.control_sets.specs.declared.fault.ProvisionFault.TheVariants.{Rejected, StagedDiffers, ActiveDiffers, GaveUp, Bus, ModuleState, Reserved}

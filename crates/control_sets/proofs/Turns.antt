@@ -1,7 +1,6 @@
 -- What a task list was told of its own steps says of all steps of its procedure, selections and all.
-use Rattle.std.proofs.Common.{◌≡◌, ◌≤◌, ◌<◌, ℕ, zero, suc, ◌+◌, ◌&&◌, ◌||◌, Bool, true, false, not, List, [], ◌∷◌, ◌++◌, length, take, drop, get_or, Option, Some, None, Ok, Err, refl, sym, ap, subst, ◌∙◌, inl, inr, if◌then◌else◌, nat_lt, add-one, arith}
+use Rattle.std.proofs.Common.{◌≡◌, ◌≤◌, ◌<◌, ℕ, zero, suc, ◌+◌, ◌&&◌, ◌||◌, Bool, true, false, not, List, [], ◌∷◌, ◌++◌, length, take, drop, get_or, Option, Some, None, Err, refl, sym, ap, subst, ◌∙◌, inl, inr, if◌then◌else◌, nat_lt, add-one, arith}
 use Rattle.std.specs.List.{slice_get}
-use Rattle.std.specs.Prelude.{Result}
 use Rattle.std.proofs.lemmas.List.{drop_all, take_more}
 use Rattle.std.proofs.lemmas.Option.{get_or_from_slice_get, slice_get_within}
 use Rattle.std.specs.Option.{option_map}
@@ -47,7 +46,7 @@ use Rattle.control_sets.specs.Pages.{History, is_open, may_select, read_selectio
 use Rattle.control_sets.specs.OutcomeAnswers.{most_steps}
 use Rattle.control_sets.specs.PowerProgress.{answer_at, answer_of}
 use Rattle.control_sets.specs.Procedures.{EachAnswers, EachGoesOn, EachIsNextBy, EndsFirst, HasEnded, HasEndedBy, IsOutcome, all_apart, is_on, next_operation, operation_on}
-use Rattle.control_sets.specs.Progress.{EachIsWanted, Ends, EndsList, Follows, GoesOn, GoesOnList, IsAt, IsTold, Procedure, Standing, ToldProcedure, after_reply, hand_after, hand as hand_of, list_at, procedure_of, judged_at, needed_after, page_by, standing, task_at, tasks_of, told_at, WithOwn, wants, wants_by}
+use Rattle.control_sets.specs.Progress.{EachIsWanted, Ends, Follows, GoesOn, IsAt, IsTold, Procedure, Standing, ToldProcedure, after_reply, hand_after, hand as hand_of, list_at, procedure_of, judged_at, needed_after, page_by, standing, task_at, tasks_of, told_at, WithOwn, wants, wants_by}
 use Rattle.control_sets.specs.Judgements.{judgement}
 use Rattle.control_sets.specs.Tasks.{operation, page_of}
 use Rattle.control_sets.proofs.Doubts.{on_all}

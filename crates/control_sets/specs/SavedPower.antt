@@ -6,7 +6,6 @@ use Rattle.control_sets.specs.declared.fault.ProvisionFault.TheVariants.{Rejecte
 use Rattle.control_sets.specs.declared.procedures.procedure.saved.SavedProcedure.{SavedProcedure}
 use Rattle.control_sets.specs.declared.procedures.power.Power.{Power}
 use Rattle.control_sets.specs.declared.procedures.power.Power.TheVariants.{Awake, Asleep}
-use Rattle.control_sets.specs.declared.procedures.power.PowerChange.{PowerChange}
 use Rattle.control_sets.specs.declared.procedures.power.PowerStage.{PowerStage}
 use Rattle.control_sets.specs.declared.procedures.power.PowerStage.TheVariants.{Unread, Found, Stored, Met}
 use Rattle.control_sets.specs.OutcomeAnswers.{most_steps}

@@ -1,6 +1,5 @@
 -- What a conversation is carried out by on a bus that keeps a list of its steps, where time passes by itself.
-use Rattle.std.proofs.Common.{◌≡◌, List, [], ◌∷◌, reverse, sym, ap, subst, ◌∙◌, Ok, Err}
-use Rattle.std.specs.Prelude.{Result}
+use Rattle.std.proofs.Common.{◌≡◌, List, [], ◌∷◌, reverse, sym, subst}
 use Rattle.std.proofs.lemmas.List.{reverse-append}
 use Rattle.bus_model.specs.declared.bus.BusFault.{BusFault}
 use Rattle.bus_model.specs.declared.operation.Step.{Step}

@@ -2,7 +2,6 @@ use Rattle.std.proofs.Common.{ℕ}
 use Rattle.field_tables.specs.Readings.{number}
 use Rattle.field_tables.specs.declared.field.Field.{Field}
 use Rattle.field_tables.specs.declared.field.Field.TheVariants as fields
-use Rattle.paged_memory.specs.Images.{Memory}
 use Rattle.control_sets.specs.Durations.{duration_of, longest_of, states_of}
 use Rattle.control_sets.proofs.PauseLaws.{ends, few_pauses, has_room, lasts_few, outlasts}
 use Rattle.control_sets.proofs.laws.patience_outlasts_states.Goals as goal

@@ -1,6 +1,5 @@
 use Rattle.std.proofs.Common.{◌≡◌, ◌∷◌, ◌+◌, ◌<◌, ℕ, [], ap, refl, sym, ◌∙◌, subst, Ok, Err, arith}
-use Rattle.bus_model.specs.declared.operation.Step.{Step}
-use Rattle.conversations.specs.Events.{made, steps_of}
+use Rattle.conversations.specs.Events.{made}
 use Rattle.conversations.specs.Carried.{IsCarriedOut}
 use Rattle.conversations.specs.declared.event.Event.TheVariants.{Waited}
 use Rattle.conversations.proofs.RunTold.{do_fewer, fewer_turns, fewer_waits, turns_left, wait_waits, waited_none}

@@ -1,4 +1,4 @@
-use Rattle.std.proofs.Common.{◌≡◌, ◌≤◌, ◌∷◌, ℕ, length}
+use Rattle.std.proofs.Common.{◌≡◌, ◌≤◌, ℕ, length}
 use Rattle.conversations.specs.Carried.{Happens}
 use Rattle.conversations.specs.Events.{Events, steps_of}
 use Rattle.conversations.proofs.RunTold.{turns_left}

@@ -1,4 +1,4 @@
-use Rattle.std.proofs.Common.{◌≡◌, inl, inr, refl, subst, sym, Ok, Err}
+use Rattle.std.proofs.Common.{◌≡◌, inl, inr, refl, subst, Ok, Err}
 use Rattle.conversations.specs.Carried.{IsCarriedOut}
 use Rattle.conversations.specs.Events.{steps_of}
 use Rattle.conversations.specs.Pauses.{EndsPausing, GoesOnPausing}

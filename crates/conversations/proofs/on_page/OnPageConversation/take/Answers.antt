@@ -1,4 +1,4 @@
-use Rattle.std.proofs.Common.{◌≡◌, ◌∷◌, Bool, sym, subst}
+use Rattle.std.proofs.Common.{◌∷◌, Bool, sym, subst}
 use Rattle.conversations.specs.declared.on_page.OnPage.{OnPage}
 use Rattle.conversations.specs.Events.{made, steps_of}
 use Rattle.conversations.specs.Selecting.{Knows, WithSelections, trusted}

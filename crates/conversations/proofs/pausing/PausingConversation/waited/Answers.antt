@@ -1,4 +1,4 @@
-use Rattle.std.proofs.Common.{◌≡◌, ◌+◌, ℕ, Bool, ◌∷◌, false, true, Option, Some, None, ap, inl, inr, refl, sym, subst, ◌∙◌}
+use Rattle.std.proofs.Common.{◌≡◌, ◌+◌, ℕ, Bool, ◌∷◌, false, Option, Some, None, ap, inl, inr, refl, sym, subst, ◌∙◌}
 use Rattle.bus_model.specs.declared.operation.Op.{Op}
 use Rattle.conversations.specs.declared.event.Event.TheVariants.{Waited}
 use Rattle.conversations.specs.declared.next.Next.{Next}
