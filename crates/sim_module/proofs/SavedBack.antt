@@ -1,6 +1,6 @@
 -- What was saved of a module is what its numbers stand for.
 use Rattle.std.proofs.Common.{◌≡◌, ℕ, Bool, true, false, List, [], ◌∷◌, Option, Some, None, map, refl, ap}
-use Rattle.std.specs.Prelude.{◌==◌, is_some, unwrap_or}
+use Rattle.std.specs.Prelude.{◌==◌, nat_le, is_some, unwrap_or}
 use Rattle.std.specs.List.{list_all}
 use Rattle.field_tables.specs.LaneSets.{byte_of, lanes_in}
 use Rattle.module_states.specs.Codes as module_codes
@@ -45,13 +45,17 @@ state_back module_is.Ready = refl
 state_back module_is.PwrDn = refl
 state_back module_is.Fault = refl
 
-kept_back : (kept : Option ℕ) → kept_numbered (number_of (is_some kept)) (unwrap_or kept 0) ≡ kept
+kept_back : (kept : Option ℕ) → kept_numbered (number_of (is_some kept)) (unwrap_or kept 0) ≡ Some kept
 kept_back None = refl
 kept_back (Some byte) = refl
 
 pin_back : (pin : Bool) → (number_of pin == 1) ≡ pin
 pin_back true = refl
 pin_back false = refl
+
+pin_is_number : (pin : Bool) → nat_le (number_of pin) 1 ≡ true
+pin_is_number true = refl
+pin_is_number false = refl
 
 lane_back : (lane : Lane) → lane_numbered (saved_lane lane) ≡ Some lane
 lane_back lane = rw (path_back lane.path, status_back lane.status, kept_back lane.applying) refl
@@ -66,9 +70,9 @@ lanes_back (lane ∷ lanes) = rw (lane_back lane) (ap (λ (rest : List Lane). la
 
 pub moving_back : (moving : Moving) (numbers : SavedModule) → numbers ≡ saved moving → lanes_in (byte_of moving.deinit) ≡ moving.deinit → restored numbers ≡ Some moving
 unfolding restored
-moving_back moving numbers is deinit = rw is (rw (are_lanes moving.lanes, state_back moving.state, lanes_back moving.lanes, pin_back moving.pin, deinit) refl)
+moving_back moving numbers is deinit = rw is (rw (pin_is_number moving.pin, are_lanes moving.lanes, state_back moving.state, lanes_back moving.lanes, pin_back moving.pin, deinit) refl)
 
-pub moving_restored : (numbers : SavedModule) (state : ModuleState) → list_all is_lane numbers.lanes ≡ true → module_codes.state_at numbers.state ≡ Some state →
-    restored numbers ≡ Some (moving_with numbers state)
+pub moving_restored : (numbers : SavedModule) (state : ModuleState) → nat_le numbers.pin 1 ≡ true → list_all is_lane numbers.lanes ≡ true →
+    module_codes.state_at numbers.state ≡ Some state → restored numbers ≡ Some (moving_with numbers state)
 unfolding restored
-moving_restored numbers state all is = rw (all, is) refl
+moving_restored numbers state pin all is = rw (pin, all, is) refl

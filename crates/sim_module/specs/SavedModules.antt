@@ -1,5 +1,5 @@
 -- What changes of a module as plain numbers, and what has them. (docs/module.md, "Saved modules"; this project's own)
-use Rattle.std.specs.Prelude.{ℕ, ◌==◌, Bool, true, false, map, Option, Some, None, is_some, option_map, unwrap_or, if◌then◌else◌}
+use Rattle.std.specs.Prelude.{ℕ, ◌==◌, ◌&&◌, nat_le, Bool, true, false, map, Option, Some, None, is_some, option_map, unwrap_or, if◌then◌else◌}
 use Rattle.std.specs.List.{list_all}
 use Rattle.field_tables.specs.LaneSets.{byte_of, lanes_in}
 use Rattle.module_states.specs.Codes as module_codes
@@ -58,27 +58,29 @@ saved moving = record {
   lanes = map saved_lane moving.lanes;
 }
 
--- a vendor's own status, or one of the table
+-- by `custom` one of the table, or a vendor's own
 abbrev pub status_numbered : ℕ → ℕ → Option ConfigStatus
-status_numbered custom code = if custom == 1 then Some (Custom code) else status_at code
+status_numbered custom code = if custom == 0 then status_at code else (if custom == 1 then Some (Custom code) else None)
 
-abbrev pub kept_numbered : ℕ → ℕ → Option ℕ
-kept_numbered keeps kept = if keeps == 1 then Some kept else None
+-- by `keeps` no byte, which is 0 then, or this one
+abbrev pub kept_numbered : ℕ → ℕ → Option (Option ℕ)
+kept_numbered keeps kept = if keeps == 0 && kept == 0 then Some None else (if keeps == 1 then Some (Some kept) else None)
 
-abbrev pub lane_with : SavedLane → Option PathState → Option ConfigStatus → Option Lane
-lane_with numbers (Some path) (Some status) = Some (record {
+abbrev pub lane_with : SavedLane → Option PathState → Option ConfigStatus → Option (Option ℕ) → Option Lane
+lane_with numbers (Some path) (Some status) (Some kept) = Some (record {
   path = path;
   ticks_left = numbers.left;
   status = status;
   staged = numbers.staged;
   active = numbers.active;
-  applying = kept_numbered numbers.keeps numbers.kept;
+  applying = kept;
 })
-lane_with numbers path status = None
+lane_with numbers path status kept = None
 
--- the lane that has these numbers; none if no state of a path, or no status, has such a number
+-- the lane that has these numbers; none if no state of a path, no status, or no kept byte has such numbers
 abbrev pub lane_numbered : SavedLane → Option Lane
-lane_numbered numbers = lane_with numbers (state_at numbers.path) (status_numbered numbers.custom numbers.status)
+lane_numbered numbers =
+    lane_with numbers (state_at numbers.path) (status_numbered numbers.custom numbers.status) (kept_numbered numbers.keeps numbers.kept)
 
 abbrev pub is_lane : SavedLane → Bool
 is_lane numbers = is_some (lane_numbered numbers)
@@ -101,7 +103,7 @@ moving_with numbers state = record {
   lane_flags = numbers.lane_flags;
 }
 
--- what has these numbers; nothing if some lane has none, or if no state of a module has such a number
+-- what has these numbers; nothing if `pin` is neither 0 nor 1, if some lane has none, or if no state of a module has such a number
 unfoldable pub restored : SavedModule → Option Moving
 restored numbers =
-    if list_all is_lane numbers.lanes then option_map (moving_with numbers) (module_codes.state_at numbers.state) else None
+    if nat_le numbers.pin 1 && list_all is_lane numbers.lanes then option_map (moving_with numbers) (module_codes.state_at numbers.state) else None

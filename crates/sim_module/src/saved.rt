@@ -98,11 +98,7 @@ impl SavedLane {
             status: status_numbered(self.custom, self.status)?,
             staged: self.staged,
             active: self.active,
-            applying: if self.keeps == 1 {
-                Some(self.kept)
-            } else {
-                None
-            },
+            applying: kept_numbered(self.keeps, self.kept)?,
         })
     }
 
@@ -159,7 +155,7 @@ impl Moving {
     pub fn restore(saved: &SavedModule) -> Option<Moving>
         ensures { result ≡ spec.restored saved.now }
     {
-        if !are_lanes(&saved.lanes) {
+        if saved.pin > 1 || !are_lanes(&saved.lanes) {
             return None;
         }
         Some(Moving {
@@ -220,12 +216,23 @@ fn path_numbered(code: u8) -> Option<PathState>
 fn status_numbered(custom: u8, code: u8) -> Option<ConfigStatus>
     ensures { result ≡ spec.status_numbered custom code }
 {
-    if custom == 1 {
-        return Some(ConfigStatus::Custom(code));
+    match custom {
+        0 => match datapath_states::status_of(code) {
+            Ok(status) => Some(status),
+            Err(_) => None,
+        },
+        1 => Some(ConfigStatus::Custom(code)),
+        _ => None,
     }
-    match datapath_states::status_of(code) {
-        Ok(status) => Some(status),
-        Err(_) => None,
+}
+
+fn kept_numbered(keeps: u8, kept: u8) -> Option<Option<u8>>
+    ensures { result ≡ spec.kept_numbered keeps kept }
+{
+    match (keeps, kept) {
+        (0, 0) => Some(None),
+        (1, kept) => Some(Some(kept)),
+        _ => None,
     }
 }
 
