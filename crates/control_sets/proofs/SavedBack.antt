@@ -32,7 +32,7 @@ use Rattle.control_sets.specs.declared.procedures.task.Task.TheVariants.{FindRea
 use Rattle.control_sets.specs.Judgements.{all_lanes_have, differing_lane, is_rejection, is_reserved_state, is_reserved_status, judged, judged_done, judged_states, judged_statuses, judgement, lowest_lane, met_if, met_in, met_unless, unless_rejected, unless_reserved}
 use Rattle.control_sets.specs.OutcomeAnswers.{most_steps}
 use Rattle.control_sets.specs.Pages.{History}
-use Rattle.control_sets.specs.Progress.{PatientProcedure, Standing, ToldPatient, judged_at, patient_of, standing, task_at, tasks_of, told_at}
+use Rattle.control_sets.specs.Progress.{PatientProcedure, Standing, ToldPatient, doubting, judged_at, patient_of, standing, task_at, tasks_of, told_at}
 use Rattle.control_sets.specs.SavedNumbers.{can_stand, due_numbered, fault_in, is_found, number_of_due, restored, saved_fault, selected_numbered, work_numbered}
 use Rattle.control_sets.specs.Tasks.{operation}
 
@@ -147,7 +147,7 @@ none_taken : (taken : Option ℕ) → ((page : ℕ) → taken ≡ Some page → 
 none_taken None never = refl
 none_taken (Some page) never = let no = never page refl in absurd cc
 
-module _ (procedure : PatientProcedure) (events : Events) (told : ToldPatient events procedure) (limit : procedure.limit ≡ most_steps) (doubts : procedure.conversation.conversation.doubts ≡ true) where
+module _ (procedure : PatientProcedure) (events : Events) (told : ToldPatient events procedure) (limit : procedure.limit ≡ most_steps) where
   abbrev list : TaskList
   list = procedure.conversation.conversation.conversation
 
@@ -157,13 +157,13 @@ module _ (procedure : PatientProcedure) (events : Events) (told : ToldPatient ev
       and_from _ _ (le-leb procedure.steps most_steps (subst (λ (n : ℕ). procedure.steps ≤ n) limit told.2))
       (subst (λ (s : Standing). can_stand (tasks_of list.work) s.0 s.1 ≡ true) at.stands (standing_can (tasks_of list.work) (steps_of inner)))
 
-  pub same : patient_of list procedure.conversation.conversation.selection procedure.conversation.patience procedure.conversation.due procedure.conversation.idle procedure.steps ≡ procedure
+  pub same : patient_of list procedure.conversation.conversation.selection procedure.conversation.patience procedure.conversation.due procedure.conversation.idle procedure.steps ≡ doubting procedure
   same =
       let (own, adds, (knows, with_own)) = told.0 in
       let taken = none_taken procedure.conversation.conversation.taken (λ page e. (knows.1.1.was page e).0) in
       (λ i. record {
         conversation = record {
-          conversation = record { conversation = list; selection = procedure.conversation.conversation.selection; taken = sym taken i; doubts = sym doubts i };
+          conversation = record { conversation = list; selection = procedure.conversation.conversation.selection; taken = sym taken i; doubts = true };
           patience = procedure.conversation.patience;
           due = procedure.conversation.due;
           idle = procedure.conversation.idle;

@@ -134,6 +134,22 @@ abbrev pub patient_of : TaskList → KnownPage → Patience → Bool → ℕ →
 patient_of list selection patience due idle steps =
     record { conversation = record { conversation = on_page_of list selection true; patience = patience; due = due; idle = idle }; steps = steps; limit = most_steps }
 
+-- the same one, which doubts the selection after a refusal
+abbrev pub doubting : PatientProcedure → PatientProcedure
+doubting procedure =
+    let pausing = procedure.conversation in
+    let on = pausing.conversation in
+    record {
+      conversation = record {
+        conversation = record { conversation = on.conversation; selection = on.selection; taken = on.taken; doubts = true };
+        patience = pausing.patience;
+        due = pausing.due;
+        idle = pausing.idle;
+      };
+      steps = procedure.steps;
+      limit = procedure.limit;
+    }
+
 -- its tasks' own events, with selections added
 abbrev pub WithOwn : Bool → Work → (Events → Type 0) → Events → Type 0
 WithOwn doubts work P events = WithSelections doubts false (λ own. Some BankAndPage) (λ own. needed_after (tasks_of work) (steps_of own)) P events

@@ -1,7 +1,7 @@
-ghost use Rattle.std.specs.Prelude.{◌≡◌, Some, length, true};
+ghost use Rattle.std.specs.Prelude.{◌≡◌, Some, length};
 ghost use Rattle.conversations.specs.Events.{Events};
 ghost use Rattle.control_sets.specs.OutcomeAnswers.{most_steps};
-ghost use Rattle.control_sets.specs.Progress.{ToldPatient, tasks_of};
+ghost use Rattle.control_sets.specs.Progress.{ToldPatient, doubting, tasks_of};
 ghost use Rattle.control_sets.specs.SavedNumbers as spec;
 ghost use Rattle.control_sets.specs.SavedNumbers.{can_stand, due_numbered, is_found, page_read_back, restored, saved_fault, selected_numbered, work_numbered};
 
@@ -86,10 +86,10 @@ impl SavedProcedure {
 }
 
 impl TaskList {
-    /// The numbers of a procedure on a real bus, which give it again.
+    /// The numbers of a procedure on a real bus, which give it again, but for whether it doubts: restored, it does.
     pub fn save(procedure: &PatientProcedure) -> SavedProcedure
-        ensures same { (events : Events) → ToldPatient events procedure.now → procedure.now.limit ≡ most_steps → procedure.now.conversation.conversation.doubts ≡ true →
-            restored result ≡ Some procedure.now }
+        ensures same { (events : Events) → ToldPatient events procedure.now → procedure.now.limit ≡ most_steps →
+            restored result ≡ Some (doubting procedure.now) }
         ensures page { result.page ≡ page_read_back procedure.now.conversation.conversation.selection }
         ensures fault { result.fault ≡ saved_fault procedure.now.conversation.conversation.conversation.fault }
     {
