@@ -36,11 +36,10 @@ statuses =
     ∷ stands_for 22 (codes "CT2")
     ∷ stands_for 23 (codes "CT3")
     ∷ stands_for 24 (codes "CT4")
-    ∷ says 31 (codes "this is no procedure and no reading, or it was changed: keep it as the library wrote it")
-    ∷ says 32 (codes "it has ended, so there is no operation to make: ask for its answer")
+    ∷ says 31 (codes "this is no conversation, or it was changed: keep it as the library wrote it")
+    ∷ says 32 (codes "it has ended, so there is no operation to make: ask how it ended")
     ∷ says 33 (codes "it has not ended: make the next operation, and tell its reply")
     ∷ says 34 (codes "the operation can't have this reply: tell as many bytes as were asked for, and none of a store")
-    ∷ says 35 (codes "4096 operations did not read the module: pause before those that wait, and begin again")
     ∷ says 36 (codes "the bus fetches fewer than 8 bytes at once, and a reading needs 8")
     ∷ stands_for 42 (codes "KP2")
     ∷ stands_for 43 (codes "KP3")
@@ -71,6 +70,7 @@ procedure_faults =
     ∷ stands_for 5 (codes "PV5")
     ∷ stands_for 6 (codes "PV6")
     ∷ stands_for 7 (codes "PV7")
+    ∷ says 8 (codes "nothing new was done for longer than may be waited: look whether the module answers, and begin again")
     ∷ []
 
 unfoldable pub reasons : List Says

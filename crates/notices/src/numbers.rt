@@ -41,11 +41,10 @@ pub fn statuses() -> &'static [Numbered]
         22 "CT2" "";
         23 "CT3" "";
         24 "CT4" "";
-        31 "" "this is no procedure and no reading, or it was changed: keep it as the library wrote it";
-        32 "" "it has ended, so there is no operation to make: ask for its answer";
+        31 "" "this is no conversation, or it was changed: keep it as the library wrote it";
+        32 "" "it has ended, so there is no operation to make: ask how it ended";
         33 "" "it has not ended: make the next operation, and tell its reply";
         34 "" "the operation can't have this reply: tell as many bytes as were asked for, and none of a store";
-        35 "" "4096 operations did not read the module: pause before those that wait, and begin again";
         36 "" "the bus fetches fewer than 8 bytes at once, and a reading needs 8";
         42 "KP2" "";
         43 "KP3" "";
@@ -80,6 +79,7 @@ pub fn procedure_faults() -> &'static [Numbered]
         5 "PV5" "";
         6 "PV6" "";
         7 "PV7" "";
+        8 "" "nothing new was done for longer than may be waited: look whether the module answers, and begin again";
     }
 }
 
