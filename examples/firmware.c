@@ -95,7 +95,7 @@ static uint8_t fetch_byte(const struct module *module, uint8_t address) {
 }
 
 /* Makes the transaction on the bus, which refuses every fifth; the bytes of a fetch come into `bytes`. */
-static uint8_t transact(struct module *module, const struct dovecounter_operation *operation, uint8_t bytes[8]) {
+static uint8_t transact(struct module *module, const struct dovecounter_operation *operation, uint8_t *bytes) {
     if (++module->transactions % 5 == 0) return DOVECOUNTER_REFUSED;
     for (uint8_t i = 0; i < operation->count; i++) {
         uint8_t address = (uint8_t)(operation->offset + i);
@@ -107,20 +107,24 @@ static uint8_t transact(struct module *module, const struct dovecounter_operatio
     return operation->kind == DOVECOUNTER_STORE ? DOVECOUNTER_STORED : DOVECOUNTER_FETCHED;
 }
 
+static uint8_t transact_with(void *module, const struct dovecounter_operation *operation, uint8_t bytes[128]) {
+    return transact(module, operation, bytes);
+}
+
+/* This module follows at once. */
+static void pause(void *module, uint32_t milliseconds) {
+    (void)module;
+    (void)milliseconds;
+}
+
 enum { NO_ANSWER = 255 };
 
-/* Does what the procedure asks for until it has ended; answers the digit of its fault, 0 for success, or NO_ANSWER if the bus said what
-   the operation can't have. This module follows at once: on a real one pause before an operation whose `wait` is 1, as main_loop.c does. */
-static uint8_t carry_out(struct module *module, struct dovecounter_procedure *procedure) {
-    struct dovecounter_operation operation;
-    struct dovecounter_answer answer;
-    while (dovecounter_next(procedure, &operation) == DOVECOUNTER_DONE) {
-        uint8_t bytes[8];
-        uint8_t outcome = transact(module, &operation, bytes);
-        size_t count = outcome == DOVECOUNTER_FETCHED ? operation.count : 0;
-        if (dovecounter_reply(procedure, outcome, bytes, count) != DOVECOUNTER_DONE) break;
-    }
-    return dovecounter_answer(procedure, &answer) == DOVECOUNTER_DONE ? answer.fault.code : NO_ANSWER;
+/* Carries the procedure out; answers the code of its fault, 0 for success, or NO_ANSWER if the bus said what an operation can't have. */
+static uint8_t carry_out(struct module *module, struct dovecounter_conversation *procedure) {
+    static struct dovecounter_half none[DOVECOUNTER_MOST_READ]; /* is read by a procedure */
+    struct dovecounter_ending ending;
+    if (dovecounter_run(procedure, none, transact_with, pause, module) != DOVECOUNTER_DONE) return NO_ANSWER;
+    return dovecounter_end(procedure, none, &ending) == DOVECOUNTER_DONE ? ending.fault.code : NO_ANSWER;
 }
 
 static void print_plan(const struct dovecounter_plan *plan) {
@@ -133,18 +137,20 @@ int main(void) {
     static struct dovecounter_half halves[MOST_HALVES];
     static struct module module;
     struct dovecounter_plan plan;
-    struct dovecounter_procedure procedure;
+    struct dovecounter_conversation procedure;
+    struct dovecounter_patience patience;
     size_t count = read_halves(stdin, halves);
     uint32_t status = dovecounter_plan(halves, count, 1, 0, weights, 0, kept, KEPT, &plan);
+    if (status == DOVECOUNTER_DONE) status = dovecounter_patience(halves, count, &patience);
     if (status != DOVECOUNTER_DONE) {
         printf("status %u\n", (unsigned)status);
         return 1;
     }
     print_plan(&plan);
-    dovecounter_provision(plan.control, plan.outside, &procedure);
+    dovecounter_provision_begin(plan.control, plan.outside, &patience, &procedure);
     uint8_t fault = carry_out(&module, &procedure);
     if (fault == 0) {
-        dovecounter_activate(plan.control, plan.lanes, &procedure);
+        dovecounter_activate_begin(plan.control, plan.lanes, &patience, &procedure);
         fault = carry_out(&module, &procedure);
     }
     if (fault != 0) {

@@ -15,11 +15,6 @@ void i2c_start(const struct dovecounter_operation *operation, uint8_t bytes[8]);
 /* Since some moment, modulo 2^32. */
 uint32_t milliseconds(void);
 
-/* An operation whose member `wait` is 1 comes after a pause: a state is awaited, or the bus refused. PAUSE is the shortest, in
-   milliseconds: the 4096 operations of a procedure then last almost seven minutes. If the module may take longer for a state, pauses
-   are longer, but LONGEST_PAUSE at most. */
-enum { PAUSE = 100, LONGEST_PAUSE = 1000 };
-
 /* How often a stage is begun, with at least so many milliseconds before it is begun again. */
 enum { MOST_BEGINNINGS = 3, BEFORE_AGAIN = 500 };
 
@@ -27,14 +22,15 @@ enum stage { IDLE, PROVISIONING, ACTIVATING, UP, FAILED };
 
 static enum stage stage = IDLE;
 static struct dovecounter_plan plan;
-static struct dovecounter_procedure procedure;
-static struct dovecounter_operation operation; /* the last one */
-static uint32_t module_pause = PAUSE;
-static uint8_t bytes[8];               /* of a fetch */
-static unsigned beginnings;            /* of this stage */
-static uint32_t ended_at;              /* when the last transaction was over */
-static bool rests;                     /* a stage is begun again, after a pause */
-static bool under_way;                 /* a transaction is */
+static struct dovecounter_patience patience;
+static struct dovecounter_conversation conversation;
+static struct dovecounter_half halves[DOVECOUNTER_MOST_READ]; /* procedures read none */
+static struct dovecounter_operation operation;                /* the last one */
+static uint8_t bytes[8];                                      /* of a fetch */
+static unsigned beginnings;                                   /* of this stage */
+static uint32_t since;                                        /* when what is under way began */
+static bool rests;                                            /* a stage is begun again, after a while */
+static bool under_way;                                        /* a transaction or a wait is */
 static atomic_bool over;               /* set by the interrupt, which may run on another processor, */
 static uint8_t outcome;                /* once it has written what came of the transaction */
 static struct dovecounter_fault fault; /* why it failed, */
@@ -50,44 +46,36 @@ static void begin(enum stage wanted) {
     rests = wanted == stage;
     beginnings = rests ? beginnings + 1 : 1;
     stage = wanted;
+    since = milliseconds();
     if (wanted == PROVISIONING)
-        dovecounter_provision(plan.control, plan.outside, &procedure);
+        dovecounter_provision_begin(plan.control, plan.outside, &patience, &conversation);
     else
-        dovecounter_activate(plan.control, plan.lanes, &procedure);
+        dovecounter_activate_begin(plan.control, plan.lanes, &patience, &conversation);
 }
 
-/* So long that 4000 pauses last twice as long as any state of a data path. */
-static uint32_t pause_for(const struct dovecounter_durations *durations) {
-    const uint32_t most[] = {durations->path_init, durations->path_deinit, durations->path_tx_turn_on,
-                             durations->path_tx_turn_off};
-    uint32_t longest = PAUSE;
-    for (int i = 0; i < 4; i++)
-        if (most[i] / 2000 > longest) longest = most[i] / 2000;
-    return longest < LONGEST_PAUSE ? longest : LONGEST_PAUSE;
-}
-
-/* Begins to carry out the plan on a module of such durations, unless one is being carried out. */
-bool carry_out(const struct dovecounter_plan *wanted, const struct dovecounter_durations *durations) {
+/* Begins to carry out the plan with such patience, which dovecounter_patience tells, unless one is being carried out. */
+bool carry_out(const struct dovecounter_plan *wanted, const struct dovecounter_patience *patient) {
     if (stage == PROVISIONING || stage == ACTIVATING) return false;
     plan = *wanted;
-    module_pause = pause_for(durations);
+    patience = *patient;
     status = DOVECOUNTER_DONE;
     memset(&fault, 0, sizeof fault);
     begin(PROVISIONING);
     return true;
 }
 
-/* The procedure has ended. After PV4 the module may only have been slow, and after PV3 it may have told of an earlier apply; so the
-   procedure is begun again, after a pause. */
+/* The procedure has ended. After PV3 the module may have told of an earlier apply, after PV4 and 8 it may only have been slow; so the
+   procedure is begun again, after a while. */
 static void end(void) {
-    struct dovecounter_answer answer;
-    status = dovecounter_answer(&procedure, &answer);
+    struct dovecounter_ending ending;
+    status = dovecounter_end(&conversation, halves, &ending);
+    uint8_t code = ending.fault.code;
     if (status != DOVECOUNTER_DONE) {
         stage = FAILED;
-    } else if ((answer.fault.code == 3 || answer.fault.code == 4) && beginnings < MOST_BEGINNINGS) {
+    } else if ((code == 3 || code == 4 || code == DOVECOUNTER_OVERDUE) && beginnings < MOST_BEGINNINGS) {
         begin(stage);
-    } else if (answer.fault.code != 0) {
-        fault = answer.fault;
+    } else if (code != 0) {
+        fault = ending.fault;
         stage = FAILED;
     } else if (stage == PROVISIONING) {
         begin(ACTIVATING);
@@ -96,35 +84,35 @@ static void end(void) {
     }
 }
 
-static uint32_t pause_before(const struct dovecounter_operation *next) {
-    return rests ? BEFORE_AGAIN : next->wait != 0 ? module_pause : 0;
+/* Whether what is under way is over. */
+static bool is_over(void) {
+    if (operation.kind != DOVECOUNTER_WAIT) return over;
+    outcome = DOVECOUNTER_WAITED;
+    return milliseconds() - since >= operation.milliseconds;
 }
 
-/* Starts the next transaction, unless it has to wait or there is none. */
+/* Starts what comes next, if anything does. */
 static void go_on(void) {
-    struct dovecounter_operation next;
-    status = dovecounter_next(&procedure, &next);
-    if (status == DOVECOUNTER_ENDED) {
-        end();
-    } else if (status != DOVECOUNTER_DONE) {
-        stage = FAILED;
-    } else if (milliseconds() - ended_at >= pause_before(&next)) {
-        rests = false;
-        operation = next;
-        over = false;
-        under_way = true;
-        i2c_start(&operation, bytes);
-    }
+    status = dovecounter_next(&conversation, halves, &operation);
+    if (status == DOVECOUNTER_ENDED) end();
+    if (status == DOVECOUNTER_NO_CONVERSATION) stage = FAILED;
+    if (status != DOVECOUNTER_DONE) return;
+    under_way = true;
+    over = false;
+    since = milliseconds();
+    if (operation.kind != DOVECOUNTER_WAIT) i2c_start(&operation, bytes);
 }
 
 /* Called by the main loop; says how far it has come. */
 enum stage poll_module(void) {
     if (stage != PROVISIONING && stage != ACTIVATING) return stage;
-    if (under_way && !over) return stage;
+    if (rests && milliseconds() - since < BEFORE_AGAIN) return stage;
+    rests = false;
+    if (under_way && !is_over()) return stage;
     if (under_way) {
         under_way = false;
-        ended_at = milliseconds();
-        status = dovecounter_reply(&procedure, outcome, bytes, outcome == DOVECOUNTER_FETCHED ? operation.count : 0);
+        size_t count = outcome == DOVECOUNTER_FETCHED ? operation.count : 0;
+        status = dovecounter_reply(&conversation, halves, outcome, bytes, count);
         if (status != DOVECOUNTER_DONE) return stage = FAILED; /* such as DOVECOUNTER_STORED for a fetch */
     }
     go_on();

@@ -2,8 +2,8 @@
    paths, checks certificates of such plans, provisions a module over a bus that the caller owns, and simulates a
    module for tests.
 
-   Each function is proved to return, and to do what is said here, except what is called tested, or is said of a real
-   module. None allocates, prints, waits, keeps a pointer or ends the process, and none has state of its own: calls may
+   Each function but dovecounter_run is proved to return, and to do what is said here, except what is called tested, or
+   is said of a real module. None allocates, prints, waits, keeps a pointer or ends the process, and none has state of its own: calls may
    run at the same time, if none of them writes what another one reads or writes.
 
    The caller has to see to what no function can see: each pointer points to as much as its type and its length say,
@@ -21,7 +21,7 @@
 extern "C" {
 #endif
 
-#define DOVECOUNTER_VERSION 6
+#define DOVECOUNTER_VERSION 7
 
 /* What a function answers. On any status but DOVECOUNTER_DONE it has written nothing, with two exceptions:
    dovecounter_certificate writes the text's length if the buffer is too small for it, and dovecounter_weights the
@@ -56,13 +56,12 @@ enum dovecounter_status {
     DOVECOUNTER_TOO_MANY = 23,     /* CT3: a ninth kept path or a ninth path */
     DOVECOUNTER_NO_END = 24,       /* CT4: there is no line `end` */
 
-    /* of a procedure or a reading */
-    DOVECOUNTER_NO_PROCEDURE = 31, /* its numbers aren't those of any, nor are zeros */
-    DOVECOUNTER_ENDED = 32,        /* it has ended: there is no operation to make */
-    DOVECOUNTER_NOT_ENDED = 33,    /* it has not ended: there is an operation to make */
-    DOVECOUNTER_NO_REPLY = 34,     /* the operation to be made can't have this reply */
-    DOVECOUNTER_GAVE_UP = 35,      /* a reading was told 4096 operations, and not all was read */
-    DOVECOUNTER_TOO_FEW_BYTES = 36, /* for a reading, the bus has to fetch 8 bytes at once */
+    /* of a conversation */
+    DOVECOUNTER_NO_CONVERSATION = 31, /* its numbers aren't those of any, nor are zeros */
+    DOVECOUNTER_ENDED = 32,           /* it has ended: there is no operation to make */
+    DOVECOUNTER_NOT_ENDED = 33,       /* it has not ended: there is an operation to make */
+    DOVECOUNTER_NO_REPLY = 34,        /* the operation to be made can't have this reply */
+    DOVECOUNTER_TOO_FEW_BYTES = 36,   /* for a reading, the bus has to fetch 8 bytes at once */
 
     /* of kept paths, the first that applies */
     DOVECOUNTER_TOO_MANY_KEPT = 42,     /* KP2: more than 8 */
@@ -106,7 +105,7 @@ enum dovecounter_status {
    4        buffer_size is below the text's length */
 uint32_t dovecounter_status_text(uint32_t status, uint8_t *buffer, size_t buffer_size, size_t *text_length);
 
-/* The same of the code of a dovecounter_fault, 1 to 7.
+/* The same of the code of a dovecounter_fault, 1 to 8.
 
    status   if
    3        it is no such code
@@ -385,7 +384,7 @@ struct dovecounter_plan {
    --counts-by-id for 1.
 
    To provision the plan and leave the kept data paths alone, hand plan->control and plan->outside to
-   dovecounter_provision, and then plan->control and plan->lanes to dovecounter_activate. To keep paths of this plan
+   dovecounter_provision_begin, and then plan->control and plan->lanes to dovecounter_activate_begin. To keep paths of this plan
    in a later one, save plan->paths, also across a restart: no register of the module says which media lanes a path
    takes. A structure's layout changes only with DOVECOUNTER_VERSION.
 
@@ -451,21 +450,43 @@ enum dovecounter_fault_code {
     DOVECOUNTER_BUS_ENDED = 5,         /* PV5: no procedure here ends so; `first` is the digit of BU1 or BU2 */
     DOVECOUNTER_NOT_READY = 6,         /* PV6: the module is in the state `first`, and not in ModuleReady; of dovecounter_wake and
                                           dovecounter_sleep: in ModuleFault */
-    DOVECOUNTER_RESERVED_CODE = 7      /* PV7: the standard reserves the code `first` that the module shows */
+    DOVECOUNTER_RESERVED_CODE = 7,     /* PV7: the standard reserves the code `first` that the module shows */
+    DOVECOUNTER_OVERDUE = 8            /* it was patient for longer than the limit, and nothing came of it */
 };
 
 /* What the host has done to the module before a fault, besides selecting pages. Provisioning: PV6, and PV7 by the
    module's state, nothing; PV2, its lanes were taken down, and the bytes staged; PV1 and PV3, the bytes were also
-   applied; PV4, and PV7 by a path state or a status, any part of this. Activation: PV3, PV6, and PV7 by the module's
-   state, nothing; PV4, and PV7 by a path state, lanes may be coming up or going down. Waking up and going to sleep:
-   PV6 and PV7, byte 26 was stored; PV4, maybe. */
+   applied; PV4, 8, and PV7 by a path state or a status, any part of this. Activation: PV3, PV6, and PV7 by the module's
+   state, nothing; PV4, 8, and PV7 by a path state, lanes may be coming up or going down. Waking up and going to sleep:
+   PV6 and PV7, byte 26 was stored; PV4 and 8, maybe. */
 struct dovecounter_fault {
     uint8_t code; /* of enum dovecounter_fault_code */
     uint8_t first;
     uint8_t second;
 };
 
-/* How far a procedure has come. */
+/* How long a conversation with a module waits, in milliseconds. A transaction is fruitless if it is refused, if the
+   same bytes are fetched again after it, or if the page selection is stored again. */
+struct dovecounter_patience {
+    uint32_t pause; /* from a fruitless transaction to the next one */
+    uint32_t limit; /* if such pauses last longer, and nothing else is done between them, it ends in the fault 8; never if this
+                       is DOVECOUNTER_UNBOUNDED */
+    uint8_t trusts; /* 0: after a refusal the page is selected and read back again, since the module may have reset itself. Else
+                       it isn't, as cmisctl does on its module in software */
+};
+
+/* Writes to *patience what suits the module with these halves: a pause of at least 100 ms, so long that the 4096
+   operations of a procedure outlast twice the longest of dovecounter_durations, a limit that is twice as long as that
+   and at least 10 s, and 0; a state without an end counts as 50 minutes.
+   The halves are those of dovecounter_advertisement. Before anything is known of a module, take 20 and 2000 ms.
+
+   status     if
+   1, 2       there are more than 16 halves, or one has no place
+   11 to 16   the halves do not say what the module advertises, as dovecounter_advertisement tells */
+uint32_t dovecounter_patience(const struct dovecounter_half *halves, size_t half_count,
+                              struct dovecounter_patience *patience);
+
+/* How far a conversation has come. */
 struct dovecounter_progress {
     uint64_t met;
     uint16_t steps;
@@ -475,116 +496,61 @@ struct dovecounter_progress {
     uint8_t selection;
     uint8_t page;
     struct dovecounter_fault fault;
+    uint8_t due;
+    uint32_t idle;
+    uint32_t pause;
+    uint32_t limit;
 };
 
-/* A procedure under way. Copy it and keep it as you like, but change nothing: other numbers are refused, or are taken
-   for another procedure, which may be one that no replies lead to. More than 4096 steps are always refused, and so are
-   more tasks done than the procedure has. */
-struct dovecounter_procedure {
+/* A conversation with a module under way: a procedure or a reading. Read `halves`, copy it and keep it as you like, but
+   change nothing: other numbers are refused, or are taken for another conversation, which may be one that no replies
+   lead to. Always refused are more than 4096 steps, more tasks done or halves settled than there are, a page where none
+   was read back or taken, a fault that no reply shows, and a part or a piece that no half has. */
+struct dovecounter_conversation {
     uint32_t magic;
-    uint8_t wait;
     struct dovecounter_progress saved;
+    uint8_t doubts;
+    uint8_t taken;
+    uint8_t taken_page;
+    uint8_t halves; /* how many halves a reading has read */
+    uint8_t piece;
+    uint8_t read;
+    uint8_t part[128];
 };
 
-/* Begins to put a plan's control bytes of host lanes 1 to 8 into the Active Control Set, and writes to *procedure.
+/* The most halves that a reading reads. */
+#define DOVECOUNTER_MOST_READ 5
+
+/* Begins to put a plan's control bytes of host lanes 1 to 8 into the Active Control Set, and writes to *conversation.
    The data paths of `lanes` are taken down first, and the bytes are applied to these lanes: hand over `outside` of
    the plan, which is 0xFF, all lanes, if nothing is kept. After a success they are DPDeactivated until
-   dovecounter_activate. No other lane is taken down or applied, but its DPDeinit bit is stored as 0: a lane that is
-   up stays up if the module is ready, no apply is in progress and nothing else takes it down; a lane that the host
+   dovecounter_activate_begin. No other lane is taken down or applied, but its DPDeinit bit is stored as 0: a lane that
+   is up stays up if the module is ready, no apply is in progress and nothing else takes it down; a lane that the host
    held down begins to come up. The bytes of these other lanes in the Active Control Set already have to be those of
    the plan. Judge that before: compare the bytes 206 to 213 of page 11h with `control` at each lane that is not in
    `lanes`. If one differs, a kept path is not active; this procedure would take down lanes that are up, also of data
    paths that share lanes with the kept one, and then end in PV1, PV3 or another fault. Nobody else may use the module
    meanwhile: no driver, no other process, no second master of the bus. */
-void dovecounter_provision(const uint8_t control[8], uint8_t lanes, struct dovecounter_procedure *procedure);
+void dovecounter_provision_begin(const uint8_t control[8], uint8_t lanes, const struct dovecounter_patience *patience,
+                                 struct dovecounter_conversation *conversation);
 
 /* Begins to bring up the data paths of `lanes`, those of a plan whose control bytes are in the Active Control Set,
-   and to take down those of all other lanes; writes to *procedure. After a success the lanes are DPActivated. */
-void dovecounter_activate(const uint8_t control[8], uint8_t lanes, struct dovecounter_procedure *procedure);
+   and to take down those of all other lanes; writes to *conversation. After a success the lanes are DPActivated. */
+void dovecounter_activate_begin(const uint8_t control[8], uint8_t lanes, const struct dovecounter_patience *patience,
+                                struct dovecounter_conversation *conversation);
 
-/* Begins to wake a module up, and writes to *procedure. Byte 26 is read and stored again with its low power requests
+/* Begins to wake a module up, and writes to *conversation. Byte 26 is read and stored again with its low power requests
    cleared, by software (bit 4) and by the pin (bit 6, LowPwrAllowRequestHW); so is SoftwareReset (bit 3). After a
    success the module is in ModuleReady. PV6 says that it is in ModuleFault. It draws more power then: the caller has
    to see that it may. */
-void dovecounter_wake(struct dovecounter_procedure *procedure);
+void dovecounter_wake_begin(const struct dovecounter_patience *patience, struct dovecounter_conversation *conversation);
 
 /* Begins to put a module to sleep likewise, by its low power request by software (bit 4). After a success it is in
    ModuleLowPwr, and its data paths are down. */
-void dovecounter_sleep(struct dovecounter_procedure *procedure);
+void dovecounter_sleep_begin(const struct dovecounter_patience *patience,
+                             struct dovecounter_conversation *conversation);
 
-enum dovecounter_kind { DOVECOUNTER_FETCH = 0, DOVECOUNTER_STORE = 1 };
-
-/* What to do on the bus. */
-struct dovecounter_operation {
-    uint8_t kind;     /* DOVECOUNTER_FETCH or DOVECOUNTER_STORE */
-    uint8_t device;   /* the address on the bus in its 8-bit form, 0xA0, and for a reading also 0xA2; in the 7-bit form
-                         0x50 or 0x51 */
-    uint8_t offset;   /* the address of the first byte */
-    uint8_t count;    /* how many bytes to fetch or to store: 1 to 8; for a reading up to 128 */
-    uint8_t bytes[8]; /* those to store; zeros after them, and for a fetch */
-    uint8_t wait;     /* 1 if the operation before was refused or, for a procedure, was the same fetch, so that a state of the module
-                         is awaited: then pause before this one. Else 0 */
-};
-
-/* Writes to *operation what to do on the bus now.
-
-   status   if
-   31       the numbers are none of a procedure
-   32       the procedure has ended */
-uint32_t dovecounter_next(const struct dovecounter_procedure *procedure, struct dovecounter_operation *operation);
-
-enum dovecounter_outcome {
-    DOVECOUNTER_REFUSED = 0, /* the module did not answer, or took some of the bytes only */
-    DOVECOUNTER_STORED = 1,  /* it took all bytes of a store */
-    DOVECOUNTER_FETCHED = 2  /* it gave all bytes of a fetch */
-};
-
-/* Tells the procedure once what came of that operation, with DOVECOUNTER_FETCHED also the bytes, as many as were
-   asked for (of another outcome no bytes are looked at); writes to *procedure. A refused operation is asked for
-   again, up to 4096 operations in all. A module may take seconds to minutes for a state that is awaited, and at 400
-   kHz 4096 operations are over much sooner: pause before an operation whose `wait` is 1, so long that 4096 pauses
-   last twice as long as the longest of dovecounter_durations, since a wait may span two states. After PV3, half a
-   second later, and after PV4 the procedure may be begun again.
-
-   status   if
-   31       the numbers are none of a procedure
-   32       the procedure has ended
-   34       the operation can't have this reply */
-uint32_t dovecounter_reply(struct dovecounter_procedure *procedure, uint8_t outcome, const uint8_t *bytes,
-                           size_t byte_count);
-
-/* How a procedure ended. */
-struct dovecounter_answer {
-    uint16_t steps;                 /* how many operations a success took; else 0 */
-    struct dovecounter_fault fault; /* its code is 0 if it succeeded */
-};
-
-/* Writes to *answer how the procedure ended. After a success of provisioning the last operation has read the control
-   bytes from the module's Active Control Set.
-
-   status   if
-   31       the numbers are none of a procedure
-   33       the procedure has not ended */
-uint32_t dovecounter_answer(const struct dovecounter_procedure *procedure, struct dovecounter_answer *answer);
-
-/* The reading of a module under way, and what it has read. Copy it and keep it as you like, but change nothing: other
-   numbers are refused, or are taken for another reading, which may be one that no replies lead to. */
-struct dovecounter_reading {
-    uint32_t magic;
-    uint16_t steps;
-    uint8_t settled;
-    uint8_t selection;
-    uint8_t page;
-    uint8_t accepted;
-    uint8_t piece;
-    uint8_t read;
-    uint8_t wait;
-    uint8_t count;                     /* how many halves were read */
-    struct dovecounter_half halves[5]; /* those, the newest first */
-    uint8_t part[128];
-};
-
-/* Begins to read the halves of a module that its reports and its plans need, and writes to *reading. For a CMIS
+/* Begins to read the halves of a module that its reports and its plans need, and writes to *conversation. For a CMIS
    module these are the lower half and the pages 00h, 01h, 02h and 11h of bank 0, or the lower half and page 00h if
    its memory is flat; for an SFF-8636 module the lower half and the pages 00h and 03h, likewise; for an SFF-8472
    module the lower half of 0xA0, and that of 0xA2 if it has diagnostics without an address change; for other modules
@@ -595,27 +561,96 @@ struct dovecounter_reading {
 
    status   if
    36       most is below 8 */
-uint32_t dovecounter_read(uint8_t most, struct dovecounter_reading *reading);
+uint32_t dovecounter_read_begin(uint8_t most, const struct dovecounter_patience *patience,
+                                struct dovecounter_conversation *conversation);
 
-/* Writes to *operation what to do on the bus now, as dovecounter_next does. After status 32 reading->halves and
-   reading->count may be handed to the functions that take halves.
+enum dovecounter_kind { DOVECOUNTER_FETCH = 0, DOVECOUNTER_STORE = 1, DOVECOUNTER_WAIT = 2 };
+
+/* What to do: a transaction on the bus, or to let time pass. */
+struct dovecounter_operation {
+    uint32_t milliseconds; /* how long to wait; 0 for a fetch and a store */
+    uint8_t kind;          /* of enum dovecounter_kind */
+    uint8_t device;        /* the address on the bus in its 8-bit form, 0xA0, and for a reading also 0xA2; in the 7-bit form
+                              0x50 or 0x51; 0 for a wait, as are the next three */
+    uint8_t offset;        /* the address of the first byte */
+    uint8_t count;         /* how many bytes to fetch or to store: 1 to 8; for a reading up to 128 */
+    uint8_t bytes[8];      /* those to store; zeros after them, and for a fetch */
+};
+
+/* Writes to *operation what to do now. `halves` is the caller's array in which a reading has put what it has read, the
+   newest first; for another conversation it may have anything in it.
 
    status   if
-   31       the numbers are none of a reading
-   32       each half was read, or is a page that the module does not have
-   35       4096 operations were told, and not all was read */
-uint32_t dovecounter_read_next(const struct dovecounter_reading *reading, struct dovecounter_operation *operation);
+   31       the numbers are none of a conversation
+   32       it has ended */
+uint32_t dovecounter_next(const struct dovecounter_conversation *conversation,
+                          const struct dovecounter_half halves[DOVECOUNTER_MOST_READ],
+                          struct dovecounter_operation *operation);
 
-/* Tells the reading once what came of that operation, as dovecounter_reply does; writes to *reading. A refused
-   operation is asked for again, up to 4096 operations in all, of which the pieces of a half that were read count as
-   one.
+enum dovecounter_outcome {
+    DOVECOUNTER_REFUSED = 0, /* the module did not answer, or took some of the bytes only */
+    DOVECOUNTER_STORED = 1,  /* it took all bytes of a store */
+    DOVECOUNTER_FETCHED = 2, /* it gave all bytes of a fetch */
+    DOVECOUNTER_WAITED = 3   /* so long has passed */
+};
+
+/* Tells the conversation once what came of that operation, with DOVECOUNTER_FETCHED also the bytes, as many as were
+   asked for (of another outcome no bytes are looked at); writes to *conversation, and if a half is whole, to `halves`:
+   the new one comes first, and conversation->halves counts them. A refused operation is asked for again, up to 4096
+   operations in all, of which the pieces of a half that was read count as one.
 
    status   if
-   31       the numbers are none of a reading
-   32       all was read, or it gave up
+   31       the numbers are none of a conversation
+   32       it has ended
    34       the operation can't have this reply */
-uint32_t dovecounter_read_reply(struct dovecounter_reading *reading, uint8_t outcome, const uint8_t *bytes,
-                                size_t byte_count);
+uint32_t dovecounter_reply(struct dovecounter_conversation *conversation,
+                           struct dovecounter_half halves[DOVECOUNTER_MOST_READ], uint8_t outcome,
+                           const uint8_t *bytes, size_t byte_count);
+
+/* How a conversation ended. */
+struct dovecounter_ending {
+    uint16_t steps;                 /* how many operations a success took; else 0 */
+    struct dovecounter_fault fault; /* its code is 0 if it succeeded */
+};
+
+/* Writes to *ending how the conversation ended. After a success of provisioning the last operation has read the control
+   bytes from the module's Active Control Set. After a success of a reading, `halves` and conversation->halves may be
+   handed to the functions that take halves. After PV3, half a second later, after PV4 and after 8 it may be begun again.
+
+   status   if
+   31       the numbers are none of a conversation
+   33       it has not ended */
+uint32_t dovecounter_end(const struct dovecounter_conversation *conversation,
+                         const struct dovecounter_half halves[DOVECOUNTER_MOST_READ],
+                         struct dovecounter_ending *ending);
+
+/* Carries a conversation out to its end, for callers that may block. `transact` makes a transaction: it answers a
+   dovecounter_outcome, and puts what it fetched into `bytes`. If it answers anything else, this ends with status 34,
+   and may be called again. `pause` lets so many milliseconds pass. Both are handed `context`.
+
+   status   if
+   31       the numbers are none of a conversation
+   34       the operation can't have such a reply */
+static inline uint32_t dovecounter_run(struct dovecounter_conversation *conversation,
+                                       struct dovecounter_half halves[DOVECOUNTER_MOST_READ],
+                                       uint8_t (*transact)(void *context, const struct dovecounter_operation *operation,
+                                                           uint8_t bytes[128]),
+                                       void (*pause)(void *context, uint32_t milliseconds), void *context) {
+    struct dovecounter_operation operation;
+    uint8_t bytes[128];
+    uint32_t status;
+    while ((status = dovecounter_next(conversation, halves, &operation)) == DOVECOUNTER_DONE) {
+        uint8_t outcome = DOVECOUNTER_WAITED;
+        if (operation.kind == DOVECOUNTER_WAIT)
+            pause(context, operation.milliseconds);
+        else
+            outcome = transact(context, &operation, bytes);
+        status = dovecounter_reply(conversation, halves, outcome, bytes,
+                                   outcome == DOVECOUNTER_FETCHED ? operation.count : 0);
+        if (status != DOVECOUNTER_DONE) return status;
+    }
+    return status == DOVECOUNTER_ENDED ? (uint32_t)DOVECOUNTER_DONE : status;
+}
 
 /* How many ticks each work of a simulated module takes, 1 to 1000. */
 struct dovecounter_delays {

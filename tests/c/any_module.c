@@ -177,51 +177,57 @@ static uint8_t transact(const struct dovecounter_operation *it, uint8_t *bytes) 
                : DOVECOUNTER_FETCHED;
 }
 
-/* Other numbers are refused or are another procedure's. */
-static void try_damaged(struct dovecounter_procedure procedure) {
+static struct dovecounter_half read_halves[DOVECOUNTER_MOST_READ];
+static struct dovecounter_patience patience;
+
+/* Other numbers are refused or are another conversation's. */
+static void try_damaged(struct dovecounter_conversation it) {
+    struct dovecounter_half halves_of_it[DOVECOUNTER_MOST_READ];
     struct dovecounter_operation *operation = output(sizeof *operation);
-    ((uint8_t *)&procedure)[chance(sizeof procedure)] = any_byte();
-    JUDGE(dovecounter_next(&procedure, operation), operation, 31, 32);
-    struct dovecounter_answer *answer = output(sizeof *answer);
-    JUDGE(dovecounter_answer(&procedure, answer), answer, 31, 33);
-    uint32_t status = dovecounter_reply(&procedure, DOVECOUNTER_REFUSED, output_end, 0);
-    expect("a reply", 1, status == 0 || status == 31 || status == 32);
+    memcpy(halves_of_it, read_halves, sizeof read_halves);
+    ((uint8_t *)&it)[chance(sizeof it)] = any_byte();
+    JUDGE(dovecounter_next(&it, halves_of_it, operation), operation, 31, 32);
+    struct dovecounter_ending *ending = output(sizeof *ending);
+    JUDGE(dovecounter_end(&it, halves_of_it, ending), ending, 31, 33);
+    uint32_t status = dovecounter_reply(&it, halves_of_it, DOVECOUNTER_REFUSED, output_end, 0);
+    expect("a reply", 1, status == 0 || status == 31 || status == 32 || status == 34);
 }
 
-/* Answers the code of the procedure's fault, 0 for success. */
-static uint8_t carry_out(struct dovecounter_procedure procedure) {
+/* Does what is asked for, and tells of it. */
+static void do_next(struct dovecounter_conversation *it, const struct dovecounter_operation *operation,
+                    unsigned *operations) {
+    uint8_t bytes[128], outcome = DOVECOUNTER_WAITED;
+    if (operation->kind == DOVECOUNTER_WAIT)
+        expect("a tick", DOVECOUNTER_DONE, dovecounter_module_tick(&module));
+    else
+        outcome = transact(operation, bytes), ++*operations;
+    size_t count = outcome == DOVECOUNTER_FETCHED ? operation->count : 0;
+    uint8_t *end = memcpy(output_end - count, bytes, count);
+    if (chance(64) == 0) try_damaged(*it);
+    memcpy(end, bytes, count);
+    expect("a reply", DOVECOUNTER_DONE, dovecounter_reply(it, read_halves, outcome, end, count));
+}
+
+/* Answers the code of the fault, 0 for success. */
+static uint8_t carry_out(struct dovecounter_conversation *it) {
     struct dovecounter_operation operation;
-    struct dovecounter_answer answer;
+    struct dovecounter_ending ending;
     unsigned operations = 0;
-    while (dovecounter_next(&procedure, &operation) == DOVECOUNTER_DONE) {
-        uint8_t bytes[8], outcome = transact(&operation, bytes);
-        size_t count = outcome == DOVECOUNTER_FETCHED ? operation.count : 0;
-        uint8_t *end = memcpy(output_end - count, bytes, count);
-        if (chance(64) == 0) try_damaged(procedure);
-        memcpy(end, bytes, count);
-        expect("a reply", DOVECOUNTER_DONE, dovecounter_reply(&procedure, outcome, end, count));
-        operations++;
-    }
+    while (dovecounter_next(it, read_halves, &operation) == DOVECOUNTER_DONE) do_next(it, &operation, &operations);
     expect("operations", 1, operations <= 4096);
-    expect("an answer", DOVECOUNTER_DONE, dovecounter_answer(&procedure, &answer));
-    expect("steps", answer.fault.code ? 0 : operations, answer.steps);
-    return answer.fault.code;
+    expect("an end", DOVECOUNTER_DONE, dovecounter_end(it, read_halves, &ending));
+    expect("steps", ending.fault.code ? 0 : operations, ending.steps);
+    return ending.fault.code;
 }
 
 /* The module's halves are read: of two for one place the first. Flags are cleared meanwhile, and selections change. */
 static void try_reading(void) {
-    struct dovecounter_reading reading;
-    struct dovecounter_operation operation;
-    expect("reading", DOVECOUNTER_DONE, dovecounter_read((uint8_t)(8 + chance(248)), &reading));
-    uint32_t status;
-    while (!(status = dovecounter_read_next(&reading, &operation))) {
-        uint8_t bytes[128], outcome = transact(&operation, bytes);
-        size_t count = outcome == DOVECOUNTER_FETCHED ? operation.count : 0;
-        expect("a reply", DOVECOUNTER_DONE, dovecounter_read_reply(&reading, outcome, bytes, count));
-    }
-    expect("all was read", DOVECOUNTER_ENDED, status);
-    for (int i = 0; i < reading.count; i++) {
-        const struct dovecounter_half *read = &reading.halves[i];
+    struct dovecounter_conversation reading;
+    expect("reading", DOVECOUNTER_DONE, dovecounter_read_begin((uint8_t)(8 + chance(248)), &patience, &reading));
+    uint8_t code = carry_out(&reading);
+    expect("all was read", 1, code == 0 || code == 8);
+    for (int i = 0; i < reading.halves; i++) {
+        const struct dovecounter_half *read = &read_halves[i];
         if (!read->upper || read->page > 2) continue;
         size_t same = 0;
         while (same < half_count && memcmp(&halves[same], read, 4)) same++;
@@ -229,26 +235,26 @@ static void try_reading(void) {
     }
 }
 
-static unsigned long ends[8];
+static unsigned long ends[9];
 
 static void try_procedures(const struct dovecounter_plan *plan) {
-    struct dovecounter_procedure procedure;
+    struct dovecounter_conversation procedure;
     uint8_t active[8];
-    dovecounter_wake(&procedure);
-    if (chance(8)) ends[carry_out(procedure)]++;
-    dovecounter_provision(plan->control, plan->outside, &procedure);
-    uint8_t code = carry_out(procedure);
+    dovecounter_wake_begin(&patience, &procedure);
+    if (chance(8)) ends[carry_out(&procedure)]++;
+    dovecounter_provision_begin(plan->control, plan->outside, &patience, &procedure);
+    uint8_t code = carry_out(&procedure);
     ends[code]++;
     if (code) return;
     expect("active bytes", DOVECOUNTER_DONE, dovecounter_module_active(&module, active));
     expect_same("the plan is active", plan->control, active, 8);
-    dovecounter_activate(plan->control, plan->lanes, &procedure);
-    code = carry_out(procedure);
+    dovecounter_activate_begin(plan->control, plan->lanes, &patience, &procedure);
+    code = carry_out(&procedure);
     ends[code]++;
     for (int lane = 0; lane < 8 && !code; lane++)
         if (plan->lanes >> lane & 1) expect("a lane is DPActivated", 4, module.lanes[lane].path);
-    dovecounter_sleep(&procedure);
-    ends[carry_out(procedure)]++;
+    dovecounter_sleep_begin(&patience, &procedure);
+    ends[carry_out(&procedure)]++;
 }
 
 static void try_simulated(const struct dovecounter_plan *plan) {
@@ -256,6 +262,7 @@ static void try_simulated(const struct dovecounter_plan *plan) {
     uint16_t *all = &delays.apply;
     for (int i = 0; i < 7; i++) all[i] = (uint16_t)(chance(40) ? 1 + chance(9) : chance(1200));
     refusals = chance(4) ? chance(5) : chance(17);
+    patience = (struct dovecounter_patience){chance(9), chance(4) ? UINT32_MAX : chance(900), (uint8_t)chance(2)};
     struct dovecounter_module *found = output(sizeof *found);
     if (JUDGE(dovecounter_module_begin(halves, half_count, &delays, found), found, OF_ADVERTISEMENT, 51, 53, 54))
         return;
@@ -294,7 +301,7 @@ int main(int count, char **words) {
         try_simulated(&plan);
     }
     printf("any_module: %ld modules, %ld with a plan; procedures ended with", runs, planned);
-    for (int code = 0; code < 8; code++) printf(" %d: %lu", code, ends[code]);
+    for (int code = 0; code < 9; code++) printf(" %d: %lu", code, ends[code]);
     printf("\n");
     return judged("any_module");
 }

@@ -423,66 +423,140 @@ static void try_certificate(void) {
 
 /* ---- procedures ---- */
 
-static void expect_operation(const char *what, const struct dovecounter_procedure *procedure, uint8_t kind,
+static struct dovecounter_half none[DOVECOUNTER_MOST_READ]; /* is read by them */
+static const struct dovecounter_patience patience = {.pause = 40, .limit = 100};
+
+static void expect_operation(const char *what, const struct dovecounter_conversation *procedure, uint8_t kind,
                              uint8_t offset, uint8_t count, uint8_t first, uint8_t second) {
     struct dovecounter_operation operation;
-    expect(what, DOVECOUNTER_DONE, dovecounter_next(procedure, &operation));
+    expect(what, DOVECOUNTER_DONE, dovecounter_next(procedure, none, &operation));
     expect(what, kind, operation.kind);
     expect(what, 0xA0, operation.device);
     expect(what, offset, operation.offset);
     expect(what, count, operation.count);
     expect(what, first, operation.bytes[0]);
     expect(what, second, operation.bytes[1]);
+    expect(what, 0, operation.milliseconds);
 }
 
-static void expect_wait(const char *what, uint8_t wanted, const struct dovecounter_procedure *procedure) {
+static void expect_wait(const char *what, struct dovecounter_conversation *procedure) {
     struct dovecounter_operation operation;
-    expect(what, DOVECOUNTER_DONE, dovecounter_next(procedure, &operation));
-    expect(what, wanted, operation.wait);
+    expect(what, DOVECOUNTER_DONE, dovecounter_next(procedure, none, &operation));
+    expect(what, DOVECOUNTER_WAIT, operation.kind);
+    expect(what, 40, operation.milliseconds);
+    expect(what, 0, operation.device | operation.offset | operation.count | operation.bytes[0]);
+    expect(what, DOVECOUNTER_DONE, dovecounter_reply(procedure, none, DOVECOUNTER_WAITED, operation.bytes, 0));
 }
 
 /* A reply that is refused changes nothing. */
-static void refuse_reply(const char *what, uint32_t wanted, struct dovecounter_procedure procedure, uint8_t outcome,
+static void refuse_reply(const char *what, uint32_t wanted, struct dovecounter_conversation procedure, uint8_t outcome,
                          size_t count) {
     static const uint8_t bytes[200];
-    struct dovecounter_procedure before = procedure;
-    expect(what, wanted, dovecounter_reply(&procedure, outcome, bytes, count));
+    struct dovecounter_conversation before = procedure;
+    expect(what, wanted, dovecounter_reply(&procedure, none, outcome, bytes, count));
     expect_same(what, &before, &procedure, sizeof procedure);
+}
+
+static void take(const char *what, struct dovecounter_conversation *procedure, uint8_t outcome, const uint8_t *bytes,
+                 size_t count) {
+    expect(what, DOVECOUNTER_DONE, dovecounter_reply(procedure, none, outcome, bytes, count));
+}
+
+/* Page 10h is confirmed. A store that is refused is made again, by whoever trusts the selection; whoever doubts reads it back first. */
+static void try_doubt(const struct dovecounter_plan *plan, uint8_t trusts) {
+    static const uint8_t ready = 3 << 1, page[] = {0, 0x10};
+    const struct dovecounter_patience patient = {.pause = 40, .limit = 100, .trusts = trusts};
+    struct dovecounter_conversation procedure;
+    dovecounter_provision_begin(plan->control, 0xFF, &patient, &procedure);
+    take("ready", &procedure, DOVECOUNTER_FETCHED, &ready, 1);
+    take("selected", &procedure, DOVECOUNTER_STORED, &ready, 0);
+    take("read back", &procedure, DOVECOUNTER_FETCHED, page, 2);
+    expect_operation("lanes are taken down", &procedure, DOVECOUNTER_STORE, 128, 1, 0xFF, 0);
+    take("refused", &procedure, DOVECOUNTER_REFUSED, &ready, 0);
+    expect_wait("after a refusal", &procedure);
+    if (trusts)
+        expect_operation("the store again", &procedure, DOVECOUNTER_STORE, 128, 1, 0xFF, 0);
+    else
+        expect_operation("the selection again", &procedure, DOVECOUNTER_STORE, 126, 2, 0, 0x10);
+}
+
+/* A bus that refuses all: 0, 40, 80 and 120 milliseconds were waited, and then no more. */
+static void try_limit(const struct dovecounter_plan *plan) {
+    struct dovecounter_conversation procedure;
+    struct dovecounter_ending ending;
+    struct dovecounter_operation operation;
+    dovecounter_provision_begin(plan->control, 0xFF, &patience, &procedure);
+    for (int refused = 0; refused < 3; refused++) {
+        take("refused", &procedure, DOVECOUNTER_REFUSED, none[0].bytes, 0);
+        expect_wait("a pause", &procedure);
+    }
+    take("refused at last", &procedure, DOVECOUNTER_REFUSED, none[0].bytes, 0);
+    expect("overdue", DOVECOUNTER_ENDED, dovecounter_next(&procedure, none, &operation));
+    expect("an end", DOVECOUNTER_DONE, dovecounter_end(&procedure, none, &ending));
+    expect("the fault 8", DOVECOUNTER_OVERDUE, ending.fault.code);
+    expect("no steps", 0, ending.steps);
 }
 
 static void try_procedure(const struct dovecounter_plan *plan) {
     static const uint8_t ready = 3 << 1, low_power = 1 << 1;
-    struct dovecounter_procedure procedure;
-    struct dovecounter_answer answer;
+    struct dovecounter_conversation procedure;
+    struct dovecounter_ending ending;
     memset(&procedure, 0, sizeof procedure);
-    dovecounter_provision(plan->control, 0xFF, &procedure);
+    dovecounter_provision_begin(plan->control, 0xFF, &patience, &procedure);
     expect_operation("the module's state", &procedure, DOVECOUNTER_FETCH, 3, 1, 0, 0);
-    expect_wait("the first comes at once", 0, &procedure);
-    expect("not ended", DOVECOUNTER_NOT_ENDED, dovecounter_answer(&procedure, &answer));
+    expect("not ended", DOVECOUNTER_NOT_ENDED, dovecounter_end(&procedure, none, &ending));
     refuse_reply("a fetch is not stored", DOVECOUNTER_NO_REPLY, procedure, DOVECOUNTER_STORED, 0);
+    refuse_reply("a fetch is no wait", DOVECOUNTER_NO_REPLY, procedure, DOVECOUNTER_WAITED, 0);
     refuse_reply("two bytes are not one", DOVECOUNTER_NO_REPLY, procedure, DOVECOUNTER_FETCHED, 2);
     refuse_reply("200 bytes are not one", DOVECOUNTER_NO_REPLY, procedure, DOVECOUNTER_FETCHED, 200);
-    refuse_reply("no such outcome", DOVECOUNTER_NO_REPLY, procedure, 3, 1);
-    expect("refused", DOVECOUNTER_DONE, dovecounter_reply(&procedure, DOVECOUNTER_REFUSED, &ready, 0));
+    refuse_reply("no such outcome", DOVECOUNTER_NO_REPLY, procedure, 4, 1);
+    take("refused", &procedure, DOVECOUNTER_REFUSED, &ready, 0);
+    refuse_reply("a wait is not refused", DOVECOUNTER_NO_REPLY, procedure, DOVECOUNTER_REFUSED, 0);
+    expect("a wait is no end", DOVECOUNTER_NOT_ENDED, dovecounter_end(&procedure, none, &ending));
+    expect_wait("after a refusal", &procedure);
     expect_operation("asked again", &procedure, DOVECOUNTER_FETCH, 3, 1, 0, 0);
-    expect_wait("after a refusal", 1, &procedure);
-    expect("ready", DOVECOUNTER_DONE, dovecounter_reply(&procedure, DOVECOUNTER_FETCHED, &ready, 1));
+    take("ready", &procedure, DOVECOUNTER_FETCHED, &ready, 1);
     expect_operation("page 10h", &procedure, DOVECOUNTER_STORE, 126, 2, 0, 0x10);
-    expect_wait("after what was wanted", 0, &procedure);
     refuse_reply("a store is not fetched", DOVECOUNTER_NO_REPLY, procedure, DOVECOUNTER_FETCHED, 2);
 
-    dovecounter_activate(plan->control, 0xFF, &procedure);
-    expect("low power", DOVECOUNTER_DONE, dovecounter_reply(&procedure, DOVECOUNTER_FETCHED, &low_power, 1));
-    expect("ended", DOVECOUNTER_DONE, dovecounter_answer(&procedure, &answer));
-    expect("PV6", 6, answer.fault.code);
-    expect("PV6 1", 1, answer.fault.first);
-    expect("no steps", 0, answer.steps);
+    dovecounter_activate_begin(plan->control, 0xFF, &patience, &procedure);
+    take("low power", &procedure, DOVECOUNTER_FETCHED, &low_power, 1);
+    expect("ended", DOVECOUNTER_DONE, dovecounter_end(&procedure, none, &ending));
+    expect("PV6", 6, ending.fault.code);
+    expect("PV6 1", 1, ending.fault.first);
+    expect("no steps", 0, ending.steps);
     refuse_reply("nothing after the end", DOVECOUNTER_ENDED, procedure, DOVECOUNTER_REFUSED, 0);
     struct dovecounter_operation operation, before;
     memset(&operation, 0x5A, sizeof operation);
     before = operation;
-    expect("no operation after the end", DOVECOUNTER_ENDED, dovecounter_next(&procedure, &operation));
+    expect("no operation after the end", DOVECOUNTER_ENDED, dovecounter_next(&procedure, none, &operation));
     expect_same("no operation is written", &before, &operation, sizeof operation);
+}
+
+/* ---- a run that the caller ends ---- */
+
+static uint8_t say_nothing(void *context, const struct dovecounter_operation *operation, uint8_t bytes[128]) {
+    (void)operation;
+    (void)bytes;
+    ++*(int *)context;
+    return 77;
+}
+
+static void pause_never(void *context, uint32_t milliseconds) {
+    (void)context;
+    expect("no pause", 0, milliseconds);
+}
+
+static void try_run(const struct dovecounter_plan *plan) {
+    struct dovecounter_conversation procedure, before;
+    int calls = 0;
+    dovecounter_provision_begin(plan->control, 0xFF, &patience, &procedure);
+    before = procedure;
+    expect("no outcome", DOVECOUNTER_NO_REPLY, dovecounter_run(&procedure, none, say_nothing, pause_never, &calls));
+    expect("one call", 1, (unsigned)calls);
+    expect_same("goes on where it was", &before, &procedure, sizeof procedure);
+    memset(&procedure, 0, sizeof procedure);
+    expect("zeros", DOVECOUNTER_NO_CONVERSATION, dovecounter_run(&procedure, none, say_nothing, pause_never, &calls));
 }
 
 /* ---- durations ---- */
@@ -511,6 +585,23 @@ static void try_durations(void) {
     expect_same("refused durations are not written", &before, &durations, sizeof durations);
 }
 
+static void try_patience(void) {
+    struct dovecounter_patience found, before;
+    memset(&found, 0x5A, sizeof found);
+    before = found;
+    make_module();
+    expect("no patience without page 01h", DOVECOUNTER_ABSENT, dovecounter_patience(halves, 2, &found));
+    expect_same("refused patience is not written", &before, &found, sizeof found);
+    expect("patience", DOVECOUNTER_DONE, dovecounter_patience(halves, 3, &found));
+    expect("the shortest pause", 100, found.pause);
+    expect("it doubts", 0, found.trusts);
+    halves[2].bytes[144 - 128] = 0x0B; /* 10 minutes */
+    set_sum(&halves[2], 130, 254, 255);
+    expect("patience", DOVECOUNTER_DONE, dovecounter_patience(halves, 3, &found));
+    expect("a pause of 10 minutes", 300, found.pause);
+    expect("a limit of 10 minutes", 1200000, found.limit);
+}
+
 /* ---- a module in software, on which a path is up ---- */
 
 struct module {
@@ -519,6 +610,7 @@ struct module {
     uint8_t touched;       /* lanes that were ever taken down or applied to */
     uint8_t staged[8];
     uint8_t active[8];
+    int made; /* operations */
 };
 
 static void store(struct module *module, const struct dovecounter_operation *operation) {
@@ -532,14 +624,14 @@ static void store(struct module *module, const struct dovecounter_operation *ope
 }
 
 /* Four bits for each lane: `code` for the lanes of the mask, `other` for the others. */
-static void set_codes(uint8_t bytes[8], uint8_t lanes, unsigned code, unsigned other) {
+static void set_codes(uint8_t *bytes, uint8_t lanes, unsigned code, unsigned other) {
     for (int lane = 0; lane < 8; lane += 2) {
         unsigned low = lanes >> lane & 1 ? code : other, high = lanes >> (lane + 1) & 1 ? code : other;
         bytes[lane / 2] = (uint8_t)(high << 4 | low);
     }
 }
 
-static void fetch(const struct module *module, uint8_t offset, uint8_t bytes[8]) {
+static void fetch(const struct module *module, uint8_t offset, uint8_t *bytes) {
     if (offset == 3) bytes[0] = 3 << 1; /* ModuleReady */
     if (offset == 126) bytes[0] = 0, bytes[1] = module->page;
     if (offset == 128) set_codes(bytes, module->deinitialized, 1, 4); /* DPDeactivated, DPActivated */
@@ -548,25 +640,28 @@ static void fetch(const struct module *module, uint8_t offset, uint8_t bytes[8])
     if (offset == 206) memcpy(bytes, module->active, 8);
 }
 
-static struct dovecounter_fault carry_out(struct module *module, struct dovecounter_procedure *procedure) {
-    struct dovecounter_operation operation;
-    struct dovecounter_answer answer;
-    for (int made = 0; dovecounter_next(procedure, &operation) == DOVECOUNTER_DONE; made++) {
-        if (made == 5000) {
-            expect("operations at most", 4096, 5000);
-            exit(1);
-        }
-        int fetches = operation.kind == DOVECOUNTER_FETCH;
-        uint8_t bytes[8];
-        if (fetches)
-            fetch(module, operation.offset, bytes);
-        else
-            store(module, &operation);
-        dovecounter_reply(procedure, fetches ? DOVECOUNTER_FETCHED : DOVECOUNTER_STORED, bytes,
-                          fetches ? operation.count : 0);
+static uint8_t transact(void *context, const struct dovecounter_operation *operation, uint8_t bytes[128]) {
+    struct module *module = context;
+    if (++module->made == 5000) {
+        expect("operations at most", 4096, 5000);
+        exit(1);
     }
-    expect("the end", DOVECOUNTER_DONE, dovecounter_answer(procedure, &answer));
-    return answer.fault;
+    if (operation->kind == DOVECOUNTER_STORE) return store(module, operation), DOVECOUNTER_STORED;
+    fetch(module, operation->offset, bytes);
+    return DOVECOUNTER_FETCHED;
+}
+
+static void pause(void *context, uint32_t milliseconds) {
+    (void)context;
+    expect("a pause", patience.pause, milliseconds);
+}
+
+static struct dovecounter_fault carry_out(struct module *module, struct dovecounter_conversation *procedure) {
+    struct dovecounter_ending ending;
+    module->made = 0;
+    expect("a run", DOVECOUNTER_DONE, dovecounter_run(procedure, none, transact, pause, module));
+    expect("the end", DOVECOUNTER_DONE, dovecounter_end(procedure, none, &ending));
+    return ending.fault;
 }
 
 /* Lanes 3 and 4 carry a kept path: they are neither taken down nor applied to. */
@@ -575,23 +670,23 @@ static void try_kept_procedure(void) {
     static const uint8_t before[8] = {0, 0, 0x24, 0x24}, others[8] = {0, 0, 0x24, 0x14};
     struct module module = {0};
     struct dovecounter_plan plan;
-    struct dovecounter_procedure procedure;
+    struct dovecounter_conversation procedure;
     struct dovecounter_fault fault;
     make_two_applications();
     expect("kept", DOVECOUNTER_DONE, dovecounter_plan(halves, 3, 0, 0, weights, 0, &kept, 1, &plan));
     memcpy(module.active, before, 8);
-    dovecounter_provision(plan.control, plan.outside, &procedure);
+    dovecounter_provision_begin(plan.control, plan.outside, &patience, &procedure);
     expect("provisioned beside a kept path", 0, carry_out(&module, &procedure).code);
     expect("lanes that were touched", 0xF3, module.touched);
     expect_same("active bytes", plan.control, module.active, 8);
-    dovecounter_activate(plan.control, plan.lanes, &procedure);
+    dovecounter_activate_begin(plan.control, plan.lanes, &patience, &procedure);
     expect("activated beside a kept path", 0, carry_out(&module, &procedure).code);
     expect("lanes that are down", 0, module.deinitialized);
     expect("lanes that were touched until then", 0xF3, module.touched);
 
     memset(&module, 0, sizeof module);
     memcpy(module.active, others, 8);
-    dovecounter_provision(plan.control, plan.outside, &procedure);
+    dovecounter_provision_begin(plan.control, plan.outside, &patience, &procedure);
     fault = carry_out(&module, &procedure);
     expect("PV3, the kept path is another one", 3, fault.code);
     expect("PV3 4", 4, fault.first);
@@ -600,19 +695,19 @@ static void try_kept_procedure(void) {
 }
 
 static void try_other_numbers(const struct dovecounter_plan *plan) {
-    struct dovecounter_procedure procedure, other;
+    struct dovecounter_conversation procedure, other;
     struct dovecounter_operation operation;
-    struct dovecounter_answer answer;
+    struct dovecounter_ending ending;
     memset(&procedure, 0, sizeof procedure);
-    dovecounter_provision(plan->control, 0xFF, &procedure);
-    for (int i = 0; i < 10; i++) {
+    dovecounter_provision_begin(plan->control, 0xFF, &patience, &procedure);
+    for (int i = 0; i < 19; i++) {
         other = procedure;
-        if (i == 0) other.saved.work = 5;
+        if (i == 0) other.saved.work = 6;
         if (i == 1) other.saved.selection = 3;
         if (i == 2) other.saved.fault.code = 8;
         if (i == 3) other.saved.work = 0;
         if (i == 4) other.magic = 0;
-        if (i == 5) other.wait = 2;
+        if (i == 5) other.saved.due = 2;
         if (i == 6) memset(&other, 0, sizeof other);
         if (i == 7) other.saved.steps = 4097;
         if (i == 8) other.saved.met = 9;
@@ -620,17 +715,30 @@ static void try_other_numbers(const struct dovecounter_plan *plan) {
             other.saved.work = 2; /* activation has four tasks */
             other.saved.met = 5;
         }
-        expect("no procedure has an operation", DOVECOUNTER_NO_PROCEDURE, dovecounter_next(&other, &operation));
-        expect("no procedure has an answer", DOVECOUNTER_NO_PROCEDURE, dovecounter_answer(&other, &answer));
-        refuse_reply("no procedure takes a reply", DOVECOUNTER_NO_PROCEDURE, other, DOVECOUNTER_REFUSED, 0);
+        if (i == 10) {
+            other.saved.work = 3; /* waking up has three */
+            other.saved.met = 4;
+        }
+        if (i == 11) other.saved.fault.code = 4; /* no reply shows it */
+        if (i == 12) other.doubts = 2;
+        if (i == 13) other.taken = 2;
+        if (i == 14) other.taken_page = 1;
+        if (i == 15) other.saved.page = 1;
+        if (i == 16) other.saved.steps = 33342;
+        if (i == 17) other.saved.work = 5; /* a reading without pieces */
+        if (i == 18) other.saved.selection = 1, other.saved.page = 0x10;
+        expect("no procedure has an operation", DOVECOUNTER_NO_CONVERSATION,
+               dovecounter_next(&other, none, &operation));
+        expect("no procedure has an end", DOVECOUNTER_NO_CONVERSATION, dovecounter_end(&other, none, &ending));
+        refuse_reply("no procedure takes a reply", DOVECOUNTER_NO_CONVERSATION, other, DOVECOUNTER_REFUSED, 0);
     }
     for (int place = 0; place < (int)sizeof procedure; place++)
         for (int byte = 0; byte < 256; byte++) {
             other = procedure;
             memset((unsigned char *)&other + place, byte, 1);
-            uint32_t status = dovecounter_next(&other, &operation);
+            uint32_t status = dovecounter_next(&other, none, &operation);
             expect("a known status", 1,
-                   status == DOVECOUNTER_DONE || status == DOVECOUNTER_ENDED || status == DOVECOUNTER_NO_PROCEDURE);
+                   status == DOVECOUNTER_DONE || status == DOVECOUNTER_ENDED || status == DOVECOUNTER_NO_CONVERSATION);
         }
 }
 
@@ -646,7 +754,12 @@ int main(void) {
     try_check();
     try_certificate();
     try_durations();
+    try_patience();
     try_procedure(&plan);
+    try_doubt(&plan, 0);
+    try_doubt(&plan, 1);
+    try_limit(&plan);
+    try_run(&plan);
     try_kept_procedure();
     try_other_numbers(&plan);
     return judged("firmware");

@@ -7,13 +7,14 @@ static struct dovecounter_path kept[1];
 static struct dovecounter_plan plan;
 static struct dovecounter_advertisement advertisement;
 static struct dovecounter_judgement judgement;
-static struct dovecounter_procedure procedure;
+static struct dovecounter_conversation procedure, reading;
+static struct dovecounter_half halves_read[DOVECOUNTER_MOST_READ];
+static struct dovecounter_patience patience = {.pause = 100, .limit = 10000};
 static struct dovecounter_operation operation;
-static struct dovecounter_answer answer;
+static struct dovecounter_ending ending;
 static const struct dovecounter_delays delays = {4, 4, 4, 4, 4, 4, 4};
 static struct dovecounter_module module;
 static uint8_t bytes[8];
-static struct dovecounter_reading reading;
 static struct dovecounter_durations durations;
 static struct dovecounter_identity identity;
 static struct dovecounter_flags flags;
@@ -41,24 +42,24 @@ static void *writes(void *x) {
     return x;
 }
 static void *provisions(void *x) {
-    dovecounter_provision(plan.control, 0xFF, &procedure);
+    dovecounter_provision_begin(plan.control, 0xFF, &patience, &procedure);
     return x;
 }
 static void *activates(void *x) {
-    dovecounter_activate(plan.control, 0xFF, &procedure);
+    dovecounter_activate_begin(plan.control, 0xFF, &patience, &procedure);
     return x;
 }
 static void *asks(void *x) {
-    dovecounter_next(&procedure, &operation);
+    dovecounter_next(&procedure, halves_read, &operation);
     return x;
 }
 static void *replies(void *x) {
     static const uint8_t ready = 6;
-    dovecounter_reply(&procedure, DOVECOUNTER_FETCHED, &ready, 1);
+    dovecounter_reply(&procedure, halves_read, DOVECOUNTER_FETCHED, &ready, 1);
     return x;
 }
 static void *answers(void *x) {
-    dovecounter_answer(&procedure, &answer);
+    dovecounter_end(&procedure, halves_read, &ending);
     return x;
 }
 static void *begins(void *x) {
@@ -91,15 +92,15 @@ static void *lasts(void *x) {
     return x;
 }
 static void *reads(void *x) {
-    dovecounter_read(128, &reading);
+    dovecounter_read_begin(128, &patience, &reading);
     return x;
 }
 static void *reads_next(void *x) {
-    dovecounter_read_next(&reading, &operation);
+    dovecounter_next(&reading, halves_read, &operation);
     return x;
 }
 static void *read_replies(void *x) {
-    dovecounter_read_reply(&reading, DOVECOUNTER_FETCHED, halves[0].bytes, 128);
+    dovecounter_reply(&reading, halves_read, DOVECOUNTER_FETCHED, halves[0].bytes, 128);
     return x;
 }
 
@@ -123,7 +124,7 @@ static void *reads_weights(void *x) {
     return x;
 }
 static void *wakes(void *x) {
-    dovecounter_wake(&procedure);
+    dovecounter_wake_begin(&patience, &procedure);
     return x;
 }
 
@@ -136,11 +137,11 @@ int main(void) {
     print_used("dovecounter_plan", plans, alone);
     print_used("dovecounter_certificate", writes, alone);
     print_used("dovecounter_check", checks, alone);
-    print_used("dovecounter_provision", provisions, alone);
+    print_used("dovecounter_provision_begin", provisions, alone);
     print_used("dovecounter_next", asks, alone);
     print_used("dovecounter_reply", replies, alone);
-    print_used("dovecounter_answer", answers, alone);
-    print_used("dovecounter_activate", activates, alone);
+    print_used("dovecounter_end", answers, alone);
+    print_used("dovecounter_activate_begin", activates, alone);
     print_used("dovecounter_module_begin", begins, alone);
     print_used("dovecounter_module_fetch", fetches, alone);
     print_used("dovecounter_module_store", stores, alone);
@@ -148,13 +149,13 @@ int main(void) {
     print_used("dovecounter_module_pin", pins, alone);
     print_used("dovecounter_module_active", says_active, alone);
     print_used("dovecounter_durations", lasts, alone);
-    print_used("dovecounter_read", reads, alone);
-    print_used("dovecounter_read_next", reads_next, alone);
-    print_used("dovecounter_read_reply", read_replies, alone);
+    print_used("dovecounter_read_begin", reads, alone);
+    print_used("dovecounter_next of a reading", reads_next, alone);
+    print_used("dovecounter_reply of a reading", read_replies, alone);
     print_used("dovecounter_identity", identifies, alone);
     print_used("dovecounter_flags", flags_raised, alone);
     print_used("dovecounter_monitors", measures, alone);
     print_used("dovecounter_weights", reads_weights, alone);
-    print_used("dovecounter_wake", wakes, alone);
+    print_used("dovecounter_wake_begin", wakes, alone);
     return 0;
 }

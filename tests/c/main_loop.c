@@ -21,6 +21,7 @@ static struct {
 } module;
 
 static uint32_t apply_delay;
+static struct dovecounter_patience patient = {.pause = 100, .limit = 1000000};
 
 static struct dovecounter_operation asked, asked_before;
 static uint8_t *wanted_bytes;
@@ -40,9 +41,8 @@ void i2c_start(const struct dovecounter_operation *operation, uint8_t bytes[8]) 
     if (operation->device != 0xA0 || operation->count == 0 || operation->count > 8) fail("an operation of no shape");
     bool is_again = operation->offset == asked_before.offset && operation->kind == asked_before.kind &&
                     operation->count == asked_before.count;
-    if (transactions % 4096 != 0 && is_again && clock_now - over_at < PAUSE)
-        fail("an operation was asked for again at once");
-    if (was_refused && transactions % 4096 != 0 && clock_now - over_at < PAUSE) fail("no pause after a refusal");
+    if (is_again && clock_now - over_at < patient.pause) fail("an operation was asked for again at once");
+    if (was_refused && clock_now - over_at < patient.pause) fail("no pause after a refusal");
     asked = *operation;
     wanted_bytes = bytes;
     calls_left = 3;
@@ -111,8 +111,6 @@ static void interrupt(void) {
 static const struct dovecounter_plan pairs = {
     .lanes = 0xFF, .outside = 0xFF, .count = 4, .control = {0x20, 0x20, 0x24, 0x24, 0x28, 0x28, 0x2C, 0x2C}};
 
-static struct dovecounter_durations durations; /* below a pause */
-
 /* Carries the plan out on such a module, for two hours at most, and compares how that ended. */
 static void run(const char *name, uint8_t state, uint32_t delay, unsigned refuse_each, bool lies, enum stage end_wanted,
                 uint8_t fault_wanted, uint32_t status_wanted) {
@@ -125,8 +123,8 @@ static void run(const char *name, uint8_t state, uint32_t delay, unsigned refuse
     was_refused = false;
     memset(&asked_before, 0, sizeof asked_before);
     module.apply_due = clock_now = UINT32_MAX - 5000; /* it starts anew on the way */
-    if (!carry_out(&pairs, &durations)) fail("a plan was not begun");
-    if (carry_out(&pairs, &durations)) fail("a plan was begun during another one");
+    if (!carry_out(&pairs, &patient)) fail("a plan was not begun");
+    if (carry_out(&pairs, &patient)) fail("a plan was begun during another one");
     enum stage found = stage;
     for (uint32_t passed = 0; passed < 7200000 && (found == PROVISIONING || found == ACTIVATING); passed++) {
         clock_now++;
@@ -148,14 +146,16 @@ int main(void) {
     run("a module that takes a minute", 3 << 1, 60000, 5, false, UP, 0, 0);
     run("a module that takes longer than one procedure lasts", 3 << 1, 600000, 0, false, UP, 0, 0);
     if (transactions < 2 * 4096) fail("no procedure was begun again");
-    durations.path_init = 1200000;
-    run("the same, which advertises it", 3 << 1, 600000, 0, false, UP, 0, 0);
+    patient.pause = 600;
+    run("the same, with longer pauses", 3 << 1, 600000, 0, false, UP, 0, 0);
     if (transactions >= 4096) fail("a procedure was begun again, or pauses were short");
-    if (module_pause != 600) fail("another pause than the durations ask for");
-    durations.path_init = DOVECOUNTER_UNBOUNDED;
-    run("a module that says no bound", 3 << 1, 0, 0, false, UP, 0, 0);
-    if (module_pause != LONGEST_PAUSE) fail("another pause than the longest");
-    durations.path_init = 0;
+    patient.limit = 1000;
+    run("the same, with a limit below", 3 << 1, 600000, 0, false, FAILED, 8, 0);
+    if (transactions >= 100) fail("it went on beyond the limit");
+    patient.pause = 100;
+    run("a bus that refuses all, with a limit", 3 << 1, 0, 1, false, FAILED, 8, 0);
+    if (transactions != MOST_BEGINNINGS * 12) fail("a procedure was begun too often");
+    patient.limit = UINT32_MAX;
     run("a bus that refuses all", 3 << 1, 0, 1, false, FAILED, 4, 0);
     if (transactions != MOST_BEGINNINGS * 4096) fail("a procedure was begun too often");
     run("a module of low power", 1 << 1, 0, 0, false, FAILED, 6, 0);

@@ -61,56 +61,75 @@ static bool is_of_module(const struct dovecounter_half *half) {
     return memcmp(shown.bytes, module.lower[half->device == 0xA2], 128) == 0;
 }
 
-/* Of 256 operations so many are refused. */
-static unsigned read_module(uint8_t most, int refusals, struct dovecounter_reading *reading) {
-    unsigned operations = 0;
-    uint8_t bytes[128], outcome = DOVECOUNTER_STORED;
-    struct dovecounter_operation operation;
-    expect("begun", DOVECOUNTER_DONE, dovecounter_read(most, reading));
-    uint32_t status;
-    while ((status = dovecounter_read_next(reading, &operation)) == DOVECOUNTER_DONE && operations < 10000) {
-        unsigned piece = most < 128 ? most / 8 * 8 : 128;
-        expect("no more bytes than the bus carries", 1, operation.count <= piece);
-        expect("a pause after a refusal", outcome == DOVECOUNTER_REFUSED, operation.wait);
-        outcome = rand() / 8 % 256 < refusals ? DOVECOUNTER_REFUSED : carry_out(&operation, bytes);
-        operations++;
-        expect("taken", DOVECOUNTER_DONE,
-               dovecounter_read_reply(reading, outcome, bytes, outcome == DOVECOUNTER_FETCHED ? operation.count : 0));
-    }
-    expect(module.name, refusals < 256 ? DOVECOUNTER_ENDED : DOVECOUNTER_GAVE_UP, status);
-    expect("halves", refusals < 256 ? module.wanted_halves : 0, reading->count);
-    for (int i = 0; i < reading->count; i++) expect("a half of the module", 1, is_of_module(&reading->halves[i]));
-    return operations;
+static struct dovecounter_conversation reading;
+static struct dovecounter_half halves[DOVECOUNTER_MOST_READ];
+static const struct dovecounter_patience patience = {.pause = 9, .limit = DOVECOUNTER_UNBOUNDED};
+
+static struct {
+    unsigned operations, piece;
+    int refusals; /* of 256 operations */
+    bool was_refused;
+} bus;
+
+static uint8_t transact(void *context, const struct dovecounter_operation *operation, uint8_t bytes[128]) {
+    expect("the context", 1, context == &bus);
+    expect("no more bytes than the bus carries", 1, operation->count <= bus.piece);
+    expect("no milliseconds", 0, operation->milliseconds);
+    expect("a pause after a refusal", 0, bus.was_refused);
+    bus.was_refused = rand() / 8 % 256 < bus.refusals;
+    bus.operations++;
+    return bus.was_refused ? DOVECOUNTER_REFUSED : carry_out(operation, bytes);
+}
+
+static void pause(void *context, uint32_t milliseconds) {
+    expect("the context of a pause", 1, context == &bus);
+    expect("the milliseconds", 9, milliseconds);
+    bus.was_refused = false;
+}
+
+/* Answers how many operations it took. */
+static unsigned read_module(uint8_t most, int refusals) {
+    struct dovecounter_ending ending;
+    bus.operations = 0;
+    bus.piece = most < 128 ? most / 8 * 8 : 128;
+    bus.refusals = refusals;
+    bus.was_refused = false;
+    expect("begun", DOVECOUNTER_DONE, dovecounter_read_begin(most, &patience, &reading));
+    expect("a run", DOVECOUNTER_DONE, dovecounter_run(&reading, halves, transact, pause, &bus));
+    expect("an end", DOVECOUNTER_DONE, dovecounter_end(&reading, halves, &ending));
+    expect(module.name, refusals < 256 ? 0 : 4, ending.fault.code);
+    expect("steps", refusals < 256 ? bus.operations : 0, ending.steps);
+    expect("halves", refusals < 256 ? module.wanted_halves : 0, reading.halves);
+    for (int i = 0; i < reading.halves; i++) expect("a half of the module", 1, is_of_module(&halves[i]));
+    return bus.operations;
 }
 
 static void try_module(unsigned wanted_operations) {
     static const uint8_t sizes[] = {128, 255, 127, 64, 60, 32, 31, 24, 16, 8, 15};
-    struct dovecounter_reading reading;
-    expect("operations", wanted_operations, read_module(128, 0, &reading));
+    expect("operations", wanted_operations, read_module(128, 0));
     for (size_t i = 0; i < sizeof sizes; i++)
-        for (int refusals = 0; refusals < 128; refusals += 20) read_module(sizes[i], refusals, &reading);
-    expect("operations of which each was refused", 4096, read_module(8, 256, &reading));
+        for (int refusals = 0; refusals < 128; refusals += 20) read_module(sizes[i], refusals);
+    expect("operations of which each was refused", 4096, read_module(8, 256));
 }
 
 /* What the decoders say of a module that was read, although they don't take it. */
-static void refuse_to_decode(const struct dovecounter_reading *reading) {
+static void refuse_to_decode(void) {
     struct dovecounter_identity identity;
     struct dovecounter_flags flags;
     struct dovecounter_monitors monitors;
     struct dovecounter_advertisement advertisement;
-    expect("no identity", DOVECOUNTER_UNKNOWN_MODULE, dovecounter_identity(reading->halves, reading->count, &identity));
-    expect("no flags", DOVECOUNTER_UNKNOWN_MODULE, dovecounter_flags(reading->halves, reading->count, &flags));
-    expect("no monitors", DOVECOUNTER_UNKNOWN_MODULE, dovecounter_monitors(reading->halves, reading->count, &monitors));
+    expect("no identity", DOVECOUNTER_UNKNOWN_MODULE, dovecounter_identity(halves, reading.halves, &identity));
+    expect("no flags", DOVECOUNTER_UNKNOWN_MODULE, dovecounter_flags(halves, reading.halves, &flags));
+    expect("no monitors", DOVECOUNTER_UNKNOWN_MODULE, dovecounter_monitors(halves, reading.halves, &monitors));
     expect("no advertisement", DOVECOUNTER_NOT_CMIS,
-           dovecounter_advertisement(reading->halves, reading->count, 0, &advertisement));
+           dovecounter_advertisement(halves, reading.halves, 0, &advertisement));
 }
 
 static void try_modules(void) {
-    struct dovecounter_reading reading;
     make("CMIS", 0x18, 0, 5);
     try_module(13);
-    expect("operations of 32 bytes", 28, read_module(32, 0, &reading));
-    expect("operations of 8 bytes", 88, read_module(8, 0, &reading));
+    expect("operations of 32 bytes", 28, read_module(32, 0));
+    expect("operations of 8 bytes", 88, read_module(8, 0));
     module.has_page[0x02] = false;
     module.wanted_halves = 4;
     try_module(12);
@@ -118,8 +137,8 @@ static void try_modules(void) {
     try_module(2);
     make("SFP-DD with CMIS", 0x1F, 0, 5);
     try_module(13);
-    read_module(128, 0, &reading);
-    refuse_to_decode(&reading);
+    read_module(128, 0);
+    refuse_to_decode();
     make("SFF-8636", 0x11, 0, 3);
     module.selects_by_page = true;
     try_module(7);
@@ -137,40 +156,75 @@ static void try_modules(void) {
 
 /* ---- what is refused ---- */
 
-static void refuse_reply(const char *what, uint32_t wanted, struct dovecounter_reading reading, uint8_t outcome,
+static void refuse_reply(const char *what, uint32_t wanted, struct dovecounter_conversation it, uint8_t outcome,
                          size_t count) {
     static const uint8_t bytes[200];
-    struct dovecounter_reading before = reading;
-    expect(what, wanted, dovecounter_read_reply(&reading, outcome, bytes, count));
-    expect_same("a refused reply changes nothing", &before, &reading, sizeof reading);
+    struct dovecounter_conversation before = it;
+    struct dovecounter_half halves_before[DOVECOUNTER_MOST_READ];
+    memcpy(halves_before, halves, sizeof halves);
+    expect(what, wanted, dovecounter_reply(&it, halves, outcome, bytes, count));
+    expect_same("a refused reply changes nothing", &before, &it, sizeof it);
+    expect_same("and no half", halves_before, halves, sizeof halves);
+}
+
+/* Numbers that no reading has. */
+static void try_other_numbers(void) {
+    struct dovecounter_operation operation;
+    struct dovecounter_ending ending;
+    for (int i = 0; i < 12; i++) {
+        struct dovecounter_conversation other = reading;
+        if (i == 0) other.saved.steps = 4097;
+        if (i == 1) other.saved.met = 6;
+        if (i == 2) other.saved.steps = 4; /* for five halves */
+        if (i == 3) other.saved.met = 4;   /* of which five were read */
+        if (i == 4) other.piece = 0;
+        if (i == 5) other.read = 128;
+        if (i == 6) other.saved.due = 2;
+        if (i == 7) other.doubts = 2;
+        if (i == 8) other.taken = 2;
+        if (i == 9) other.taken_page = 1;
+        if (i == 10) other.saved.selection = 1; /* and a page */
+        if (i == 11) other.saved.selection = 3;
+        expect("no operation", DOVECOUNTER_NO_CONVERSATION, dovecounter_next(&other, halves, &operation));
+        expect("no end", DOVECOUNTER_NO_CONVERSATION, dovecounter_end(&other, halves, &ending));
+        refuse_reply("no reply", DOVECOUNTER_NO_CONVERSATION, other, DOVECOUNTER_REFUSED, 0);
+    }
+    halves[0].device = 0xA1;
+    expect("a half without a place", DOVECOUNTER_NO_CONVERSATION, dovecounter_next(&reading, halves, &operation));
+    halves[0].device = 0xA0;
 }
 
 static void try_refusals(void) {
     static const uint8_t none[1];
-    struct dovecounter_reading reading, other;
+    struct dovecounter_conversation other;
     struct dovecounter_operation operation;
+    struct dovecounter_ending ending;
     make("refusals", 0x18, 0, 5);
     memset(&reading, 0, sizeof reading);
-    expect("zeros", DOVECOUNTER_NO_PROCEDURE, dovecounter_read_next(&reading, &operation));
-    refuse_reply("zeros take no reply", DOVECOUNTER_NO_PROCEDURE, reading, DOVECOUNTER_REFUSED, 0);
-    expect("seven bytes at once", DOVECOUNTER_TOO_FEW_BYTES, dovecounter_read(7, &reading));
-    expect("nothing is written", DOVECOUNTER_NO_PROCEDURE, dovecounter_read_next(&reading, &operation));
-    expect("eight bytes at once", DOVECOUNTER_DONE, dovecounter_read(8, &reading));
+    expect("zeros", DOVECOUNTER_NO_CONVERSATION, dovecounter_next(&reading, halves, &operation));
+    refuse_reply("zeros take no reply", DOVECOUNTER_NO_CONVERSATION, reading, DOVECOUNTER_REFUSED, 0);
+    expect("seven bytes at once", DOVECOUNTER_TOO_FEW_BYTES, dovecounter_read_begin(7, &patience, &reading));
+    expect("nothing is written", DOVECOUNTER_NO_CONVERSATION, dovecounter_next(&reading, halves, &operation));
+    expect("eight bytes at once", DOVECOUNTER_DONE, dovecounter_read_begin(8, &patience, &reading));
+    expect("no end yet", DOVECOUNTER_NOT_ENDED, dovecounter_end(&reading, halves, &ending));
     refuse_reply("a fetch is not stored", DOVECOUNTER_NO_REPLY, reading, DOVECOUNTER_STORED, 0);
+    refuse_reply("a fetch is no wait", DOVECOUNTER_NO_REPLY, reading, DOVECOUNTER_WAITED, 0);
     refuse_reply("seven bytes are not eight", DOVECOUNTER_NO_REPLY, reading, DOVECOUNTER_FETCHED, 7);
     refuse_reply("200 bytes are not eight", DOVECOUNTER_NO_REPLY, reading, DOVECOUNTER_FETCHED, 200);
-    refuse_reply("no such outcome", DOVECOUNTER_NO_REPLY, reading, 3, 8);
-    read_module(128, 0, &reading);
+    refuse_reply("no such outcome", DOVECOUNTER_NO_REPLY, reading, 4, 8);
+    expect("refused", DOVECOUNTER_DONE, dovecounter_reply(&reading, halves, DOVECOUNTER_REFUSED, none, 0));
+    refuse_reply("a wait is no refusal", DOVECOUNTER_NO_REPLY, reading, DOVECOUNTER_REFUSED, 0);
+    read_module(128, 0);
     refuse_reply("nothing after the end", DOVECOUNTER_ENDED, reading, DOVECOUNTER_REFUSED, 0);
+    try_other_numbers();
     for (size_t place = 0; place < sizeof reading; place++)
         for (int byte = 0; byte < 256; byte += 5) {
             other = reading;
             memset((unsigned char *)&other + place, byte, 1);
-            uint32_t status = dovecounter_read_next(&other, &operation);
+            uint32_t status = dovecounter_next(&other, halves, &operation);
             expect("a known status", 1,
-                   status == DOVECOUNTER_DONE || status == DOVECOUNTER_ENDED || status == DOVECOUNTER_NO_PROCEDURE ||
-                       status == DOVECOUNTER_GAVE_UP);
-            if (status == DOVECOUNTER_DONE) dovecounter_read_reply(&other, DOVECOUNTER_REFUSED, none, 0);
+                   status == DOVECOUNTER_DONE || status == DOVECOUNTER_ENDED || status == DOVECOUNTER_NO_CONVERSATION);
+            if (status == DOVECOUNTER_DONE) dovecounter_reply(&other, halves, DOVECOUNTER_REFUSED, none, 0);
         }
 }
 

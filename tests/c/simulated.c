@@ -8,6 +8,7 @@ enum { LOWER, PAGE_00, PAGE_01, PAGE_10, PAGE_11, HALVES, TOO_MANY = 17 };
 
 static struct dovecounter_half halves[TOO_MANY];
 static const struct dovecounter_delays delays = {4, 4, 4, 4, 4, 4, 4};
+static const struct dovecounter_patience patience = {.pause = 7, .limit = 7000};
 
 static void make_halves(void) {
     static const uint8_t pages[HALVES] = {0, 0x00, 0x01, 0x10, 0x11};
@@ -108,6 +109,18 @@ static void try_other_numbers(const struct dovecounter_module *module) {
                     code <= 7 || (12 <= code && code <= 15) ? DOVECOUNTER_DONE : DOVECOUNTER_NO_MODULE);
         other.lanes[0].custom = 1;
         try_numbers("a status that is none of the standard's", other, DOVECOUNTER_DONE);
+        other.lanes[0].custom = (uint8_t)(2 + code % 254);
+        try_numbers("a status of no kind", other, DOVECOUNTER_NO_MODULE);
+        other = *module;
+        other.pin = (uint8_t)code;
+        try_numbers("a pin", other, code <= 1 ? DOVECOUNTER_DONE : DOVECOUNTER_NO_MODULE);
+        other = *module;
+        other.lanes[3].kept = (uint8_t)code;
+        try_numbers("a byte that is not kept", other, code == 0 ? DOVECOUNTER_DONE : DOVECOUNTER_NO_MODULE);
+        other.lanes[3].keeps = 1;
+        try_numbers("a kept byte", other, DOVECOUNTER_DONE);
+        other.lanes[3].keeps = (uint8_t)(2 + code % 254);
+        try_numbers("a byte that is neither", other, DOVECOUNTER_NO_MODULE);
     }
 }
 
@@ -141,17 +154,21 @@ static uint8_t transact(struct dovecounter_module *module, const struct dovecoun
     return outcome;
 }
 
-static void carry_out(struct dovecounter_module *module, struct dovecounter_procedure procedure) {
-    struct dovecounter_operation operation;
-    struct dovecounter_answer answer;
-    uint8_t bytes[8];
-    while (dovecounter_next(&procedure, &operation) == DOVECOUNTER_DONE) {
-        uint8_t outcome = transact(module, &operation, bytes);
-        size_t count = outcome == DOVECOUNTER_FETCHED ? operation.count : 0;
-        expect("a reply", DOVECOUNTER_DONE, dovecounter_reply(&procedure, outcome, bytes, count));
-    }
-    expect("an answer", DOVECOUNTER_DONE, dovecounter_answer(&procedure, &answer));
-    expect("a success", 0, answer.fault.code);
+static uint8_t transact_with(void *module, const struct dovecounter_operation *operation, uint8_t bytes[128]) {
+    return transact(module, operation, bytes);
+}
+
+static void pause(void *module, uint32_t milliseconds) {
+    expect("a pause", patience.pause, milliseconds);
+    expect("a tick", DOVECOUNTER_DONE, dovecounter_module_tick(module));
+}
+
+static void carry_out(struct dovecounter_module *module, struct dovecounter_conversation procedure) {
+    static struct dovecounter_half none[DOVECOUNTER_MOST_READ];
+    struct dovecounter_ending ending;
+    expect("a run", DOVECOUNTER_DONE, dovecounter_run(&procedure, none, transact_with, pause, module));
+    expect("an end", DOVECOUNTER_DONE, dovecounter_end(&procedure, none, &ending));
+    expect("a success", 0, ending.fault.code);
 }
 
 static void expect_paths(const char *what, const struct dovecounter_module *module, uint8_t code) {
@@ -159,14 +176,14 @@ static void expect_paths(const char *what, const struct dovecounter_module *modu
 }
 
 static void try_run(struct dovecounter_module module, const struct dovecounter_plan *plan) {
-    struct dovecounter_procedure procedure;
+    struct dovecounter_conversation procedure;
     uint8_t active[8];
-    dovecounter_provision(plan->control, plan->outside, &procedure);
+    dovecounter_provision_begin(plan->control, plan->outside, &patience, &procedure);
     carry_out(&module, procedure);
     expect("the active bytes are asked for", DOVECOUNTER_DONE, dovecounter_module_active(&module, active));
     expect_same("the plan is active", plan->control, active, 8);
     expect_paths("provisioned lanes are DPDeactivated", &module, 1);
-    dovecounter_activate(plan->control, plan->lanes, &procedure);
+    dovecounter_activate_begin(plan->control, plan->lanes, &patience, &procedure);
     carry_out(&module, procedure);
     expect_paths("activated lanes are DPActivated", &module, 4);
     module.control = 0x40; /* LowPwrAllowRequestHW */
@@ -183,16 +200,16 @@ static void try_run(struct dovecounter_module module, const struct dovecounter_p
 /* Whatever asks for low power, and in whichever state it is, the module wakes up and goes to sleep, with the other bits of its controls
    as they were. */
 static void try_power(struct dovecounter_module module) {
-    struct dovecounter_procedure procedure;
+    struct dovecounter_conversation procedure;
     module.control = (uint8_t)chance(256);
     expect("the pin", DOVECOUNTER_DONE, dovecounter_module_pin(&module, (uint8_t)chance(2)));
     for (unsigned ticks = chance(20); ticks > 0; ticks--) dovecounter_module_tick(&module);
     unsigned others = module.control & 0xA7;
-    dovecounter_wake(&procedure);
+    dovecounter_wake_begin(&patience, &procedure);
     carry_out(&module, procedure);
     expect("awake, it is in ModuleReady", 3, module.state);
     expect("its low power requests are cleared", others, module.control);
-    dovecounter_sleep(&procedure);
+    dovecounter_sleep_begin(&patience, &procedure);
     carry_out(&module, procedure);
     expect("asleep, it is in ModuleLowPwr", 1, module.state);
     expect("software asks for low power", others | 0x10, module.control);

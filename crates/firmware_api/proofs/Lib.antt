@@ -5,8 +5,14 @@ mod ModuleRefusals
 mod ToldJudgements
 mod Padding
 mod HeldModules
-mod ReadingLaws
-mod ReadingTurns
+mod WholeHalfLaws
+mod PauseLaws
+mod RoomLaws
+mod FitLaws
+mod ReadingRoom
+mod AfterLaws
+mod BeginLaws
+mod AboutLaws
 mod RefusalTexts
 mod ShortTexts
 mod DecodersRefuse

@@ -4,12 +4,11 @@ pub mod Advertisements
 pub mod Plans
 pub mod Checks
 pub mod Operations
-pub mod KeptProcedures
-pub mod Waits
-pub mod SavedProcedures
+pub mod KeptConversations
+pub mod SavedConversations
+pub mod Patiences
 pub mod SimulatedModules
-pub mod PieceReadings
-pub mod SavedReadings
+pub mod WholeHalves
 pub mod Durations
 pub mod Texts
 pub mod WrittenCertificates

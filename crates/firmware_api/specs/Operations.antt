@@ -7,7 +7,6 @@ use Rattle.bus_model.specs.declared.operation.Op.{Op}
 use Rattle.bus_model.specs.declared.operation.Op.TheVariants.{Fetch, Store}
 use Rattle.bus_model.specs.declared.operation.Reply.{Reply}
 use Rattle.bus_model.specs.declared.operation.Reply.TheVariants.{Bytes, Done, Refused}
-use Rattle.bus_model.specs.declared.operation.Step.{Step}
 use Rattle.firmware_api.specs.declared.operation.Operation.{Operation}
 
 -- the most bytes of a store
@@ -27,12 +26,15 @@ address_of A2 = 162
 abbrev pub padded : List ℕ → List ℕ
 padded bytes = bytes ++ replicate (most_stored - length bytes) 0
 
--- with the number that says whether it is to be made after a pause
-abbrev pub operation_of : Op → ℕ → Operation
-operation_of (Fetch dev offset count) wait =
-    record { kind = 0; device = address_of dev; offset = offset; count = count; bytes = replicate most_stored 0; wait = wait }
-operation_of (Store dev offset bytes) wait =
-    record { kind = 1; device = address_of dev; offset = offset; count = length bytes.items; bytes = padded bytes.items; wait = wait }
+abbrev pub operation_of : Op → Operation
+operation_of (Fetch dev offset count) =
+    record { milliseconds = 0; kind = 0; device = address_of dev; offset = offset; count = count; bytes = replicate most_stored 0 }
+operation_of (Store dev offset bytes) =
+    record { milliseconds = 0; kind = 1; device = address_of dev; offset = offset; count = length bytes.items; bytes = padded bytes.items }
+
+-- a wait of so many milliseconds
+abbrev pub waiting : ℕ → Operation
+waiting time = record { milliseconds = time; kind = 2; device = 0; offset = 0; count = 0; bytes = replicate most_stored 0 }
 
 -- 0 for a refusal, 1 for a store that was taken, 2 for bytes that were fetched
 abbrev pub reply_of : ℕ → List ℕ → Option Reply
@@ -42,6 +44,6 @@ reply_of number bytes =
     else (if number == 2 then (if nat_le (length bytes) most_fetched then Some (Bytes (record { items = bytes })) else None)
     else None))
 
--- the step with this operation and this reply
-abbrev pub step_with : Op → Reply → Step
-step_with op reply = record { op = op; reply = reply }
+-- so long was waited
+abbrev pub waited : ℕ
+waited = 3

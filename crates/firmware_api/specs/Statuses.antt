@@ -14,7 +14,7 @@ use Rattle.plan_certificate.specs.declared.fault.CertificateFault.TheVariants.{B
 use Rattle.sim_module.specs.declared.fault.SimFault.{SimFault}
 use Rattle.sim_module.specs.declared.fault.SimFault.TheVariants as sim_fault
 use Rattle.firmware_api.specs.declared.status.Refusal.{Refusal}
-use Rattle.firmware_api.specs.declared.status.Refusal.TheVariants.{TooManyHalves, NoPlace, NoText, TooSmall, Advert, Certificate, TooManyKept, KeptNotAdmissible, NoProcedure, Ended, NotEnded, NoReply, GaveUp, TooFewBytes, NoStart, NoModule, NoRange, NotTaken, Module, Sff, Weights}
+use Rattle.firmware_api.specs.declared.status.Refusal.TheVariants.{TooManyHalves, NoPlace, NoText, TooSmall, Advert, Certificate, TooManyKept, KeptNotAdmissible, NoConversation, Ended, NotEnded, NoReply, TooFewBytes, NoStart, NoModule, NoRange, NotTaken, Module, Sff, Weights}
 
 -- of a call that did what it is for
 abbrev pub done : ℕ
@@ -67,11 +67,10 @@ status_of NoText = 3
 status_of TooSmall = 4
 status_of (Advert fault) = advert_status fault
 status_of (Certificate fault) = certificate_status fault
-status_of NoProcedure = 31
+status_of NoConversation = 31
 status_of Ended = 32
 status_of NotEnded = 33
 status_of NoReply = 34
-status_of GaveUp = 35
 status_of TooFewBytes = 36
 status_of TooManyKept = 42
 status_of KeptNotAdmissible = 43

@@ -1,11 +1,12 @@
 //! What C calls: what a module is, measures and warns of, its Applications, a plan of its lanes, the check of a
-//! certificate, the longest that its states last, readings and procedures that are told what the caller's bus answered,
-//! and simulated modules.
+//! certificate, the longest that its states last, conversations with it that are told what the caller's bus answered, and
+//! simulated modules.
 #![tactic(auto)]
 
 mod advertisement;
 mod certificate;
 mod checking;
+mod conversation;
 mod durations;
 mod flags;
 mod half;
@@ -15,10 +16,9 @@ pub mod laws;
 mod measured_values;
 mod monitors;
 mod operation;
+mod patience;
 mod planning;
-mod procedure;
 mod read_module;
-mod reading;
 mod shown_texts;
 mod simulated;
 mod status;

@@ -1,14 +1,16 @@
 ghost use Rattle.std.specs.Prelude.{◌≡◌, ◌≤◌, length};
-ghost use Rattle.firmware_api.specs.Operations.{address_of, operation_of, reply_of};
+ghost use Rattle.firmware_api.specs.Operations.{address_of, operation_of, reply_of, waiting};
 
 use arrayvec::ArrayVec;
 use bus_model::{Dev, MAX_STORE, Op, Reply};
 
-/// What C does on its bus for a procedure.
+/// What C does for a conversation.
 #[repr(C)]
 #[derive(Clone, Copy)]
 pub struct Operation {
-    /// 0 for a fetch, 1 for a store.
+    /// How long to wait; 0 for a fetch and a store.
+    pub milliseconds: u32,
+    /// 0 for a fetch, 1 for a store, 2 for a wait.
     pub kind: u8,
     /// The device's address on the bus: A0h or A2h.
     pub device: u8,
@@ -18,17 +20,15 @@ pub struct Operation {
     pub count: u8,
     /// The bytes of a store, and zeros after them.
     pub bytes: [u8; MAX_STORE],
-    /// 1 if it is to be made after a pause, else 0.
-    pub wait: u8,
 }
 
 impl Operation {
-    /// Becomes the operation, with the number that says whether it is to be made after a pause.
-    pub fn put(&mut self, op: &Op, wait: u8)
-        ensures { self.new ≡ operation_of op.now wait }
+    /// Becomes the operation.
+    pub fn put(&mut self, op: &Op)
+        ensures { self.new ≡ operation_of op.now }
     {
+        self.milliseconds = 0;
         self.bytes = [0; MAX_STORE];
-        self.wait = wait;
         match op {
             Op::Fetch { dev, offset, count } => {
                 self.kind = 0;
@@ -44,6 +44,20 @@ impl Operation {
                 self.bytes[..bytes.len()].copy_from_slice(bytes);
             }
         }
+    }
+
+    /// Becomes a wait of so many milliseconds.
+    pub fn put_wait(&mut self, milliseconds: u32)
+        ensures { self.new ≡ waiting milliseconds }
+    {
+        *self = Operation {
+            milliseconds,
+            kind: 2,
+            device: 0,
+            offset: 0,
+            count: 0,
+            bytes: [0; MAX_STORE],
+        };
     }
 }
 

@@ -19,15 +19,13 @@ pub const NO_TEXT: u32 = 3;
 
 pub const TOO_SMALL: u32 = 4;
 
-pub const NO_PROCEDURE: u32 = 31;
+pub const NO_CONVERSATION: u32 = 31;
 
 pub const ENDED: u32 = 32;
 
 pub const NOT_ENDED: u32 = 33;
 
 pub const NO_REPLY: u32 = 34;
-
-pub const GAVE_UP: u32 = 35;
 
 pub const TOO_FEW_BYTES: u32 = 36;
 
@@ -62,16 +60,14 @@ pub enum Refusal {
     TooManyKept,
     /// A kept path isn't allowed, or shares a lane with an earlier one.
     KeptNotAdmissible,
-    /// The numbers are not those of a procedure.
-    NoProcedure,
-    /// The procedure has ended.
+    /// The numbers are not those of a conversation.
+    NoConversation,
+    /// The conversation has ended.
     Ended,
-    /// The procedure has not ended.
+    /// The conversation has not ended.
     NotEnded,
     /// The operation that is to be made has no such reply.
     NoReply,
-    /// All operations that may be made were told, and not all was read.
-    GaveUp,
     /// The bus fetches too few bytes at once.
     TooFewBytes,
     /// The halves and the delays make no simulated module.
@@ -103,11 +99,10 @@ impl Refusal {
             Refusal::TooSmall => TOO_SMALL,
             Refusal::Advert(fault) => advert_status(fault),
             Refusal::Certificate(fault) => certificate_status(fault),
-            Refusal::NoProcedure => NO_PROCEDURE,
+            Refusal::NoConversation => NO_CONVERSATION,
             Refusal::Ended => ENDED,
             Refusal::NotEnded => NOT_ENDED,
             Refusal::NoReply => NO_REPLY,
-            Refusal::GaveUp => GAVE_UP,
             Refusal::TooFewBytes => TOO_FEW_BYTES,
             Refusal::TooManyKept => TOO_MANY_KEPT,
             Refusal::KeptNotAdmissible => KEPT_NOT_ADMISSIBLE,

@@ -1,0 +1,209 @@
+-- The conversations that C keeps: procedures of tasks, changes of power, and readings. What each wants, what a reply or a pause makes
+-- of it, which events it was told, and how it ends. (docs/firmware.md, "Conversations"; this project's own)
+use Rattle.std.specs.Prelude.{◌≡◌, ◌≤◌, ◌+◌, ℕ, length, [], false, true, Bool, Option, Some, None}
+use Rattle.std.specs.Option.{option_map}
+use Rattle.bus_model.specs.declared.operation.Reply.{Reply}
+use Rattle.conversations.specs.declared.in_pieces.InPieces.{InPieces}
+use Rattle.conversations.specs.declared.next.Next.{Next}
+use Rattle.conversations.specs.declared.next.Next.TheVariants.{Do, Wait, End}
+use Rattle.conversations.specs.declared.on_page.OnPage.{OnPage}
+use Rattle.conversations.specs.declared.pausing.Patience.{Patience}
+use Rattle.conversations.specs.declared.pausing.Pausing.{Pausing}
+use Rattle.conversations.specs.declared.pausing.Timed.{Timed}
+use Rattle.conversations.specs.declared.pausing.Timed.TheVariants.{InTime, Overdue}
+use Rattle.conversations.specs.declared.within.Spent.{Spent}
+use Rattle.conversations.specs.declared.within.Within.{Within}
+use Rattle.conversations.specs.Budgets.{HasSpent, next_within}
+use Rattle.conversations.specs.Events.{Events, steps_of}
+use Rattle.conversations.specs.Pauses.{EndsPausing, GoesOnPausing, WithPauses, after_pausing, counted, next_pausing}
+use Rattle.conversations.specs.Pieces.{InHalves, InHalvesSoFar, IsInPieces, after_piece, next_piece}
+use Rattle.conversations.specs.Selecting.{Knows, WithSelections, chosen, next_on, on_after, trusted}
+use Rattle.conversations.specs.Wanted.{op_of}
+use Rattle.paged_memory.specs.declared.page_addressing.PageAddressing.TheVariants.{BankAndPage}
+use Rattle.control_sets.specs.declared.fault.ProvisionFault.{ProvisionFault}
+use Rattle.control_sets.specs.declared.procedures.power.Power.{Power}
+use Rattle.control_sets.specs.declared.procedures.power.PowerChange.{PowerChange}
+use Rattle.control_sets.specs.declared.procedures.procedure.TaskList.{TaskList}
+use Rattle.control_sets.specs.declared.procedures.procedure.Work.{Work}
+use Rattle.control_sets.specs.PowerProgress.{GoesOnAt, HasComeTo, IsEndedIn, change_after, power_wants}
+use Rattle.control_sets.specs.Progress as tasks
+use Rattle.module_reading.specs.declared.halves.Halves.{Halves}
+use Rattle.module_reading.specs.ImageReading as reading
+use Rattle.firmware_api.specs.declared.kept.Kept.{Kept}
+use Rattle.firmware_api.specs.declared.kept.Kept.TheVariants.{OfTasks, OfPower, OfReading}
+
+-- ---- any conversation with pauses, of so many operations at most
+
+abbrev pub Patient : Type 0 → Type 0
+Patient C = Within (Pausing C)
+
+abbrev pub wants_patiently : {C E : Type 0} → (C → Next E) → Patient C → Next (Spent (Timed E))
+wants_patiently wants it =
+    let pausing = it.conversation in
+    next_within it.steps it.limit (next_pausing pausing.due pausing.idle pausing.patience (wants pausing.conversation))
+
+abbrev pub after_patiently : {C E : Type 0} → (C → Next E) → (C → Reply → C) → Patient C → Reply → Patient C
+after_patiently wants after it reply = record { conversation = after_pausing wants after it.conversation reply; steps = it.steps + 1; limit = it.limit }
+
+-- the pause that was due is over
+abbrev pub paused : {C : Type 0} → Patient C → Patient C
+paused it =
+    let pausing = it.conversation in
+    record {
+      conversation = record { conversation = pausing.conversation; patience = pausing.patience; due = false; idle = counted (pausing.idle + pausing.patience.pause) };
+      steps = it.steps;
+      limit = it.limit;
+    }
+
+-- it was told these events, the newest first
+abbrev pub ToldPatiently : {C E : Type 0} → (C → Next E) → (Events → C → Type 0) → Events → Patient C → Type 0
+ToldPatiently wants told events it =
+    let pausing = it.conversation in
+    WithPauses pausing.patience (λ own. told own pausing.conversation) (op_of (wants pausing.conversation)) pausing.due pausing.idle events
+    × (length (steps_of events) ≡ it.steps) × (it.steps ≤ it.limit)
+
+-- it ended so after these events: as it may, out of patience, or after as many operations as may be
+abbrev pub EndsPatiently : {C E : Type 0} → (Events → Type 0) → (Events → E → Type 0) → Patient C → Events → Spent (Timed E) → Type 0
+EndsPatiently goes_on ends it events spent =
+    HasSpent it.limit (GoesOnPausing it.conversation.patience goes_on) (EndsPausing it.conversation.patience goes_on ends) events spent
+
+-- ---- tasks on confirmed pages
+
+abbrev pub OnTasks : Type 0
+OnTasks = OnPage TaskList
+
+abbrev pub tasks_want : OnTasks → Next (Option ProvisionFault)
+tasks_want on = next_on BankAndPage on.selection (tasks.page_by (tasks.hand on.conversation)) (tasks.wants on.conversation)
+
+abbrev pub tasks_after : OnTasks → Reply → OnTasks
+tasks_after on reply = on_after tasks.after_reply (λ list number. list) false BankAndPage (tasks.page_by (tasks.hand on.conversation)) on reply
+
+-- the tasks' own events, with selections added
+abbrev pub OfTheTasks : OnTasks → (Events → Type 0) → Events → Type 0
+OfTheTasks on P events =
+    WithSelections on.doubts false (λ own. Some BankAndPage) (λ own. tasks.needed_after (tasks.tasks_of on.conversation.work) (steps_of own)) P events
+
+abbrev pub tasks_told : Events → OnTasks → Type 0
+tasks_told events on =
+    Knows false (Some BankAndPage) on.selection on.taken (trusted on.doubts (steps_of events))
+    × OfTheTasks on (λ own. tasks.IsTold (steps_of own) on.conversation) events
+
+-- ---- a change of power
+
+abbrev pub power_told : Events → PowerChange → Type 0
+power_told events change = HasComeTo change.power change.stage change.fault (steps_of events)
+
+-- ---- halves on confirmed pages, in pieces
+
+abbrev pub OnHalves : Type 0
+OnHalves = OnPage Halves
+
+abbrev pub InHand : Type 0
+InHand = InPieces OnHalves
+
+abbrev pub needed : Halves → Option ℕ
+needed halves = reading.page_by (reading.in_hand halves)
+
+abbrev pub halves_want : OnHalves → Next (Unit {0})
+halves_want on = next_on (chosen (reading.addressing on.conversation)) on.selection (needed on.conversation) (reading.wants on.conversation)
+
+abbrev pub halves_after : OnHalves → Reply → OnHalves
+halves_after on reply =
+    on_after reading.after_reply (λ halves page. reading.after_lack halves) true (chosen (reading.addressing on.conversation)) (needed on.conversation) on reply
+
+abbrev pub OfTheHalves : OnHalves → (Events → Type 0) → Events → Type 0
+OfTheHalves on P events = WithSelections on.doubts true reading.addressed_after reading.needed_after P events
+
+abbrev pub halves_told : OnHalves → Events → Type 0
+halves_told on events =
+    Knows true (reading.addressing on.conversation) on.selection on.taken (trusted on.doubts (steps_of events))
+    × OfTheHalves on (λ own. reading.IsTold own on.conversation) events
+
+abbrev pub pieces_want : InHand → Next (Unit {0})
+pieces_want pieces = next_piece pieces.piece pieces.part.items (halves_want pieces.conversation)
+
+abbrev pub pieces_after : InHand → Reply → InHand
+pieces_after pieces reply = after_piece halves_want halves_after pieces reply
+
+abbrev pub pieces_told : Events → InHand → Type 0
+pieces_told events pieces = IsInPieces (halves_told pieces.conversation) (halves_want pieces.conversation) pieces.piece pieces.part.items events
+
+-- how far the halves of a reading have come
+abbrev pub halves_of : Patient InHand → Halves
+halves_of read = read.conversation.conversation.conversation.conversation
+
+-- ---- each of the three
+
+-- how it ends: a reading that was read whole has no fault
+abbrev pub Ending : Type 0
+Ending = Spent (Timed (Option ProvisionFault))
+
+abbrev pub no_fault : Timed (Unit {0}) → Timed (Option ProvisionFault)
+no_fault (InTime end) = InTime None
+no_fault Overdue = Overdue
+
+abbrev pub read_ending : Spent (Timed (Unit {0})) → Ending
+read_ending spent = record { steps = spent.steps; end = option_map no_fault spent.end }
+
+abbrev pub as_ending : Next (Spent (Timed (Unit {0}))) → Next Ending
+as_ending (Do op) = Do op
+as_ending (Wait time) = Wait time
+as_ending (End spent) = End (read_ending spent)
+
+abbrev pub next_of : Kept → Next Ending
+next_of (OfTasks procedure) = wants_patiently tasks_want procedure
+next_of (OfPower change) = wants_patiently power_wants change
+next_of (OfReading read) = as_ending (wants_patiently pieces_want read)
+
+abbrev pub after : Kept → Reply → Kept
+after (OfTasks procedure) reply = OfTasks (after_patiently tasks_want tasks_after procedure reply)
+after (OfPower change) reply = OfPower (after_patiently power_wants change_after change reply)
+after (OfReading read) reply = OfReading (after_patiently pieces_want pieces_after read reply)
+
+abbrev pub after_pause : Kept → Kept
+after_pause (OfTasks procedure) = OfTasks (paused procedure)
+after_pause (OfPower change) = OfPower (paused change)
+after_pause (OfReading read) = OfReading (paused read)
+
+abbrev pub WasTold : Events → Kept → Type 0
+WasTold events (OfTasks procedure) = ToldPatiently tasks_want tasks_told events procedure
+WasTold events (OfPower change) = ToldPatiently power_wants power_told events change
+WasTold events (OfReading read) = ToldPatiently pieces_want pieces_told events read
+
+abbrev pub TasksEnd : Patient OnTasks → Events → Ending → Type 0
+TasksEnd procedure events ending =
+    let on = procedure.conversation.conversation in
+    let list = tasks.tasks_of on.conversation.work in
+    EndsPatiently (OfTheTasks on (λ own. tasks.GoesOnList list (steps_of own))) (λ events fault. OfTheTasks on (λ own. tasks.EndsList list (steps_of own) fault) events)
+    procedure events ending
+
+abbrev pub PowerEnds : Patient PowerChange → Events → Ending → Type 0
+PowerEnds change events ending =
+    let power = change.conversation.conversation.power in
+    EndsPatiently (λ own. GoesOnAt power (steps_of own)) (λ own fault. IsEndedIn power fault (steps_of own)) change events ending
+
+abbrev pub ReadingEnds : Patient InHand → Events → Spent (Timed (Unit {0})) → Type 0
+ReadingEnds read events spent =
+    let on = read.conversation.conversation.conversation in
+    EndsPatiently (InHalvesSoFar (OfTheHalves on reading.GoesOnHalves)) (λ events end. InHalves (OfTheHalves on reading.EndsHalves) events) read events spent
+
+abbrev pub EndsSo : Kept → Events → Ending → Type 0
+EndsSo (OfTasks procedure) events ending = TasksEnd procedure events ending
+EndsSo (OfPower change) events ending = PowerEnds change events ending
+EndsSo (OfReading read) events ending = (spent : Spent (Timed (Unit {0}))) × (ending ≡ read_ending spent) × ReadingEnds read events spent
+
+-- what it is about, which no reply changes
+pub data Subject : Type 0 where
+  Bringing : Work → Bool → Subject
+  Turning : Power → Subject
+  Fetching : ℕ → Bool → Subject
+
+abbrev pub about : Kept → Subject
+about (OfTasks procedure) = let on = procedure.conversation.conversation in Bringing on.conversation.work on.doubts
+about (OfPower change) = Turning change.conversation.conversation.power
+about (OfReading read) = let pieces = read.conversation.conversation in Fetching pieces.piece pieces.conversation.doubts
+
+abbrev pub patience_of : Kept → Patience
+patience_of (OfTasks procedure) = procedure.conversation.patience
+patience_of (OfPower change) = change.conversation.patience
+patience_of (OfReading read) = read.conversation.patience

@@ -1,0 +1,317 @@
+// A conversation as plain numbers: from a conversation its numbers, and from them the conversation.
+ghost use Rattle.std.specs.Prelude.{◌≡◌, ◌≢◌, ◌≤◌, ◌<◌, ◌∷◌, List, None, Some, length, take, true};
+ghost use Rattle.bus_model.specs.declared.operation.Op.{Op};
+ghost use Rattle.conversations.specs.declared.next.Next.TheVariants.{Do};
+ghost use Rattle.conversations.specs.Events.{Events, made};
+ghost use Rattle.conversations.specs.Wanted.{IsReplyTo};
+ghost use Rattle.control_sets.specs.OutcomeAnswers.{most_steps};
+ghost use Rattle.control_sets.specs.SavedNumbers.{due_numbered, selected_numbered};
+ghost use Rattle.firmware_api.specs.declared.half.HalfBytes.{HalfBytes};
+ghost use Rattle.firmware_api.specs.declared.kept.Kept.TheVariants as kinds;
+ghost use Rattle.firmware_api.specs.KeptConversations.{InHand, Patient, WasTold, after, next_of};
+ghost use Rattle.firmware_api.specs.SavedConversations as spec;
+ghost use Rattle.firmware_api.specs.SavedConversations.{HasInFront, conversation_in, halves_in};
+
+use super::whole_half::half_by;
+use crate::half::{HalfBytes, all_have_places, image_of};
+use crate::kept::{Kept, PieceReading};
+use arrayvec::ArrayVec;
+use bus_model::Reply;
+use control_sets::{
+    MAX_STEPS, PatientPower, PatientProcedure, PowerChange, SavedFault, SavedProcedure, TaskList,
+};
+use conversations::{InPieces, OnPage, Pausing, Within};
+use module_reading::Halves;
+use paged_memory::{KnownPage, PAGE_LEN};
+
+/// What stands in each conversation, so that other memory is not taken for one: `DCC1`.
+const CONVERSATION: u32 = 0x4443_4331;
+
+/// The number of its work; those of procedures are below.
+const WORK_OF_READING: u8 = 5;
+
+/// The most halves that are read of a module.
+pub const MAX_READ: usize = 5;
+
+/// A conversation under way, as C keeps it.
+#[repr(C)]
+#[derive(Clone, Copy)]
+pub struct SavedConversation {
+    pub magic: u32,
+    /// What a procedure is saved as. Of a reading, how many halves were read or left out, the steps, the selection, the page, and how
+    /// patient it is and was.
+    pub saved: SavedProcedure,
+    /// 1 if nothing is known of the page selection after a refusal, else 0.
+    pub doubts: u8,
+    /// 1 if the last selection was accepted and isn't read back, where a page may be lacked; else 0.
+    pub taken: u8,
+    /// The page of that selection, or 0.
+    pub taken_page: u8,
+    /// How many halves were read.
+    pub halves: u8,
+    /// How many bytes a piece has.
+    pub piece: u8,
+    /// How many bytes of the half in hand were read.
+    pub read: u8,
+    /// Those bytes.
+    pub part: [u8; PAGE_LEN],
+}
+
+// ---- from numbers
+
+/// The conversation that has these numbers, if one has, and of which these halves were read.
+#[tactic(auto, unfolding(crate::specs::SavedConversations::conversation_in))]
+pub fn restore(saved: &SavedConversation, halves: &[HalfBytes; MAX_READ]) -> Option<Kept>
+    ensures { result ≡ conversation_in saved.now halves.now }
+{
+    if !is_sound(saved) {
+        return None;
+    }
+    if saved.saved.work == WORK_OF_READING {
+        return reading(saved, halves);
+    }
+    match TaskList::restore(&saved.saved) {
+        Some(procedure) => Some(tasks(saved, procedure)),
+        None => power(saved),
+    }
+}
+
+// The procedure, which doubts or doesn't.
+fn tasks(saved: &SavedConversation, procedure: PatientProcedure) -> Kept
+    ensures { result ≡ spec.tasks_in saved.now procedure }
+{
+    let mut procedure = procedure;
+    procedure.conversation.conversation.doubts = saved.doubts == 1;
+    Kept::OfTasks(procedure)
+}
+
+fn power(saved: &SavedConversation) -> Option<Kept>
+    ensures { result ≡ spec.power_in saved.now }
+{
+    match PowerChange::restore(&saved.saved) {
+        Some(change) => Some(Kept::OfPower(change)),
+        None => None,
+    }
+}
+
+fn reading(saved: &SavedConversation, halves: &[HalfBytes; MAX_READ]) -> Option<Kept>
+    ensures { result ≡ spec.reading_in saved.now halves.now }
+{
+    if !is_reading(saved, halves) {
+        return None;
+    }
+    let on_page = OnPage {
+        conversation: Halves {
+            image: image_of(&halves[..usize::from(saved.halves)]),
+            settled: saved.saved.met,
+        },
+        selection: selected(&saved.saved)?,
+        taken: if saved.taken == 1 {
+            Some(saved.taken_page)
+        } else {
+            None
+        },
+        doubts: saved.doubts == 1,
+    };
+    let pieces = InPieces {
+        conversation: on_page,
+        piece: saved.piece,
+        part: ArrayVec::try_from(&saved.part[..usize::from(saved.read)]).unwrap(),
+    };
+    Some(Kept::OfReading(Within {
+        conversation: Pausing {
+            conversation: pieces,
+            patience: saved.saved.patience(),
+            due: saved.saved.is_due()?,
+            idle: saved.saved.idle,
+        },
+        steps: saved.saved.steps,
+        limit: MAX_STEPS,
+    }))
+}
+
+fn is_sound(saved: &SavedConversation) -> bool
+    ensures { result ≡ spec.is_sound saved.now }
+{
+    saved.magic == CONVERSATION
+        && saved.doubts <= 1
+        && saved.taken <= 1
+        && (saved.taken == 1 || saved.taken_page == 0)
+}
+
+fn is_reading(saved: &SavedConversation, halves: &[HalfBytes; MAX_READ]) -> bool
+    ensures { result ≡ spec.is_reading saved.now halves.now }
+{
+    saved.saved.steps <= MAX_STEPS
+        && saved.saved.met <= MAX_READ
+        && saved.saved.met <= usize::from(saved.saved.steps)
+        && usize::from(saved.halves) <= saved.saved.met
+        && 0 < saved.piece
+        && saved.read < 128
+        && all_have_places(&halves[..usize::from(saved.halves)])
+}
+
+fn selected(saved: &SavedProcedure) -> Option<KnownPage>
+    ensures { result ≡ selected_numbered saved.now.selection saved.now.page }
+{
+    match (saved.selection, saved.page) {
+        (0, 0) => Some(KnownPage::Unknown),
+        (1, 0) => Some(KnownPage::Open),
+        (2, page) => Some(KnownPage::Page(page)),
+        _ => None,
+    }
+}
+
+// ---- to numbers
+
+/// Those of provisioning or activation.
+pub fn put_tasks(procedure: &PatientProcedure, saved: &mut SavedConversation)
+    ensures { (events : Events) (halves : List HalfBytes) → WasTold events (kinds.OfTasks procedure.now) → procedure.now.limit ≡ most_steps →
+        conversation_in saved.new halves ≡ Some (kinds.OfTasks procedure.now) }
+{
+    let doubts = procedure.conversation.conversation.doubts;
+    *saved = procedure_numbers(TaskList::save(procedure), doubts);
+}
+
+/// Those of a change of power.
+pub fn put_power(change: &PatientPower, saved: &mut SavedConversation)
+    ensures { (events : Events) (halves : List HalfBytes) → WasTold events (kinds.OfPower change.now) → change.now.limit ≡ most_steps →
+        conversation_in saved.new halves ≡ Some (kinds.OfPower change.now) }
+{
+    *saved = procedure_numbers(PowerChange::save(change), false);
+}
+
+fn procedure_numbers(saved: SavedProcedure, doubts: bool) -> SavedConversation
+    ensures { result ≡ spec.procedure_numbers saved doubts }
+{
+    SavedConversation {
+        magic: CONVERSATION,
+        saved,
+        doubts: number_of(doubts),
+        taken: 0,
+        taken_page: 0,
+        halves: 0,
+        piece: 0,
+        read: 0,
+        part: [0; PAGE_LEN],
+    }
+}
+
+/// Those of a reading of which so many halves were read.
+pub fn put_reading(read: &PieceReading, count: u8, saved: &mut SavedConversation)
+    requires { spec.HasNumbers read.now count }
+    ensures same { (halves : List HalfBytes) → spec.HasRead read.now (take count halves) → conversation_in saved.new halves ≡ Some (kinds.OfReading read.now) }
+    ensures halves { saved.new.halves ≡ count }
+{
+    let on_page = &read.conversation.conversation.conversation;
+    saved.magic = CONVERSATION;
+    saved.saved = numbers_of_reading(read);
+    saved.doubts = number_of(on_page.doubts);
+    saved.taken = number_of(on_page.taken.is_some());
+    saved.taken_page = on_page.taken.unwrap_or(0);
+    saved.halves = count;
+    saved.piece = read.conversation.conversation.piece;
+    saved.read = read.conversation.conversation.part.len() as u8;
+    put_part(&read.conversation.conversation.part, &mut saved.part);
+}
+
+fn numbers_of_reading(read: &PieceReading) -> SavedProcedure
+    ensures { spec.AreOfReading result read.now }
+{
+    let pausing = &read.conversation;
+    let on_page = &pausing.conversation.conversation;
+    let (selection, page) = numbers_of_selected(on_page.selection);
+    SavedProcedure {
+        met: on_page.conversation.settled,
+        steps: read.steps,
+        work: WORK_OF_READING,
+        lanes: 0,
+        control: [0; 8],
+        selection,
+        page,
+        fault: SavedFault::of(None),
+        due: number_of(pausing.due),
+        idle: pausing.idle,
+        pause: pausing.patience.pause,
+        limit: pausing.patience.limit,
+    }
+}
+
+// With zeros after them.
+fn put_part(part: &ArrayVec<u8, PAGE_LEN>, all: &mut [u8; PAGE_LEN])
+    requires { length part.now.items < 128 }
+    ensures { take (length part.now.items) all.new ≡ part.now.items }
+{
+    *all = [0; PAGE_LEN];
+    all[..part.len()].copy_from_slice(part);
+}
+
+/// The pause that was due is over.
+pub fn put_paused(saved: &mut SavedConversation)
+    ensures { saved.new ≡ spec.paused_numbers saved.old }
+{
+    saved.saved.idle = saved.saved.idle.saturating_add(saved.saved.pause);
+    saved.saved.due = 0;
+}
+
+fn number_of(yes: bool) -> u8
+    ensures { result ≡ spec.number_of yes }
+{
+    if yes { 1 } else { 0 }
+}
+
+fn numbers_of_selected(selected: KnownPage) -> (u8, u8)
+    ensures { selected_numbered result.0 result.1 ≡ Some selected }
+{
+    match selected {
+        KnownPage::Unknown => (0, 0),
+        KnownPage::Open => (1, 0),
+        KnownPage::Page(page) => (2, page),
+    }
+}
+
+// ---- after a reply
+
+/// Those of the conversation after the reply, with a half that the reply makes whole in front of the others.
+pub fn put_after(
+    kept: &mut Kept,
+    reply: &Reply,
+    saved: &mut SavedConversation,
+    halves: &mut [HalfBytes; MAX_READ],
+)
+    requires was { conversation_in saved.old halves.old ≡ Some kept.old }
+    requires reply { IsReplyTo (next_of kept.old) reply.now }
+    ensures same { (events : Events) (op : Op) → next_of kept.old ≡ Do op → WasTold events kept.old →
+        conversation_in saved.new halves.new ≡ Some (after kept.old reply.now) }
+    ensures of_reading { (read : Patient InHand) → kept.old ≡ kinds.OfReading read → conversation_in saved.new halves.new ≡ Some (after kept.old reply.now) }
+    ensures told { (events : Events) (op : Op) → next_of kept.old ≡ Do op → WasTold events kept.old →
+        WasTold (made op reply.now ∷ events) (after kept.old reply.now) }
+    ensures halves { (read : Patient InHand) → kept.old ≡ kinds.OfReading read → HasInFront (halves_in saved.old halves.old) (halves_in saved.new halves.new) }
+{
+    let half = half_by(kept, reply);
+    kept.take(reply);
+    match kept {
+        Kept::OfTasks(procedure) => put_tasks(procedure, saved),
+        Kept::OfPower(change) => put_power(change, saved),
+        Kept::OfReading(read) => {
+            let count = put_half(half, saved.halves, halves);
+            put_reading(read, count, saved);
+        }
+    }
+}
+
+// Puts a new half in front of those that were read; answers how many there are.
+fn put_half(half: Option<HalfBytes>, count: u8, halves: &mut [HalfBytes; MAX_READ]) -> u8
+    requires { half ≢ None → count < 5 }
+    ensures { spec.IsInFront half count halves.old result halves.new }
+{
+    match half {
+        Some(half) => {
+            let mut all = [half; MAX_READ];
+            all[1..].copy_from_slice(&halves[..MAX_READ - 1]);
+            *halves = all;
+            count + 1
+        }
+        None => count,
+    }
+}

@@ -1,0 +1,55 @@
+/* Firmware that may block: reads the module in a cage, plans its lanes, puts the plan into the module, and brings its
+   data paths up. The board has i2c_fetch, i2c_store and sleep_ms; nobody else uses the module meanwhile. */
+#include "dovecounter.h"
+
+#include <stdbool.h>
+
+/* The board's bus, by addresses of 7 bits. They tell whether the module acknowledged all bytes. */
+bool i2c_fetch(uint8_t address, uint8_t offset, uint8_t *bytes, uint8_t count);
+bool i2c_store(uint8_t address, uint8_t offset, const uint8_t *bytes, uint8_t count);
+void sleep_ms(uint32_t milliseconds);
+
+static uint8_t transact(void *context, const struct dovecounter_operation *operation, uint8_t bytes[128]) {
+    (void)context;
+    uint8_t address = operation->device >> 1;
+    if (operation->kind == DOVECOUNTER_FETCH)
+        return i2c_fetch(address, operation->offset, bytes, operation->count) ? DOVECOUNTER_FETCHED
+                                                                              : DOVECOUNTER_REFUSED;
+    return i2c_store(address, operation->offset, operation->bytes, operation->count) ? DOVECOUNTER_STORED
+                                                                                     : DOVECOUNTER_REFUSED;
+}
+
+static void pause(void *context, uint32_t milliseconds) {
+    (void)context;
+    sleep_ms(milliseconds);
+}
+
+/* Carries a conversation out; answers the code of its fault, 0 if it succeeded. */
+static uint8_t carry_out(struct dovecounter_conversation *conversation, struct dovecounter_half halves[]) {
+    struct dovecounter_ending ending;
+    if (dovecounter_run(conversation, halves, transact, pause, NULL) != DOVECOUNTER_DONE ||
+        dovecounter_end(conversation, halves, &ending) != DOVECOUNTER_DONE)
+        return 255; /* not if transact answers as above */
+    return ending.fault.code;
+}
+
+/* Answers 0, or the status that refused, or 1000 and the code of the fault. Four paths of 100GAUI-2 weigh more than one of
+   400GAUI-8. */
+uint32_t plan_and_provision(struct dovecounter_plan *plan) {
+    static const uint32_t weights[256] = {[0x0D] = 101, [0x11] = 400};
+    static const struct dovecounter_path kept[1]; /* the module carries nothing yet, so none is kept */
+    struct dovecounter_patience patience = {.pause = 20, .limit = 2000};
+    static struct dovecounter_half halves[DOVECOUNTER_MOST_READ];
+    struct dovecounter_conversation conversation;
+    dovecounter_read_begin(128, &patience, &conversation);
+    uint8_t fault = carry_out(&conversation, halves);
+    if (fault != 0) return 1000 + fault;
+    uint32_t status = dovecounter_plan(halves, conversation.halves, 1, 0, weights, 0, kept, 0, plan);
+    if (status == DOVECOUNTER_DONE) status = dovecounter_patience(halves, conversation.halves, &patience);
+    if (status != DOVECOUNTER_DONE) return status;
+    dovecounter_provision_begin(plan->control, plan->outside, &patience, &conversation);
+    if ((fault = carry_out(&conversation, halves)) != 0) return 1000 + fault;
+    dovecounter_activate_begin(plan->control, plan->lanes, &patience, &conversation);
+    fault = carry_out(&conversation, halves);
+    return fault == 0 ? DOVECOUNTER_DONE : 1000 + fault;
+}

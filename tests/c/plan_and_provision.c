@@ -1,0 +1,55 @@
+/* Runs examples/plan_and_provision.c on a simulated module whose bus refuses now and then, on one that stays silent, and on one that
+   is no CMIS module. Reads the text of the module's image on standard input. */
+#include "../../examples/plan_and_provision.c"
+
+#include "expect.h"
+#include "image.h"
+
+static const struct dovecounter_delays delays = {4, 4, 4, 4, 4, 4, 4};
+static struct dovecounter_module module;
+static unsigned transactions, refuse_each; /* every so many one is refused; all of them if it is 1 */
+static uint32_t slept;
+
+static bool refuses(void) {
+    expect("a tick", DOVECOUNTER_DONE, dovecounter_module_tick(&module));
+    return refuse_each != 0 && ++transactions % refuse_each == 0;
+}
+
+bool i2c_fetch(uint8_t address, uint8_t offset, uint8_t *bytes, uint8_t count) {
+    return !refuses() && dovecounter_module_fetch(halves, half_count, &module, (uint8_t)(address << 1), offset, bytes,
+                                                  count) == DOVECOUNTER_DONE;
+}
+
+bool i2c_store(uint8_t address, uint8_t offset, const uint8_t *bytes, uint8_t count) {
+    return !refuses() && dovecounter_module_store(halves, half_count, &module, (uint8_t)(address << 1), offset, bytes,
+                                                  count) == DOVECOUNTER_DONE;
+}
+
+void sleep_ms(uint32_t milliseconds) { slept += milliseconds; }
+
+static void begin(unsigned refusals) {
+    refuse_each = refusals;
+    transactions = slept = 0;
+    expect("a module", DOVECOUNTER_DONE, dovecounter_module_begin(halves, half_count, &delays, &module));
+}
+
+int main(void) {
+    struct dovecounter_plan plan;
+    read_halves();
+    for (unsigned refusals = 0; refusals < 9; refusals += refusals == 0 ? 3 : 1) {
+        begin(refusals);
+        expect("planned and provisioned", DOVECOUNTER_DONE, plan_and_provision(&plan));
+        for (int lane = 0; lane < 8; lane++) {
+            expect("the plan is active", plan.control[lane], module.lanes[lane].active);
+            expect("its lanes are up", 4, module.lanes[lane].path);
+        }
+        expect("it slept where it was refused", 1, slept >= 100);
+    }
+    begin(1);
+    expect("a silent module", 1000 + DOVECOUNTER_OVERDUE, plan_and_provision(&plan));
+    expect("it was patient", 1, slept > 2000);
+    halves[0].bytes[0] = 0x11;
+    refuse_each = 0;
+    expect("no CMIS", DOVECOUNTER_NOT_CMIS, plan_and_provision(&plan));
+    return judged("plan_and_provision");
+}
