@@ -12,8 +12,8 @@
 #include <time.h>
 #include <unistd.h>
 
-enum { SILENCE = 1000, LONGEST_PAUSE = 32 }; /* milliseconds */
-enum { SILENT_AFTER = 3 };                   /* transactions, since an adapter may take a second to give one up */
+enum { SILENCE = 1000 };   /* milliseconds */
+enum { SILENT_AFTER = 8 }; /* transactions, since pauses between them may be long */
 
 int64_t now(void) {
     struct timespec time;
@@ -173,7 +173,7 @@ static void log_operation(struct port *port, const struct dovecounter_operation 
     fflush(port->log);
 }
 
-/* Waits, longer and longer, until the module is said to be silent. */
+/* A module that refuses for too long is said to be silent. */
 static void take_refusal(struct port *port, const struct dovecounter_operation *operation, int64_t began, int error) {
     bool too_long = error == EOPNOTSUPP || error == EMSGSIZE || error == EINVAL;
     if (too_long && port->carry == transact_i2c && operation->count > 8) {
@@ -181,7 +181,7 @@ static void take_refusal(struct port *port, const struct dovecounter_operation *
         port->most = operation->count / 2;
     }
     if (port->refused++ == 0) port->refused_at = began;
-    pause_ms(port, port->refused < 5 ? 1 << port->refused : LONGEST_PAUSE);
+    pause_ms(port, 0); /* takes a signal */
     if (port->ending != GOES_ON || port->refused < SILENT_AFTER || now() - port->refused_at <= SILENCE) return;
     clear_progress();
     warnx("%s: the module does not answer: %s", port->name, strerror(error));

@@ -16,9 +16,9 @@ enum status refuse_by(const struct port *port, uint32_t status) {
 
 enum status image(struct port *port) {
     bool whole = read_module(port, true);
-    if (port->reading.count > 0) puts("module-image 1");
-    for (size_t i = port->reading.count; i-- > 0;) { /* the newest is the first */
-        const struct dovecounter_half *half = &port->reading.halves[i];
+    if (port->half_count > 0) puts("module-image 1");
+    for (size_t i = port->half_count; i-- > 0;) { /* the newest is the first */
+        const struct dovecounter_half *half = &port->halves[i];
         if (half->upper)
             printf("upper %02X %02x %02x ", half->device, half->bank, half->page);
         else
@@ -26,7 +26,7 @@ enum status image(struct port *port) {
         for (size_t at = 0; at < 128; at++) printf("%02x", half->bytes[at]);
         putchar('\n');
     }
-    if (port->reading.count > 0) puts("end");
+    if (port->half_count > 0) puts("end");
     return whole ? DONE : REFUSED;
 }
 

@@ -30,7 +30,7 @@ static void print_module_flags(const uint8_t *bytes) {
 /* In the lines and in the order of cmisctl's report `flags`, but no line if none is raised. */
 void print_flags(const struct port *port) {
     struct dovecounter_flags flags;
-    if (dovecounter_flags(port->reading.halves, port->reading.count, &flags) != DOVECOUNTER_DONE) return;
+    if (dovecounter_flags(port->halves, port->half_count, &flags) != DOVECOUNTER_DONE) return;
     print_levels("temperature", &flags.temperature, false);
     print_levels("vcc", &flags.vcc, false);
     print_raised("path-state-changed", "", flags.path_state_changed);

@@ -4,37 +4,109 @@
 #include <err.h>
 #include <unistd.h>
 
-enum { PAUSE = 10, GRACE = 10000, HOUR = 3600000, LOOK = 1000 }; /* milliseconds */
+enum { LOOK = 1000, NO_OUTCOME = 255 }; /* milliseconds; what ends a conversation in the middle */
 
 static const char *const works[] = {"provisioning", "activation", "waking up", "going to sleep"};
 
 /* Shown by the first half that is read, while the second may be silent. */
 bool is_other_family(const struct port *port) {
     struct dovecounter_advertisement module;
-    return dovecounter_advertisement(port->reading.halves, port->reading.count, 0, &module) == DOVECOUNTER_NOT_CMIS;
+    return dovecounter_advertisement(port->halves, port->half_count, 0, &module) == DOVECOUNTER_NOT_CMIS;
+}
+
+/* A conversation that is carried out, and what is to be seen to meanwhile. */
+struct talk {
+    struct port *port;
+    struct dovecounter_conversation conversation;
+    const char *name;       /* that is shown; NULL of a reading */
+    bool of_any_family;     /* a reading goes on whatever the first half shows */
+    bool of_paths;          /* the module has to stay in ModuleReady */
+    unsigned before;        /* operations that were made before it */
+    int64_t waited, looked; /* milliseconds that were waited: in all, and until the state was looked at last */
+};
+
+/* `bytes` are those of a fetch from `offset` on, which is 0 if nothing was fetched. */
+static void show_progress(const struct talk *talk, uint8_t offset, const uint8_t *bytes) {
+    const char *const *names = offset == PATH_STATES ? path_states : offset == CONFIG_STATUSES ? config_statuses : NULL;
+    if (talk->name == NULL || !isatty(STDERR_FILENO)) return;
+    fprintf(stderr, "\r\033[K%s:", talk->name);
+    if (names != NULL) print_codes(stderr, bytes, names);
+    fprintf(stderr, "%s %u of at most 4096 operations\r", names != NULL ? "," : "", talk->port->made - talk->before);
+}
+
+/* Whether the reading has to end, since its first half shows another family. */
+static bool has_enough(const struct talk *talk) {
+    talk->port->half_count = talk->conversation.halves;
+    return talk->name == NULL && !talk->of_any_family && is_other_family(talk->port);
+}
+
+static uint8_t make(void *context, const struct dovecounter_operation *operation, uint8_t bytes[128]) {
+    struct talk *talk = context;
+    uint8_t most = talk->port->most;
+    if (talk->port->ending != GOES_ON || has_enough(talk)) return NO_OUTCOME;
+    uint8_t outcome = transact(talk->port, operation, bytes);
+    show_progress(talk, outcome == DOVECOUNTER_FETCHED ? operation->offset : 0, bytes);
+    return most == talk->port->most ? outcome : NO_OUTCOME;
+}
+
+/* Stops if the module isn't in ModuleReady any more: its data paths then stay down. The procedures look only before they begin. Byte 3
+   is shown whatever page is selected. */
+static void look_at_state(struct port *port) {
+    const struct dovecounter_operation fetch = {
+        .kind = DOVECOUNTER_FETCH, .device = 0xA0, .offset = MODULE_STATE, .count = 1};
+    uint8_t bytes[128];
+    if (transact(port, &fetch, bytes) != DOVECOUNTER_FETCHED || (bytes[0] >> 1 & 7) == READY) return;
+    clear_progress();
+    warnx("%s: the module has left ModuleReady, and is in %s", port->name, module_states[bytes[0] >> 1 & 7]);
+    port->ending = STOPPED;
+}
+
+static void wait_ms(void *context, uint32_t ms) {
+    struct talk *talk = context;
+    if (talk->port->ending != GOES_ON) return;
+    talk->waited += ms;
+    if (talk->of_paths && talk->waited - talk->looked > LOOK) {
+        talk->looked = talk->waited;
+        look_at_state(talk->port);
+    }
+    if (talk->port->ending == GOES_ON) pause_ms(talk->port, ms);
+}
+
+/* Carries a conversation out. Answers the code of its fault, or 0; NO_ANSWER if it was not ended. */
+static unsigned run(struct talk *talk, struct dovecounter_ending *ending) {
+    struct port *port = talk->port;
+    talk->before = port->made;
+    uint32_t status = dovecounter_run(&talk->conversation, port->halves, make, wait_ms, talk);
+    port->half_count = talk->name == NULL ? talk->conversation.halves : port->half_count;
+    clear_progress();
+    if (status != DOVECOUNTER_DONE || dovecounter_end(&talk->conversation, port->halves, ending) != DOVECOUNTER_DONE)
+        return NO_ANSWER;
+    return ending->fault.code;
 }
 
 /* Reads what the library asks for, from the beginning again if the adapter fetches less at once. */
 bool read_module(struct port *port, bool of_any_family) {
-    struct dovecounter_operation operation;
-    uint8_t most = 0, bytes[128];
-    for (port->ending = GOES_ON; port->ending == GOES_ON;) {
-        if (most != port->most) dovecounter_read(most = port->most, &port->reading);
-        if (!of_any_family && is_other_family(port)) return true;
-        uint32_t status = dovecounter_read_next(&port->reading, &operation);
-        if (status == DOVECOUNTER_ENDED) return true;
-        if (status == DOVECOUNTER_GAVE_UP) stop(port, "4096 operations were not enough to read the module");
-        if (status != DOVECOUNTER_DONE) break;
-        uint8_t outcome = transact(port, &operation, bytes);
-        dovecounter_read_reply(&port->reading, outcome, bytes, outcome == DOVECOUNTER_FETCHED ? operation.count : 0);
-    }
+    const struct dovecounter_patience patience = {.pause = 20, .limit = 20000};
+    struct talk talk = {.port = port, .of_any_family = of_any_family};
+    struct dovecounter_ending ending;
+    unsigned fault;
+    uint8_t most;
+    port->ending = GOES_ON;
+    do {
+        dovecounter_read_begin(most = port->most, &patience, &talk.conversation);
+        fault = run(&talk, &ending);
+    } while (port->ending == GOES_ON && most != port->most);
+    if (port->ending != GOES_ON) return false;
+    if (fault == NO_ANSWER || fault == 0) return true; /* another family, or all was read */
+    stop(port, fault == 4 ? "4096 operations were not enough to read the module"
+                          : "the module answers too seldom to be read");
     return false;
 }
 
 /* The bytes of the lower half or of page 11h from this one on; NULL if they were not read. */
 const uint8_t *bytes_at(const struct port *port, uint8_t offset) {
-    for (size_t i = 0; i < port->reading.count; i++) {
-        const struct dovecounter_half *half = &port->reading.halves[i];
+    for (size_t i = 0; i < port->half_count; i++) {
+        const struct dovecounter_half *half = &port->halves[i];
         bool upper = offset >= 128;
         if (half->device == 0xA0 && half->upper == upper && half->page == (upper ? 0x11 : 0))
             return half->bytes + offset % 128;
@@ -52,88 +124,28 @@ unsigned lanes_in(const struct port *port, unsigned path_state) {
     return lanes;
 }
 
-static int64_t bounded(uint32_t ms) { return ms < HOUR ? ms : HOUR; }
-
-/* How long may be waited: as long as the module advertises for all states together that the work may lead through, and some more. */
-static int64_t longest_wait(const struct port *port, enum work work) {
-    struct dovecounter_durations most = {0};
-    dovecounter_durations(port->reading.halves, port->reading.count, &most);
-    int64_t paths = bounded(most.path_deinit) + bounded(most.path_tx_turn_off);
-    if (work == PROVISION || work == ACTIVATE)
-        return GRACE + paths + bounded(most.path_init) + bounded(most.path_tx_turn_on);
-    return GRACE + paths + bounded(most.module_power_up) + bounded(most.module_power_down);
-}
-
-/* `bytes` are those of a fetch from `offset` on, which is 0 if nothing was fetched. */
-static void show_progress(const char *what, unsigned made, uint8_t offset, const uint8_t *bytes) {
-    const char *const *names = offset == PATH_STATES ? path_states : offset == CONFIG_STATUSES ? config_statuses : NULL;
-    if (!isatty(STDERR_FILENO)) return;
-    fprintf(stderr, "\r\033[K%s:", what);
-    if (names != NULL) print_codes(stderr, bytes, names);
-    fprintf(stderr, "%s %u of at most 4096 operations\r", names != NULL ? "," : "", made);
-}
-
-static void begin(const struct port *port, enum work work, struct dovecounter_procedure *procedure) {
+/* Begins the work, as patiently as the module asks for. */
+static void begin(const struct port *port, enum work work, struct dovecounter_conversation *conversation) {
+    struct dovecounter_patience patience = {.pause = 100, .limit = 60000};
+    dovecounter_patience(port->halves, port->half_count, &patience);
     switch (work) {
-    case PROVISION: dovecounter_provision(port->plan.control, lanes_to_take(port), procedure); break;
-    case ACTIVATE: dovecounter_activate(port->plan.control, port->plan.lanes, procedure); break;
-    case WAKE: dovecounter_wake(procedure); break;
-    case SLEEP: dovecounter_sleep(procedure); break;
+    case PROVISION:
+        dovecounter_provision_begin(port->plan.control, lanes_to_take(port), &patience, conversation);
+        break;
+    case ACTIVATE: dovecounter_activate_begin(port->plan.control, port->plan.lanes, &patience, conversation); break;
+    case WAKE: dovecounter_wake_begin(&patience, conversation); break;
+    case SLEEP: dovecounter_sleep_begin(&patience, conversation); break;
     }
-}
-
-/* Stops if the module isn't in ModuleReady any more: its data paths then stay down. The procedures look only before they begin. Byte 3
-   is shown whatever page is selected. */
-static void look_at_state(struct port *port) {
-    const struct dovecounter_operation fetch = {
-        .kind = DOVECOUNTER_FETCH, .device = 0xA0, .offset = MODULE_STATE, .count = 1};
-    uint8_t bytes[128];
-    if (transact(port, &fetch, bytes) != DOVECOUNTER_FETCHED || (bytes[0] >> 1 & 7) == READY) return;
-    clear_progress();
-    warnx("%s: the module has left ModuleReady, and is in %s", port->name, module_states[bytes[0] >> 1 & 7]);
-    port->ending = STOPPED;
-}
-
-struct wait {
-    int64_t began, looked, longest;
-    bool of_paths;
-};
-
-/* Waits before a state is asked for again. */
-static void wait_again(struct port *port, struct wait *wait, bool answered) {
-    int64_t waited = now() - wait->began;
-    if (waited > wait->longest) return stop(port, "the module takes longer than it advertises");
-    if (wait->of_paths && waited - wait->looked > LOOK) {
-        wait->looked = waited;
-        look_at_state(port);
-    }
-    if (answered && port->ending == GOES_ON)
-        pause_ms(port, PAUSE + waited / 100); /* hours take a thousand operations */
 }
 
 /* Carries a procedure out. Says the fault that it ended in, or 0; NO_ANSWER if it was not ended. */
 unsigned carry_out(struct port *port, enum work work) {
-    struct wait wait = {
-        .began = now(), .longest = longest_wait(port, work), .of_paths = work == PROVISION || work == ACTIVATE};
-    struct dovecounter_procedure procedure;
-    struct dovecounter_operation operation;
-    struct dovecounter_answer answer;
-    uint8_t bytes[128], outcome = DOVECOUNTER_REFUSED;
-    unsigned before = port->made;
-    begin(port, work, &procedure);
-    while (port->ending == GOES_ON && dovecounter_next(&procedure, &operation) == DOVECOUNTER_DONE) {
-        if (operation.wait)
-            wait_again(port, &wait, outcome != DOVECOUNTER_REFUSED);
-        else
-            wait.began = now(), wait.looked = 0;
-        if (port->ending != GOES_ON) break;
-        outcome = transact(port, &operation, bytes);
-        dovecounter_reply(&procedure, outcome, bytes, outcome == DOVECOUNTER_FETCHED ? operation.count : 0);
-        show_progress(works[work], port->made - before, outcome == DOVECOUNTER_FETCHED ? operation.offset : 0, bytes);
-    }
-    clear_progress();
-    if (dovecounter_answer(&procedure, &answer) != DOVECOUNTER_DONE) return NO_ANSWER;
-    if (answer.fault.code != 0) say_fault(port->name, answer.fault);
-    port->steps[work] = answer.steps;
-    return answer.fault.code;
+    struct talk talk = {.port = port, .name = works[work], .of_paths = work == PROVISION || work == ACTIVATE};
+    struct dovecounter_ending ending;
+    begin(port, work, &talk.conversation);
+    unsigned fault = run(&talk, &ending);
+    if (fault == NO_ANSWER) return NO_ANSWER;
+    if (fault != 0) say_fault(port->name, ending.fault);
+    port->steps[work] = ending.steps;
+    return fault;
 }

@@ -46,7 +46,8 @@ struct port {
     enum { GOES_ON, STOPPED, SILENT } ending; /* whether no further operation is to be made */
     bool stored;                              /* or tried to, but for page selections */
     unsigned steps[4];                        /* of each work that was done */
-    struct dovecounter_reading reading;
+    struct dovecounter_half halves[DOVECOUNTER_MOST_READ];
+    uint8_t half_count; /* of those, as many as were read */
     struct dovecounter_plan plan;
 };
 
@@ -73,7 +74,7 @@ bool transact_simulated(struct port *port, const struct dovecounter_operation *o
 /* module.c */
 enum { MODULE_STATE = 3, PATH_STATES = 128, CONFIG_STATUSES = 202, ACTIVE = 206 }; /* the last three on page 11h */
 enum { LOW_POWER = 1, READY = 3, POWER_DOWN = 4 };                                 /* states of the module */
-enum { DEACTIVATED = 1, ACTIVATED = 4, NO_ANSWER = 8 };
+enum { DEACTIVATED = 1, ACTIVATED = 4, NO_ANSWER = 255 };
 bool is_other_family(const struct port *port);
 bool read_module(struct port *port, bool of_any_family);
 const uint8_t *bytes_at(const struct port *port, uint8_t offset);

@@ -19,7 +19,7 @@ static enum status change_power(struct port *port, enum work work, unsigned want
     bool whole = read_module(port, false);
     print_flags(port);
     if (!whole) return REFUSED;
-    uint32_t status = dovecounter_advertisement(port->reading.halves, port->reading.count, 0, &module);
+    uint32_t status = dovecounter_advertisement(port->halves, port->half_count, 0, &module);
     if (status == DOVECOUNTER_DONE && bytes_at(port, ACTIVE) == NULL) status = DOVECOUNTER_ENDED;
     if (status != DOVECOUNTER_DONE) return refuse_by(port, status);
     unsigned up = 0xFF & ~lanes_in(port, DEACTIVATED);

@@ -21,7 +21,7 @@ static bool read_lanes(struct port *port) {
 
 static void print_plan(const struct port *port) {
     struct dovecounter_advertisement module;
-    dovecounter_advertisement(port->reading.halves, port->reading.count, port->counts_by_id, &module);
+    dovecounter_advertisement(port->halves, port->half_count, port->counts_by_id, &module);
     printf("weight %llu\n", (unsigned long long)port->plan.weight);
     for (size_t i = 0; i < port->plan.count; i++) {
         const struct dovecounter_path *path = &port->plan.paths[i];
@@ -37,7 +37,7 @@ static bool find_plan(struct port *port) {
     bool whole = read_module(port, false);
     print_flags(port);
     if (!whole) return false;
-    uint32_t status = dovecounter_plan(port->reading.halves, port->reading.count, !port->unpaired, port->counts_by_id,
+    uint32_t status = dovecounter_plan(port->halves, port->half_count, !port->unpaired, port->counts_by_id,
                                        port->weights, 0, port->kept, port->kept_count, &port->plan);
     if (status == DOVECOUNTER_DONE && bytes_at(port, ACTIVE) == NULL) status = DOVECOUNTER_ENDED;
     if (status != DOVECOUNTER_DONE) return refuse_by(port, status), false;
