@@ -46,7 +46,7 @@ def refusing(module, often, seed, watch=lambda: None):
 module = plug("add_800g_dr8.txt")
 bus = refusing(module, often=20, seed=1)
 reading = Reading(most=32)
-reading.run(bus)
+reading.run(bus, pause=lambda _: module.tick())
 image = reading.image
 print("Applications", len(image.applications()), "halves", len(image.halves))
 
@@ -65,7 +65,7 @@ def stay_up():
 
 
 def carry_out(procedure, often):
-    procedure.run(refusing(module, often, seed=2, watch=stay_up), pause=lambda: module.tick(10))
+    procedure.run(refusing(module, often, seed=2, watch=stay_up), pause=lambda _: module.tick(10))
     stay_up()
     return procedure.steps
 

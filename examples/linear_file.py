@@ -62,11 +62,18 @@ class SimulatedDriver:
 text = (pathlib.Path(__file__).parent / "qsfp_dd_400g_dr4.txt").read_text()
 module = SimulatedModule(Image.from_text(text), Delays(init=20, turn_on=20))
 bus = LinearBus(SimulatedDriver(module))
+
+
+def wait(_seconds):
+    """In place of time.sleep, which a real module is given."""
+    module.tick(10)
+
+
 reading = Reading()
-reading.run(bus.transact)
+reading.run(bus.transact, pause=wait)
 best = plan(reading.image, {0x11: 400, 0x0D: 101})
 for procedure in (Provisioning(best), Activation(best)):
-    procedure.run(bus.transact)
+    procedure.run(bus.transact, pause=wait)
     print(type(procedure).__name__, "took", procedure.steps, "operations")
 print("active", module.active.hex(" "))
 print("lane 1", module.path_states[0].name)

@@ -22,6 +22,7 @@ from .procedures import (
     Reading,
     Reply,
     Sleeping,
+    Wait,
     Waking,
 )
 from .reports import (
@@ -37,6 +38,7 @@ from .reports import (
     Levels,
     Limits,
     Monitors,
+    Patience,
     Support,
     Temperature,
     Value,
@@ -71,6 +73,7 @@ __all__ = [
     "Monitors",
     "Operation",
     "PathState",
+    "Patience",
     "Plan",
     "Procedure",
     "Provisioning",
@@ -82,6 +85,7 @@ __all__ = [
     "Temperature",
     "Value",
     "Voltage",
+    "Wait",
     "Waking",
     "check",
     "page",

@@ -25,6 +25,7 @@ from .reports import (
     Flags,
     Inventory,
     Monitors,
+    Patience,
     advertisement_of,
     durations_of,
     flags_of,
@@ -45,6 +46,7 @@ _PAGE_LINE = re.compile(
 )
 
 _advertisement = library.function("advertisement")
+_patience = library.function("patience")
 _durations = library.function("durations")
 _identity = library.function("identity")
 _flags = library.function("flags")
@@ -219,6 +221,12 @@ class Image:
         found = library.Durations()
         self.take(_durations(*self.arguments(), byref(found)))
         return durations_of(found)
+
+    def patience(self) -> Patience:
+        """How long procedures pause for the module. Raises a Fault of AD1 to AD6."""
+        found = library.Patience()
+        self.take(_patience(*self.arguments(), byref(found)))
+        return Patience(found.pause, found.limit)
 
     def inventory(self) -> Inventory:
         """What the module is. Needs the lower half of 0xA0, and its page 00h unless the module is of

@@ -24,8 +24,10 @@ from ctypes import (
 )
 from typing import Any, Callable, Dict, List, Tuple
 
-VERSION = 6  # DOVECOUNTER_VERSION
+VERSION = 7  # DOVECOUNTER_VERSION
 TEXT_SIZE = 256  # DOVECOUNTER_TEXT_SIZE
+UNBOUNDED = 2**32 - 1  # DOVECOUNTER_UNBOUNDED
+MOST_READ = 5  # DOVECOUNTER_MOST_READ
 FILE = f"libdovecounter.so.{VERSION}"
 
 Lanes = c_uint8 * 8
@@ -131,33 +133,34 @@ class Progress(Structure):
         ("control", Lanes),
         *_members(c_uint8, "selection page"),
         ("fault", Fault),
+        ("due", c_uint8),
+        *_members(c_uint32, "idle pause limit"),
     ]
 
 
-class Procedure(Structure):
-    _fields_ = [("magic", c_uint32), ("wait", c_uint8), ("saved", Progress)]
+class Patience(Structure):
+    _fields_ = [*_members(c_uint32, "pause limit"), ("trusts", c_uint8)]
+
+
+class Conversation(Structure):
+    _fields_ = [
+        ("magic", c_uint32),
+        ("saved", Progress),
+        *_members(c_uint8, "doubts taken taken_page halves piece read"),
+        ("part", c_uint8 * 128),
+    ]
 
 
 class Operation(Structure):
     _fields_ = [
+        ("milliseconds", c_uint32),
         *_members(c_uint8, "kind device offset count"),
         ("bytes", c_uint8 * 8),
-        ("wait", c_uint8),
     ]
 
 
-class Answer(Structure):
+class Ending(Structure):
     _fields_ = [("steps", c_uint16), ("fault", Fault)]
-
-
-class Reading(Structure):
-    _fields_ = [
-        ("magic", c_uint32),
-        ("steps", c_uint16),
-        *_members(c_uint8, "settled selection page accepted piece read wait count"),
-        ("halves", Half * 5),
-        ("part", c_uint8 * 128),
-    ]
 
 
 class Delays(Structure):
@@ -186,6 +189,7 @@ _BYTES = (c_char_p, c_size_t)  # that are read
 _BUFFER = (POINTER(c_uint8), c_size_t)  # that is written
 _CONTROL = POINTER(c_uint8)
 _WEIGHTS = POINTER(c_uint32)
+_BEGUN = (POINTER(Patience), POINTER(Conversation))
 _TEXT = (c_uint32, (c_uint32, *_BUFFER, POINTER(c_size_t)))
 
 # What each function answers, and what it takes.
@@ -207,16 +211,15 @@ FUNCTIONS: Dict[str, Tuple[Any, Tuple[Any, ...]]] = {
         (*_HALVES, c_uint8, c_uint8, _WEIGHTS, c_uint32, *_BYTES, POINTER(Judgement)),
     ),
     "weights": (c_uint32, (*_BYTES, _WEIGHTS, POINTER(c_size_t))),
-    "provision": (None, (_CONTROL, c_uint8, POINTER(Procedure))),
-    "activate": (None, (_CONTROL, c_uint8, POINTER(Procedure))),
-    "wake": (None, (POINTER(Procedure),)),
-    "sleep": (None, (POINTER(Procedure),)),
-    "next": (c_uint32, (POINTER(Procedure), POINTER(Operation))),
-    "reply": (c_uint32, (POINTER(Procedure), c_uint8, *_BYTES)),
-    "answer": (c_uint32, (POINTER(Procedure), POINTER(Answer))),
-    "read": (c_uint32, (c_uint8, POINTER(Reading))),
-    "read_next": (c_uint32, (POINTER(Reading), POINTER(Operation))),
-    "read_reply": (c_uint32, (POINTER(Reading), c_uint8, *_BYTES)),
+    "patience": (c_uint32, (*_HALVES, POINTER(Patience))),
+    "provision_begin": (None, (_CONTROL, c_uint8, *_BEGUN)),
+    "activate_begin": (None, (_CONTROL, c_uint8, *_BEGUN)),
+    "wake_begin": (None, _BEGUN),
+    "sleep_begin": (None, _BEGUN),
+    "read_begin": (c_uint32, (c_uint8, *_BEGUN)),
+    "next": (c_uint32, (POINTER(Conversation), POINTER(Half), POINTER(Operation))),
+    "reply": (c_uint32, (POINTER(Conversation), POINTER(Half), c_uint8, *_BYTES)),
+    "end": (c_uint32, (POINTER(Conversation), POINTER(Half), POINTER(Ending))),
     "module_begin": (c_uint32, (*_HALVES, POINTER(Delays), POINTER(Module))),
     "module_fetch": (c_uint32, (*_HALVES, POINTER(Module), c_uint8, c_uint8, *_BUFFER)),
     "module_store": (c_uint32, (*_HALVES, POINTER(Module), c_uint8, c_uint8, *_BYTES)),

@@ -2,6 +2,7 @@
 from __future__ import annotations
 
 import copy
+import time
 from ctypes import byref
 from dataclasses import dataclass
 from typing import Any, Callable, Dict, Optional, TypeVar, Union
@@ -10,19 +11,23 @@ from . import library
 from .faults import Fault, look_at, look_at_bytes, look_at_type
 from .image import HALF, Image, Key
 from .planning import Plan
+from .reports import Patience
 
 Reply = Union[bytes, bool]
 """What came of an operation: the bytes of a fetch, all of them; True if all bytes of a store were
 taken; False if it was refused."""
 
-_DONE, _ENDED, _NO_REPLY, _GAVE_UP = 0, 32, 34, 35
-_REFUSED, _STORED, _FETCHED = 0, 1, 2
+_DONE, _ENDED, _NO_REPLY = 0, 32, 34
+_STORE, _WAIT = 1, 2
+_REFUSED, _STORED, _FETCHED, _WAITED = 0, 1, 2, 3
+_GAVE_UP_WAITING, _OVERDUE = 4, 8
 _VALUES = {1: 2, 4: 0}  # how many a fault PV has, if it isn't one
 
 _Self = TypeVar("_Self", bound="Procedure")
 
-_read = library.function("read")
-_answer = library.function("answer")
+_next = library.function("next")
+_reply = library.function("reply")
+_end = library.function("end")
 
 
 @dataclass(frozen=True)
@@ -37,15 +42,12 @@ class Operation:
     """how many bytes: 1 to 8; for a Reading up to 128"""
     data: Optional[bytes]
     """those to store; None for a fetch"""
-    wait: bool
-    """whether to pause before it, since the operation before was refused, or showed that a state of
-    the module is awaited"""
 
     def __repr__(self) -> str:
         data = None if self.data is None else f"bytes.fromhex('{self.data.hex(' ')}')"
         return (
             f"Operation(device=0x{self.device:02X}, offset=0x{self.offset:02X}, count={self.count},"
-            f" data={data}, wait={self.wait})"
+            f" data={data})"
         )
 
     @property
@@ -59,33 +61,51 @@ class Operation:
         return self.data is not None
 
 
+@dataclass(frozen=True)
+class Wait:
+    """So long nothing is to be done."""
+
+    milliseconds: int
+
+    @property
+    def seconds(self) -> float:
+        """As time.sleep and asyncio.sleep take them."""
+        return self.milliseconds / 1000
+
+
 Transact = Callable[[Operation], Reply]
 
 
 class Procedure:
-    """An iterator of operations. Tell each its reply once before you ask for the next; one that was
-    not told is given again. A refused operation is asked for again, up to 4096 operations in all.
-    Nobody else may use the module meanwhile. It is for one run: after its end it gives no operation,
-    and raises its fault again; to begin again, make another one.
+    """An iterator of operations and waits. Tell of each once before you ask for the next: the reply
+    to an operation, and that a wait is over. One that was not told of is given again. A refused
+    operation is asked for again, up to 4096 operations in all. Nobody else may use the module
+    meanwhile. It is for one run: after its end it gives no operation, and raises its fault again; to
+    begin again, make another one.
 
-        for operation in procedure:
-            procedure.reply(bus(operation))
+        for step in procedure:
+            if isinstance(step, Wait):
+                time.sleep(step.seconds)
+                procedure.waited()
+            else:
+                procedure.reply(bus(step))"""
 
-    Pause before an operation whose `wait` is set, so long that 4096 pauses last twice as long as the
-    longest of `image.durations()`."""
-
-    _next = staticmethod(library.function("next"))
-    _reply = staticmethod(library.function("reply"))
-
-    def __init__(self, saved: Any) -> None:
-        self._saved = saved
+    def __init__(self, patience: Patience) -> None:
+        given = look_at_type("the patience", patience, Patience)
+        self._saved = library.Conversation()
+        self._halves = (library.Half * library.MOST_READ)()
+        self._patience = library.Patience(
+            look_at("the pause", given.pause, library.UNBOUNDED),
+            look_at("the limit", given.limit, library.UNBOUNDED),
+            bool(given.trusts),
+        )
 
     def __repr__(self) -> str:
         return f"<{type(self).__name__} after {self._made()} operations>"
 
     def _made(self) -> int:
         """How many operations were told their replies."""
-        return int(self._saved.steps)
+        return int(self._saved.saved.steps)
 
     def __copy__(self: _Self) -> _Self:
         return copy.deepcopy(self)
@@ -93,17 +113,17 @@ class Procedure:
     def __iter__(self: _Self) -> _Self:
         return self
 
-    def __next__(self) -> Operation:
+    def __next__(self) -> Union[Operation, Wait]:
         found = library.Operation()
-        status = self._next(byref(self._saved), byref(found))
+        status = _next(byref(self._saved), self._halves, byref(found))
         if status == _ENDED:
-            self._end()
+            self._has_ended()
             raise StopIteration
-        if status == _GAVE_UP:
-            raise Fault("RP3")
         _expect_done(status)
-        data = bytes(found.bytes[: found.count]) if found.kind else None
-        return Operation(found.device, found.offset, found.count, data, bool(found.wait))
+        if found.kind == _WAIT:
+            return Wait(found.milliseconds)
+        data = bytes(found.bytes[: found.count]) if found.kind == _STORE else None
+        return Operation(found.device, found.offset, found.count, data)
 
     def reply(self, reply: Reply) -> None:
         """Tells once what came of the operation. Raises ValueError if it can't have this reply,
@@ -114,22 +134,39 @@ class Procedure:
             outcome, data = _FETCHED, bytes(reply)
         else:
             raise TypeError(f"{reply!r} is neither bytes nor True nor False")
-        status = self._reply(byref(self._saved), outcome, data, len(data))
+        self._tell(outcome, data, f"the operation can't have the reply {reply!r}")
+
+    def waited(self) -> None:
+        """Tells once that a wait is over. Raises ValueError if none was asked for."""
+        self._tell(_WAITED, b"", "no wait was asked for")
+
+    def _tell(self, outcome: int, data: bytes, why: str) -> None:
+        status = _reply(byref(self._saved), self._halves, outcome, data, len(data))
         if status == _ENDED:
             raise ValueError("it has ended, and no operation is to be made")
         if status == _NO_REPLY:
-            raise ValueError(f"the operation can't have the reply {reply!r}")
+            raise ValueError(why)
         _expect_done(status)
 
-    def run(self, transact: Transact, pause: Callable[[], None] = lambda: None) -> None:
-        """Makes all operations by `transact`, and calls `pause` before each that is to wait."""
-        for operation in self:
-            if operation.wait:
-                pause()
-            self.reply(transact(operation))
+    def run(self, transact: Transact, pause: Callable[[float], object] = time.sleep) -> None:
+        """Makes all operations by `transact`, and lets so many seconds pass by `pause` where that is
+        asked for."""
+        for step in self:
+            if isinstance(step, Wait):
+                pause(step.seconds)
+                self.waited()
+            else:
+                self.reply(transact(step))
 
-    def _end(self) -> None:
-        pass
+    def _has_ended(self) -> None:
+        ending = library.Ending()
+        _expect_done(_end(byref(self._saved), self._halves, byref(ending)))
+        if ending.fault.code == _OVERDUE:
+            raise TimeoutError(library.text("fault", _OVERDUE))
+        self._end(ending)
+
+    def _end(self, ending: Any) -> None:
+        raise NotImplementedError
 
 
 class _Change(Procedure):
@@ -139,29 +176,28 @@ class _Change(Procedure):
     steps: Optional[int] = None
     """how many operations its success took; None before"""
 
-    def __init__(self) -> None:
-        super().__init__(library.Procedure())
-
-    def _made(self) -> int:
-        return int(self._saved.saved.steps)
-
-    def _end(self) -> None:
-        answer = library.Answer()
-        _expect_done(_answer(byref(self._saved), byref(answer)))
-        fault = answer.fault
+    def _end(self, ending: Any) -> None:
+        fault = ending.fault
         if fault.code:
             raise Fault(
                 f"PV{fault.code}", *[fault.first, fault.second][: _VALUES.get(fault.code, 1)]
             )
-        self.steps = answer.steps
+        self.steps = ending.steps
 
 
 class _OfPlan(_Change):
-    def __init__(self, begin: Callable[..., None], plan: Plan, lanes: int) -> None:
-        super().__init__()
+    def __init__(
+        self, begin: Callable[..., None], plan: Plan, lanes: int, patience: Patience
+    ) -> None:
+        super().__init__(patience)
         self._control = plan.control
         bytes_of_lanes = library.Lanes(*look_at_bytes("the control bytes", plan.control, 8))
-        begin(bytes_of_lanes, look_at("the byte of lanes", lanes, 255), byref(self._saved))
+        begin(
+            bytes_of_lanes,
+            look_at("the byte of lanes", lanes, 255),
+            byref(self._patience),
+            byref(self._saved),
+        )
 
     def __repr__(self) -> str:
         name, control = type(self).__name__, self._control.hex(" ")
@@ -173,10 +209,10 @@ class Provisioning(_OfPlan):
     its other lanes are DPDeactivated until an Activation. Raises a Fault of PV1 to PV7 while it is
     iterated; after PV3, half a second later, and after PV4 make a new one to begin again."""
 
-    _begin = staticmethod(library.function("provision"))
+    _begin = staticmethod(library.function("provision_begin"))
 
-    def __init__(self, plan: Plan) -> None:
-        super().__init__(self._begin, look_at_type("the plan", plan, Plan), plan.outside)
+    def __init__(self, plan: Plan, patience: Patience = Patience()) -> None:
+        super().__init__(self._begin, look_at_type("the plan", plan, Plan), plan.outside, patience)
 
 
 class Activation(_OfPlan):
@@ -184,10 +220,10 @@ class Activation(_OfPlan):
     all other lanes. After a success the plan's lanes are DPActivated. Raises a Fault of PV1 to PV7
     while it is iterated."""
 
-    _begin = staticmethod(library.function("activate"))
+    _begin = staticmethod(library.function("activate_begin"))
 
-    def __init__(self, plan: Plan) -> None:
-        super().__init__(self._begin, look_at_type("the plan", plan, Plan), plan.lanes)
+    def __init__(self, plan: Plan, patience: Patience = Patience()) -> None:
+        super().__init__(self._begin, look_at_type("the plan", plan, Plan), plan.lanes, patience)
 
 
 class Waking(_Change):
@@ -195,37 +231,35 @@ class Waking(_Change):
     it is in ModuleReady, and may draw the most power of its `inventory()`. Raises a Fault while it
     is iterated: PV6 if the module is in ModuleFault, PV4 or PV7."""
 
-    _begin = staticmethod(library.function("wake"))
+    _begin = staticmethod(library.function("wake_begin"))
 
-    def __init__(self) -> None:
-        super().__init__()
-        self._begin(byref(self._saved))
+    def __init__(self, patience: Patience = Patience()) -> None:
+        super().__init__(patience)
+        self._begin(byref(self._patience), byref(self._saved))
 
 
 class Sleeping(_Change):
     """Puts a module to sleep, by its low power request by software. After a success it is in
     ModuleLowPwr, and its data paths are down. Raises a Fault as Waking does."""
 
-    _begin = staticmethod(library.function("sleep"))
+    _begin = staticmethod(library.function("sleep_begin"))
 
-    def __init__(self) -> None:
-        super().__init__()
-        self._begin(byref(self._saved))
+    def __init__(self, patience: Patience = Patience()) -> None:
+        super().__init__(patience)
+        self._begin(byref(self._patience), byref(self._saved))
 
 
 class Reading(Procedure):
     """Reads the halves of a module that reports and plans need (docs/bus.md, "Reading an image").
-    The bus fetches at most `most` bytes at once, 8 to 255. Raises a Fault RP3 while it is iterated
+    The bus fetches at most `most` bytes at once, 8 to 255. Raises a Fault PV4 while it is iterated
     if 4096 operations did not do. A simulated module needs page 10h too, which is not read."""
 
-    _next = staticmethod(library.function("read_next"))
-    _reply = staticmethod(library.function("read_reply"))
+    _begin = staticmethod(library.function("read_begin"))
 
-    def __init__(self, most: int = HALF) -> None:
-        super().__init__(library.Reading())
-        _expect_done(
-            _read(look_at("the number of bytes at once", most, 255, least=8), byref(self._saved))
-        )
+    def __init__(self, most: int = HALF, patience: Patience = Patience(pause=20)) -> None:
+        super().__init__(patience)
+        least = look_at("the number of bytes at once", most, 255, least=8)
+        _expect_done(self._begin(least, byref(self._patience), byref(self._saved)))
         self._image: Optional[Image] = None
 
     @property
@@ -235,9 +269,11 @@ class Reading(Procedure):
             raise ValueError("the reading has not ended")
         return self._image
 
-    def _end(self) -> None:
+    def _end(self, ending: Any) -> None:
+        if ending.fault.code == _GAVE_UP_WAITING:
+            raise Fault("PV4")
         halves: Dict[Key, bytes] = {}
-        for half in self._saved.halves[: self._saved.count]:
+        for half in self._halves[: self._saved.halves]:
             halves[Key(half.device, bool(half.upper), half.bank, half.page)] = bytes(half.bytes)
         self._image = Image(halves)
 

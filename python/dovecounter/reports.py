@@ -55,6 +55,19 @@ class Durations(Report):
     path_tx_turn_off: Optional[int]
 
 
+@dataclass(frozen=True)
+class Patience:
+    """How long a procedure waits, in milliseconds. `image.patience()` has what suits a module."""
+
+    pause: int = 100
+    """after an operation that was refused, or is asked for again, and before the next"""
+    limit: int = library.UNBOUNDED
+    """for how long such pauses may last while nothing else is done; then TimeoutError is raised"""
+    trusts: bool = False
+    """whether the page selection is taken for known after a refusal, as cmisctl does on its module
+    in software; a real module may have reset itself"""
+
+
 class Family(IntEnum):
     """Whose memory map a module has, by the library's number."""
 

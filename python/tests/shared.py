@@ -16,6 +16,7 @@ from dovecounter import (
     Fault,
     Image,
     Operation,
+    Patience,
     Provisioning,
     Reply,
     SimulatedModule,
@@ -121,7 +122,8 @@ def line_of(operation: Operation, reply: Reply) -> str:
 def traced(
     image: Image, weights: Dict[int, int], kept: Sequence[DataPath], script: Script
 ) -> List[str]:
-    """What `cmisctl trace --keep --activate` prints, by the package."""
+    """What `cmisctl trace --keep --activate` prints, by the package. As there, time doesn't pass in a pause, and the selection is
+    taken for known after a refusal."""
     best = plan(image, weights, kept)
     try:
         bus = ScriptedBus(SimulatedModule(image), script)
@@ -130,10 +132,10 @@ def traced(
     ends: List[str] = []
     try:
         for name, procedure in (
-            ("provisioned", Provisioning(best)),
-            ("activated", Activation(best)),
+            ("provisioned", Provisioning(best, Patience(trusts=True))),
+            ("activated", Activation(best, Patience(trusts=True))),
         ):
-            procedure.run(bus.transact)
+            procedure.run(bus.transact, pause=lambda _: None)
             ends.append(f"{name} {procedure.steps}")
         ends.append(f"active {bus.module.active.hex(' ')}")
     except Fault as fault:

@@ -81,7 +81,9 @@ def printed_by_c(built: pathlib.Path, statements: str) -> List[str]:
 
 def is_declared_as(found: Any, argument: str) -> bool:
     """Whether ctypes' type of an argument is that of the header's text."""
-    of_structure = re.fullmatch(r"(?:const )?struct dovecounter_(\w+) \*\w+", argument)
+    of_structure = re.fullmatch(
+        r"(?:const )?struct dovecounter_(\w+) (?:\*\w+|\w+\[\w+\])", argument
+    )
     if of_structure:
         return bool(found == ctypes.POINTER(structure(of_structure.group(1))))
     of_numbers = re.fullmatch(r"(const )?(\w+) (?:\*\w+|\w+\[\w+\])", argument)
@@ -116,20 +118,26 @@ def test_numbers_are_those_of_the_header() -> None:
         (ROOT / "include/dovecounter.h").read_text(),
     )
     assert {int(number): code for number, code in named} == {
-        number: code for number, code in CODES.items() if code != "RP3"
+        number: code for number, code in CODES.items()
     }
-    assert STATUSES["GAVE_UP"] == 35 and CODES[35] == "RP3"
-    assert (STATUSES["DONE"], STATUSES["ENDED"], STATUSES["NO_REPLY"], STATUSES["GAVE_UP"]) == (
+    assert (STATUSES["DONE"], STATUSES["ENDED"], STATUSES["NO_REPLY"]) == (
         procedures._DONE,
         procedures._ENDED,
         procedures._NO_REPLY,
-        procedures._GAVE_UP,
     )
-    assert (STATUSES["REFUSED"], STATUSES["STORED"], STATUSES["FETCHED"]) == (
+    assert (STATUSES["STORE"], STATUSES["WAIT"]) == (procedures._STORE, procedures._WAIT)
+    assert (STATUSES["GAVE_UP_WAITING"], STATUSES["OVERDUE"]) == (
+        procedures._GAVE_UP_WAITING,
+        procedures._OVERDUE,
+    )
+    outcomes = ("REFUSED", "STORED", "FETCHED", "WAITED")
+    assert tuple(STATUSES[name] for name in outcomes) == (
         procedures._REFUSED,
         procedures._STORED,
         procedures._FETCHED,
+        procedures._WAITED,
     )
+    assert f"#define DOVECOUNTER_MOST_READ {library.MOST_READ}\n" in HEADER
     assert (STATUSES["NO_RANGE"], STATUSES["NOT_TAKEN"]) == (
         simulated._NO_RANGE,
         simulated._NOT_TAKEN,

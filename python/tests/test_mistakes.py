@@ -24,8 +24,10 @@ from dovecounter import (
     Operation,
     Plan,
     Provisioning,
+    Patience,
     Reading,
     SimulatedModule,
+    Wait,
     Waking,
     check,
     library,
@@ -66,6 +68,8 @@ def test_numbers_out_of_range_are_refused_and_not_cut() -> None:
         lambda: module.store(0xA0, 256 + 26, b"1"),
         lambda: module.tick(-1),
         lambda: Reading(7),
+        lambda: Waking(Patience(pause=-1)),
+        lambda: Waking(Patience(limit=2**32)),
         lambda: Reading(256 + 8),
         lambda: Provisioning(changed(outside=256)),
         lambda: Provisioning(changed(control=bytes(9))),
@@ -98,6 +102,8 @@ def test_numbers_out_of_range_are_refused_and_not_cut() -> None:
         lambda: plan(DR4, WEIGHTS, [DataPath(2, True, 1)]),
         lambda: module.tick(True),
         lambda: Reading(True),
+        lambda: Reading(8, 100),  # type: ignore[arg-type]
+        lambda: Waking(Patience(pause=1.5)),  # type: ignore[arg-type]
         lambda: plan(DR4, WEIGHTS, paired=1),  # type: ignore[arg-type]
         lambda: check(DR4, WEIGHTS, "", counts_by_id=0),  # type: ignore[arg-type]
         lambda: DR4.applications(1),  # type: ignore[arg-type]
@@ -191,21 +197,24 @@ def test_a_kept_path_that_is_not_active_is_warned_of() -> None:
 
 def test_objects_show_what_they_are() -> None:
     best, module = plan(DR4, WEIGHTS), SimulatedModule(DR4)
-    operation = Operation(0xA0, 126, 2, b"\x00\x10", False)
-    shown = "Operation(device=0xA0, offset=0x7E, count=2, data=bytes.fromhex('00 10'), wait=False)"
+    operation = Operation(0xA0, 126, 2, b"\x00\x10")
+    shown = "Operation(device=0xA0, offset=0x7E, count=2, data=bytes.fromhex('00 10'))"
     assert repr(operation) == shown and eval(shown) == operation
-    fetch = Operation(0xA0, 3, 1, None, True)
-    assert eval(repr(fetch)) == fetch and "data=None, wait=True" in repr(fetch)
+    fetch = Operation(0xA0, 3, 1, None)
+    assert eval(repr(fetch)) == fetch and "data=None)" in repr(fetch)
+    assert repr(Wait(3)) == "Wait(milliseconds=3)"
     provisioning, control = Provisioning(best), best.control.hex(" ")
     assert repr(provisioning) == f"<Provisioning of {control} after 0 operations>"
-    provisioning.run(module.transact)
+    provisioning.run(module.transact, lambda _: None)
     assert provisioning.steps
     made = f"after {provisioning.steps} operations>"
     assert repr(provisioning) == f"<Provisioning of {control} {made}"
     assert repr(Activation(best)) == f"<Activation of {control} after 0 operations>"
     waking, reading = Waking(), Reading()
     for procedure in (waking, reading):
-        procedure.reply(module.transact(next(procedure)))
+        first = next(procedure)
+        assert isinstance(first, Operation)
+        procedure.reply(module.transact(first))
     assert repr(waking) == "<Waking after 1 operations>"
     assert repr(reading) == "<Reading after 1 operations>"
     lanes = " ".join(["DPDeactivated"] * 8)

@@ -32,6 +32,7 @@ from dovecounter import (
     Judgement,
     ModuleState,
     PathState,
+    Operation,
     Provisioning,
     SimulatedModule,
     check,
@@ -192,13 +193,13 @@ def test_copies_go_their_own_way() -> None:
     module, procedure = SimulatedModule(DR4), Provisioning(plan(DR4, WEIGHTS))
     copies = copy.copy(module), copy.deepcopy(module), pickle.loads(pickle.dumps(module))
     left = copy.copy(procedure)
-    procedure.run(module.transact)
+    procedure.run(module.transact, lambda _: None)
     assert module.active != DR4.halves[page(0x11)][206 - 128 : 214 - 128]
     for each in copies:
         assert each.active == DR4.halves[page(0x11)][206 - 128 : 214 - 128]
-        Provisioning(plan(DR4, WEIGHTS)).run(each.transact)
+        Provisioning(plan(DR4, WEIGHTS)).run(each.transact, lambda _: None)
         assert each.active == module.active
-    assert left.steps is None and next(left).wait is False
+    assert left.steps is None and next(left) == Operation(0xA0, 3, 1, None)
     assert list(procedure) == []
 
 
@@ -231,10 +232,8 @@ def test_sentences_are_those_of_the_page() -> None:
     )
     numbered = [("IM", 6), ("PV", 7), ("VR", 10)]
     codes = {f"{kind}{number}" for kind, most in numbered for number in range(1, most + 1)}
-    codes |= set(CODES.values()) - {"RP3"}
+    codes |= set(CODES.values())
     assert {code: sentence_of(code) for code in codes} == {code: rows[code] for code in codes}
-    # of a reading by a caller the library says more than of one by the program
-    assert "begin again" in sentence_of("RP3")
     fault = Fault("PV1", 3, 5)
     for same in (pickle.loads(pickle.dumps(fault)), copy.copy(fault)):
         assert (str(same), same.code, same.values, same.sentence) == (

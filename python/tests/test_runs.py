@@ -18,10 +18,12 @@ from dovecounter import (
     ModuleState,
     Operation,
     PathState,
+    Patience,
     Provisioning,
     Reading,
     SimulatedModule,
     Sleeping,
+    Wait,
     Waking,
     page,
     plan,
@@ -50,8 +52,11 @@ def test_states_are_those_that_a_fetch_shows() -> None:
     module = SimulatedModule(DR4, Delays(1, 2, 3, 4, 5, 6, 7))
     best = plan(DR4, WEIGHTS)
     for procedure in (Provisioning(best), Activation(best)):
-        for operation in procedure:
-            procedure.reply(False if chance.random() < 0.2 else module.transact(operation))
+        for step in procedure:
+            if isinstance(step, Wait):
+                procedure.waited()
+                continue
+            procedure.reply(False if chance.random() < 0.2 else module.transact(step))
             seen = module.copy()
             assert seen.store(0xA0, 126, b"\x00\x11")
             assert nibbles(seen.fetch(0xA0, 128, 4)) == list(module.path_states)
@@ -73,9 +78,13 @@ def test_a_reading_gives_the_halves_that_are_read(most: int) -> None:
             continue
         module, reading = SimulatedModule(image, Delays()), Reading(most)
         pytest.raises(ValueError, lambda: reading.image)
-        for operation in reading:
-            assert operation.count <= most
-            reading.reply(False if chance.random() < 0.2 else module.transact(operation))
+        for step in reading:
+            if isinstance(step, Wait):
+                assert step == Wait(20)
+                reading.waited()
+                continue
+            assert step.count <= most
+            reading.reply(False if chance.random() < 0.2 else module.transact(step))
         assert list(map(str, reading.image.halves)) == [
             "lower A0",
             *(f"upper A0 00 {number}" for number in ("00", "01", "02", "11")),
@@ -96,7 +105,8 @@ def test_a_module_wakes_up_and_goes_to_sleep_whatever_is_refused() -> None:
         (Waking(), ModuleState.ModuleReady, b"\xa0"),
     ):
         procedure.run(
-            lambda operation: chance.random() < 0.8 and module.transact(operation), module.tick
+            lambda operation: chance.random() < 0.8 and module.transact(operation),
+            lambda _: module.tick(),
         )
         assert procedure.steps is not None and procedure.steps >= 3
         assert (module.state, module.fetch(0xA0, 26, 1)) == (state, controls)
@@ -126,40 +136,70 @@ def test_the_low_power_pin_is_held_and_left() -> None:
 
 def test_a_silent_bus_ends_in_a_fault() -> None:
     best = plan(DR4, WEIGHTS)
-    assert fault_of(Reading().run, lambda operation: False) == "RP3"
+    assert fault_of(Reading().run, lambda operation: False, lambda _: None) == "PV4"
     provisioning = Provisioning(best)
-    assert fault_of(provisioning.run, lambda operation: False) == "PV4"
+    assert fault_of(provisioning.run, lambda operation: False, lambda _: None) == "PV4"
     assert provisioning.steps is None
+
+
+def test_patience_has_an_end() -> None:
+    best, pauses = plan(DR4, WEIGHTS), []
+    for procedure in (Reading(8, Patience(10, 35)), Provisioning(best, Patience(10, 35))):
+        pytest.raises(TimeoutError, procedure.run, lambda operation: False, pauses.append)
+        assert pauses == [0.01] * 4
+        pytest.raises(TimeoutError, next, procedure)
+        pauses.clear()
+    assert DR4.patience().pause >= 100 and not DR4.patience().trusts
+
+
+def test_the_selection_is_doubted_after_a_refusal() -> None:
+    best = plan(DR4, WEIGHTS)
+    for trusts, offset in ((True, 128), (False, 126)):
+        procedure = Provisioning(best, Patience(1, trusts=trusts))
+        for reply in (b"\x06", True, b"\x00\x10"):
+            next(procedure)
+            procedure.reply(reply)
+        assert next(procedure) == Wait(1)
+        procedure.waited()
+        after = next(procedure)
+        assert isinstance(after, Operation) and after.offset == offset
 
 
 def test_each_reply_is_looked_at_and_an_operation_without_one_is_given_again() -> None:
     provisioning = Provisioning(plan(DR4, WEIGHTS))
     first = next(provisioning)
-    assert first == Operation(0xA0, 3, 1, None, False) == next(provisioning)
+    assert first == Operation(0xA0, 3, 1, None) == next(provisioning)
+    assert isinstance(first, Operation)
+    pytest.raises(ValueError, provisioning.waited)
     assert (first.address, first.is_store) == (0x50, False)
     for wrong in (True, b"", b"12"):
         pytest.raises(ValueError, provisioning.reply, wrong)
     pytest.raises(TypeError, provisioning.reply, 1)
     pytest.raises(TypeError, provisioning.reply, None)
     provisioning.reply(False)
-    assert next(provisioning).wait
+    assert next(provisioning) == Wait(100) == next(provisioning) and Wait(100).seconds == 0.1
+    pytest.raises(ValueError, provisioning.reply, False)
+    provisioning.waited()
+    assert next(provisioning) == first
     provisioning.reply(bytearray(b"\x06"))
-    assert next(provisioning) == Operation(0xA0, 126, 2, b"\x00\x10", False)
+    assert next(provisioning) == Operation(0xA0, 126, 2, b"\x00\x10")
     pytest.raises(ValueError, provisioning.reply, b"12")
     module, provisioning = SimulatedModule(DR4), Provisioning(plan(DR4, WEIGHTS))
-    provisioning.run(module.transact)
+    provisioning.run(module.transact, lambda _: module.tick())
     pytest.raises(ValueError, provisioning.reply, True)
+    pytest.raises(ValueError, provisioning.waited)
 
 
-def test_the_pause_comes_before_operations_that_wait() -> None:
+def test_pauses_are_as_long_as_was_said() -> None:
     module, best = SimulatedModule(DR4, Delays(1, 900, 900, 1, 1, 1, 1)), plan(DR4, WEIGHTS)
-    pauses: List[int] = []
+    pauses: List[float] = []
 
-    def pause() -> None:
+    def pause(seconds: float) -> None:
+        assert seconds == 0.1
         module.tick(100)
-        pauses.append(1)
+        pauses.append(seconds)
 
-    Provisioning(best).run(module.transact)
+    Provisioning(best).run(module.transact, lambda _: module.tick())
     activation = Activation(best)
     activation.run(module.transact, pause)
     assert activation.steps is not None and 15 < len(pauses) < activation.steps < 60
