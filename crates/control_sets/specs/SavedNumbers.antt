@@ -1,4 +1,4 @@
--- A procedure as plain numbers: which numbers are a procedure's, and of which. (docs/firmware.md, "The procedure's numbers";
+-- A procedure as plain numbers: which numbers are a procedure's, and of which. (docs/firmware.md, "The numbers of a conversation";
 -- this project's own)
 use Rattle.std.specs.Prelude.{ℕ, ◌==◌, ◌&&◌, nat_le, nat_lt, Bool, true, false, List, length, Option, Some, None, if◌then◌else◌}
 use Rattle.std.specs.Option.{option_map}

@@ -1,5 +1,5 @@
 -- Waking a module up, and putting it to sleep, as the numbers of a saved procedure: which numbers are such, and of which.
--- (docs/firmware.md, "The procedure's numbers"; this project's own)
+-- (docs/firmware.md, "The numbers of a conversation"; this project's own)
 use Rattle.std.specs.Prelude.{ℕ, ◌==◌, ◌&&◌, nat_le, Bool, true, false, ◌∷◌, Option, Some, None, if◌then◌else◌, replicate, slice_index}
 use Rattle.control_sets.specs.declared.fault.ProvisionFault.{ProvisionFault}
 use Rattle.control_sets.specs.declared.fault.ProvisionFault.TheVariants.{Rejected, StagedDiffers, ActiveDiffers, GaveUp, Bus, ModuleState, Reserved}
