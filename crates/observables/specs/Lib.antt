@@ -1,0 +1,11 @@
+pub mod Words
+pub mod Descriptors
+pub mod Quantities
+pub mod Observables
+pub mod Amounts
+pub mod Limits
+pub mod Instances
+pub mod Scientific
+pub mod Pages
+pub mod Fixed
+pub mod Frozen
