@@ -5,3 +5,7 @@ pub mod NextInstances
 pub mod OneMoreInstance
 pub mod ExactTexts
 pub mod ExactFractions
+pub mod NextObservations
+pub mod OneMoreObservation
+pub mod Times
+pub mod PlacesOfList

@@ -36,6 +36,11 @@ IsAmountIn Signed step word amount = AreSteps step (steps_of Signed word) amount
 abbrev pub IsAmount : Quantity → ℕ → Amount → Type 0
 IsAmount quantity word amount = IsAmountIn (quantity_row quantity).format (step_of quantity) word amount
 
+-- what a word amounts to if it counts so many times
+abbrev pub AreTimes : Quantity → ℕ → ℕ → Amount → Type 0
+AreTimes quantity factor word amount =
+    AreSteps (step_of quantity) (steps_of (quantity_row quantity).format word *ℤ pos factor) amount
+
 -- ---- how that is written
 
 -- so many steps of a quantity
@@ -56,3 +61,10 @@ amount_in Signed quantity word = scaled quantity (steps_of Signed word)
 
 abbrev pub amount_of : Quantity → ℕ → Amount
 amount_of quantity word = amount_in (quantity_row quantity).format quantity word
+
+abbrev pub amount_times : Quantity → ℕ → ℕ → Amount
+amount_times quantity factor word = scaled quantity (steps_of (quantity_row quantity).format word *ℤ pos factor)
+
+-- each amount is the number that it has to be, also of words that count several times
+abbrev pub EachAmountIsExact : Type 0
+EachAmountIsExact = (quantity : Quantity) (word : ℕ) → IsAmount quantity word (amount_of quantity word) × ((factor : ℕ) → AreTimes quantity factor word (amount_times quantity factor word))

@@ -9,3 +9,9 @@ pub mod Scientific
 pub mod Pages
 pub mod Fixed
 pub mod Frozen
+pub mod Monitors
+pub mod CmisMonitors
+pub mod QsfpMonitors
+pub mod SfpMonitors
+pub mod Monitored
+pub mod Observations

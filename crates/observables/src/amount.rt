@@ -1,4 +1,4 @@
-ghost use Rattle.std.specs.Prelude.{◌≡◌, ◌≤ℤ◌, ◌<ℤ◌, pos, neg_ℤ};
+ghost use Rattle.std.specs.Prelude.{◌≡◌, ◌*ℤ◌, ◌≤ℤ◌, ◌<ℤ◌, pos, neg_ℤ};
 ghost use Rattle.observables.specs.Amounts as spec;
 
 use crate::quantity::{Format, Quantity, quantity_row};
@@ -14,7 +14,7 @@ pub struct Amount {
 
 impl Amount {
     ghost use Rattle.std.specs.Prelude.{◌≡◌, ◌≤ℤ◌, ◌<ℤ◌, pos, neg_ℤ};
-    ghost use Rattle.observables.specs.Amounts.{IsAmount, amount_of, float_amount, scaled};
+    ghost use Rattle.observables.specs.Amounts.{AreTimes, IsAmount, amount_of, amount_times, float_amount, scaled};
 
     /// What a word of a quantity amounts to, in its unit.
     #[tactic(auto, using(crate::proofs::ExactAmounts::is_exact))]
@@ -28,9 +28,19 @@ impl Amount {
         }
     }
 
+    /// What a word of a quantity amounts to if it counts `factor` times; not of a float.
+    #[tactic(auto, using(crate::proofs::Times::are_times))]
+    pub fn times(quantity: Quantity, factor: u8, word: u16) -> Amount
+        ensures value { result ≡ amount_times quantity factor word }
+        ensures exact { AreTimes quantity factor word result }
+    {
+        let steps = steps(quantity_row(quantity).format, word);
+        Amount::of_steps(quantity, multiplied(steps, factor))
+    }
+
     fn of_steps(quantity: Quantity, steps: i64) -> Amount
-        requires low { neg_ℤ (pos 32768) ≤ℤ steps }
-        requires high { steps <ℤ pos 65536 }
+        requires low { neg_ℤ (pos 16777216) ≤ℤ steps }
+        requires high { steps <ℤ pos 16777216 }
         ensures { result ≡ scaled quantity steps }
     {
         let row = quantity_row(quantity);
@@ -63,4 +73,14 @@ pub fn steps(format: Format, word: u16) -> i64
         Format::Signed => i64::from(word.cast_signed()),
         Format::Unsigned | Format::Float => i64::from(word),
     }
+}
+
+fn multiplied(steps: i64, factor: u8) -> i64
+    requires least { neg_ℤ (pos 32768) ≤ℤ steps }
+    requires most { steps <ℤ pos 65536 }
+    ensures value { result ≡ steps *ℤ pos factor }
+    ensures low { neg_ℤ (pos 16777216) ≤ℤ result }
+    ensures high { result <ℤ pos 16777216 }
+{
+    steps * i64::from(factor)
 }

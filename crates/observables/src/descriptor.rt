@@ -10,7 +10,7 @@ pub struct Descriptor {
 }
 
 impl Descriptor {
-    ghost use Rattle.std.specs.Prelude.{◌≡◌, ◌<◌, IfSome, MatchOption};
+    ghost use Rattle.std.specs.Prelude.{◌≡◌, ◌<◌, ◌≤◌, IfSome, MatchOption};
     ghost use Rattle.observables.specs.Descriptors.{Describes, descriptor_of};
 
     /// The descriptor that two bytes are, unless the instance is unused.
@@ -18,6 +18,7 @@ impl Descriptor {
         ensures describes { MatchOption result (second ≡ 0) (Describes first second) }
         ensures value { result ≡ descriptor_of first second }
         ensures set { IfSome result (λ descriptor. descriptor.set < 16) }
+        ensures lane { IfSome result (λ descriptor. descriptor.lane ≤ 16) }
     {
         if second == 0 {
             return None;

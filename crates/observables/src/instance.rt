@@ -30,6 +30,7 @@ pub struct Instance {
 pub fn instance_at(image: &Image, bank: u8, number: u8) -> Option<Instance>
     ensures value { result ≡ spec.instance_at image.now bank number }
     ensures number { IfSome result (λ found. found.number ≡ number) }
+    ensures lane { IfSome result (λ found. found.descriptor.lane ≤ 16) }
 {
     let descriptor = descriptor_at(image, bank, number)?;
     Some(Instance {
@@ -58,6 +59,7 @@ pub fn next_instance(image: &Image, bank: u8, from: u16) -> Option<Instance>
 fn descriptor_at(image: &Image, bank: u8, number: u8) -> Option<Descriptor>
     ensures value { result ≡ spec.descriptor_at image.now bank number }
     ensures set { IfSome result (λ descriptor. descriptor.set < 16) }
+    ensures lane { IfSome result (λ descriptor. descriptor.lane ≤ 16) }
 {
     let word = word_of(image, bank, 0x20, number)?;
     Descriptor::of((word / 256) as u8, (word % 256) as u8)

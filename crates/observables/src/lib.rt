@@ -1,7 +1,9 @@
-//! What modules measure: the observables that a module describes itself (pages 20h to 2Ch of CMIS), and their exact amounts.
+//! What modules measure, as one list: the monitors of each family at fixed places, and the observables that a CMIS module describes
+//! itself (pages 20h to 2Ch); with exact amounts, limits and flags.
 #![tactic(auto)]
 
 mod amount;
+mod cmis_monitors;
 mod descriptor;
 mod fixed;
 mod frozen;
@@ -9,10 +11,16 @@ mod instance;
 mod instances;
 mod laws;
 mod limits;
+mod monitor;
+mod monitored;
 mod observable;
+mod observation;
+mod observations;
 mod pages;
+mod qsfp_monitors;
 mod quantity;
 mod scientific;
+mod sfp_monitors;
 mod words;
 
 pub use amount::{Amount, steps};
@@ -21,9 +29,14 @@ pub use fixed::{Fixed, Places};
 pub use frozen::{End, MOST_POLLS, Outcome, Stage, Task};
 pub use instance::{INSTANCES, Instance, instance_at, next_instance};
 pub use instances::all_instances;
-pub use laws::{fixed_is_exact, scientific_is_exact};
+pub use laws::{
+    each_amount_is_exact, each_instance_has_a_place, each_monitor_has_a_place, fixed_is_exact,
+    scientific_is_exact,
+};
 pub use limits::{flags_of, limits_in_set};
 pub use observable::{Figure, Observable, Side, observable_of};
+pub use observation::{Observation, PLACES, Subject, next_observation, observation_at};
+pub use observations::all_observations;
 pub use pages::{absent_page, has_observables};
 pub use quantity::{Format, Quantity, QuantityRow, Scope, Unit, quantity_row};
 pub use scientific::Scientific;

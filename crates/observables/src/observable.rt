@@ -10,7 +10,7 @@ pub enum Figure {
     Minimum,
     Maximum,
     Average,
-    /// Of the interval that ended last.
+    /// The sample that came last.
     Current,
 }
 

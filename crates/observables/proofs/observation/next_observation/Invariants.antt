@@ -1,0 +1,7 @@
+use Rattle.std.proofs.Common.{◌≡◌, ◌<◌, ◌≤◌, None, ℕ}
+use Rattle.observables.specs.Observations as spec
+use Rattle.observables.proofs.observation.next_observation.Given as goal
+
+-- no place so far has an observation
+abbrev pub invariant-loop-place : goal.invariant-loop-place
+invariant-loop-place l = (k : ℕ) → l.from ≤ k → k < l.place → spec.observation_at l.image k ≡ None

@@ -1,0 +1,139 @@
+-- What a module measures, as one list: the monitors of its family at fixed places, lane by lane, then the instances of four banks.
+-- (OIF-CMIS-05.0, "Versatile Diagnostics Monitoring" and "Management Memory Map": bank b has lanes 8 * b + 1 and on; this project's own
+-- order)
+use Rattle.std.specs.Prelude.{◌≡◌, ℕ, zero, suc, ◌+◌, ◌-◌, ◌*◌, ◌/◌, ◌%◌, ◌<◌, ◌≤◌, ◌==◌, ◌&&◌, nat_le, nat_lt, Bool, false, if◌then◌else◌, List, [], ◌++◌, Option, Some, None, option_map, option_and_then, option_to_list}
+use Rattle.field_tables.specs.declared.field.Field.TheVariants.{CIdentifier}
+use Rattle.field_tables.specs.declared.readings.PerLimit.{PerLimit}
+use Rattle.field_tables.specs.FieldRows.{row_of}
+use Rattle.field_tables.specs.Readings.{number}
+use Rattle.paged_memory.specs.declared.family.Family.{Family}
+use Rattle.paged_memory.specs.declared.family.Family.TheVariants.{Cmis, Sff8636, Sff8472}
+use Rattle.paged_memory.specs.Families.{managed_by}
+use Rattle.paged_memory.specs.Images.{Memory}
+use Rattle.observables.specs.declared.amount.Amount.{Amount}
+use Rattle.observables.specs.declared.instance.Instance.{Instance}
+use Rattle.observables.specs.declared.monitor.Monitor.{Monitor}
+use Rattle.observables.specs.declared.observable.Figure.TheVariants.{Now}
+use Rattle.observables.specs.declared.observable.Observable.{Observable}
+use Rattle.observables.specs.declared.observable.Side.{Side}
+use Rattle.observables.specs.declared.observable.Side.TheVariants.{Media, Host}
+use Rattle.observables.specs.declared.observation.Observation.{Observation}
+use Rattle.observables.specs.declared.observation.Subject.{Subject}
+use Rattle.observables.specs.declared.observation.Subject.TheVariants as subjects
+use Rattle.observables.specs.declared.quantity.Quantity.{Quantity}
+use Rattle.observables.specs.declared.quantity.Quantity.TheVariants.{LevelTransition}
+use Rattle.observables.specs.declared.quantity.Scope.{Scope}
+use Rattle.observables.specs.declared.quantity.Scope.TheVariants.{Module, Lane, DataPath}
+use Rattle.observables.specs.Amounts.{amount_of}
+use Rattle.observables.specs.CmisMonitors.{cmis_monitor}
+use Rattle.observables.specs.Instances.{instance_at}
+use Rattle.observables.specs.Monitored.{amount_at, flags_in_lane, is_advertised, is_present, limit_amounts, no_limits}
+use Rattle.observables.specs.Observables.{observable_of}
+use Rattle.observables.specs.Pages.{has_observables}
+use Rattle.observables.specs.QsfpMonitors.{qsfp_monitor}
+use Rattle.observables.specs.Quantities.{quantity_row}
+use Rattle.observables.specs.SfpMonitors.{sfp_monitor}
+
+-- where something is measured
+abbrev pub subject_of : Scope → Side → ℕ → Subject
+subject_of Module side lane = subjects.Module
+subject_of DataPath side lane = subjects.DataPath lane
+subject_of Lane Media lane = subjects.MediaLane lane
+subject_of Lane Host lane = subjects.HostLane lane
+
+-- ---- monitors at fixed places
+
+abbrev pub monitor_by : Memory → ℕ → Family → Option Monitor
+monitor_by memory n Cmis = cmis_monitor memory n
+monitor_by memory n Sff8636 = qsfp_monitor n
+monitor_by memory n Sff8472 = sfp_monitor n
+
+-- monitor n of the module's family
+abbrev pub monitor_of : Memory → ℕ → Option Monitor
+monitor_of memory n = option_and_then (monitor_by memory n) (managed_by (number memory CIdentifier))
+
+abbrev pub monitor_observation : Memory → Monitor → ℕ → Observation
+monitor_observation memory monitor lane = record {
+  observable = record { quantity = monitor.quantity; figure = Now; side = Media };
+  subject = subject_of monitor.scope Media lane;
+  unit = (quantity_row monitor.quantity).unit;
+  amount = amount_at memory monitor monitor.values lane;
+  limits = limit_amounts memory monitor;
+  flags = flags_in_lane memory monitor.bounds lane;
+  advertised = is_advertised memory monitor.advert;
+}
+
+-- if the monitor has that lane and its half is there
+abbrev pub measured : Memory → Monitor → ℕ → Option Observation
+measured memory monitor lane =
+    if nat_le lane (row_of monitor.values).count && is_present memory monitor.values then Some (monitor_observation memory monitor lane) else None
+
+abbrev pub monitored : Memory → ℕ → ℕ → Option Observation
+monitored memory n lane = option_and_then (λ monitor. measured memory monitor lane) (monitor_of memory n)
+
+-- ---- instances of pages 20h to 2Ch
+
+-- no level transition parameter is FFFFh
+abbrev pub is_no_value : Quantity → ℕ → Bool
+is_no_value LevelTransition word = word == 0xFFFF
+is_no_value _ word = false
+
+abbrev pub sample_amount : Quantity → Option ℕ → Option Amount
+sample_amount quantity sample =
+    option_and_then (λ word. if is_no_value quantity word then None else Some (amount_of quantity word)) sample
+
+abbrev pub limits_of_words : Quantity → Option (PerLimit ℕ) → PerLimit (Option Amount)
+limits_of_words quantity None = no_limits
+limits_of_words quantity (Some words) = record {
+  high_alarm = Some (amount_of quantity words.high_alarm);
+  low_alarm = Some (amount_of quantity words.low_alarm);
+  high_warning = Some (amount_of quantity words.high_warning);
+  low_warning = Some (amount_of quantity words.low_warning);
+}
+
+abbrev pub with_instance : Memory → ℕ → Instance → Observable → Observation
+with_instance memory bank instance observable = record {
+  observable = observable;
+  subject = subject_of (quantity_row observable.quantity).scope observable.side (8 * bank + instance.descriptor.lane);
+  unit = (quantity_row observable.quantity).unit;
+  amount = sample_amount observable.quantity instance.sample;
+  limits = limits_of_words observable.quantity instance.limits;
+  flags = instance.flags;
+  advertised = has_observables memory;
+}
+
+-- if the instance is used and its type is decoded
+abbrev pub observed : Memory → ℕ → ℕ → Option Observation
+observed memory bank n =
+    option_and_then (λ instance. option_map (with_instance memory bank instance) (observable_of instance.descriptor.kind)) (instance_at memory bank n)
+
+-- ---- the list
+
+-- eight monitors of eight lanes, then four banks of 256 instances
+unfoldable pub observation_at : Memory → ℕ → Option Observation
+observation_at memory place =
+    if nat_lt place 64 then monitored memory (place / 8) (place % 8 + 1)
+    else if nat_lt place 1088 then observed memory ((place - 64) / 256) ((place - 64) % 256)
+    else None
+
+-- the observations before a place, in order
+unfoldable pub observations_before : Memory → ℕ → List Observation
+observations_before memory zero = []
+observations_before memory (suc place) = observations_before memory place ++ option_to_list (observation_at memory place)
+
+-- the first from a place on, with its place
+pub record IsNextObservation (memory : Memory) (from : ℕ) (found : ℕ × Observation) : Type 0 where
+  pub is_there : observation_at memory found.0 ≡ Some found.1
+  pub not_before : from ≤ found.0
+  pub within : found.0 < 1088
+  pub first : (k : ℕ) → from ≤ k → k < found.0 → observation_at memory k ≡ None
+
+-- each monitor of the family has a place for each lane
+abbrev pub EachMonitorHasAPlace : Type 0
+EachMonitorHasAPlace =
+    (memory : Memory) (n lane : ℕ) → n < 8 → 1 ≤ lane → lane ≤ 8 → observation_at memory (8 * n + (lane - 1)) ≡ monitored memory n lane
+
+-- each instance of four banks has a place
+abbrev pub EachInstanceHasAPlace : Type 0
+EachInstanceHasAPlace =
+    (memory : Memory) (bank n : ℕ) → bank < 4 → n < 256 → observation_at memory (64 + 256 * bank + n) ≡ observed memory bank n

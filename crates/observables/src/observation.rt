@@ -1,0 +1,192 @@
+//! What a module measures, as one list.
+ghost use Rattle.std.specs.Prelude.{◌≡◌, ◌≤◌, ◌<◌, ℕ, None, IfSome, MatchOption};
+ghost use Rattle.observables.specs.Monitors.{MonitorFits};
+ghost use Rattle.observables.specs.Observations as spec;
+ghost use Rattle.observables.specs.Observations.{IsNextObservation};
+
+use crate::amount::Amount;
+use crate::cmis_monitors::cmis_monitor;
+use crate::instance::{Instance, instance_at};
+use crate::monitor::Monitor;
+use crate::monitored::{amount_at, flags_in_lane, is_advertised, is_present, limit_amounts};
+use crate::observable::{Figure, Observable, Side, observable_of};
+use crate::pages::has_observables;
+use crate::qsfp_monitors::qsfp_monitor;
+use crate::quantity::{Quantity, Scope, Unit, quantity_row};
+use crate::sfp_monitors::sfp_monitor;
+use field_tables::{Field, PerLimit, number, row};
+use paged_memory::{Family, Image};
+
+/// How many places the list has.
+pub const PLACES: u16 = MONITOR_PLACES + 4 * 256;
+
+// Eight monitors of eight lanes; then four banks of instances.
+const MONITOR_PLACES: u16 = 64;
+
+/// Where something is measured. Lanes and data paths are counted from 1, a data path by its first lane.
+#[derive(Clone, Copy, Debug, PartialEq, Eq)]
+pub enum Subject {
+    Module,
+    HostLane(u8),
+    MediaLane(u8),
+    DataPath(u8),
+}
+
+/// What a module measures at one place, with its limits and flags.
+#[derive(Clone, Copy, Debug, PartialEq, Eq)]
+pub struct Observation {
+    pub observable: Observable,
+    pub subject: Subject,
+    pub unit: Unit,
+    /// None if its half is absent, or if no amount can be computed.
+    pub amount: Option<Amount>,
+    pub limits: PerLimit<Option<Amount>>,
+    /// Which limits were passed since the flags were last read.
+    pub flags: Option<PerLimit<bool>>,
+    /// Whether the module advertises it, or each module of the standard has it.
+    pub advertised: bool,
+}
+
+/// The observation at a place of the list.
+#[tactic(auto, unfolding(crate::specs::Observations::observation_at))]
+pub fn observation_at(image: &Image, place: u16) -> Option<Observation>
+    ensures { result ≡ spec.observation_at image.now place }
+{
+    if place < MONITOR_PLACES {
+        return monitored(image, (place / 8) as u8, (place % 8) as u8 + 1);
+    }
+    if place < PLACES {
+        let instance = place - MONITOR_PLACES;
+        return observed(image, (instance / 256) as u8, (instance % 256) as u8);
+    }
+    None
+}
+
+/// The first observation from a place on, with its place. The next one begins at the place after that.
+#[tactic(auto, using(crate::proofs::NextObservations::next))]
+pub fn next_observation(image: &Image, from: u16) -> Option<(u16, Observation)>
+    ensures { MatchOption result ((k : ℕ) → from ≤ k → k < 1088 → spec.observation_at image.now k ≡ None) (IsNextObservation image.now from) }
+{
+    for place in from..PLACES {
+        if let Some(observation) = observation_at(image, place) {
+            return Some((place, observation));
+        }
+    }
+    None
+}
+
+// What a monitor of the module's family measures in a lane.
+fn monitored(image: &Image, monitor: u8, lane: u8) -> Option<Observation>
+    requires first { 1 ≤ lane }
+    requires last { lane ≤ 8 }
+    ensures { result ≡ spec.monitored image.now monitor lane }
+{
+    let monitor = monitor_of(image, monitor)?;
+    measured(image, monitor, lane)
+}
+
+fn monitor_of(image: &Image, monitor: u8) -> Option<Monitor>
+    ensures row { result ≡ spec.monitor_of image.now monitor }
+    ensures fits { IfSome result MonitorFits }
+{
+    match Family::managing(number(image, Field::CIdentifier))? {
+        Family::Cmis => cmis_monitor(image, monitor),
+        Family::Sff8636 => qsfp_monitor(monitor),
+        Family::Sff8472 => sfp_monitor(monitor),
+    }
+}
+
+// What is measured in a lane, if the monitor has that lane and its half is there.
+fn measured(image: &Image, monitor: Monitor, lane: u8) -> Option<Observation>
+    requires fits { MonitorFits monitor }
+    requires first { 1 ≤ lane }
+    ensures { result ≡ spec.measured image.now monitor lane }
+{
+    let count = row(monitor.values).count;
+    if count < lane || !is_present(image, monitor.values) {
+        return None;
+    }
+    Some(Observation {
+        observable: Observable {
+            quantity: monitor.quantity,
+            figure: Figure::Now,
+            side: Side::Media,
+        },
+        subject: subject_of(monitor.scope, Side::Media, lane),
+        unit: quantity_row(monitor.quantity).unit,
+        amount: amount_at(image, monitor, monitor.values, lane),
+        limits: limit_amounts(image, monitor),
+        flags: flags_in_lane(image, monitor.bounds, lane, count),
+        advertised: is_advertised(image, monitor.advert),
+    })
+}
+
+// What an instance observes, if it is used and its type is decoded.
+fn observed(image: &Image, bank: u8, number: u8) -> Option<Observation>
+    requires { bank < 4 }
+    ensures { result ≡ spec.observed image.now bank number }
+{
+    let instance = instance_at(image, bank, number)?;
+    let observable = observable_of(instance.descriptor.kind)?;
+    Some(with_instance(image, bank, instance, observable))
+}
+
+fn with_instance(image: &Image, bank: u8, instance: Instance, observable: Observable) -> Observation
+    requires bank { bank < 4 }
+    requires lane { instance.descriptor.lane ≤ 16 }
+    ensures { result ≡ spec.with_instance image.now bank instance observable }
+{
+    let row = quantity_row(observable.quantity);
+    let lane = 8 * bank + instance.descriptor.lane;
+    Observation {
+        observable,
+        subject: subject_of(row.scope, observable.side, lane),
+        unit: row.unit,
+        amount: sample_amount(observable.quantity, instance.sample),
+        limits: limits_of_words(observable.quantity, instance.limits),
+        flags: instance.flags,
+        advertised: has_observables(image),
+    }
+}
+
+fn subject_of(scope: Scope, side: Side, lane: u8) -> Subject
+    ensures { result ≡ spec.subject_of scope side lane }
+{
+    match scope {
+        Scope::Module => Subject::Module,
+        Scope::DataPath => Subject::DataPath(lane),
+        Scope::Lane => match side {
+            Side::Media => Subject::MediaLane(lane),
+            Side::Host => Subject::HostLane(lane),
+        },
+    }
+}
+
+fn sample_amount(quantity: Quantity, sample: Option<u16>) -> Option<Amount>
+    ensures { result ≡ spec.sample_amount quantity sample }
+{
+    let word = sample?;
+    if quantity == Quantity::LevelTransition && word == 0xFFFF {
+        return None;
+    }
+    Some(Amount::of(quantity, word))
+}
+
+fn limits_of_words(quantity: Quantity, limits: Option<PerLimit<u16>>) -> PerLimit<Option<Amount>>
+    ensures { result ≡ spec.limits_of_words quantity limits }
+{
+    match limits {
+        None => PerLimit {
+            high_alarm: None,
+            low_alarm: None,
+            high_warning: None,
+            low_warning: None,
+        },
+        Some(words) => PerLimit {
+            high_alarm: Some(Amount::of(quantity, words.high_alarm)),
+            low_alarm: Some(Amount::of(quantity, words.low_alarm)),
+            high_warning: Some(Amount::of(quantity, words.high_warning)),
+            low_warning: Some(Amount::of(quantity, words.low_warning)),
+        },
+    }
+}
