@@ -94,9 +94,14 @@ static bool is_over(void) {
 /* Starts what comes next, if anything does. */
 static void go_on(void) {
     status = dovecounter_next(&conversation, halves, &operation);
-    if (status == DOVECOUNTER_ENDED) end();
-    if (status == DOVECOUNTER_NO_CONVERSATION) stage = FAILED;
-    if (status != DOVECOUNTER_DONE) return;
+    if (status == DOVECOUNTER_ENDED) {
+        end();
+        return;
+    }
+    if (status != DOVECOUNTER_DONE) {
+        stage = FAILED;
+        return;
+    }
     under_way = true;
     over = false;
     since = milliseconds();

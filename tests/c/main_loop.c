@@ -165,6 +165,9 @@ int main(void) {
     apply_delay = 0;
     run("a driver that says stored of a fetch", 3 << 1, 0, 0, true, FAILED, 0, DOVECOUNTER_NO_REPLY);
     run("the same once more, of a driver that does not", 3 << 1, 0, 0, false, UP, 0, 0);
+    if (!carry_out(&pairs, &patient)) fail("a plan was not begun after another one");
+    conversation.magic = 0;
+    if (poll_module() != FAILED || status != DOVECOUNTER_NO_CONVERSATION) fail("other numbers were taken");
     printf("firmware: the main loop of the example carries a plan out, on modules fast and slow\n");
     return 0;
 }
