@@ -220,10 +220,12 @@ static uint8_t carry_out(struct dovecounter_conversation *it) {
     return ending.fault.code;
 }
 
-/* The module's halves are read: of two for one place the first. Flags are cleared meanwhile, and selections change. */
+/* The module's halves are read: of two for one place the first. Flags are cleared meanwhile, and selections change. Halves of selected
+   pages come whole where one refusal of many would have them read anew from the first piece on. */
 static void try_reading(void) {
     struct dovecounter_conversation reading;
-    expect("reading", DOVECOUNTER_DONE, dovecounter_read_begin((uint8_t)(8 + chance(248)), &patience, &reading));
+    uint8_t most = patience.trusts || refusals < 2 ? (uint8_t)(8 + chance(248)) : 128;
+    expect("reading", DOVECOUNTER_DONE, dovecounter_read_begin(most, &patience, &reading));
     uint8_t code = carry_out(&reading);
     expect("all was read", 1, code == 0 || code == 8);
     for (int i = 0; i < reading.halves; i++) {

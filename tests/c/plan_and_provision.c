@@ -1,5 +1,5 @@
-/* Runs examples/plan_and_provision.c on a simulated module whose bus refuses now and then, on one that stays silent, and on one that
-   is no CMIS module. Reads the text of the module's image on standard input. */
+/* Runs examples/plan_and_provision.c on a simulated module whose bus refuses now and then, on one that refuses too often, on one that
+   stays silent, and on a module that is not of CMIS. Reads the text of the module's image on standard input. */
 #include "../../examples/plan_and_provision.c"
 
 #include "expect.h"
@@ -9,6 +9,7 @@ static const struct dovecounter_delays delays = {4, 4, 4, 4, 4, 4, 4};
 static struct dovecounter_module module;
 static unsigned transactions, refuse_each; /* every so many one is refused; all of them if it is 1 */
 static uint32_t slept;
+static bool is_of_cmis = true;
 
 static bool refuses(void) {
     expect("a tick", DOVECOUNTER_DONE, dovecounter_module_tick(&module));
@@ -16,6 +17,10 @@ static bool refuses(void) {
 }
 
 bool i2c_fetch(uint8_t address, uint8_t offset, uint8_t *bytes, uint8_t count) {
+    if (!is_of_cmis) { /* the lower half and page 00h come first in the image */
+        memcpy(bytes, halves[offset / 128].bytes + offset % 128, count);
+        return true;
+    }
     return !refuses() && dovecounter_module_fetch(halves, half_count, &module, (uint8_t)(address << 1), offset, bytes,
                                                   count) == DOVECOUNTER_DONE;
 }
@@ -36,7 +41,7 @@ static void begin(unsigned refusals) {
 int main(void) {
     struct dovecounter_plan plan;
     read_halves();
-    for (unsigned refusals = 0; refusals < 9; refusals += refusals == 0 ? 3 : 1) {
+    for (unsigned refusals = 0; refusals < 9; refusals += refusals == 0 ? 4 : 1) {
         begin(refusals);
         expect("planned and provisioned", DOVECOUNTER_DONE, plan_and_provision(&plan));
         for (int lane = 0; lane < 8; lane++) {
@@ -45,11 +50,14 @@ int main(void) {
         }
         expect("it slept where it was refused", 1, slept >= 100);
     }
+    begin(3); /* after a refusal the page is selected and read back, so the third transaction is the one that counts */
+    expect("a bus without three transactions in a row", 1000 + DOVECOUNTER_OVERDUE, plan_and_provision(&plan));
     begin(1);
     expect("a silent module", 1000 + DOVECOUNTER_OVERDUE, plan_and_provision(&plan));
     expect("it was patient", 1, slept > 2000);
-    halves[0].bytes[0] = 0x11;
-    refuse_each = 0;
+    is_of_cmis = false;
+    halves[0].bytes[0] = 0x11; /* SFF-8636 with flat memory */
+    halves[0].bytes[2] = 0x04;
     expect("no CMIS", DOVECOUNTER_NOT_CMIS, plan_and_provision(&plan));
     return judged("plan_and_provision");
 }

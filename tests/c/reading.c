@@ -63,7 +63,7 @@ static bool is_of_module(const struct dovecounter_half *half) {
 
 static struct dovecounter_conversation reading;
 static struct dovecounter_half halves[DOVECOUNTER_MOST_READ];
-static const struct dovecounter_patience patience = {.pause = 9, .limit = DOVECOUNTER_UNBOUNDED};
+static struct dovecounter_patience patience = {.pause = 9, .limit = DOVECOUNTER_UNBOUNDED};
 
 static struct {
     unsigned operations, piece;
@@ -104,12 +104,59 @@ static unsigned read_module(uint8_t most, int refusals) {
     return bus.operations;
 }
 
+/* A reading that doubts fetches a selected page from its first piece on after each refusal, so it gets through fewer of them. */
 static void try_module(unsigned wanted_operations) {
     static const uint8_t sizes[] = {128, 255, 127, 64, 60, 32, 31, 24, 16, 8, 15};
     expect("operations", wanted_operations, read_module(128, 0));
-    for (size_t i = 0; i < sizeof sizes; i++)
-        for (int refusals = 0; refusals < 128; refusals += 20) read_module(sizes[i], refusals);
+    for (patience.trusts = 0; patience.trusts < 2; patience.trusts++)
+        for (size_t i = 0; i < sizeof sizes; i++)
+            for (int refusals = 0; refusals < (patience.trusts ? 128 : 48); refusals += patience.trusts ? 20 : 8)
+                read_module(sizes[i], refusals);
+    patience.trusts = 0;
     expect("operations of which each was refused", 4096, read_module(8, 256));
+}
+
+static struct dovecounter_operation next_operation(void) {
+    struct dovecounter_operation operation;
+    expect("an operation", DOVECOUNTER_DONE, dovecounter_next(&reading, halves, &operation));
+    return operation;
+}
+
+static void reply_to(const struct dovecounter_operation *operation, bool refused) {
+    uint8_t bytes[128] = {0}, outcome = DOVECOUNTER_WAITED;
+    if (operation->kind != DOVECOUNTER_WAIT) outcome = refused ? DOVECOUNTER_REFUSED : carry_out(operation, bytes);
+    size_t count = outcome == DOVECOUNTER_FETCHED ? operation->count : 0;
+    expect("a reply", DOVECOUNTER_DONE, dovecounter_reply(&reading, halves, outcome, bytes, count));
+}
+
+/* A piece of page 01h is refused: if the reading doubts, the page is selected again and fetched from its first piece on; if it trusts,
+   the piece is fetched again. A piece of the lower half, which needs no page, is fetched again in both. */
+static void try_refused_piece(uint8_t trusts) {
+    struct dovecounter_operation operation;
+    patience.trusts = trusts;
+    make("a refused piece", 0x18, 0, 5);
+    expect("begun", DOVECOUNTER_DONE, dovecounter_read_begin(32, &patience, &reading));
+    for (operation = next_operation(); operation.offset != 96; operation = next_operation())
+        reply_to(&operation, false);
+    reply_to(&operation, true);
+    operation = next_operation();
+    expect("a pause", DOVECOUNTER_WAIT, operation.kind);
+    reply_to(&operation, false);
+    operation = next_operation();
+    expect("the piece of the lower half", 96, operation.offset);
+    for (; operation.offset != 192 || module.lower[0][127] != 0x01; operation = next_operation())
+        reply_to(&operation, false);
+    reply_to(&operation, true);
+    operation = next_operation();
+    expect("a pause", DOVECOUNTER_WAIT, operation.kind);
+    reply_to(&operation, false);
+    operation = next_operation();
+    expect("the kind", trusts ? DOVECOUNTER_FETCH : DOVECOUNTER_STORE, operation.kind);
+    expect("the piece, or the selection", trusts ? 192 : 126, operation.offset);
+    if (!trusts) reply_to(&operation, false), operation = next_operation();
+    if (!trusts) reply_to(&operation, false), operation = next_operation();
+    expect("the piece that is fetched", trusts ? 192 : 128, operation.offset);
+    patience.trusts = 0;
 }
 
 /* What the decoders say of a module that was read, although they don't take it. */
@@ -230,6 +277,8 @@ static void try_refusals(void) {
 
 int main(void) {
     try_modules();
+    try_refused_piece(0);
+    try_refused_piece(1);
     try_refusals();
     return judged("reading");
 }
