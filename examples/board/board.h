@@ -7,7 +7,7 @@
 bool bus_fetch(uint8_t device, uint8_t offset, uint8_t *bytes, uint8_t count);
 bool bus_store(uint8_t device, uint8_t offset, const uint8_t *bytes, uint8_t count);
 
-/* Waits for the module, 100 ms or longer: docs/for_firmware.md, "Pauses". */
-void bus_pause(void);
+/* Lets so many milliseconds pass, or more. */
+void bus_pause(uint32_t milliseconds);
 
 void print(const char *text);

@@ -22,4 +22,7 @@ bool bus_store(uint8_t device, uint8_t offset, const uint8_t *bytes, uint8_t cou
     return begin() && dovecounter_module_store(image, IMAGE, &module, device, offset, bytes, count) == DOVECOUNTER_DONE;
 }
 
-void bus_pause(void) { dovecounter_module_tick(&module); }
+void bus_pause(uint32_t milliseconds) {
+    (void)milliseconds;
+    dovecounter_module_tick(&module);
+}

@@ -11,10 +11,12 @@ static const struct dovecounter_path kept[1];
 enum { KEPT = 0 };
 
 /* What is large is here and not on the stack: docs/firmware.md, "Size and stack". */
-static struct dovecounter_reading reading;
+static struct dovecounter_half halves[DOVECOUNTER_MOST_READ];
+static struct dovecounter_conversation conversation;
 static struct dovecounter_plan plan;
-static struct dovecounter_procedure procedure;
-static uint8_t bytes[128];
+
+/* Before anything is known of the module. */
+static struct dovecounter_patience patience = {.pause = 20, .limit = 2000};
 
 static void print_number(const char *before, uint32_t number) {
     char digits[11] = {0};
@@ -27,9 +29,8 @@ static void print_number(const char *before, uint32_t number) {
     print(digits + at);
 }
 
-/* Does what is asked for on the bus; bytes that are fetched are in `bytes`. */
-static uint8_t transact(const struct dovecounter_operation *operation) {
-    if (operation->wait) bus_pause();
+static uint8_t transact(void *context, const struct dovecounter_operation *operation, uint8_t bytes[128]) {
+    (void)context;
     if (operation->kind == DOVECOUNTER_STORE)
         return bus_store(operation->device, operation->offset, operation->bytes, operation->count)
                    ? DOVECOUNTER_STORED
@@ -38,24 +39,27 @@ static uint8_t transact(const struct dovecounter_operation *operation) {
                                                                                     : DOVECOUNTER_REFUSED;
 }
 
-/* True once the module's halves are read. */
-static bool read_module(void) {
-    struct dovecounter_operation operation;
-    uint32_t status = dovecounter_read(32, &reading);
-    while (status == DOVECOUNTER_DONE) {
-        status = dovecounter_read_next(&reading, &operation);
-        if (status != DOVECOUNTER_DONE) break;
-        uint8_t outcome = transact(&operation);
-        status = dovecounter_read_reply(&reading, outcome, bytes, outcome == DOVECOUNTER_FETCHED ? operation.count : 0);
-    }
-    print_number("read ", reading.count);
-    print_number(" halves, status ", status);
+static void pause(void *context, uint32_t milliseconds) {
+    (void)context;
+    bus_pause(milliseconds);
+}
+
+/* True once the conversation that has begun has succeeded. */
+static bool carry_out(const char *what) {
+    struct dovecounter_ending ending;
+    if (dovecounter_run(&conversation, halves, transact, pause, NULL) != DOVECOUNTER_DONE) return false;
+    if (dovecounter_end(&conversation, halves, &ending) != DOVECOUNTER_DONE) return false;
+    print(what);
+    print_number(": operations ", ending.steps);
+    print_number(", fault ", ending.fault.code);
     print("\n");
-    return status == DOVECOUNTER_ENDED;
+    return ending.fault.code == 0;
 }
 
 static bool plan_lanes(void) {
-    uint32_t status = dovecounter_plan(reading.halves, reading.count, 1, 0, weights, 0, kept, KEPT, &plan);
+    size_t count = conversation.halves;
+    uint32_t status = dovecounter_plan(halves, count, 1, 0, weights, 0, kept, KEPT, &plan);
+    if (status == DOVECOUNTER_DONE) status = dovecounter_patience(halves, count, &patience);
     if (status != DOVECOUNTER_DONE) {
         print_number("no plan, status ", status);
         print("\n");
@@ -71,27 +75,11 @@ static bool plan_lanes(void) {
     return true;
 }
 
-/* True once the procedure that has begun has succeeded. */
-static bool carry_out(const char *what) {
-    struct dovecounter_operation operation;
-    struct dovecounter_answer answer;
-    while (dovecounter_next(&procedure, &operation) == DOVECOUNTER_DONE) {
-        uint8_t outcome = transact(&operation);
-        uint32_t count = outcome == DOVECOUNTER_FETCHED ? operation.count : 0;
-        if (dovecounter_reply(&procedure, outcome, bytes, count) != DOVECOUNTER_DONE) return false;
-    }
-    if (dovecounter_answer(&procedure, &answer) != DOVECOUNTER_DONE) return false;
-    print(what);
-    print_number(": operations ", answer.steps);
-    print_number(", fault ", answer.fault.code);
-    print("\n");
-    return answer.fault.code == 0;
-}
-
 int main(void) {
-    if (!read_module() || !plan_lanes()) return 1;
-    dovecounter_provision(plan.control, plan.outside, &procedure);
+    dovecounter_read_begin(128, &patience, &conversation);
+    if (!carry_out("read") || !plan_lanes()) return 1;
+    dovecounter_provision_begin(plan.control, plan.outside, &patience, &conversation);
     if (!carry_out("provisioned")) return 1;
-    dovecounter_activate(plan.control, plan.lanes, &procedure);
+    dovecounter_activate_begin(plan.control, plan.lanes, &patience, &conversation);
     return carry_out("activated") ? 0 : 1;
 }

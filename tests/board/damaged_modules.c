@@ -21,8 +21,9 @@ static size_t kept_count;
 static struct dovecounter_plan plan;
 static uint8_t text[DOVECOUNTER_CERTIFICATE_SIZE];
 static struct dovecounter_module module;
-static struct dovecounter_procedure procedure;
-static struct dovecounter_reading reading;
+static struct dovecounter_conversation conversation;
+static struct dovecounter_half halves_read[DOVECOUNTER_MOST_READ];
+static struct dovecounter_patience patience;
 
 /* A number below the limit. */
 static uint32_t below(uint32_t limit) {
@@ -82,6 +83,9 @@ static void make_module(void) {
     paired = (uint8_t)below(2);
     by_id = (uint8_t)below(2);
     stay = one_of(3) ? any() : 0;
+    patience.pause = below(200);
+    patience.limit = one_of(3) ? below(2000) : DOVECOUNTER_UNBOUNDED;
+    patience.trusts = (uint8_t)below(3);
 }
 
 static void plan_lanes(void) {
@@ -104,6 +108,7 @@ static void decode(void) {
     ADD(flags, dovecounter_flags(halves, half_count, &written));
     ADD(monitors, dovecounter_monitors(halves, half_count, &written));
     ADD(durations, dovecounter_durations(halves, half_count, &written));
+    ADD(patience, dovecounter_patience(halves, half_count, &written));
 }
 
 static void check(size_t length) {
@@ -142,24 +147,41 @@ static uint8_t transact(const struct dovecounter_operation *operation, uint8_t b
     return operation->kind == DOVECOUNTER_FETCH ? DOVECOUNTER_FETCHED : DOVECOUNTER_STORED;
 }
 
+/* Tells the conversation what came of what it wanted. */
+static void reply(uint8_t outcome, const struct dovecounter_operation *operation, const uint8_t bytes[128]) {
+    size_t count = outcome == DOVECOUNTER_FETCHED ? operation->count : 0;
+    add_status(dovecounter_reply(&conversation, halves_read, outcome, bytes, count));
+    add(&conversation, sizeof conversation);
+    add(bytes, 128);
+}
+
+/* Whether there is something to do, which is written to *operation. */
+static bool wants(struct dovecounter_operation *operation) {
+    memset(operation, 0x5A, sizeof *operation);
+    uint32_t status = add_status(dovecounter_next(&conversation, halves_read, operation));
+    add(operation, sizeof *operation);
+    return status == DOVECOUNTER_DONE;
+}
+
 static void carry_out(void) {
-    for (int i = 0; i < 150; i++) {
-        struct dovecounter_operation operation;
-        uint8_t bytes[128] = {0};
-        memset(&operation, 0x5A, sizeof operation);
-        uint32_t status = add_status(dovecounter_next(&procedure, &operation));
-        add(&operation, sizeof operation);
-        add(&procedure, sizeof procedure);
-        if (status != DOVECOUNTER_DONE) break;
-        uint8_t outcome = transact(&operation, bytes);
-        add_status(dovecounter_reply(&procedure, outcome, bytes, outcome == DOVECOUNTER_FETCHED ? operation.count : 0));
+    struct dovecounter_operation operation;
+    for (int i = 0; i < 200 && wants(&operation); i++) {
+        uint8_t bytes[128] = {0}, outcome = DOVECOUNTER_WAITED;
+        if (operation.kind != DOVECOUNTER_WAIT) outcome = transact(&operation, bytes);
+        reply(outcome, &operation, bytes);
         add(&module, sizeof module);
-        add(bytes, sizeof bytes);
     }
-    ADD(answer, dovecounter_answer(&procedure, &written));
+    ADD(ending, dovecounter_end(&conversation, halves_read, &written));
 }
 
 static void turn_byte(void *of, size_t size) { ((uint8_t *)of)[below((uint32_t)size)] ^= (uint8_t)(1 + below(255)); }
+
+/* A conversation of which a byte is another. */
+static void try_other_numbers(void) {
+    turn_byte(&conversation, sizeof conversation);
+    ADD(operation, dovecounter_next(&conversation, halves_read, &written));
+    ADD(ending, dovecounter_end(&conversation, halves_read, &written));
+}
 
 /* Procedures on a simulated module; then such numbers as C must not make. */
 static void provision(void) {
@@ -169,19 +191,21 @@ static void provision(void) {
     uint32_t status = add_status(dovecounter_module_begin(halves, half_count, &delays, &module));
     add(&module, sizeof module);
     if (status != DOVECOUNTER_DONE) return;
-    memset(&procedure, 0, sizeof procedure);
-    dovecounter_wake(&procedure);
+    dovecounter_wake_begin(&patience, &conversation);
     carry_out();
-    dovecounter_provision(plan.control, plan.outside, &procedure);
+    dovecounter_provision_begin(plan.control, plan.outside, &patience, &conversation);
     carry_out();
-    dovecounter_activate(plan.control, plan.lanes, &procedure);
+    dovecounter_activate_begin(plan.control, plan.lanes, &patience, &conversation);
+    carry_out();
+    dovecounter_sleep_begin(&patience, &conversation);
     carry_out();
     turn_byte(&module, sizeof module);
     add_status(dovecounter_module_tick(&module));
-    turn_byte(&procedure, sizeof procedure);
-    ADD(operation, dovecounter_next(&procedure, &written));
-    ADD(answer, dovecounter_answer(&procedure, &written));
+    try_other_numbers();
 }
+
+/* The page that a reading has selected. */
+static uint8_t page;
 
 /* The bytes of the half that an operation fetches, as far as there is one. */
 static void fetch(const struct dovecounter_operation *operation, uint8_t bytes[128]) {
@@ -190,30 +214,39 @@ static void fetch(const struct dovecounter_operation *operation, uint8_t bytes[1
         const struct dovecounter_half *half = &halves[i];
         bool is_upper = operation->offset >= OFFSET;
         if (half->device != operation->device || half->upper != is_upper) continue;
-        if (is_upper && half->page != reading.page) continue;
+        if (is_upper && half->page != page) continue;
         uint32_t from = operation->offset % OFFSET;
         for (uint32_t at = 0; at < operation->count && from + at < OFFSET; at++) bytes[at] = half->bytes[from + at];
         return;
     }
 }
 
-static void read_module(void) {
-    memset(&reading, 0x5A, sizeof reading);
-    add_status(dovecounter_read((uint8_t)(1 + below(128)), &reading));
-    for (int i = 0; i < 120; i++) {
-        struct dovecounter_operation operation;
-        uint8_t bytes[128];
-        memset(&operation, 0x5A, sizeof operation);
-        uint32_t status = add_status(dovecounter_read_next(&reading, &operation));
-        add(&operation, sizeof operation);
-        if (status != DOVECOUNTER_DONE) break;
-        uint8_t outcome = operation.kind == DOVECOUNTER_FETCH ? DOVECOUNTER_FETCHED : DOVECOUNTER_STORED;
-        if (one_of(6)) outcome = DOVECOUNTER_REFUSED;
-        fetch(&operation, bytes);
-        add_status(
-            dovecounter_read_reply(&reading, outcome, bytes, outcome == DOVECOUNTER_FETCHED ? operation.count : 0));
-        add(&reading, sizeof reading);
+/* What came of an operation on the halves, which refuse one of six. */
+static uint8_t carried_out(const struct dovecounter_operation *operation, uint8_t bytes[128]) {
+    if (one_of(6)) return DOVECOUNTER_REFUSED;
+    if (operation->kind == DOVECOUNTER_STORE) {
+        page = operation->bytes[operation->count - 1];
+        return DOVECOUNTER_STORED;
     }
+    fetch(operation, bytes);
+    if (operation->offset == 126) bytes[1] = page;
+    if (operation->offset == 127) bytes[0] = page;
+    return DOVECOUNTER_FETCHED;
+}
+
+static void read_module(void) {
+    struct dovecounter_operation operation;
+    memset(&conversation, 0x5A, sizeof conversation);
+    page = 0;
+    add_status(dovecounter_read_begin((uint8_t)(1 + below(128)), &patience, &conversation));
+    for (int i = 0; i < 200 && wants(&operation); i++) {
+        uint8_t bytes[128] = {0}, outcome = DOVECOUNTER_WAITED;
+        if (operation.kind != DOVECOUNTER_WAIT) outcome = carried_out(&operation, bytes);
+        reply(outcome, &operation, bytes);
+    }
+    add(halves_read, sizeof halves_read);
+    ADD(ending, dovecounter_end(&conversation, halves_read, &written));
+    try_other_numbers();
 }
 
 /* Weights as a text, in which a byte may be another, and texts into buffers that may be too small. */
@@ -230,7 +263,7 @@ static void read_texts(void) {
     add(found, sizeof found);
     uint32_t status = any() % 70;
     add_status(dovecounter_status_text(status, words, below(sizeof words), &length));
-    add_status(dovecounter_fault_text(status % 8, words, below(sizeof words), &length));
+    add_status(dovecounter_fault_text(status % 10, words, below(sizeof words), &length));
     add_status(dovecounter_verdict_text(status % 12, words, below(sizeof words), &length));
     add(words, sizeof words);
     uint32_t told[2] = {(uint32_t)line, (uint32_t)length};
