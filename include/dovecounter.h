@@ -448,8 +448,8 @@ enum dovecounter_fault_code {
     DOVECOUNTER_NOT_ACTIVE = 3,        /* PV3: the active control byte of the lane `first` isn't that of the plan */
     DOVECOUNTER_GAVE_UP_WAITING = 4,   /* PV4: 4096 operations were made without another answer */
     DOVECOUNTER_BUS_ENDED = 5,         /* PV5: no procedure here ends so; `first` is the digit of BU1 or BU2 */
-    DOVECOUNTER_NOT_READY = 6,         /* PV6: the module is in the state `first`, and not in ModuleReady; of dovecounter_wake and
-                                          dovecounter_sleep: in ModuleFault */
+    DOVECOUNTER_NOT_READY = 6,         /* PV6: the module is in the state `first`, and not in ModuleReady; of dovecounter_wake_begin
+                                          and dovecounter_sleep_begin: in ModuleFault */
     DOVECOUNTER_RESERVED_CODE = 7,     /* PV7: the standard reserves the code `first` that the module shows */
     DOVECOUNTER_OVERDUE = 8            /* it was patient for longer than the limit, and nothing came of it */
 };
@@ -645,8 +645,7 @@ static inline uint32_t dovecounter_run(struct dovecounter_conversation *conversa
             pause(context, operation.milliseconds);
         else
             outcome = transact(context, &operation, bytes);
-        status = dovecounter_reply(conversation, halves, outcome, bytes,
-                                   outcome == DOVECOUNTER_FETCHED ? operation.count : 0);
+        status = dovecounter_reply(conversation, halves, outcome, bytes, operation.count);
         if (status != DOVECOUNTER_DONE) return status;
     }
     return status == DOVECOUNTER_ENDED ? (uint32_t)DOVECOUNTER_DONE : status;

@@ -538,7 +538,7 @@ static void try_procedure(const struct dovecounter_plan *plan) {
 static uint8_t say_nothing(void *context, const struct dovecounter_operation *operation, uint8_t bytes[128]) {
     (void)operation;
     (void)bytes;
-    ++*(int *)context;
+    if (++*(int *)context == 10) exit(1); /* it is called again and again */
     return 77;
 }
 
@@ -557,6 +557,38 @@ static void try_run(const struct dovecounter_plan *plan) {
     expect_same("goes on where it was", &before, &procedure, sizeof procedure);
     memset(&procedure, 0, sizeof procedure);
     expect("zeros", DOVECOUNTER_NO_CONVERSATION, dovecounter_run(&procedure, none, say_nothing, pause_never, &calls));
+}
+
+struct waits {
+    unsigned calls, pauses, milliseconds;
+};
+
+static uint8_t refuse(void *context, const struct dovecounter_operation *operation, uint8_t bytes[128]) {
+    struct waits *waits = context;
+    expect("no wait is a transaction", DOVECOUNTER_FETCH, operation->kind);
+    memset(bytes, 3 << 1, 128); /* ModuleReady, if anybody looks at it */
+    waits->calls++;
+    return DOVECOUNTER_REFUSED;
+}
+
+static void count_pause(void *context, uint32_t milliseconds) {
+    struct waits *waits = context;
+    waits->pauses++;
+    waits->milliseconds += milliseconds;
+}
+
+/* A bus that refuses all, as in try_limit. */
+static void try_waits(const struct dovecounter_plan *plan) {
+    struct dovecounter_conversation procedure;
+    struct dovecounter_ending ending;
+    struct waits waits = {0};
+    dovecounter_provision_begin(plan->control, 0xFF, &patience, &procedure);
+    expect("a run without an answer", DOVECOUNTER_DONE, dovecounter_run(&procedure, none, refuse, count_pause, &waits));
+    expect("its end", DOVECOUNTER_DONE, dovecounter_end(&procedure, none, &ending));
+    expect("the fault 8 of a run", DOVECOUNTER_OVERDUE, ending.fault.code);
+    expect("its transactions", 4, waits.calls);
+    expect("its pauses", 3, waits.pauses);
+    expect("the milliseconds of all", 120, waits.milliseconds);
 }
 
 /* ---- durations ---- */
@@ -760,6 +792,7 @@ int main(void) {
     try_doubt(&plan, 1);
     try_limit(&plan);
     try_run(&plan);
+    try_waits(&plan);
     try_kept_procedure();
     try_other_numbers(&plan);
     return judged("firmware");
