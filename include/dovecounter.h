@@ -555,7 +555,9 @@ void dovecounter_sleep_begin(const struct dovecounter_patience *patience,
    its memory is flat; for an SFF-8636 module the lower half and the pages 00h and 03h, likewise; for an SFF-8472
    module the lower half of 0xA0, and that of 0xA2 if it has diagnostics without an address change; for other modules
    the lower half of 0xA0. The bus fetches at most `most` bytes at once: a half comes in pieces of the largest
-   multiple of 8 that is not above that, and of 128 at most. Nobody else may use the module meanwhile. CMIS modules
+   multiple of 8 that is not above that, and of 128 at most. A piece that was refused is fetched again; if the page was
+   selected for it and patience->trusts is 0, the half comes again from its first piece on, so on a bus that often
+   refuses, fetch as much as it carries at once. Nobody else may use the module meanwhile. CMIS modules
    are here those of identifiers 0x18, 0x19, 0x1B and 0x1E to 0x25, of any revision; the functions that decode and
    plan take fewer of them.
 
@@ -597,7 +599,7 @@ enum dovecounter_outcome {
 /* Tells the conversation once what came of that operation, with DOVECOUNTER_FETCHED also the bytes, as many as were
    asked for (of another outcome no bytes are looked at); writes to *conversation, and if a half is whole, to `halves`:
    the new one comes first, and conversation->halves counts them. A refused operation is asked for again, up to 4096
-   operations in all, of which the pieces of a half that was read count as one.
+   operations in all, each piece of a half and each selection of a page among them.
 
    status   if
    31       the numbers are none of a conversation

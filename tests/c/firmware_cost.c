@@ -2,6 +2,8 @@
 #include "dovecounter.h"
 #include "painted.h"
 
+#include <stdbool.h>
+
 static uint32_t weights[256];
 static struct dovecounter_path kept[1];
 static struct dovecounter_plan plan;
@@ -20,6 +22,8 @@ static struct dovecounter_identity identity;
 static struct dovecounter_flags flags;
 static struct dovecounter_monitors monitors;
 static const char certificate[] = "certificate 1\nweight 0\nstate 0 00 0\nend\n";
+
+static struct dovecounter_patience advertised;
 
 static void *nothing(void *x) { return x; }
 static void *advertises(void *x) {
@@ -127,6 +131,46 @@ static void *wakes(void *x) {
     dovecounter_wake_begin(&patience, &procedure);
     return x;
 }
+static void *sleeps(void *x) {
+    dovecounter_sleep_begin(&patience, &procedure);
+    return x;
+}
+static void *has_patience(void *x) {
+    dovecounter_patience(halves, half_count, &advertised);
+    return x;
+}
+static void *ends_reading(void *x) {
+    dovecounter_end(&reading, halves_read, &ending);
+    return x;
+}
+
+/* A bus that carries the halves, for a whole reading. */
+static uint8_t page;
+
+static uint8_t transact(void *context, const struct dovecounter_operation *it, uint8_t read[128]) {
+    (void)context;
+    if (it->kind == DOVECOUNTER_STORE) {
+        page = it->bytes[it->count - 1];
+        return DOVECOUNTER_STORED;
+    }
+    for (size_t i = 0; i < half_count; i++) {
+        const struct dovecounter_half *half = &halves[i];
+        bool is_there =
+            half->device == it->device && half->upper == it->offset / 128 && (!half->upper || half->page == page);
+        if (is_there) memcpy(read, half->bytes + it->offset % 128, it->count);
+    }
+    if (it->offset == 126) read[1] = page;
+    return DOVECOUNTER_FETCHED;
+}
+static void pause(void *context, uint32_t milliseconds) {
+    (void)context;
+    (void)milliseconds;
+}
+static void *reads_all(void *x) {
+    dovecounter_read_begin(128, &patience, &reading);
+    dovecounter_run(&reading, halves_read, transact, pause, 0);
+    return x;
+}
 
 int main(void) {
     read_halves();
@@ -152,10 +196,15 @@ int main(void) {
     print_used("dovecounter_read_begin", reads, alone);
     print_used("dovecounter_next of a reading", reads_next, alone);
     print_used("dovecounter_reply of a reading", read_replies, alone);
+    print_used("dovecounter_end of a reading", ends_reading, alone);
+    print_used("dovecounter_run of a reading", reads_all, alone);
+    if (reading.halves != DOVECOUNTER_MOST_READ) return 1;
     print_used("dovecounter_identity", identifies, alone);
     print_used("dovecounter_flags", flags_raised, alone);
     print_used("dovecounter_monitors", measures, alone);
     print_used("dovecounter_weights", reads_weights, alone);
     print_used("dovecounter_wake_begin", wakes, alone);
+    print_used("dovecounter_sleep_begin", sleeps, alone);
+    print_used("dovecounter_patience", has_patience, alone);
     return 0;
 }

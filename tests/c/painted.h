@@ -39,6 +39,8 @@ static void read_halves(void) {
     for (size_t i = 0; i < half_count; i++) halves[i] = images[0].halves[i];
 }
 
+void *memcpy(void *restrict to, const void *restrict from, size_t count);
+
 static size_t strlen(const char *text) {
     size_t length = 0;
     while (text[length] != '\0') length++;
