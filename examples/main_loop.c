@@ -58,7 +58,6 @@ bool carry_out(const struct dovecounter_plan *wanted, const struct dovecounter_p
     if (stage == PROVISIONING || stage == ACTIVATING) return false;
     plan = *wanted;
     patience = *patient;
-    status = DOVECOUNTER_DONE;
     memset(&fault, 0, sizeof fault);
     begin(PROVISIONING);
     return true;
@@ -116,8 +115,7 @@ enum stage poll_module(void) {
     if (under_way && !is_over()) return stage;
     if (under_way) {
         under_way = false;
-        size_t count = outcome == DOVECOUNTER_FETCHED ? operation.count : 0;
-        status = dovecounter_reply(&conversation, halves, outcome, bytes, count);
+        status = dovecounter_reply(&conversation, halves, outcome, bytes, operation.count);
         if (status != DOVECOUNTER_DONE) return stage = FAILED; /* such as DOVECOUNTER_STORED for a fetch */
     }
     go_on();

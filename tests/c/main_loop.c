@@ -43,6 +43,8 @@ void i2c_start(const struct dovecounter_operation *operation, uint8_t bytes[8]) 
                     operation->count == asked_before.count;
     if (is_again && clock_now - over_at < patient.pause) fail("an operation was asked for again at once");
     if (was_refused && clock_now - over_at < patient.pause) fail("no pause after a refusal");
+    if (beginnings > 1 && conversation.saved.steps == 0 && clock_now - over_at < BEFORE_AGAIN)
+        fail("a procedure was begun again at once");
     asked = *operation;
     wanted_bytes = bytes;
     calls_left = 3;
@@ -130,7 +132,9 @@ static void run(const char *name, uint8_t state, uint32_t delay, unsigned refuse
         clock_now++;
         interrupt();
         found = poll_module();
+        if (found == ACTIVATING && carry_out(&pairs, &patient)) fail("a plan was begun during an activation");
     }
+    if (poll_module() != found || is_busy) fail("something is done after the end");
     if (found != end_wanted || fault.code != fault_wanted ||
         (found == FAILED && fault.code == 0 && status != status_wanted)) {
         printf("main_loop: %s: stage %d, fault PV%u, status %u\n", name, found, fault.code, (unsigned)status);
@@ -159,6 +163,7 @@ int main(void) {
     run("a bus that refuses all", 3 << 1, 0, 1, false, FAILED, 4, 0);
     if (transactions != MOST_BEGINNINGS * 4096) fail("a procedure was begun too often");
     run("a module of low power", 1 << 1, 0, 0, false, FAILED, 6, 0);
+    if (transactions != 1) fail("a procedure was begun again that can't succeed");
     apply_delay = 700;
     run("a module that shows an earlier success", 3 << 1, 0, 0, false, UP, 0, 0);
     if (transactions <= 16 + 10) fail("no procedure was begun again after an earlier success");
