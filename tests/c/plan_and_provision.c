@@ -8,12 +8,15 @@
 static const struct dovecounter_delays delays = {4, 4, 4, 4, 4, 4, 4};
 static struct dovecounter_module module;
 static unsigned transactions, refuse_each; /* every so many one is refused; all of them if it is 1 */
-static uint32_t slept;
+static unsigned silent_from, silent_until; /* from one to before the other all are refused */
+static uint32_t slept, longest;
 static bool is_of_cmis = true;
 
 static bool refuses(void) {
     expect("a tick", DOVECOUNTER_DONE, dovecounter_module_tick(&module));
-    return refuse_each != 0 && ++transactions % refuse_each == 0;
+    transactions++;
+    if (silent_from <= transactions && transactions < silent_until) return true;
+    return refuse_each != 0 && transactions % refuse_each == 0;
 }
 
 bool i2c_fetch(uint8_t address, uint8_t offset, uint8_t *bytes, uint8_t count) {
@@ -30,11 +33,14 @@ bool i2c_store(uint8_t address, uint8_t offset, const uint8_t *bytes, uint8_t co
                                                   count) == DOVECOUNTER_DONE;
 }
 
-void sleep_ms(uint32_t milliseconds) { slept += milliseconds; }
+void sleep_ms(uint32_t milliseconds) {
+    slept += milliseconds;
+    if (longest < milliseconds) longest = milliseconds;
+}
 
 static void begin(unsigned refusals) {
     refuse_each = refusals;
-    transactions = slept = 0;
+    transactions = slept = longest = silent_from = silent_until = 0;
     expect("a module", DOVECOUNTER_DONE, dovecounter_module_begin(halves, half_count, &delays, &module));
 }
 
@@ -49,7 +55,19 @@ int main(void) {
             expect("its lanes are up", 4, module.lanes[lane].path);
         }
         expect("it slept where it was refused", 1, slept >= 100);
+        expect("as long as the module wants", 100, longest);
     }
+    begin(0);
+    expect("without refusals", DOVECOUNTER_DONE, plan_and_provision(&plan));
+    unsigned all = transactions;
+    begin(0);
+    silent_from = 14;        /* 13 read the module */
+    silent_until = 14 + 102; /* 101 pauses of 100 ms are longer than 10 s */
+    expect("silent while it is provisioned", 1000 + DOVECOUNTER_OVERDUE, plan_and_provision(&plan));
+    begin(0);
+    silent_from = all;
+    silent_until = UINT32_MAX;
+    expect("silent while it is activated", 1000 + DOVECOUNTER_OVERDUE, plan_and_provision(&plan));
     begin(3); /* after a refusal the page is selected and read back, so the third transaction is the one that counts */
     expect("a bus without three transactions in a row", 1000 + DOVECOUNTER_OVERDUE, plan_and_provision(&plan));
     begin(1);
