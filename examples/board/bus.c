@@ -1,4 +1,4 @@
-/* In place of an I2C driver: a simulated module, to which each transaction lets one tick pass, and which refuses every fifth. */
+/* In place of an I2C driver: a simulated module, which refuses every fifth transaction. A tick passes in each, and in 10 ms of a pause. */
 #include "board.h"
 #include "dovecounter.h"
 #include "image.h"
@@ -23,6 +23,5 @@ bool bus_store(uint8_t device, uint8_t offset, const uint8_t *bytes, uint8_t cou
 }
 
 void bus_pause(uint32_t milliseconds) {
-    (void)milliseconds;
-    dovecounter_module_tick(&module);
+    for (; milliseconds >= 10; milliseconds -= 10) dovecounter_module_tick(&module);
 }
