@@ -12,8 +12,8 @@
 #include <time.h>
 #include <unistd.h>
 
-enum { SILENCE = 1000 };   /* milliseconds */
-enum { SILENT_AFTER = 8 }; /* transactions, since pauses between them may be long */
+enum { SILENCE = 1000 };                    /* milliseconds */
+enum { SLOW_AFTER = 3, SILENT_AFTER = 15 }; /* transactions */
 
 int64_t now(void) {
     struct timespec time;
@@ -81,6 +81,10 @@ static bool transact_i2c(struct port *port, const struct dovecounter_operation *
     int made = ioctl(port->file, I2C_RDWR, &data);
     if (made >= 0) errno = EIO; /* of fewer messages */
     return made == (int)data.nmsgs;
+}
+
+static bool is_selection(const struct dovecounter_operation *operation) {
+    return operation->offset == 126 || operation->offset == 127;
 }
 
 /* optoe has the lower half first, then the pages; of an SFP module A2h after the 256 bytes of A0h. */
@@ -173,34 +177,46 @@ static void log_operation(struct port *port, const struct dovecounter_operation 
     fflush(port->log);
 }
 
-/* A module that refuses for too long is said to be silent. */
+/* Whether the module is silent: it has refused many transactions in a row for a second. An adapter may take that second to give up a few,
+   and pauses between them may be so long that a few take it. */
+static bool is_silent(const struct port *port) {
+    bool is_slow = port->refused >= SLOW_AFTER && port->given_up > SILENCE;
+    return is_slow || (port->refused >= SILENT_AFTER && now() - port->refused_at > SILENCE);
+}
+
 static void take_refusal(struct port *port, const struct dovecounter_operation *operation, int64_t began, int error) {
     bool too_long = error == EOPNOTSUPP || error == EMSGSIZE || error == EINVAL;
-    if (too_long && port->carry == transact_i2c && operation->count > 8) {
+    if (too_long && port->carry == transact_i2c && operation->count > port->least) {
         warnx("%s: its adapter fetches no %u bytes at once: %s", port->name, operation->count, strerror(error));
         port->most = operation->count / 2;
     }
-    if (port->refused++ == 0) port->refused_at = began;
-    pause_ms(port, 0); /* takes a signal */
-    if (port->ending != GOES_ON || port->refused < SILENT_AFTER || now() - port->refused_at <= SILENCE) return;
+    if (port->refused++ == 0) port->refused_at = began, port->given_up = 0;
+    port->given_up += now() - began;
+    if (port->ending != GOES_ON || !is_silent(port)) return;
     clear_progress();
     warnx("%s: the module does not answer: %s", port->name, strerror(error));
     port->ending = SILENT;
 }
 
+/* What an adapter has fetched at once it can fetch. A selection that is kept here is no answer of the module. */
+static void take_answer(struct port *port, const struct dovecounter_operation *operation) {
+    bool fetches = operation->kind == DOVECOUNTER_FETCH;
+    if (fetches && operation->count > port->least) port->least = operation->count;
+    if (!is_selection(operation) || port->carry != transact_in_a_row) port->refused = 0;
+}
+
 uint8_t transact(struct port *port, const struct dovecounter_operation *operation, uint8_t bytes[128]) {
     int64_t began = now();
-    bool selects = operation->offset == 126 || operation->offset == 127;
-    port->stored = port->stored || (operation->kind == DOVECOUNTER_STORE && !selects);
+    bool stores = operation->kind == DOVECOUNTER_STORE;
+    port->stored = port->stored || (stores && !is_selection(operation));
     bool answered = port->carry(port, operation, bytes);
     int error = errno;
     port->made++;
     if (port->log != NULL) log_operation(port, operation, answered, bytes);
-    if (answered) {
-        port->refused = 0;
-        pause_ms(port, 0); /* takes a signal */
-        return operation->kind == DOVECOUNTER_STORE ? DOVECOUNTER_STORED : DOVECOUNTER_FETCHED;
-    }
-    take_refusal(port, operation, began, error);
-    return DOVECOUNTER_REFUSED;
+    pause_ms(port, 0); /* takes a signal */
+    if (answered)
+        take_answer(port, operation);
+    else
+        take_refusal(port, operation, began, error);
+    return !answered ? DOVECOUNTER_REFUSED : stores ? DOVECOUNTER_STORED : DOVECOUNTER_FETCHED;
 }

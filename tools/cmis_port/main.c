@@ -109,7 +109,7 @@ static enum status run(const struct command *command, struct port *port, const c
 
 int main(int count, char **words) {
     static char output[1 << 14]; /* holds all of it, to be written where a signal may end the program */
-    struct port port = {.file = -1, .most = 128};
+    struct port port = {.file = -1, .most = 128, .least = 8};
     const char *weights = NULL;
     fill_streams();
     signal(SIGPIPE, SIG_IGN); /* writes fail instead, */

@@ -36,8 +36,9 @@ static void show_progress(const struct talk *talk, uint8_t offset, const uint8_t
 
 /* Whether the reading has to end, since its first half shows another family. */
 static bool has_enough(const struct talk *talk) {
+    if (talk->name != NULL || talk->of_any_family) return false;
     talk->port->half_count = talk->conversation.halves;
-    return talk->name == NULL && !talk->of_any_family && is_other_family(talk->port);
+    return is_other_family(talk->port);
 }
 
 static uint8_t make(void *context, const struct dovecounter_operation *operation, uint8_t bytes[128]) {
@@ -86,7 +87,7 @@ static unsigned run(struct talk *talk, struct dovecounter_ending *ending) {
 
 /* Reads what the library asks for, from the beginning again if the adapter fetches less at once. */
 bool read_module(struct port *port, bool of_any_family) {
-    const struct dovecounter_patience patience = {.pause = 20, .limit = 20000};
+    const struct dovecounter_patience patience = {.pause = 20, .limit = 2000};
     struct talk talk = {.port = port, .of_any_family = of_any_family};
     struct dovecounter_ending ending;
     unsigned fault;
@@ -124,10 +125,16 @@ unsigned lanes_in(const struct port *port, unsigned path_state) {
     return lanes;
 }
 
-/* Begins the work, as patiently as the module asks for. */
-static void begin(const struct port *port, enum work work, struct dovecounter_conversation *conversation) {
-    struct dovecounter_patience patience = {.pause = 100, .limit = 60000};
+/* As much as the module asks for. That is enough for two states in a row; lanes that are up pass two before the module goes down. */
+static struct dovecounter_patience patience_for(const struct port *port, enum work work) {
+    struct dovecounter_patience patience = {.pause = 100, .limit = 10000};
     dovecounter_patience(port->halves, port->half_count, &patience);
+    if (work == SLEEP) patience.pause += patience.pause / 2, patience.limit += patience.limit / 2;
+    return patience;
+}
+
+static void begin(const struct port *port, enum work work, struct dovecounter_conversation *conversation) {
+    const struct dovecounter_patience patience = patience_for(port, work);
     switch (work) {
     case PROVISION:
         dovecounter_provision_begin(port->plan.control, lanes_to_take(port), &patience, conversation);

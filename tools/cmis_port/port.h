@@ -37,12 +37,12 @@ struct port {
     bool (*carry)(struct port *port, const struct dovecounter_operation *operation, uint8_t *bytes); /* answered? */
     struct simulated simulated;
     uint8_t selection[2]; /* bank and page that would be selected */
-    uint8_t most;         /* bytes that the adapter fetches at once */
+    uint8_t most, least;  /* bytes that the adapter fetches at once: as far as is known, and certainly */
     sigset_t signals;     /* they end the program between two operations */
 
     /* what came of it */
     unsigned made, refused;                   /* operations; those that were refused since one was answered */
-    int64_t refused_at;                       /* when the first of these began */
+    int64_t refused_at, given_up;             /* when the first of these began, and how long they took */
     enum { GOES_ON, STOPPED, SILENT } ending; /* whether no further operation is to be made */
     bool stored;                              /* or tried to, but for page selections */
     unsigned steps[4];                        /* of each work that was done */
