@@ -44,9 +44,16 @@ def refusing(module, often, seed, watch=lambda: None):
 
 
 module = plug("add_800g_dr8.txt")
+
+
+def wait(seconds):
+    """A tick stands for 10 ms."""
+    module.tick(round(seconds * 100))
+
+
 bus = refusing(module, often=20, seed=1)
 reading = Reading(most=32)
-reading.run(bus, pause=lambda _: module.tick())
+reading.run(bus, pause=wait)
 image = reading.image
 print("Applications", len(image.applications()), "halves", len(image.halves))
 
@@ -65,7 +72,7 @@ def stay_up():
 
 
 def carry_out(procedure, often):
-    procedure.run(refusing(module, often, seed=2, watch=stay_up), pause=lambda _: module.tick(10))
+    procedure.run(refusing(module, often, seed=2, watch=stay_up), pause=wait)
     stay_up()
     return procedure.steps
 

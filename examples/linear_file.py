@@ -64,15 +64,15 @@ module = SimulatedModule(Image.from_text(text), Delays(init=20, turn_on=20))
 bus = LinearBus(SimulatedDriver(module))
 
 
-def wait(_seconds):
-    """In place of time.sleep, which a real module is given."""
-    module.tick(10)
+def wait(seconds):
+    """In place of time.sleep, which a real module is given: a tick stands for 10 ms."""
+    module.tick(round(seconds * 100))
 
 
 reading = Reading()
 reading.run(bus.transact, pause=wait)
-best = plan(reading.image, {0x11: 400, 0x0D: 101})
-for procedure in (Provisioning(best), Activation(best)):
+best, patience = plan(reading.image, {0x11: 400, 0x0D: 101}), reading.image.patience()
+for procedure in (Provisioning(best, patience), Activation(best, patience)):
     procedure.run(bus.transact, pause=wait)
     print(type(procedure).__name__, "took", procedure.steps, "operations")
 print("active", module.active.hex(" "))
