@@ -20,6 +20,7 @@ from dovecounter import (
     Provisioning,
     SimulatedModule,
     Support,
+    Wait,
     page,
     plan,
 )
@@ -157,7 +158,7 @@ def test_a_simulated_module(simulated_module: Callable[..., SimulatedModule]) ->
     best, ticks = plan(DR4, WEIGHTS), []
     for one in (slow, fast):
         procedure = Provisioning(best)
-        procedure.run(one.transact, lambda: None)
+        procedure.run(one.transact, lambda _: None)
         ticks.append(procedure.steps or 0)
     assert ticks[0] > ticks[1] > 0
     with pytest.raises(TypeError):
@@ -172,13 +173,14 @@ def test_a_bus_that_refuses(
     for refused in (nothing, {3, 4}):
         bus = refusing_bus(simulated_module(DR4), refused)
         procedure = Provisioning(best)
-        procedure.run(bus, lambda: None)
+        procedure.run(bus, lambda _: None)
         assert bus.module.active == best.control
         assert len(bus.operations) == procedure.steps
         steps.append(procedure.steps or 0)
     assert steps[1] > steps[0] > 0
     bus = refusing_bus(simulated_module(DR4), {1}, cut=2)
-    first = next(iter(Provisioning(best)))
+    first = next(Provisioning(best))
+    assert isinstance(first, Operation)
     assert bus(first) is False and bus.operations == [first]
     assert bus(first) is not False
 
@@ -190,7 +192,7 @@ def test_time_passes_while_a_bus_refuses(
     assert module.store(0xA0, 26, b"\x10")  # asks for low power
     states, bus = [], refusing_bus(module, range(1, 9))
     for _ in range(4):
-        assert bus(Operation(0xA0, 0, 1, None, False)) is False
+        assert bus(Operation(0xA0, 0, 1, None)) is False
         states.append(module.state)
     assert states[0] != ModuleState.ModuleLowPwr and states[-1] == ModuleState.ModuleLowPwr
 
@@ -217,10 +219,13 @@ def stores_of(best: Any) -> Any:
     """The stores of a provisioning on a module that takes all."""
     module = SimulatedModule(DR4)
     procedure = Provisioning(best)
-    for operation in procedure:
-        if operation.is_store:
-            yield operation
-        procedure.reply(module.transact(operation))
+    for step in procedure:
+        if isinstance(step, Wait):
+            procedure.waited()
+            continue
+        if step.is_store:
+            yield step
+        procedure.reply(module.transact(step))
 
 
 def test_the_plugin_has_its_entry_point() -> None:
