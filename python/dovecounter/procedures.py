@@ -8,7 +8,7 @@ from dataclasses import dataclass
 from typing import Any, Callable, Dict, Optional, TypeVar, Union
 
 from . import library
-from .faults import Fault, look_at, look_at_bytes, look_at_type
+from .faults import Fault, look_at, look_at_bytes, look_at_choice, look_at_type
 from .image import HALF, Image, Key
 from .planning import Plan
 from .reports import Patience
@@ -79,9 +79,10 @@ Transact = Callable[[Operation], Reply]
 class Procedure:
     """An iterator of operations and waits. Tell of each once before you ask for the next: the reply
     to an operation, and that a wait is over. One that was not told of is given again. A refused
-    operation is asked for again, up to 4096 operations in all. Nobody else may use the module
-    meanwhile. It is for one run: after its end it gives no operation, and raises its fault again; to
-    begin again, make another one.
+    operation is asked for again, up to 4096 operations in all; if the limit of its Patience is
+    passed before, TimeoutError is raised. Nobody else may use the module meanwhile. It is for one
+    run: after its end it gives no operation, and raises its fault again; to begin again, make
+    another one.
 
         for step in procedure:
             if isinstance(step, Wait):
@@ -97,7 +98,7 @@ class Procedure:
         self._patience = library.Patience(
             look_at("the pause", given.pause, library.UNBOUNDED),
             look_at("the limit", given.limit, library.UNBOUNDED),
-            bool(given.trusts),
+            look_at_choice("whether the selection is trusted", given.trusts),
         )
 
     def __repr__(self) -> str:
@@ -149,8 +150,8 @@ class Procedure:
         _expect_done(status)
 
     def run(self, transact: Transact, pause: Callable[[float], object] = time.sleep) -> None:
-        """Makes all operations by `transact`, and lets so many seconds pass by `pause` where that is
-        asked for."""
+        """Makes all operations by `transact`, and lets so many seconds pass by `pause` for each Wait.
+        If one of them raises, that step isn't told of: call this again to go on there."""
         for step in self:
             if isinstance(step, Wait):
                 pause(step.seconds)
@@ -252,11 +253,12 @@ class Sleeping(_Change):
 class Reading(Procedure):
     """Reads the halves of a module that reports and plans need (docs/bus.md, "Reading an image").
     The bus fetches at most `most` bytes at once, 8 to 255. Raises a Fault PV4 while it is iterated
-    if 4096 operations did not do. A simulated module needs page 10h too, which is not read."""
+    if 4096 operations did not do, and TimeoutError if the module is silent, for two seconds where
+    no other Patience is given. A simulated module needs page 10h too, which is not read."""
 
     _begin = staticmethod(library.function("read_begin"))
 
-    def __init__(self, most: int = HALF, patience: Patience = Patience(pause=20)) -> None:
+    def __init__(self, most: int = HALF, patience: Patience = Patience(20, 2000)) -> None:
         super().__init__(patience)
         least = look_at("the number of bytes at once", most, 255, least=8)
         _expect_done(self._begin(least, byref(self._patience), byref(self._saved)))

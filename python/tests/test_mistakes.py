@@ -27,6 +27,7 @@ from dovecounter import (
     Patience,
     Reading,
     SimulatedModule,
+    Sleeping,
     Wait,
     Waking,
     check,
@@ -69,6 +70,8 @@ def test_numbers_out_of_range_are_refused_and_not_cut() -> None:
         lambda: module.tick(-1),
         lambda: Reading(7),
         lambda: Waking(Patience(pause=-1)),
+        lambda: Waking(Patience(pause=2**32)),
+        lambda: Waking(Patience(limit=-1)),
         lambda: Waking(Patience(limit=2**32)),
         lambda: Reading(256 + 8),
         lambda: Provisioning(changed(outside=256)),
@@ -104,6 +107,12 @@ def test_numbers_out_of_range_are_refused_and_not_cut() -> None:
         lambda: Reading(True),
         lambda: Reading(8, 100),  # type: ignore[arg-type]
         lambda: Waking(Patience(pause=1.5)),  # type: ignore[arg-type]
+        lambda: Waking(Patience(limit=None)),  # type: ignore[arg-type]
+        lambda: Sleeping(Patience(trusts=256)),  # type: ignore[arg-type]
+        lambda: Provisioning(best, 0.1),  # type: ignore[arg-type]
+        lambda: Activation(best, None),  # type: ignore[arg-type]
+        lambda: Waking(100),  # type: ignore[arg-type]
+        lambda: Sleeping(lambda: None),  # type: ignore[arg-type]
         lambda: plan(DR4, WEIGHTS, paired=1),  # type: ignore[arg-type]
         lambda: check(DR4, WEIGHTS, "", counts_by_id=0),  # type: ignore[arg-type]
         lambda: DR4.applications(1),  # type: ignore[arg-type]
@@ -186,7 +195,7 @@ def test_a_kept_path_that_is_not_active_is_warned_of() -> None:
         named = [str(one.message).partition(" is to be")[0] for one in told]
         assert named == [str(other), str(DataPath(2, 1, 3))][: 1 + (active_bytes[:2] == "10")]
         assert told[0].filename == __file__
-        fault = fault_of(Provisioning(best).run, SimulatedModule(image).transact)
+        fault = fault_of(Provisioning(best).run, SimulatedModule(image).transact, lambda _: None)
         assert fault[:3] in ("PV1", "PV3")
     for active_bytes in ("20 20 24 24 28 00 2c 2c", "20 20 24 24 00 28 2c 2c"):
         image = DR4.changed(page(0x11), 206, bytes.fromhex(active_bytes))

@@ -1,13 +1,15 @@
 """Procedures over simulated modules, against `cmisctl trace` line by line, and the examples."""
 from __future__ import annotations
 
+import copy
 import os
 import pathlib
 import random
 import re
 import subprocess
 import sys
-from typing import List, Optional
+import time
+from typing import Any, Callable, Dict, List, Optional, Type
 
 import pytest
 
@@ -21,14 +23,19 @@ from dovecounter import (
     Patience,
     Provisioning,
     Reading,
+    Reply,
     SimulatedModule,
     Sleeping,
     Wait,
     Waking,
+    library,
     page,
     plan,
 )
 from dovecounter.faults import sentence_of
+from dovecounter.pytest_plugin import RefusingBus, refusing_bus, simulated_module
+
+__all__ = ["refusing_bus", "simulated_module"]  # pytest finds them here
 
 # what is planned here needn't be in use
 pytestmark = pytest.mark.filterwarnings("ignore::dovecounter.KeptPathNotActive")
@@ -136,27 +143,130 @@ def test_the_low_power_pin_is_held_and_left() -> None:
 
 def test_a_silent_bus_ends_in_a_fault() -> None:
     best = plan(DR4, WEIGHTS)
-    assert fault_of(Reading().run, lambda operation: False, lambda _: None) == "PV4"
-    provisioning = Provisioning(best)
-    assert fault_of(provisioning.run, lambda operation: False, lambda _: None) == "PV4"
-    assert provisioning.steps is None
+    changes = (Provisioning(best), Activation(best), Waking(), Sleeping())
+    for procedure, pause in (
+        *((change, 0.1) for change in changes),
+        (Reading(8, Patience(20)), 0.02),
+        (Waking(Patience(0, 0)), 0),  # no pause ever lasts longer than the limit
+    ):
+        pauses: List[float] = []
+        assert fault_of(procedure.run, lambda _: False, pauses.append) == "PV4"
+        assert fault_of(next, procedure) == "PV4"
+        assert pauses == [pause] * 4096 and "after 4096 operations>" in repr(procedure)
+    assert [change.steps for change in changes] == [None] * 4
 
 
 def test_patience_has_an_end() -> None:
-    best, pauses = plan(DR4, WEIGHTS), []
-    for procedure in (Reading(8, Patience(10, 35)), Provisioning(best, Patience(10, 35))):
-        pytest.raises(TimeoutError, procedure.run, lambda operation: False, pauses.append)
-        assert pauses == [0.01] * 4
+    best = plan(DR4, WEIGHTS)
+    short = Patience(10, 35)
+    for procedure, wanted in (
+        (Provisioning(best, short), [0.01] * 4),
+        (Activation(best, short), [0.01] * 4),
+        (Waking(short), [0.01] * 4),
+        (Sleeping(Patience(10, 30)), [0.01] * 4),
+        (Waking(Patience(10, 29)), [0.01] * 3),
+        (Reading(8, short), [0.01] * 4),
+        (Reading(), [0.02] * 101),
+        (Waking(Patience(5, 0)), [0.005]),
+        (Waking(Patience(2**32 - 1, 2**32 - 2)), [4294967.295]),
+    ):
+        pauses: List[float] = []
+        with pytest.raises(TimeoutError) as told:
+            procedure.run(lambda _: False, pauses.append)
+        assert pauses == wanted
+        assert str(told.value) == library.text("fault", 8)
         pytest.raises(TimeoutError, next, procedure)
-        pauses.clear()
-    assert DR4.patience().pause >= 100 and not DR4.patience().trusts
+        pytest.raises(ValueError, procedure.waited)
+        assert getattr(procedure, "steps", None) is None
+    reading = Reading(8, short)
+    pytest.raises(TimeoutError, reading.run, lambda _: False, lambda _: None)
+    pytest.raises(ValueError, lambda: reading.image)
+
+
+def test_patience_begins_anew_where_something_comes_of_an_operation() -> None:
+    replies = iter([*[False] * 4, *[b"\x06", True], *[False] * 5])
+    waking, pauses = Waking(Patience(10, 35)), list[float]()
+    pytest.raises(TimeoutError, waking.run, lambda _: next(replies), pauses.append)
+    assert pauses == [0.01] * 8
+
+
+def test_a_module_s_patience_outlasts_its_states() -> None:
+    assert DR4.patience() == Patience(100, 10000, False)
+    for code, patience in (
+        (0x07, Patience(100, 10000)),
+        (0x80, Patience(100, 20000)),
+        (0x9A, Patience(150, 600000)),
+        (0xC0, Patience(1500, 6000000)),
+        (0x0F, Patience(1500, 6000000)),
+    ):
+        image = DR4.changed(page(0x01), 144, bytes([code]))
+        total = sum(image.halves[page(0x01)][2:127]) % 256
+        image = image.changed(page(0x01), 255, bytes([total]))
+        assert image.patience() == patience
+    assert fault_of(DR4.without(page(0x01)).patience) == "AD4 upper A0 00 01"
+
+
+def test_a_run_that_was_interrupted_goes_on() -> None:
+    module, best = SimulatedModule(DR4, Delays(init=9)), plan(DR4, WEIGHTS)
+    undisturbed = module.copy()
+    for procedure, other in (
+        (Reading(), Reading()),
+        (Provisioning(best), Provisioning(best)),
+        (Activation(best), Activation(best)),
+    ):
+        interrupted: List[object] = []
+
+        def once(step: object) -> None:
+            """Interrupts each second call."""
+            interrupted.append(step)
+            if len(interrupted) % 2:
+                raise KeyboardInterrupt
+
+        def transact(operation: Operation) -> Reply:
+            once(operation)
+            return module.transact(operation)
+
+        def pause(seconds: float) -> None:
+            once(seconds)
+            module.tick()
+
+        while True:
+            try:
+                procedure.run(transact, pause)
+                break
+            except KeyboardInterrupt:
+                continue
+        other.run(undisturbed.transact, lambda _: undisturbed.tick())
+        assert interrupted[::2] == interrupted[1::2]
+        assert repr(procedure) == repr(other)
+    assert module.__getstate__() == undisturbed.__getstate__()
+
+
+def test_a_copy_of_a_reading_has_what_was_read() -> None:
+    module, reading = SimulatedModule(DR4), Reading(32)
+    for _ in range(6):
+        step = next(reading)
+        assert isinstance(step, Operation)
+        reading.reply(module.transact(step))
+    left = copy.copy(reading)
+    for one in (reading, left):
+        one.run(module.copy().transact, lambda _: None)
+    assert left.image == reading.image and repr(left) == repr(reading)
+    assert left.image.halves[page(0x00)] == DR4.halves[page(0x00)]
+
+
+def test_run_sleeps_as_long_as_the_library_says() -> None:
+    reading, begun = Reading(8, Patience(30, 59)), time.monotonic()
+    pytest.raises(TimeoutError, reading.run, lambda _: False)
+    assert 0.06 <= time.monotonic() - begun < 10
 
 
 def test_the_selection_is_doubted_after_a_refusal() -> None:
     best = plan(DR4, WEIGHTS)
+    replies: List[Reply] = [b"\x06", True, b"\x00\x10", False]
     for trusts, offset in ((True, 128), (False, 126)):
         procedure = Provisioning(best, Patience(1, trusts=trusts))
-        for reply in (b"\x06", True, b"\x00\x10"):
+        for reply in replies:
             next(procedure)
             procedure.reply(reply)
         assert next(procedure) == Wait(1)
@@ -220,19 +330,24 @@ def test_an_example_prints_what_it_should(name: str) -> None:
 
 
 def test_the_page_s_code_runs(
-    monkeypatch: pytest.MonkeyPatch, capsys: pytest.CaptureFixture[str]
+    monkeypatch: pytest.MonkeyPatch,
+    capsys: pytest.CaptureFixture[str],
+    simulated_module: Callable[..., SimulatedModule],
+    refusing_bus: Type[RefusingBus],
 ) -> None:
     monkeypatch.chdir(ROOT)
     blocks = re.findall(
         r"^```python\n(.*?)^```$", (ROOT / "docs/python.md").read_text(), re.MULTILINE | re.DOTALL
     )
-    exec(compile("\n".join(blocks), "docs/python.md", "exec"), {})
+    names: Dict[str, Any] = {}
+    exec(compile("\n".join(blocks), "docs/python.md", "exec"), names)
+    names["test_my_driver"](simulated_module, refusing_bus)
     assert capsys.readouterr().out.splitlines() == [
         "1: host 11h on 8 lanes",
         "2: host 0Dh on 2 lanes",
         "404 DataPath(application=2, host=1, media=1) 20 20 24 24 28 28 2c 2c",
         "17 operations",
-        "17 operations",
+        "14 operations",
         "20 20 24 24 28 28 2c 2c DPActivated",
         "EXAMPLE QDD-400G-DR4 12000 mW",
         "912000 nW in lane 1",
