@@ -286,7 +286,7 @@ def advertisement_of(found: library.Advertisement) -> Advertisement:
 def durations_of(found: library.Durations) -> Durations:
     """What the library's numbers say."""
     numbers = (getattr(found, name) for name, _ in library.Durations._fields_)
-    return Durations(*(None if number == 2**32 - 1 else number for number in numbers))
+    return Durations(*(None if number == library.UNBOUNDED else number for number in numbers))
 
 
 def inventory_of(found: library.Identity) -> Inventory:

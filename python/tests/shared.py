@@ -122,8 +122,8 @@ def line_of(operation: Operation, reply: Reply) -> str:
 def traced(
     image: Image, weights: Dict[int, int], kept: Sequence[DataPath], script: Script
 ) -> List[str]:
-    """What `cmisctl trace --keep --activate` prints, by the package. As there, time doesn't pass in a pause, and the selection is
-    taken for known after a refusal."""
+    """What `cmisctl trace --keep --activate` prints, by the package. As there, time doesn't pass in a
+    pause, and the selection is taken for known after a refusal."""
     best = plan(image, weights, kept)
     try:
         bus = ScriptedBus(SimulatedModule(image), script)

@@ -111,15 +111,15 @@ def test_each_function_is_declared_as_in_the_header() -> None:
 def test_numbers_are_those_of_the_header() -> None:
     assert f"#define DOVECOUNTER_VERSION {library.VERSION}\n" in HEADER
     assert f"#define DOVECOUNTER_TEXT_SIZE {library.TEXT_SIZE}\n" in HEADER
+    assert "#define DOVECOUNTER_UNBOUNDED UINT32_MAX\n" in HEADER
+    assert library.UNBOUNDED == ctypes.c_uint32(-1).value
     for family in Family:
         assert STATUSES[family.name] == family
     named = re.findall(
         r"DOVECOUNTER_\w+ = (\d+),? */\* ((?:AD|CT|KP|SM|RP|SF)\d):",
         (ROOT / "include/dovecounter.h").read_text(),
     )
-    assert {int(number): code for number, code in named} == {
-        number: code for number, code in CODES.items()
-    }
+    assert {int(number): code for number, code in named} == CODES
     assert (STATUSES["DONE"], STATUSES["ENDED"], STATUSES["NO_REPLY"]) == (
         procedures._DONE,
         procedures._ENDED,
