@@ -156,6 +156,28 @@ def test_a_silent_bus_ends_in_a_fault() -> None:
     assert [change.steps for change in changes] == [None] * 4
 
 
+@pytest.mark.parametrize(
+    "offset, data, fault",
+    [
+        (202, b"\x21\x11\x11\x11", "PV1 2 2"),
+        (145, bytes.fromhex("20 20 24 00 28 28 2c 2c"), "PV2 4"),
+        (206, bytes.fromhex("00 20 24 24 28 28 2c 2c"), "PV3 1"),
+        (3, b"\x02", "PV6 1"),
+        (3, b"\x0e", "PV7 7"),
+    ],
+)
+def test_a_fault_has_its_name_and_values(offset: int, data: bytes, fault: str) -> None:
+    module, provisioning = SimulatedModule(DR4), Provisioning(plan(DR4, WEIGHTS))
+
+    def transact(operation: Operation) -> Reply:
+        reply = module.transact(operation)
+        return reply if operation.is_store or operation.offset != offset else data
+
+    for _ in range(2):
+        assert fault_of(provisioning.run, transact, lambda _: None) == fault
+    assert provisioning.steps is None
+
+
 def test_patience_has_an_end() -> None:
     best = plan(DR4, WEIGHTS)
     short = Patience(10, 35)
