@@ -15,8 +15,10 @@ import pytest
 
 from shared import IMAGES, ROOT, WEIGHTS, compare_with_trace, example, fault_of, image_of
 from dovecounter import (
+    LOWER,
     Activation,
     Delays,
+    Key,
     ModuleState,
     Operation,
     PathState,
@@ -99,6 +101,40 @@ def test_a_reading_gives_the_halves_that_are_read(most: int) -> None:
         for key in (page(0x00), page(0x01), page(0x02)):
             assert reading.image.halves[key] == image.halves[key]
         assert reading.image.applications() == image.applications()
+
+
+@pytest.mark.parametrize(
+    "name, flat, halves",
+    [
+        ("sfp_10g_lr.txt", False, [LOWER, Key(0xA2)]),
+        ("qsfp28_100g_sr4.txt", False, [LOWER, page(0x00), page(0x03)]),
+        ("qsfp_dd_400g_dr4.txt", True, [LOWER, page(0x00)]),
+    ],
+)
+def test_a_reading_of_a_module_with_fewer_halves(name: str, flat: bool, halves: List[Key]) -> None:
+    image = example(name)
+    if flat:
+        image = image.changed(LOWER, 2, b"\x80")
+    selected = bytearray(2)
+
+    def transact(operation: Operation) -> Reply:
+        """Of memory that never changes, but for the page that is selected."""
+        if operation.data is not None:
+            assert operation.offset + operation.count <= 128
+            selected[operation.offset - 126 :] = operation.data
+            return True
+        is_upper = operation.offset >= 128
+        key = page(selected[1]) if is_upper else Key(operation.device)
+        half = bytearray(image.halves[key])
+        if key == LOWER:
+            half[126:] = selected
+        return bytes(half[operation.offset % 128 :][: operation.count])
+
+    reading = Reading(64)
+    reading.run(transact, lambda _: None)
+    assert list(reading.image.halves) == halves
+    for key in halves:
+        assert reading.image.halves[key][:126] == image.halves[key][:126]
 
 
 def test_a_module_wakes_up_and_goes_to_sleep_whatever_is_refused() -> None:
