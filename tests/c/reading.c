@@ -129,6 +129,15 @@ static void reply_to(const struct dovecounter_operation *operation, bool refused
     expect("a reply", DOVECOUNTER_DONE, dovecounter_reply(&reading, halves, outcome, bytes, count));
 }
 
+/* The operation is refused; what comes after the pause. */
+static struct dovecounter_operation after_refusal_of(struct dovecounter_operation operation) {
+    reply_to(&operation, true);
+    operation = next_operation();
+    expect("a pause", DOVECOUNTER_WAIT, operation.kind);
+    reply_to(&operation, false);
+    return next_operation();
+}
+
 /* A piece of page 01h is refused: if the reading doubts, the page is selected again and fetched from its first piece on; if it trusts,
    the piece is fetched again. A piece of the lower half, which needs no page, is fetched again in both. */
 static void try_refused_piece(uint8_t trusts) {
@@ -138,19 +147,11 @@ static void try_refused_piece(uint8_t trusts) {
     expect("begun", DOVECOUNTER_DONE, dovecounter_read_begin(32, &patience, &reading));
     for (operation = next_operation(); operation.offset != 96; operation = next_operation())
         reply_to(&operation, false);
-    reply_to(&operation, true);
-    operation = next_operation();
-    expect("a pause", DOVECOUNTER_WAIT, operation.kind);
-    reply_to(&operation, false);
-    operation = next_operation();
+    operation = after_refusal_of(operation);
     expect("the piece of the lower half", 96, operation.offset);
     for (; operation.offset != 192 || module.lower[0][127] != 0x01; operation = next_operation())
         reply_to(&operation, false);
-    reply_to(&operation, true);
-    operation = next_operation();
-    expect("a pause", DOVECOUNTER_WAIT, operation.kind);
-    reply_to(&operation, false);
-    operation = next_operation();
+    operation = after_refusal_of(operation);
     expect("the kind", trusts ? DOVECOUNTER_FETCH : DOVECOUNTER_STORE, operation.kind);
     expect("the piece, or the selection", trusts ? 192 : 126, operation.offset);
     if (!trusts) reply_to(&operation, false), operation = next_operation();
