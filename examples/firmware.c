@@ -8,7 +8,7 @@
 #include <stdio.h>
 #include <string.h>
 
-/* Weights by HostInterfaceID: four paths of 100GAUI-2 weigh more than one of 400GAUI-8. */
+/* Weights by HostInterfaceID: four paths of 100GAUI-2 outweigh one of 400GAUI-8. */
 static const uint32_t weights[256] = {[0x0D] = 101, [0x11] = 400};
 
 /* The module carries nothing yet, so no path is kept. */
@@ -54,7 +54,7 @@ static size_t read_halves(FILE *in, struct dovecounter_half halves[MOST_HALVES])
 /* ---- a module in software: page 10h takes what is stored, and page 11h follows at once ---- */
 
 struct module {
-    uint8_t page;         /* that is selected */
+    uint8_t page;         /* selected */
     uint8_t control[128]; /* page 10h, from byte 128 on */
     uint8_t status[128];  /* page 11h, from byte 128 on */
     unsigned transactions;
@@ -65,7 +65,7 @@ static void set_lane(uint8_t four[4], int lane, uint8_t code) {
     four[lane / 2] = (uint8_t)((four[lane / 2] & 0xF0 >> shift) | code << shift);
 }
 
-/* DPDeinit: a lane whose bit is set is DPDeactivated, another one DPActivated. */
+/* DPDeinit: lanes whose bit is set are DPDeactivated, all others DPActivated. */
 static void deinitialize(struct module *module, uint8_t lanes) {
     for (int lane = 0; lane < 8; lane++) set_lane(module->status, lane, lanes >> lane & 1 ? 1 : 4);
 }
@@ -94,7 +94,7 @@ static uint8_t fetch_byte(const struct module *module, uint8_t address) {
     return module->page == 0x10 ? module->control[address - 128] : module->status[address - 128];
 }
 
-/* Makes the transaction on the bus, which refuses every fifth; the bytes of a fetch come into `bytes`. */
+/* Makes a transaction on the bus, which refuses every fifth; a fetch fills `bytes`. */
 static uint8_t transact(struct module *module, const struct dovecounter_operation *operation, uint8_t *bytes) {
     if (++module->transactions % 5 == 0) return DOVECOUNTER_REFUSED;
     for (uint8_t i = 0; i < operation->count; i++) {
@@ -119,9 +119,9 @@ static void pause(void *module, uint32_t milliseconds) {
 
 enum { NO_ANSWER = 255 };
 
-/* Carries the procedure out; answers the code of its fault, 0 for success, or NO_ANSWER if the bus said what an operation can't have. */
+/* Carries the procedure out and returns the code of its fault, 0 for success, or NO_ANSWER after an impossible reply. */
 static uint8_t carry_out(struct module *module, struct dovecounter_conversation *procedure) {
-    static struct dovecounter_half none[DOVECOUNTER_MOST_READ]; /* is read by a procedure */
+    static struct dovecounter_half none[DOVECOUNTER_MOST_READ]; /* procedures read no halves */
     struct dovecounter_ending ending;
     if (dovecounter_run(procedure, none, transact_with, pause, module) != DOVECOUNTER_DONE) return NO_ANSWER;
     return dovecounter_end(procedure, none, &ending) == DOVECOUNTER_DONE ? ending.fault.code : NO_ANSWER;

@@ -1,5 +1,5 @@
-/* The part of a firmware's main loop that puts a plan into the Active Control Set and brings its data paths up. It never waits: the
-   bus tells by an interrupt that a transaction is over, and the main loop calls `poll_module` as often as it comes by.
+/* The part of a main loop that provisions a plan and brings its data paths up. It never waits: the bus interrupts when a
+   transaction is over, and the main loop calls `poll_module` whenever it comes by.
 
    The board has i2c_start and milliseconds, its interrupt calls i2c_over, and nobody else uses the module meanwhile. */
 #include "dovecounter.h"
@@ -8,14 +8,13 @@
 #include <stdbool.h>
 #include <string.h>
 
-/* Begins a transaction; the bytes of a fetch are written to `bytes`. Many drivers take addresses of 7 bits:
-   operation->device >> 1. */
+/* Starts a transaction; a fetch fills `bytes`. Many drivers take 7-bit addresses: operation->device >> 1. */
 void i2c_start(const struct dovecounter_operation *operation, uint8_t bytes[8]);
 
-/* Since some moment, modulo 2^32. */
+/* A clock, modulo 2^32. */
 uint32_t milliseconds(void);
 
-/* How often a stage is begun, with at least so many milliseconds before it is begun again. */
+/* How often a stage is begun, and how many milliseconds pass at least before it is begun again. */
 enum { MOST_BEGINNINGS = 3, BEFORE_AGAIN = 500 };
 
 enum stage { IDLE, PROVISIONING, ACTIVATING, UP, FAILED };
@@ -30,13 +29,13 @@ static uint8_t bytes[8];                                      /* of a fetch */
 static unsigned beginnings;                                   /* of this stage */
 static uint32_t since;                                        /* when what is under way began */
 static bool rests;                                            /* a stage is begun again, after a while */
-static bool under_way;                                        /* a transaction or a wait is */
+static bool under_way;                                        /* a transaction, or a wait */
 static atomic_bool over;               /* set by the interrupt, which may run on another processor, */
 static uint8_t outcome;                /* once it has written what came of the transaction */
 static struct dovecounter_fault fault; /* why it failed, */
 static uint32_t status;                /* or the status of the call that failed */
 
-/* Called by the interrupt when a transaction is over, also when its driver gives it up: DOVECOUNTER_REFUSED. */
+/* Called by the interrupt when a transaction is over, with DOVECOUNTER_REFUSED if the driver gave up. */
 void i2c_over(uint8_t what) {
     outcome = what;
     over = true;
@@ -53,7 +52,7 @@ static void begin(enum stage wanted) {
         dovecounter_activate_begin(plan.control, plan.lanes, &patience, &conversation);
 }
 
-/* Begins to carry out the plan with such patience, which dovecounter_patience tells, unless one is being carried out. */
+/* Begins to carry out a plan, with the patience from dovecounter_patience, unless one is under way. */
 bool carry_out(const struct dovecounter_plan *wanted, const struct dovecounter_patience *patient) {
     if (stage == PROVISIONING || stage == ACTIVATING) return false;
     plan = *wanted;
@@ -63,8 +62,8 @@ bool carry_out(const struct dovecounter_plan *wanted, const struct dovecounter_p
     return true;
 }
 
-/* The procedure has ended. After PV3 the module may have told of an earlier apply, after PV4 and 8 it may only have been slow; so the
-   procedure is begun again, after a while. */
+/* The procedure has ended. After PV3 the module may have shown an earlier apply, after PV4 and 8 it may just have been slow, so
+   the procedure begins again after a while. */
 static void end(void) {
     struct dovecounter_ending ending;
     status = dovecounter_end(&conversation, halves, &ending);
@@ -107,7 +106,7 @@ static void go_on(void) {
     if (operation.kind != DOVECOUNTER_WAIT) i2c_start(&operation, bytes);
 }
 
-/* Called by the main loop; says how far it has come. */
+/* Called by the main loop; returns the stage. */
 enum stage poll_module(void) {
     if (stage != PROVISIONING && stage != ACTIVATING) return stage;
     if (rests && milliseconds() - since < BEFORE_AGAIN) return stage;

@@ -4,7 +4,7 @@
 
 #include <stdbool.h>
 
-/* The board's bus, by addresses of 7 bits. They tell whether the module acknowledged all bytes. */
+/* The board's bus, by 7-bit addresses. Both return whether the module acknowledged every byte. */
 bool i2c_fetch(uint8_t address, uint8_t offset, uint8_t *bytes, uint8_t count);
 bool i2c_store(uint8_t address, uint8_t offset, const uint8_t *bytes, uint8_t count);
 void sleep_ms(uint32_t milliseconds);
@@ -24,16 +24,16 @@ static void pause(void *context, uint32_t milliseconds) {
     sleep_ms(milliseconds);
 }
 
-/* Carries a conversation out; answers the code of its fault, 0 if it succeeded. */
+/* Carries a conversation out and returns the code of its fault, 0 for success. */
 static uint8_t carry_out(struct dovecounter_conversation *conversation, struct dovecounter_half halves[]) {
     struct dovecounter_ending ending;
     if (dovecounter_run(conversation, halves, transact, pause, NULL) != DOVECOUNTER_DONE ||
         dovecounter_end(conversation, halves, &ending) != DOVECOUNTER_DONE)
-        return 255; /* not if transact answers as above */
+        return 255; /* never, with the transact above */
     return ending.fault.code;
 }
 
-/* Answers 0, or the status that refused, or 1000 and the code of the fault. Four paths of 100GAUI-2 weigh more than one of
+/* Returns 0, the status that refused, or 1000 plus the fault's code. Four paths of 100GAUI-2 outweigh one of
    400GAUI-8. */
 uint32_t plan_and_provision(struct dovecounter_plan *plan) {
     static const uint32_t weights[256] = {[0x0D] = 101, [0x11] = 400};

@@ -4,6 +4,7 @@ from __future__ import annotations
 from typing import Any, Callable, Mapping, Tuple, Type, TypeVar, Union
 
 from . import library
+from .states import ModuleState, known
 
 Value = Union[int, str]
 
@@ -88,6 +89,20 @@ class Fault(Exception):
 
     def __reduce__(self) -> Tuple[object, ...]:
         return Fault, (self.code, *self.values)
+
+
+class LeftModuleReady(Exception):
+    """A procedure that waited has found the module in another state than ModuleReady: it was reset,
+    or went to ModuleFault. It may hold any part of the change. `state` is where it is, and `str`
+    says what to do."""
+
+    def __init__(self, code: int, state: int) -> None:
+        super().__init__(library.text("fault", code))
+        self._code = code
+        self.state: Union[ModuleState, int] = known(ModuleState, state)
+
+    def __reduce__(self) -> Tuple[object, ...]:
+        return LeftModuleReady, (self._code, int(self.state))
 
 
 def look_at(what: str, number: int, most: int, least: int = 0) -> int:

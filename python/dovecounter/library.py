@@ -146,7 +146,9 @@ class Conversation(Structure):
     _fields_ = [
         ("magic", c_uint32),
         ("saved", Progress),
-        *_members(c_uint8, "doubts taken taken_page halves piece read"),
+        *_members(c_uint8, "doubts taken taken_page watches look"),
+        ("left", Fault),
+        *_members(c_uint8, "halves piece read"),
         ("part", c_uint8 * 128),
     ]
 
@@ -216,7 +218,7 @@ FUNCTIONS: Dict[str, Tuple[Any, Tuple[Any, ...]]] = {
     "activate_begin": (None, (_CONTROL, c_uint8, *_BEGUN)),
     "wake_begin": (None, _BEGUN),
     "sleep_begin": (None, _BEGUN),
-    "read_begin": (c_uint32, (c_uint8, *_BEGUN)),
+    "read_some_begin": (c_uint32, (c_uint8, c_uint8, *_BEGUN)),
     "next": (c_uint32, (POINTER(Conversation), POINTER(Half), POINTER(Operation))),
     "reply": (c_uint32, (POINTER(Conversation), POINTER(Half), c_uint8, *_BYTES)),
     "end": (c_uint32, (POINTER(Conversation), POINTER(Half), POINTER(Ending))),

@@ -1,14 +1,23 @@
 """Reading, provisioning and activating a module over a bus of the caller's (docs/bus.md)."""
 from __future__ import annotations
 
+import asyncio
 import copy
 import time
 from ctypes import byref
 from dataclasses import dataclass
-from typing import Any, Callable, Dict, Optional, TypeVar, Union
+from enum import Flag
+from typing import Any, Awaitable, Callable, Dict, Optional, TypeVar, Union
 
 from . import library
-from .faults import Fault, look_at, look_at_bytes, look_at_choice, look_at_type
+from .faults import (
+    Fault,
+    LeftModuleReady,
+    look_at,
+    look_at_bytes,
+    look_at_choice,
+    look_at_type,
+)
 from .image import HALF, Image, Key
 from .planning import Plan
 from .reports import Patience
@@ -21,6 +30,7 @@ _DONE, _ENDED, _NO_REPLY = 0, 32, 34
 _STORE, _WAIT = 1, 2
 _REFUSED, _STORED, _FETCHED, _WAITED = 0, 1, 2, 3
 _GAVE_UP_WAITING, _OVERDUE = 4, 8
+_RESET, _FAULTY = 9, 10
 _VALUES = {1: 2, 4: 0}  # how many a fault PV has, if it isn't one
 
 _Self = TypeVar("_Self", bound="Procedure")
@@ -80,9 +90,10 @@ class Procedure:
     """An iterator of operations and waits. Tell of each once before you ask for the next: the reply
     to an operation, and that a wait is over. One that was not told of is given again. A refused
     operation is asked for again, up to 4096 operations in all; if the limit of its Patience is
-    passed before, TimeoutError is raised. Nobody else may use the module meanwhile. It is for one
-    run: after its end it gives no operation, and raises its fault again; to begin again, make
-    another one.
+    passed before, TimeoutError is raised; if the module is found to be reset or in ModuleFault
+    while a plan is brought to it, LeftModuleReady. Nobody else may use the module meanwhile. It is
+    for one run: after its end it gives no operation, and raises its fault again; to begin again,
+    make another one.
 
         for step in procedure:
             if isinstance(step, Wait):
@@ -159,11 +170,27 @@ class Procedure:
             else:
                 self.reply(transact(step))
 
+    async def run_async(
+        self,
+        transact: Callable[[Operation], Awaitable[Reply]],
+        pause: Callable[[float], Awaitable[object]] = asyncio.sleep,
+    ) -> None:
+        """As `run`, by coroutines, so that one thread may serve many modules. If the task is
+        cancelled, the step in hand isn't told of either."""
+        for step in self:
+            if isinstance(step, Wait):
+                await pause(step.seconds)
+                self.waited()
+            else:
+                self.reply(await transact(step))
+
     def _has_ended(self) -> None:
         ending = library.Ending()
         _expect_done(_end(byref(self._saved), self._halves, byref(ending)))
         if ending.fault.code == _OVERDUE:
             raise TimeoutError(library.text("fault", _OVERDUE))
+        if ending.fault.code in (_RESET, _FAULTY):
+            raise LeftModuleReady(ending.fault.code, ending.fault.first)
         self._end(ending)
 
     def _end(self, ending: Any) -> None:
@@ -250,18 +277,45 @@ class Sleeping(_Change):
         self._begin(byref(self._patience), byref(self._saved))
 
 
+class Request(Flag):
+    """Which halves a Reading reads besides the lower one of 0xA0, as far as the module has them, by
+    the library's bits. Those of other families than the module's request nothing."""
+
+    CMIS_PAGE_00 = 1
+    CMIS_PAGE_01 = 2
+    CMIS_PAGE_02 = 4
+    CMIS_PAGE_11 = 8
+    SFF8636_PAGE_00 = 16
+    SFF8636_PAGE_03 = 32
+    SFF8472_DIAGNOSTICS = 64
+    """the lower half of 0xA2"""
+    EVERYTHING = 127
+    """all of these, which reports and plans need"""
+
+
 class Reading(Procedure):
-    """Reads the halves of a module that reports and plans need (docs/bus.md, "Reading an image").
-    The bus fetches at most `most` bytes at once, 8 to 255. Raises a Fault PV4 while it is iterated
-    if 4096 operations did not do, and TimeoutError if the module is silent, for two seconds where
-    no other Patience is given. A simulated module needs page 10h too, which is not read."""
+    """Reads the halves of a module that are requested, by default all that reports and plans need
+    (docs/bus.md, "Reading an image"). The bus fetches at most `most` bytes at once, 8 to 255.
+    Raises a Fault PV4 while it is iterated if 4096 operations did not do, and TimeoutError if the
+    module is silent, for two seconds where no other Patience is given. A simulated module needs
+    page 10h too, which is not read."""
 
-    _begin = staticmethod(library.function("read_begin"))
+    _begin = staticmethod(library.function("read_some_begin"))
 
-    def __init__(self, most: int = HALF, patience: Patience = Patience(20, 2000)) -> None:
+    def __init__(
+        self,
+        most: int = HALF,
+        patience: Patience = Patience(20, 2000),
+        requested: Request = Request.EVERYTHING,
+    ) -> None:
         super().__init__(patience)
-        least = look_at("the number of bytes at once", most, 255, least=8)
-        _expect_done(self._begin(least, byref(self._patience), byref(self._saved)))
+        status = self._begin(
+            look_at_type("what is requested", requested, Request).value,
+            look_at("the number of bytes at once", most, 255, least=8),
+            byref(self._patience),
+            byref(self._saved),
+        )
+        _expect_done(status)
         self._image: Optional[Image] = None
 
     @property

@@ -14,7 +14,7 @@ from typing import Any, Dict, List
 import pytest
 
 from shared import ROOT
-from dovecounter import Family, library, procedures, simulated
+from dovecounter import Family, Request, library, procedures, simulated
 from dovecounter.faults import CODES
 
 HEADER = re.sub(r"/\*.*?\*/", "", (ROOT / "include/dovecounter.h").read_text(), flags=re.DOTALL)
@@ -115,6 +115,11 @@ def test_numbers_are_those_of_the_header() -> None:
     assert library.UNBOUNDED == ctypes.c_uint32(-1).value
     for family in Family:
         assert STATUSES[family.name] == family
+    requested = re.search(r"enum dovecounter_requested \{(.*?)\}", HEADER, re.DOTALL)
+    assert requested is not None
+    bits = {name: int(bit) for name, bit in re.findall(r"DOVECOUNTER_(\w+) = (\d+)", requested[1])}
+    members = {name: member.value for name, member in Request.__members__.items()}
+    assert members == {**bits, "EVERYTHING": sum(bits.values())}
     named = re.findall(
         r"DOVECOUNTER_\w+ = (\d+),? */\* ((?:AD|CT|KP|SM|RP|SF)\d):",
         (ROOT / "include/dovecounter.h").read_text(),
@@ -130,6 +135,7 @@ def test_numbers_are_those_of_the_header() -> None:
         procedures._GAVE_UP_WAITING,
         procedures._OVERDUE,
     )
+    assert (STATUSES["RESET"], STATUSES["FAULTY"]) == (procedures._RESET, procedures._FAULTY)
     outcomes = ("REFUSED", "STORED", "FETCHED", "WAITED")
     assert tuple(STATUSES[name] for name in outcomes) == (
         procedures._REFUSED,

@@ -106,6 +106,7 @@ def test_numbers_out_of_range_are_refused_and_not_cut() -> None:
         lambda: module.tick(True),
         lambda: Reading(True),
         lambda: Reading(8, 100),  # type: ignore[arg-type]
+        lambda: Reading(requested=8),  # type: ignore[arg-type]
         lambda: Waking(Patience(pause=1.5)),  # type: ignore[arg-type]
         lambda: Waking(Patience(limit=None)),  # type: ignore[arg-type]
         lambda: Sleeping(Patience(trusts=256)),  # type: ignore[arg-type]

@@ -4,6 +4,7 @@ from __future__ import annotations
 import copy
 import os
 import pathlib
+import pickle
 import random
 import re
 import subprocess
@@ -18,7 +19,9 @@ from dovecounter import (
     LOWER,
     Activation,
     Delays,
+    Image,
     Key,
+    LeftModuleReady,
     ModuleState,
     Operation,
     PathState,
@@ -26,6 +29,7 @@ from dovecounter import (
     Provisioning,
     Reading,
     Reply,
+    Request,
     SimulatedModule,
     Sleeping,
     Wait,
@@ -103,6 +107,25 @@ def test_a_reading_gives_the_halves_that_are_read(most: int) -> None:
         assert reading.image.applications() == image.applications()
 
 
+def window(image: Image) -> Callable[[Operation], Reply]:
+    """A bus over memory that never changes, but for the page that is selected."""
+    selected = bytearray(2)
+
+    def transact(operation: Operation) -> Reply:
+        if operation.data is not None:
+            assert operation.offset + operation.count <= 128
+            selected[operation.offset - 126 :] = operation.data
+            return True
+        is_upper = operation.offset >= 128
+        key = page(selected[1]) if is_upper else Key(operation.device)
+        half = bytearray(image.halves[key])
+        if key == LOWER:
+            half[126:] = selected
+        return bytes(half[operation.offset % 128 :][: operation.count])
+
+    return transact
+
+
 @pytest.mark.parametrize(
     "name, flat, halves",
     [
@@ -115,26 +138,52 @@ def test_a_reading_of_a_module_with_fewer_halves(name: str, flat: bool, halves: 
     image = example(name)
     if flat:
         image = image.changed(LOWER, 2, b"\x80")
-    selected = bytearray(2)
-
-    def transact(operation: Operation) -> Reply:
-        """Of memory that never changes, but for the page that is selected."""
-        if operation.data is not None:
-            assert operation.offset + operation.count <= 128
-            selected[operation.offset - 126 :] = operation.data
-            return True
-        is_upper = operation.offset >= 128
-        key = page(selected[1]) if is_upper else Key(operation.device)
-        half = bytearray(image.halves[key])
-        if key == LOWER:
-            half[126:] = selected
-        return bytes(half[operation.offset % 128 :][: operation.count])
-
     reading = Reading(64)
-    reading.run(transact, lambda _: None)
+    reading.run(window(image), lambda _: None)
     assert list(reading.image.halves) == halves
     for key in halves:
         assert reading.image.halves[key][:126] == image.halves[key][:126]
+
+
+CMIS, QSFP28, SFP = "qsfp_dd_400g_dr4.txt", "qsfp28_100g_sr4.txt", "sfp_10g_lr.txt"
+
+
+@pytest.mark.parametrize(
+    "name, requested, pages, operations",
+    [
+        (CMIS, Request(0), [], 1),
+        (CMIS, Request.CMIS_PAGE_00, [0x00], 4),
+        (CMIS, Request.CMIS_PAGE_01, [0x01], 4),
+        (CMIS, Request.CMIS_PAGE_02, [0x02], 4),
+        (CMIS, Request.CMIS_PAGE_11, [0x11], 4),
+        (CMIS, Request.CMIS_PAGE_11 | Request.CMIS_PAGE_00, [0x00, 0x11], 7),
+        (CMIS, Request.SFF8636_PAGE_00 | Request.SFF8472_DIAGNOSTICS, [], 1),
+        (CMIS, Request.EVERYTHING, [0x00, 0x01, 0x02, 0x11], 13),
+        (QSFP28, Request.SFF8636_PAGE_00, [0x00], 4),
+        (QSFP28, Request.SFF8636_PAGE_03, [0x03], 4),
+        (QSFP28, ~Request.SFF8636_PAGE_03, [0x00], 4),
+        (QSFP28, ~(Request.SFF8636_PAGE_00 | Request.SFF8636_PAGE_03), [], 1),
+        (SFP, Request.SFF8472_DIAGNOSTICS, [0xA2], 2),
+        (SFP, ~Request.SFF8472_DIAGNOSTICS, [], 1),
+    ],
+)
+def test_a_reading_reads_what_is_requested_alone(
+    name: str, requested: Request, pages: List[int], operations: int
+) -> None:
+    image, reading = example(name), Reading(requested=requested)
+    reading.run(window(image), lambda _: None)
+    halves = [Key(0xA2) if number == 0xA2 else page(number) for number in pages]
+    assert list(reading.image.halves) == [LOWER, *halves]
+    for key in halves:
+        assert reading.image.halves[key] == image.halves[key]
+    assert repr(reading) == f"<Reading after {operations} operations>"
+
+
+def test_flags_need_one_page_of_a_reading() -> None:
+    reading = Reading(32, Patience(20, 2000), Request.CMIS_PAGE_11)
+    reading.run(SimulatedModule(DR4).transact, lambda _: None)
+    assert reading.image.flags().lanes == 8
+    assert fault_of(reading.image.inventory) == "RP6 upper A0 00 00"
 
 
 def test_a_module_wakes_up_and_goes_to_sleep_whatever_is_refused() -> None:
@@ -251,11 +300,12 @@ def test_patience_begins_anew_where_something_comes_of_an_operation() -> None:
 def test_a_module_s_patience_outlasts_its_states() -> None:
     assert DR4.patience() == Patience(100, 10000, False)
     for code, patience in (
-        (0x07, Patience(100, 10000)),
-        (0x80, Patience(100, 20000)),
-        (0x9A, Patience(150, 600000)),
-        (0xC0, Patience(1500, 6000000)),
-        (0x0F, Patience(1500, 6000000)),
+        (0x06, Patience(100, 10000)),
+        (0x07, Patience(100, 15000)),
+        (0x80, Patience(100, 30000)),
+        (0x9A, Patience(225, 900000)),
+        (0xC0, Patience(2250, 9000000)),
+        (0x0F, Patience(2250, 9000000)),
     ):
         image = DR4.changed(page(0x01), 144, bytes([code]))
         total = sum(image.halves[page(0x01)][2:127]) % 256
@@ -329,8 +379,40 @@ def test_the_selection_is_doubted_after_a_refusal() -> None:
             procedure.reply(reply)
         assert next(procedure) == Wait(1)
         procedure.waited()
+        if not trusts:
+            assert next(procedure) == Operation(0xA0, 3, 1, None)
+            procedure.reply(b"\x06")
         after = next(procedure)
         assert isinstance(after, Operation) and after.offset == offset
+
+
+def test_a_module_that_leaves_module_ready_while_a_procedure_waits_is_told_of() -> None:
+    best = plan(DR4, WEIGHTS)
+    confirmed: List[Reply] = [b"\x06", True, b"\x00\x10", False]
+    active: List[Reply] = [b"\x06", True, b"\x00\x11", False]
+    for code, state, number in (
+        (1, ModuleState.ModuleLowPwr, 9),
+        (2, ModuleState.ModulePwrUp, 9),
+        (4, ModuleState.ModulePwrDn, 9),
+        (5, ModuleState.ModuleFault, 10),
+    ):
+        for procedure, replies in (
+            (Provisioning(best, Patience(1)), confirmed),
+            (Activation(best, Patience(1)), active),
+        ):
+            told = iter([*replies, bytes([code << 1])])
+            with pytest.raises(LeftModuleReady) as left:
+                procedure.run(lambda _: next(told), lambda _: None)
+            assert left.value.state is state
+            assert str(left.value) == library.text("fault", number)
+            again = pickle.loads(pickle.dumps(left.value))
+            assert (type(again), again.state, str(again)) == (LeftModuleReady, state, str(left.value))
+            pytest.raises(LeftModuleReady, next, procedure)
+            assert procedure.steps is None
+    for code in (0, 6, 7):
+        told = iter([*confirmed, bytes([code << 1])])
+        provisioning = Provisioning(best, Patience(1))
+        assert fault_of(lambda: provisioning.run(lambda _: next(told), lambda _: None)) == f"PV7 {code}"
 
 
 def test_each_reply_is_looked_at_and_an_operation_without_one_is_given_again() -> None:
@@ -405,7 +487,7 @@ def test_the_page_s_code_runs(
         "2: host 0Dh on 2 lanes",
         "404 DataPath(application=2, host=1, media=1) 20 20 24 24 28 28 2c 2c",
         "17 operations",
-        "14 operations",
+        "13 operations",
         "20 20 24 24 28 28 2c 2c DPActivated",
         "EXAMPLE QDD-400G-DR4 12000 mW",
         "912000 nW in lane 1",

@@ -3,7 +3,10 @@
    function's table, a refusal may write nothing, and what is answered has to be what the header says. After the end of each input and
    output there is memory that nobody can touch. The last lines count what the modules came to. */
 #define _DEFAULT_SOURCE
+
 #include "chance.h"
+
+#include <stdbool.h>
 
 /* ---- inputs and outputs, each of which ends at memory that can't be touched ---- */
 
@@ -193,14 +196,17 @@ static void try_damaged(struct dovecounter_conversation it) {
     expect("a reply", 1, status == 0 || status == 31 || status == 32 || status == 34);
 }
 
-/* Does what is asked for, and tells of it. */
+/* Does what is asked for, and tells of it. Looks at the state of a module that was found ready are none of its operations. */
 static void do_next(struct dovecounter_conversation *it, const struct dovecounter_operation *operation,
-                    unsigned *operations) {
+                    unsigned *operations, bool *found_ready) {
     uint8_t bytes[128], outcome = DOVECOUNTER_WAITED;
     if (operation->kind == DOVECOUNTER_WAIT)
         expect("a tick", DOVECOUNTER_DONE, dovecounter_module_tick(&module));
     else
-        outcome = transact(operation, bytes), ++*operations;
+        outcome = transact(operation, bytes);
+    bool is_state = it->watches && outcome == DOVECOUNTER_FETCHED && operation->offset == 3;
+    if (outcome != DOVECOUNTER_WAITED && !(is_state && *found_ready)) ++*operations;
+    if (is_state) *found_ready = true;
     size_t count = outcome == DOVECOUNTER_FETCHED ? operation->count : 0;
     uint8_t *end = memcpy(output_end - count, bytes, count);
     if (chance(64) == 0) try_damaged(*it);
@@ -213,7 +219,9 @@ static uint8_t carry_out(struct dovecounter_conversation *it) {
     struct dovecounter_operation operation;
     struct dovecounter_ending ending;
     unsigned operations = 0;
-    while (dovecounter_next(it, read_halves, &operation) == DOVECOUNTER_DONE) do_next(it, &operation, &operations);
+    bool found_ready = false;
+    while (dovecounter_next(it, read_halves, &operation) == DOVECOUNTER_DONE)
+        do_next(it, &operation, &operations, &found_ready);
     expect("operations", 1, operations <= 4096);
     expect("an end", DOVECOUNTER_DONE, dovecounter_end(it, read_halves, &ending));
     expect("steps", ending.fault.code ? 0 : operations, ending.steps);

@@ -462,22 +462,85 @@ static void take(const char *what, struct dovecounter_conversation *procedure, u
     expect(what, DOVECOUNTER_DONE, dovecounter_reply(procedure, none, outcome, bytes, count));
 }
 
-/* Page 10h is confirmed. A store that is refused is made again, by whoever trusts the selection; whoever doubts reads it back first. */
-static void try_doubt(const struct dovecounter_plan *plan, uint8_t trusts) {
+/* What a fetch of the module's state shows. */
+static uint8_t shows(uint8_t state) { return (uint8_t)(state << 1); }
+
+/* Page 10h is confirmed, and the store that takes lanes down is refused: a wait is over, after it. */
+static void begin_down(const struct dovecounter_plan *plan, uint8_t trusts,
+                       struct dovecounter_conversation *procedure) {
     static const uint8_t ready = 3 << 1, page[] = {0, 0x10};
     const struct dovecounter_patience patient = {.pause = 40, .limit = 100, .trusts = trusts};
+    dovecounter_provision_begin(plan->control, 0xFF, &patient, procedure);
+    take("ready", procedure, DOVECOUNTER_FETCHED, &ready, 1);
+    take("selected", procedure, DOVECOUNTER_STORED, &ready, 0);
+    take("read back", procedure, DOVECOUNTER_FETCHED, page, 2);
+    expect_operation("lanes are taken down", procedure, DOVECOUNTER_STORE, 128, 1, 0xFF, 0);
+    take("refused", procedure, DOVECOUNTER_REFUSED, &ready, 0);
+    expect_wait("after a refusal", procedure);
+}
+
+/* A store that is refused is made again, by whoever trusts the selection; whoever doubts looks at the module's state, and selects the
+   page again. */
+static void try_doubt(const struct dovecounter_plan *plan) {
+    const uint8_t ready = shows(3);
     struct dovecounter_conversation procedure;
-    dovecounter_provision_begin(plan->control, 0xFF, &patient, &procedure);
-    take("ready", &procedure, DOVECOUNTER_FETCHED, &ready, 1);
-    take("selected", &procedure, DOVECOUNTER_STORED, &ready, 0);
-    take("read back", &procedure, DOVECOUNTER_FETCHED, page, 2);
-    expect_operation("lanes are taken down", &procedure, DOVECOUNTER_STORE, 128, 1, 0xFF, 0);
-    take("refused", &procedure, DOVECOUNTER_REFUSED, &ready, 0);
-    expect_wait("after a refusal", &procedure);
-    if (trusts)
-        expect_operation("the store again", &procedure, DOVECOUNTER_STORE, 128, 1, 0xFF, 0);
-    else
-        expect_operation("the selection again", &procedure, DOVECOUNTER_STORE, 126, 2, 0, 0x10);
+    begin_down(plan, 1, &procedure);
+    expect_operation("the store again", &procedure, DOVECOUNTER_STORE, 128, 1, 0xFF, 0);
+    begin_down(plan, 0, &procedure);
+    expect_operation("the module's state again", &procedure, DOVECOUNTER_FETCH, 3, 1, 0, 0);
+    refuse_reply("a look is not stored", DOVECOUNTER_NO_REPLY, procedure, DOVECOUNTER_STORED, 0);
+    take("still ready", &procedure, DOVECOUNTER_FETCHED, &ready, 1);
+    expect_operation("the selection again", &procedure, DOVECOUNTER_STORE, 126, 2, 0, 0x10);
+}
+
+/* The module shows another state than ModuleReady after a wait. */
+static void try_left(const struct dovecounter_plan *plan) {
+    static const uint8_t codes[8] = {7, 9, 9, 0, 9, 10, 7, 7}; /* of the faults, by the states */
+    struct dovecounter_conversation procedure, before;
+    struct dovecounter_operation operation;
+    for (uint8_t state = 0; state < 8; state++) {
+        const uint8_t shown = shows(state);
+        struct dovecounter_ending ending;
+        begin_down(plan, 0, &procedure);
+        take("the module's state", &procedure, DOVECOUNTER_FETCHED, &shown, 1);
+        if (state == 3) continue;
+        expect("no more operation", DOVECOUNTER_ENDED, dovecounter_next(&procedure, none, &operation));
+        refuse_reply("nothing after a reset", DOVECOUNTER_ENDED, procedure, DOVECOUNTER_REFUSED, 0);
+        expect("an end of what was reset", DOVECOUNTER_DONE, dovecounter_end(&procedure, none, &ending));
+        expect("how it left ModuleReady", codes[state], ending.fault.code);
+        expect("where it is", state, ending.fault.first);
+        expect("no more of it", 0, ending.fault.second);
+        expect("no steps of what was reset", 0, ending.steps);
+    }
+    expect("9 is a reset", 9, DOVECOUNTER_RESET);
+    expect("10 is ModuleFault", 10, DOVECOUNTER_FAULTY);
+
+    /* A look that is refused is a refusal of what was to come: another wait, and another look. */
+    begin_down(plan, 0, &procedure);
+    take("a refused look", &procedure, DOVECOUNTER_REFUSED, none[0].bytes, 0);
+    expect_wait("after a refused look", &procedure);
+    expect_operation("another look", &procedure, DOVECOUNTER_FETCH, 3, 1, 0, 0);
+    take("a refused look", &procedure, DOVECOUNTER_REFUSED, none[0].bytes, 0);
+    expect_wait("after another refused look", &procedure);
+    take("a refused look", &procedure, DOVECOUNTER_REFUSED, none[0].bytes, 0);
+    expect("looks have an end", DOVECOUNTER_ENDED, dovecounter_next(&procedure, none, &operation));
+
+    begin_down(plan, 0, &procedure);
+    for (int i = 0; i < 9; i++) {
+        before = procedure;
+        if (i == 0) before.watches = 2;
+        if (i == 1) before.look = 2;
+        if (i == 2) before.left.code = 11;
+        if (i == 3) before.left = (struct dovecounter_fault){6, 1, 0}; /* while a look is due */
+        if (i > 3) before.look = 0, before.left.first = i < 8;
+        if (i > 4) before.left.code = (uint8_t)(i - 4); /* 1 to 4, which no state is */
+        expect("no procedure left ModuleReady so", DOVECOUNTER_NO_CONVERSATION,
+               dovecounter_next(&before, none, &operation));
+        refuse_reply("none takes a reply", DOVECOUNTER_NO_CONVERSATION, before, DOVECOUNTER_REFUSED, 0);
+    }
+    procedure.look = 0;
+    procedure.left = (struct dovecounter_fault){6, 1, 0};
+    expect("it left ModuleReady so", DOVECOUNTER_ENDED, dovecounter_next(&procedure, none, &operation));
 }
 
 /* A bus that refuses all: 0, 40, 80 and 120 milliseconds were waited, and then no more. */
@@ -630,8 +693,8 @@ static void try_patience(void) {
     halves[2].bytes[144 - 128] = 0x0B; /* 10 minutes */
     set_sum(&halves[2], 130, 254, 255);
     expect("patience", DOVECOUNTER_DONE, dovecounter_patience(halves, 3, &found));
-    expect("a pause of 10 minutes", 300, found.pause);
-    expect("a limit of 10 minutes", 1200000, found.limit);
+    expect("a pause for states of 10 minutes", 450, found.pause);
+    expect("a limit for states of 10 minutes", 1800000, found.limit);
 }
 
 /* ---- a module in software, on which a path is up ---- */
@@ -788,8 +851,8 @@ int main(void) {
     try_durations();
     try_patience();
     try_procedure(&plan);
-    try_doubt(&plan, 0);
-    try_doubt(&plan, 1);
+    try_doubt(&plan);
+    try_left(&plan);
     try_limit(&plan);
     try_run(&plan);
     try_waits(&plan);

@@ -144,16 +144,19 @@ AT(progress, idle, 28);
 AT(progress, pause, 32);
 AT(progress, limit, 36);
 
-SIZE(conversation, 184);
+SIZE(conversation, 192);
 AT(conversation, magic, 0);
 AT(conversation, saved, 8);
 AT(conversation, doubts, 48);
 AT(conversation, taken, 49);
 AT(conversation, taken_page, 50);
-AT(conversation, halves, 51);
-AT(conversation, piece, 52);
-AT(conversation, read, 53);
-AT(conversation, part, 54);
+AT(conversation, watches, 51);
+AT(conversation, look, 52);
+AT(conversation, left, 53);
+AT(conversation, halves, 56);
+AT(conversation, piece, 57);
+AT(conversation, read, 58);
+AT(conversation, part, 59);
 
 SIZE(patience, 12);
 AT(patience, pause, 0);

@@ -47,7 +47,7 @@ static void begin(unsigned refusals) {
 int main(void) {
     struct dovecounter_plan plan;
     read_halves();
-    for (unsigned refusals = 0; refusals < 9; refusals += refusals == 0 ? 4 : 1) {
+    for (unsigned refusals = 0; refusals < 10; refusals += refusals == 0 ? 5 : 1) {
         begin(refusals);
         expect("planned and provisioned", DOVECOUNTER_DONE, plan_and_provision(&plan));
         for (int lane = 0; lane < 8; lane++) {
@@ -68,8 +68,9 @@ int main(void) {
     silent_from = all;
     silent_until = UINT32_MAX;
     expect("silent while it is activated", 1000 + DOVECOUNTER_OVERDUE, plan_and_provision(&plan));
-    begin(3); /* after a refusal the page is selected and read back, so the third transaction is the one that counts */
-    expect("a bus without three transactions in a row", 1000 + DOVECOUNTER_OVERDUE, plan_and_provision(&plan));
+    begin(
+        4); /* after a refusal the module's state is read, and the page selected and read back, so the fourth transaction counts */
+    expect("a bus without four transactions in a row", 1000 + DOVECOUNTER_OVERDUE, plan_and_provision(&plan));
     begin(1);
     expect("a silent module", 1000 + DOVECOUNTER_OVERDUE, plan_and_provision(&plan));
     expect("it was patient", 1, slept > 2000);

@@ -276,8 +276,40 @@ static void try_refusals(void) {
         }
 }
 
+/* What is requested is read alone, after the lower half; bits for modules of other families request nothing. */
+static void try_requests(void) {
+    static const struct {
+        uint8_t requested;
+        unsigned operations, halves;
+        uint8_t newest;
+    } requests[] = {
+        {0, 1, 1, 0x00},
+        {DOVECOUNTER_CMIS_PAGE_11, 4, 2, 0x11},
+        {DOVECOUNTER_CMIS_PAGE_00 | DOVECOUNTER_CMIS_PAGE_02, 7, 3, 0x02},
+        {DOVECOUNTER_SFF8636_PAGE_00 | DOVECOUNTER_SFF8636_PAGE_03 | DOVECOUNTER_SFF8472_DIAGNOSTICS, 1, 1, 0x00},
+        {0x7F, 13, 5, 0x11},
+    };
+    struct dovecounter_ending ending;
+    make("requests", 0x18, 0, 5);
+    bus.piece = 128;
+    bus.refusals = 0;
+    expect("seven bytes at once", DOVECOUNTER_TOO_FEW_BYTES, dovecounter_read_some_begin(0, 7, &patience, &reading));
+    for (size_t i = 0; i < sizeof requests / sizeof *requests; i++) {
+        bus.operations = 0;
+        expect("begun", DOVECOUNTER_DONE, dovecounter_read_some_begin(requests[i].requested, 128, &patience, &reading));
+        expect("a run", DOVECOUNTER_DONE, dovecounter_run(&reading, halves, transact, pause, &bus));
+        expect("an end", DOVECOUNTER_DONE, dovecounter_end(&reading, halves, &ending));
+        expect("no fault", 0, ending.fault.code);
+        expect("operations", requests[i].operations, bus.operations);
+        expect("halves", requests[i].halves, reading.halves);
+        expect("the newest", requests[i].newest, halves[0].page);
+        for (int k = 0; k < reading.halves; k++) expect("a half of the module", 1, is_of_module(&halves[k]));
+    }
+}
+
 int main(void) {
     try_modules();
+    try_requests();
     try_refused_piece(0);
     try_refused_piece(1);
     try_refusals();

@@ -84,7 +84,7 @@ int main(void) {
                                         36, 42, 43, 51, 53, 54, 61, 62, 63, 71, 74, 76, 83, 84, 85, 86, 91, 92, 94};
     static const uint32_t small[] = {1, 2, 3, 4, 5, 6, 7, 8, 9, 10};
     try_numbers(dovecounter_status_text, statuses, sizeof statuses / sizeof statuses[0]);
-    try_numbers(dovecounter_fault_text, small, 8);
+    try_numbers(dovecounter_fault_text, small, 10);
     try_numbers(dovecounter_verdict_text, small, 10);
     expect_text(version, 0);
     expect_words(dovecounter_status_text, DOVECOUNTER_REVISION,

@@ -9,22 +9,22 @@
 
 static const char usage[] =
     "usage: cmis-port BUS image | state | plan WEIGHTS | provision WEIGHTS | wake | sleep\n"
-    "  BUS             /dev/i2c-N, the eeprom file of the driver optoe, or sim:IMAGE[,SCRIPT]\n"
-    "  WEIGHTS         a file with the line [host], and lines such as 0Dh = 101\n"
-    "  image           prints the module's memory, as cmisctl reads it\n"
-    "  state           prints the states of the module and its lanes, and the active control bytes\n"
-    "  plan            prints the best plan, and what stands against provisioning it\n"
-    "  provision       puts the best plan into the module\n"
-    "  wake            takes the module out of low power\n"
-    "  sleep           puts it into low power\n"
-    "  --keep A,H,M    leaves a data path alone that is up: its Application, first host lane, first media lane\n"
-    "  --unpaired      lets any first host lane go with any first media lane, and not only those of one place\n"
-    "  --counts-by-id  takes a lane count of 0 as the one that the interface ID implies\n"
-    "  --activate      brings the plan's data paths up\n"
-    "  --ensure        takes down what is up and in the way, but no path that the plan has too\n"
-    "  --force         takes down what is up, or provisions a plan without paths\n"
-    "  --wake          takes the module out of low power before\n"
-    "  --log FILE      writes each operation there\n";
+    "  BUS             /dev/i2c-N, the eeprom file of the driver optoe, or sim:IMAGE[,SCRIPT] to simulate a module\n"
+    "  WEIGHTS         a file with a line [host] and lines such as 0Dh = 101\n"
+    "  image           print the module's memory, for cmisctl\n"
+    "  state           print the states of the module and its lanes, its flags, and the active control bytes\n"
+    "  plan            print the best plan, and whether provision would accept it\n"
+    "  provision       write the best plan to the module\n"
+    "  wake            take the module out of low power\n"
+    "  sleep           put it into low power\n"
+    "  --keep A,H,M    keep a data path that is active: its Application, first host lane, first media lane\n"
+    "  --unpaired      let any first host lane go with any first media lane\n"
+    "  --counts-by-id  look up lane counts of 0 by interface ID\n"
+    "  --activate      bring the plan's data paths up\n"
+    "  --ensure        take down what is in the way, but no active path that the plan has too\n"
+    "  --force         take down whatever is up; accept a plan without paths\n"
+    "  --wake          take the module out of low power first\n"
+    "  --log FILE      write each transaction to FILE\n";
 
 static bool read_path(const char *word, struct dovecounter_path *path) {
     unsigned application, host, media;

@@ -4,7 +4,7 @@
 #include <err.h>
 #include <unistd.h>
 
-enum { LOOK = 1000, NO_OUTCOME = 255 }; /* milliseconds; what ends a conversation in the middle */
+enum { NO_OUTCOME = 255 }; /* what ends a conversation in the middle */
 
 static const char *const works[] = {"provisioning", "activation", "waking up", "going to sleep"};
 
@@ -18,11 +18,9 @@ bool is_other_family(const struct port *port) {
 struct talk {
     struct port *port;
     struct dovecounter_conversation conversation;
-    const char *name;       /* that is shown; NULL of a reading */
-    bool of_any_family;     /* a reading goes on whatever the first half shows */
-    bool of_paths;          /* the module has to stay in ModuleReady */
-    unsigned before;        /* operations that were made before it */
-    int64_t waited, looked; /* milliseconds that were waited: in all, and until the state was looked at last */
+    const char *name;   /* that is shown; NULL of a reading */
+    bool of_any_family; /* a reading goes on whatever the first half shows */
+    unsigned before;    /* operations that were made before it */
 };
 
 /* `bytes` are those of a fetch from `offset` on, which is 0 if nothing was fetched. */
@@ -50,26 +48,8 @@ static uint8_t make(void *context, const struct dovecounter_operation *operation
     return most == talk->port->most ? outcome : NO_OUTCOME;
 }
 
-/* Stops if the module isn't in ModuleReady any more: its data paths then stay down. The procedures look only before they begin. Byte 3
-   is shown whatever page is selected. */
-static void look_at_state(struct port *port) {
-    const struct dovecounter_operation fetch = {
-        .kind = DOVECOUNTER_FETCH, .device = 0xA0, .offset = MODULE_STATE, .count = 1};
-    uint8_t bytes[128];
-    if (transact(port, &fetch, bytes) != DOVECOUNTER_FETCHED || (bytes[0] >> 1 & 7) == READY) return;
-    clear_progress();
-    warnx("%s: the module has left ModuleReady, and is in %s", port->name, module_states[bytes[0] >> 1 & 7]);
-    port->ending = STOPPED;
-}
-
 static void wait_ms(void *context, uint32_t ms) {
     struct talk *talk = context;
-    if (talk->port->ending != GOES_ON) return;
-    talk->waited += ms;
-    if (talk->of_paths && talk->waited - talk->looked > LOOK) {
-        talk->looked = talk->waited;
-        look_at_state(talk->port);
-    }
     if (talk->port->ending == GOES_ON) pause_ms(talk->port, ms);
 }
 
@@ -125,16 +105,15 @@ unsigned lanes_in(const struct port *port, unsigned path_state) {
     return lanes;
 }
 
-/* As much as the module asks for. That is enough for two states in a row; lanes that are up pass two before the module goes down. */
-static struct dovecounter_patience patience_for(const struct port *port, enum work work) {
+/* As much as the module asks for. */
+static struct dovecounter_patience patience_for(const struct port *port) {
     struct dovecounter_patience patience = {.pause = 100, .limit = 10000};
     dovecounter_patience(port->halves, port->half_count, &patience);
-    if (work == SLEEP) patience.pause += patience.pause / 2, patience.limit += patience.limit / 2;
     return patience;
 }
 
 static void begin(const struct port *port, enum work work, struct dovecounter_conversation *conversation) {
-    const struct dovecounter_patience patience = patience_for(port, work);
+    const struct dovecounter_patience patience = patience_for(port);
     switch (work) {
     case PROVISION:
         dovecounter_provision_begin(port->plan.control, lanes_to_take(port), &patience, conversation);
@@ -147,7 +126,7 @@ static void begin(const struct port *port, enum work work, struct dovecounter_co
 
 /* Carries a procedure out. Says the fault that it ended in, or 0; NO_ANSWER if it was not ended. */
 unsigned carry_out(struct port *port, enum work work) {
-    struct talk talk = {.port = port, .name = works[work], .of_paths = work == PROVISION || work == ACTIVATE};
+    struct talk talk = {.port = port, .name = works[work]};
     struct dovecounter_ending ending;
     begin(port, work, &talk.conversation);
     unsigned fault = run(&talk, &ending);

@@ -75,6 +75,8 @@ void say_fault(const char *name, struct dovecounter_fault fault) {
     case 3: warnx("%s: fault PV3 %u: lane %u holds another byte than the plan", name, first, first); break;
     case 4: warnx("%s: fault PV4: 4096 operations were not enough", name); break;
     case 8: warnx("%s: the module takes longer than it advertises", name); break;
+    case 9:
+    case 10: warnx("%s: the module has left ModuleReady, and is in %s", name, module_states[first & 7]); break;
     case 6: warnx("%s: fault PV6 %u: the module is in %s", name, first, module_states[first & 7]); break;
     default: warnx("%s: fault PV%u %u: the module shows a code that the standard reserves", name, fault.code, first);
     }

@@ -1,5 +1,5 @@
 -- Each operation of provisioning, activation and changes of power is at a register of the memory map.
-use Rattle.std.proofs.Common.{◌≡◌, inl, inr, ℕ, ◌-◌, List, [], ◌∷◌, length, refl}
+use Rattle.std.proofs.Common.{false, ◌≡◌, inl, inr, ℕ, ◌-◌, List, [], ◌∷◌, length, refl}
 use Rattle.bus_model.specs.declared.operation.Step.{Step}
 use Rattle.field_tables.specs.LaneSets.{Lanes, byte_of}
 use Rattle.field_tables.specs.declared.field.Register.{Register}
@@ -7,8 +7,8 @@ use Rattle.field_tables.specs.declared.field.Register.TheVariants.{CActiveContro
 use Rattle.field_tables.specs.Registers.{byte_count, page_of}
 use Rattle.control_sets.specs.RegisterOperations.{read_of, store_to}
 use Rattle.control_sets.specs.OutcomeOperations.{IsAtRegister, IsConfirmed, control_page, status_page}
-use Rattle.control_sets.specs.OutcomeOfProvisioning.{IsProvisioningStep}
-use Rattle.control_sets.specs.OutcomeOfActivation.{IsActivationStep}
+use Rattle.control_sets.specs.OutcomeOfProvisioning.{IsProvisioningStepBy}
+use Rattle.control_sets.specs.OutcomeOfActivation.{IsActivationStepBy}
 use Rattle.control_sets.specs.OutcomeOfPower.{IsPowerStep}
 use Rattle.control_sets.specs.PowerControls.{wanted_controls}
 use Rattle.control_sets.specs.declared.procedures.power.Power.{Power}
@@ -22,7 +22,7 @@ stores : (step : Step) (before : History) (register : Register) (bytes : List �
     length bytes ≡ byte_count register → IsConfirmed (page_of register) before → IsAtRegister step before
 stores step before register bytes is long shown = record { register = register; wholly = inr (bytes, long, is); shown = shown }
 
-provisioning_step : (control : List ℕ) (lanes : Lanes) → length control ≡ 8 → (step : Step) (before : History) → IsProvisioningStep control lanes step before → IsAtRegister step before
+provisioning_step : (control : List ℕ) (lanes : Lanes) → length control ≡ 8 → (step : Step) (before : History) → IsProvisioningStepBy false control lanes step before → IsAtRegister step before
 provisioning_step control lanes eight step before (inl (inl is)) = reads step before CGlobalStatus is tt
 provisioning_step control lanes eight step before (inl (inr (inl is))) = reads step before CPageMapping is tt
 provisioning_step control lanes eight step before (inl (inr (inr (inl is)))) = stores step before CPageMapping (0 ∷ control_page ∷ []) is refl tt
@@ -38,10 +38,10 @@ provisioning_step control lanes eight step before (inr (inr (inr (inr (inl is)),
 provisioning_step control lanes eight step before (inr (inr (inr (inr (inr (inl is))), shown))) = stores step before CApplyDPInit (byte_of lanes ∷ []) is refl shown
 provisioning_step control lanes eight step before (inr (inr (inr (inr (inr (inr none))), shown))) = absurd none
 
-pub provisioning_at_registers : (control : List ℕ) (lanes : Lanes) (history : History) → length control ≡ 8 → EachStep (IsProvisioningStep control lanes) history → EachStep IsAtRegister history
-provisioning_at_registers control lanes history eight shape = each_from (IsProvisioningStep control lanes) IsAtRegister history (provisioning_step control lanes eight) shape
+pub provisioning_at_registers : (control : List ℕ) (lanes : Lanes) (history : History) → length control ≡ 8 → EachStep (IsProvisioningStepBy false control lanes) history → EachStep IsAtRegister history
+provisioning_at_registers control lanes history eight shape = each_from (IsProvisioningStepBy false control lanes) IsAtRegister history (provisioning_step control lanes eight) shape
 
-activation_step : (lanes : Lanes) (step : Step) (before : History) → IsActivationStep lanes step before → IsAtRegister step before
+activation_step : (lanes : Lanes) (step : Step) (before : History) → IsActivationStepBy false lanes step before → IsAtRegister step before
 activation_step lanes step before (inl (inl is)) = reads step before CGlobalStatus is tt
 activation_step lanes step before (inl (inr (inl is))) = reads step before CPageMapping is tt
 activation_step lanes step before (inl (inr (inr (inl is)))) = stores step before CPageMapping (0 ∷ control_page ∷ []) is refl tt
@@ -53,8 +53,8 @@ activation_step lanes step before (inr (inl (inr (inr none), shown))) = absurd n
 activation_step lanes step before (inr (inr (inl is, shown))) = stores step before CDPDeinit ((255 - byte_of lanes) ∷ []) is refl shown
 activation_step lanes step before (inr (inr (inr none, shown))) = absurd none
 
-pub activation_at_registers : (lanes : Lanes) (history : History) → EachStep (IsActivationStep lanes) history → EachStep IsAtRegister history
-activation_at_registers lanes history shape = each_from (IsActivationStep lanes) IsAtRegister history (activation_step lanes) shape
+pub activation_at_registers : (lanes : Lanes) (history : History) → EachStep (IsActivationStepBy false lanes) history → EachStep IsAtRegister history
+activation_at_registers lanes history shape = each_from (IsActivationStepBy false lanes) IsAtRegister history (activation_step lanes) shape
 
 power_step : (power : Power) (step : Step) (before : History) → IsPowerStep power step before → IsAtRegister step before
 power_step power step before (inl is) = reads step before CGlobalControls is tt

@@ -1,69 +1,44 @@
 -- Steps and answers that look right and are no activation.
-use Rattle.std.proofs.Common.{◌≡◌, ◌≢◌, ℕ, false, List, [], ◌∷◌, Ok, Err, refl, ap, subst, ◌∙◌, inl, inr}
+use Rattle.std.proofs.Common.{◌≡◌, ◌≢◌, ℕ, false, List, [], ◌∷◌, Ok, refl, ap, subst, ◌∙◌, inl, inr}
 use Rattle.field_tables.specs.LaneSets.{Lanes, every_lane}
-use Rattle.bus_model.specs.declared.operation.Reply.{Reply}
-use Rattle.bus_model.specs.declared.operation.Reply.TheVariants.{Bytes, Done, Refused}
 use Rattle.bus_model.specs.declared.operation.Step.{Step}
 use Rattle.datapath_states.specs.Lanes.{code_in}
-use Rattle.control_sets.specs.declared.fault.ProvisionFault.{ProvisionFault}
 use Rattle.bus_model.specs.SameOperation.{same_op}
 use Rattle.control_sets.specs.Pages.{History, selection}
 use Rattle.control_sets.specs.OutcomeSteps.{Gives, IsAccepted, IsAnswered, Stands}
 use Rattle.control_sets.specs.OutcomeOperations.{control_page, read_active, read_module_state, read_path_states}
 use Rattle.control_sets.specs.OutcomeCodes.{IsOf, IsReservedPathState}
-use Rattle.control_sets.specs.OutcomeAnswers.{Answer, EndsIn}
-use Rattle.control_sets.specs.OutcomeOfActivation.{EndsActivation, IsActivation, release}
+use Rattle.control_sets.specs.OutcomeAnswers.{Answer}
+use Rattle.control_sets.specs.OutcomeOfActivation.{IsActivation, release}
 use Rattle.control_sets.specs.OutcomeExamples.{gave, ready, took}
 use Rattle.bus_model.proofs.SameOperations.{apart}
-
-abbrev newest : Step → History → Step
-newest d [] = d
-newest d (step ∷ before) = step
-
-abbrev read_of : Reply → List ℕ
-read_of (Bytes bytes) = bytes.items
-read_of Done = []
-read_of Refused = []
-
-last_is : (step last : Step) (before earlier : History) → step ∷ before ≡ last ∷ earlier → step ≡ last
-last_is step last before earlier e = ap (newest step) e
-
-not_ok : (steps : ℕ) (fault : ProvisionFault) → Ok steps ≡ Err fault → ⊥
-not_ok steps fault e = cc
+use Rattle.control_sets.proofs.OutcomeWords.{items_in, same_last, success_ends}
 
 module _ (control : List ℕ) (lanes : Lanes) (full : Type 0) where
-  -- of a success, the last step
-  success_ends : (history : History) (steps : ℕ) → IsActivation control lanes full history (Ok steps) → EndsIn (EndsActivation control lanes) history (Ok steps)
-  success_ends history steps outcome = elim outcome.answered.answered as (λ _. EndsIn (EndsActivation control lanes) history (Ok steps)) [
-    | inl ends ↦ ends
-    | inr (inl gives_up) ↦ absurd (not_ok steps _ gives_up.fault)
-    | inr (inr fills) ↦ absurd (not_ok steps _ fills.fault)
-  ]
-
   -- the last step of a success is no other read than that of the path states
   pub by_another : (step : Step) (before : History) (steps : ℕ) → same_op step.op read_path_states ≡ false → IsActivation control lanes full (step ∷ before) (Ok steps) → ⊥
   by_another step before steps other outcome =
-      let ends = success_ends (step ∷ before) steps outcome in
-      apart step.op read_path_states other (ap (λ (step : Step). step.op) (last_is step ends.last before ends.before ends.split) ∙ ends.ends.1.0)
+      let ends = success_ends outcome.answered in
+      apart step.op read_path_states other (ap (λ (step : Step). step.op) (same_last ends.split) ∙ ends.ends.1.0)
 
   -- the bytes that the last step of a success read
   read_last : (bytes : List ℕ) (before : History) (steps : ℕ) (outcome : IsActivation control lanes full (gave read_path_states bytes ∷ before) (Ok steps)) →
-      bytes ≡ (success_ends (gave read_path_states bytes ∷ before) steps outcome).ends.0
+      bytes ≡ (success_ends outcome.answered).ends.0
   read_last bytes before steps outcome =
-      let ends = success_ends (gave read_path_states bytes ∷ before) steps outcome in
-      ap (λ (step : Step). read_of step.reply) (last_is (gave read_path_states bytes) ends.last before ends.before ends.split) ∙ ap read_of ends.ends.1.1
+      let ends = success_ends outcome.answered in
+      ap (λ (step : Step). items_in step.reply) (same_last ends.split) ∙ ap items_in ends.ends.1.1
 
   -- a lane of the plan isn't activated
   pub overlooks_lane : (bytes : List ℕ) (before : History) (steps lane : ℕ) → IsOf lanes lane → code_in bytes lane ≢ 4 → IsActivation control lanes full (gave read_path_states bytes ∷ before) (Ok steps) → ⊥
   overlooks_lane bytes before steps lane is other outcome =
-      let ends = success_ends (gave read_path_states bytes ∷ before) steps outcome in
+      let ends = success_ends outcome.answered in
       other (ap (λ (bytes : List ℕ). code_in bytes lane) (read_last bytes before steps outcome) ∙ ends.ends.2.1 lane is)
 
   -- a lane tells a reserved code
   pub overlooks_reserved : (bytes : List ℕ) (before : History) (steps lane : ℕ) → IsOf every_lane lane → IsReservedPathState (code_in bytes lane) →
       IsActivation control lanes full (gave read_path_states bytes ∷ before) (Ok steps) → ⊥
   overlooks_reserved bytes before steps lane is reserved outcome =
-      let ends = success_ends (gave read_path_states bytes ∷ before) steps outcome in
+      let ends = success_ends outcome.answered in
       ends.ends.2.0 lane (is, subst (λ (bytes : List ℕ). IsReservedPathState (code_in bytes lane)) (read_last bytes before steps outcome) reserved)
 
   -- the lanes are released though the control bytes weren't read as active

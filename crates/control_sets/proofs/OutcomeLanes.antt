@@ -1,7 +1,12 @@
 -- What searches over lanes say in the words of the outcomes.
-use Rattle.std.proofs.Common.{◌≡◌, ◌≢◌, ℕ, zero, suc, ◌+◌, ◌-◌, ◌<◌, ◌≤◌, ◌==◌, ◌&&◌, ◌||◌, Bool, true, false, not, cond, List, [], ◌∷◌, Option, Some, None, find, map, length, slice_index, refl, sym, ap, subst, ◌∙◌, inl, inr, nat_le, arith, eq-eqb, le-leb, leb-true}
-use Rattle.std.proofs.lemmas.Bool.{and_parts, and_from, cases_Bool, eqb-true, not-true, or_cases, or_left, or_right}
-use Rattle.std.specs.List.{range_with_len}
+use Rattle.std.proofs.Common.{◌≡◌, ◌≢◌, ℕ, ◌+◌, ◌-◌, ◌<◌, ◌≤◌, ◌==◌, ◌&&◌, ◌||◌, Bool, true, false, not, List, Option, Some, None, find, length, get_or, slice_index, refl, sym, ap, ◌∙◌, inl, inr, nat_le, arith, eq-eqb, le-leb, leb-true}
+use Rattle.std.proofs.lemmas.List.FromFn.{get_or-map-range_with_len, get_or-range_with_len, length-range_with_len}
+use Rattle.std.proofs.lemmas.Bool.{and_from, and_parts, cases_Bool, eqb-true, ne_eqb, not-true, or_cases, or_left, or_right}
+use Rattle.std.proofs.lemmas.List.{ext_get_or}
+use Rattle.std.proofs.lemmas.List.Folds.{find_at}
+use Rattle.std.proofs.lemmas.List.Sums.{fails_before_first, passes_at_first}
+use Rattle.std.proofs.lemmas.Option.{get_or_from_slice_get, slice_get_within}
+use Rattle.std.specs.List.{position_or_len, range_with_len, slice_get}
 use Rattle.std.specs.Option.{is_none}
 use Rattle.std.specs.FinSet as set
 use Rattle.field_tables.specs.LaneSets.{IsLane, Lanes}
@@ -11,6 +16,7 @@ use Rattle.datapath_states.specs.StatusCodes.{status_at}
 use Rattle.control_sets.specs.Judgements.{all_lanes_have, at_lane, differing_lane, is_rejection, is_reserved_state, is_reserved_status, lowest_lane}
 use Rattle.control_sets.specs.OutcomeCodes.{AllHave, DiffersAt, HasSuch, IsLowest, IsLowestSuch, IsRejection, IsReservedPathState, IsReservedStatus, NoneHas, byte_at}
 use Rattle.field_tables.proofs.TrueTests.{in_range, range_passes}
+use Rattle.control_sets.proofs.Finding.{absent}
 use Rattle.control_sets.proofs.LanesOfPaths.{implied}
 use Rattle.control_sets.proofs.OutcomeWords.{contradicts}
 
@@ -22,56 +28,32 @@ record Found (test : ℕ → Bool) (from count x : ℕ) : Type 0 where
   before : (k : ℕ) → from ≤ k → k < x → test k ≡ false
 
 found_in : (test : ℕ → Bool) (from count x : ℕ) → find test (range_with_len from count) ≡ Some x → Found test from count x
-found_in test from zero x e = cc
-found_in test from (suc count) x e =
-    let Finds : Bool → Type 0 = λ b. cond b (Some from) (find test (range_with_len (from + 1) count)) ≡ Some x in
-    elim (cases_Bool (test from)) as (λ _. Found test from (suc count) x) [
-      | inl passes ↦
-          let here : from ≡ x = (let one : Finds true = subst Finds passes e in cc) in
-          record {
-            low = omega (arith, here);
-            high = omega (arith, here);
-            passes = ap test (sym here) ∙ passes;
-            before = λ k low high. absurd (omega (arith, here, low, high));
-          }
-      | inr fails ↦
-          let later = found_in test (from + 1) count x (subst Finds fails e) in
-          record {
-            low = omega (arith, later.low);
-            high = omega (arith, later.high);
-            passes = later.passes;
-            before = λ k low high. earlier test from x k fails later.before low high;
-          }
-    ] where
-      earlier : (test : ℕ → Bool) (from x k : ℕ) → test from ≡ false → ((k : ℕ) → from + 1 ≤ k → k < x → test k ≡ false) → from ≤ k → k < x → test k ≡ false
-      earlier test from x k fails later low high = elim (cases_Bool (from == k)) as (λ _. test k ≡ false) [
-        | inl same ↦ ap test (sym (eqb-true from k same)) ∙ fails
-        | inr other ↦ later k (above from k low other) high
-      ] where
-        above : (from k : ℕ) → from ≤ k → (from == k) ≡ false → from + 1 ≤ k
-        above from k low other = let ne : from ≡ k → ⊥ = λ e. contradicts (eq-eqb from k e) other in omega (arith, low, ne)
+found_in test from count x e =
+    let row = range_with_len from count in
+    let place = position_or_len test row in
+    let at : slice_get row place ≡ Some x = sym (find_at test row) ∙ e in
+    let below : place < count = omega (arith, slice_get_within row place x at, length-range_with_len from count) in
+    let here : get_or row place 0 ≡ x = get_or_from_slice_get row place x 0 at in
+    let is : x ≡ from + place = sym here ∙ get_or-range_with_len from count place 0 below in
+    record {
+      low = omega (arith, is);
+      high = omega (arith, is, below);
+      passes = ap test (sym here) ∙ passes_at_first test row 0 (slice_get_within row place x at);
+      before = λ k low high.
+          let its : get_or row (k - from) 0 ≡ k = get_or-range_with_len from count (k - from) 0 (omega (arith, low, high, is, below)) ∙ omega (arith, low) in
+          ap test (sym its) ∙ fails_before_first test row (k - from) 0 (omega (arith, low, high, is));
+    }
 
 none_in : (test : ℕ → Bool) (from count : ℕ) → find test (range_with_len from count) ≡ None → (k : ℕ) → from ≤ k → k < from + count → test k ≡ false
-none_in test from zero e k low high = absurd (omega (arith, low, high))
-none_in test from (suc count) e k low high =
-    let Finds : Bool → Type 0 = λ b. cond b (Some from) (find test (range_with_len (from + 1) count)) ≡ None in
-    elim (cases_Bool (test from)) as (λ _. test k ≡ false) [
-      | inl passes ↦ absurd (let one : Finds true = subst Finds passes e in cc)
-      | inr fails ↦ elim (cases_Bool (from == k)) as (λ _. test k ≡ false) [
-        | inl same ↦ ap test (sym (eqb-true from k same)) ∙ fails
-        | inr other ↦
-            let ne : from ≡ k → ⊥ = λ same. contradicts (eq-eqb from k same) other in
-            none_in test (from + 1) count (subst Finds fails e) k (omega (arith, low, ne)) (omega (arith, high))
-      ]
-    ]
+none_in test from count e k low high =
+    let row = range_with_len from count in
+    let at : get_or row (k - from) 0 ≡ k = get_or-range_with_len from count (k - from) 0 (omega (arith, low, high)) ∙ omega (arith, low) in
+    ap test (sym at) ∙ absent test row (k - from) 0 e (omega (arith, low, high, length-range_with_len from count))
 
 -- a test decides a proposition
 pub record Decides (test : ℕ → Bool) (P : ℕ → Type 0) : Type 0 where
   pub holds : (x : ℕ) → test x ≡ true → P x
   pub passes : (x : ℕ) → P x → test x ≡ true
-
-fails_not : (test : ℕ → Bool) (P : ℕ → Type 0) (x : ℕ) → Decides test P → test x ≡ false → P x → ⊥
-fails_not test P x d no_ p = contradicts (d.passes x p) no_
 
 lowest_is : (test : ℕ → Bool) (P : ℕ → Type 0) (lane : ℕ) → ((lane : ℕ) → IsLane lane → test lane ≡ true → P lane) → ((lane : ℕ) → IsLane lane → P lane → test lane ≡ true) →
     find test (range_with_len 1 8) ≡ Some lane → IsLowest P lane
@@ -89,17 +71,8 @@ none_is test P passes e lane is_lane p = contradicts (passes lane is_lane p) (no
 
 -- ---- codes of lanes
 
-mapped_at : (f : ℕ → ℕ) (from count i : ℕ) → i < count → slice_index (map f (range_with_len from count)) i ≡ f (from + i)
-mapped_at f from zero i below = absurd (omega (arith, below))
-mapped_at f from (suc count) zero below = let same : from ≡ from + 0 = omega arith in ap f same
-mapped_at f from (suc count) (suc i) below =
-    let same : from + 1 + i ≡ from + suc i = omega arith in
-    mapped_at f (from + 1) count i (omega (arith, below)) ∙ ap f same
-
 code_is : (bytes : List ℕ) (lane : ℕ) → IsLane lane → at_lane (codes_in bytes 8) lane ≡ code_in bytes lane
-code_is bytes lane is_lane =
-    let same : 1 + (lane - 1) ≡ lane = omega (arith, is_lane.0) in
-    mapped_at (code_in bytes) 1 8 (lane - 1) (omega (arith, is_lane.0, is_lane.1)) ∙ ap (code_in bytes) same
+code_is bytes lane is_lane = get_or-map-range_with_len (code_in bytes) 1 8 (lane - 1) lane 0 (omega (arith, is_lane.0, is_lane.1)) (omega (arith, is_lane.0))
 
 has_such : (test : ℕ → Bool) (P : ℕ → Type 0) (lanes : Lanes) (bytes : List ℕ) (lane : ℕ) → Decides test P → IsLane lane → (set.contains lanes lane && test (at_lane (codes_in bytes 8) lane)) ≡ true → HasSuch P lanes bytes lane
 has_such test P lanes bytes lane d is_lane e =
@@ -128,12 +101,9 @@ not_same : (x y : ℕ) → not (x == y) ≡ true → x ≢ y
 not_same x y e same = contradicts (eq-eqb x y same) (not-true (x == y) e)
 
 differ : (x y : ℕ) → x ≢ y → not (x == y) ≡ true
-differ x y other = elim (cases_Bool (x == y)) as (λ _. not (x == y) ≡ true) [
-  | inl same ↦ absurd (other (eqb-true x y same))
-  | inr no_ ↦ ap not no_
-]
+differ x y other = ap not (ne_eqb x y other)
 
-is_none_of : {X : Type 0} (found : Option X) → is_none found ≡ true → found ≡ None
+pub is_none_of : {X : Type 0} (found : Option X) → is_none found ≡ true → found ≡ None
 is_none_of None e = refl
 is_none_of (Some x) e = cc
 
@@ -189,18 +159,9 @@ agrees_at bytes control e lane is_lane =
           (λ same. contradicts (eq-eqb (byte_at bytes lane) (byte_at control lane) same) no_))
     ]
 
-same_list : (xs ys : List ℕ) → length xs ≡ length ys → ((i : ℕ) → i < length xs → slice_index xs i ≡ slice_index ys i) → xs ≡ ys
-same_list [] [] e each = refl
-same_list [] (y ∷ ys) e each = cc
-same_list (x ∷ xs) [] e each = cc
-same_list (x ∷ xs) (y ∷ ys) e each =
-    let tail = same_list xs ys (omega (arith, e)) (λ i below. each (suc i) (omega (arith, below))) in
-    let head : x ≡ y = each 0 (omega arith) in
-    λ i. head i ∷ tail i
-
 pub bytes_agree : (bytes control : List ℕ) → length bytes ≡ 8 → length control ≡ 8 → differing_lane bytes control ≡ None → bytes ≡ control
 bytes_agree bytes control eight too e =
-    same_list bytes control (eight ∙ sym too) (λ i below.
+    ext_get_or 0 bytes control (eight ∙ sym too) (λ i below.
     let same : i + 1 - 1 ≡ i = omega arith in
     let is_lane : IsLane (i + 1) = (omega arith, omega (arith, below, eight)) in
     sym (ap (slice_index bytes) same) ∙ agrees_at bytes control e (i + 1) is_lane ∙ ap (slice_index control) same)

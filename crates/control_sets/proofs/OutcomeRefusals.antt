@@ -1,36 +1,23 @@
 -- Steps and answers that look right and are no provisioning.
-use Rattle.std.proofs.Common.{◌≡◌, ◌+◌, ℕ, true, false, not, List, [], ◌∷◌, Ok, Err, ◌<◌, length, refl, sym, subst, ap, ◌∙◌, inl, inr, arith}
-use Rattle.std.proofs.lemmas.Bool.{and_parts}
-use Rattle.std.specs.List.{list_all}
+use Rattle.std.proofs.Common.{◌≡◌, ◌+◌, ℕ, false, List, [], ◌∷◌, Ok, Err, ◌<◌, length, refl, sym, subst, ap, ◌∙◌, inl, inr, arith}
 use Rattle.field_tables.specs.LaneSets.{Lanes, byte_of}
 use Rattle.bus_model.specs.declared.operation.Op.{Op}
 use Rattle.bus_model.specs.declared.operation.Op.TheVariants.{Fetch, Store}
-use Rattle.bus_model.specs.declared.operation.Reply.{Reply}
-use Rattle.bus_model.specs.declared.operation.Reply.TheVariants.{Bytes, Done, Refused}
+use Rattle.bus_model.specs.declared.operation.Reply.TheVariants.{Bytes, Refused}
 use Rattle.bus_model.specs.declared.operation.Step.{Step}
-use Rattle.control_sets.specs.declared.fault.ProvisionFault.{ProvisionFault}
 use Rattle.control_sets.specs.declared.fault.ProvisionFault.TheVariants.{Bus, GaveUp, ModuleState, StagedDiffers}
 use Rattle.bus_model.specs.declared.bus.BusFault.TheVariants.{TraceFull}
 use Rattle.module_states.specs.declared.state.ModuleState.TheVariants.{LowPwr}
 use Rattle.bus_model.specs.SameOperation.{same_op}
 use Rattle.control_sets.specs.Pages.{History, read_selection, selection}
-use Rattle.control_sets.specs.OutcomeSteps.{IsAccepted, IsAmong, Stands}
+use Rattle.control_sets.specs.OutcomeSteps.{IsAccepted, Stands}
 use Rattle.control_sets.specs.OutcomeOperations.{apply, control_page, read_active, read_module_state, read_path_states, read_staged, read_statuses, set_deinit, stage, status_page}
 use Rattle.control_sets.specs.OutcomeCodes.{byte_at}
-use Rattle.control_sets.specs.OutcomeAnswers.{Answer, EndsIn, NoneEnds}
+use Rattle.control_sets.specs.OutcomeAnswers.{Answer, NoneEnds}
 use Rattle.control_sets.specs.OutcomeOfProvisioning.{EndsProvisioning, IsProvisioning}
 use Rattle.control_sets.specs.OutcomeExamples.{almost_pairs, gave, low_power, on_controls, pairs, ready, refused, took}
-use Rattle.control_sets.proofs.OutcomeWords.{confirms_page, contradicts, page_confirmed}
-use Rattle.bus_model.proofs.SameOperations.{apart, ops_same}
-
-not_among : (ops : List Op) (op : Op) → list_all (λ other. not (same_op op other)) ops ≡ true → IsAmong ops op → ⊥
-not_among [] op differ among = among
-not_among (other ∷ ops) op differ (inl is) = contradicts (and_parts _ _ differ).0 (ap not (ops_same op other is))
-not_among (other ∷ ops) op differ (inr later) = not_among ops op (and_parts _ _ differ).1 later
-
--- an operation that is one which is none of these
-none_among : (ops : List Op) (op other : Op) → op ≡ other → list_all (λ some. not (same_op other some)) ops ≡ true → IsAmong ops op → ⊥
-none_among ops op other is differ among = not_among ops other differ (subst (IsAmong ops) is among)
+use Rattle.control_sets.proofs.OutcomeWords.{confirms_page, contradicts, items_in, not_among, page_confirmed, same_last, success_ends}
+use Rattle.bus_model.proofs.SameOperations.{apart}
 
 abbrev given : Op → List ℕ
 given (Fetch dev offset count) = []
@@ -40,45 +27,18 @@ abbrev first_of : List ℕ → ℕ
 first_of [] = 0
 first_of (byte ∷ bytes) = byte
 
-abbrev rest : History → History
-rest [] = []
-rest (step ∷ before) = before
-
-pub fault_of : Answer → ProvisionFault
-fault_of (Ok steps) = GaveUp
-fault_of (Err fault) = fault
-
-not_ok : (steps : ℕ) (fault : ProvisionFault) → Ok steps ≡ Err fault → ⊥
-not_ok steps fault e = cc
-
 module _ (control : List ℕ) (lanes : Lanes) (full : Type 0) where
-  -- of a success, the last step
-  success_ends : (history : History) (steps : ℕ) → IsProvisioning control lanes full history (Ok steps) → EndsIn (EndsProvisioning control lanes) history (Ok steps)
-  success_ends history steps outcome = elim outcome.answered.answered as (λ _. EndsIn (EndsProvisioning control lanes) history (Ok steps)) [
-    | inl ends ↦ ends
-    | inr (inl gives_up) ↦ absurd (not_ok steps _ gives_up.fault)
-    | inr (inr fills) ↦ absurd (not_ok steps _ fills.fault)
-  ]
-
-  newest : Step → History → Step
-  newest d [] = d
-  newest d (step ∷ before) = step
-
-  last_is : (step last : Step) (before earlier : History) → step ∷ before ≡ last ∷ earlier → step ≡ last
-  unfolding newest
-  last_is step last before earlier e = ap (newest step) e
-
   -- a success without steps
   pub of_nothing : IsProvisioning control lanes full [] (Ok 0) → ⊥
-  of_nothing outcome = let ends = success_ends [] 0 outcome in nothing ends.last ends.before ends.split where
+  of_nothing outcome = let ends = success_ends outcome.answered in nothing ends.last ends.before ends.split where
     nothing : (last : Step) (before : History) → [] ≡ last ∷ before → ⊥
     nothing last before e = cc
 
   -- the last step of a success is no other read than that of the active bytes
   pub by_another : (step : Step) (before : History) (steps : ℕ) → same_op step.op read_active ≡ false → IsProvisioning control lanes full (step ∷ before) (Ok steps) → ⊥
   by_another step before steps other outcome =
-      let ends = success_ends (step ∷ before) steps outcome in
-      apart step.op read_active other (ap (λ (step : Step). step.op) (last_is step ends.last before ends.before ends.split) ∙ ends.ends.0)
+      let ends = success_ends outcome.answered in
+      apart step.op read_active other (ap (λ (step : Step). step.op) (same_last ends.split) ∙ ends.ends.0)
 
   -- another number of steps
   pub miscounted : (history : History) → IsProvisioning control lanes full history (Ok (length history + 1)) → ⊥
@@ -95,8 +55,8 @@ module _ (control : List ℕ) (lanes : Lanes) (full : Type 0) where
   -- a store under a page that wasn't read back
   pub trusts_selection : (answer : Answer) → IsProvisioning control lanes full (took (stage control) ∷ took (selection control_page) ∷ ready ∷ []) answer → ⊥
   trusts_selection answer outcome = elim outcome.shape.0 as (λ _. ⊥) [
-    | inl among ↦ not_among (read_module_state ∷ read_selection ∷ selection control_page ∷ selection status_page ∷ []) (stage control) refl among
-    | inr (inl (among, there)) ↦ not_among (read_path_states ∷ read_statuses ∷ read_active ∷ []) (stage control) refl among
+    | inl among ↦ not_among (read_module_state ∷ read_selection ∷ selection control_page ∷ selection status_page ∷ []) (stage control) (stage control) refl refl among
+    | inr (inl (among, there)) ↦ not_among (read_path_states ∷ read_statuses ∷ read_active ∷ []) (stage control) (stage control) refl refl among
     | inr (inr (among, there)) ↦ contradicts (page_confirmed control_page (took (selection control_page) ∷ ready ∷ []) there) refl
   ]
 
@@ -125,18 +85,18 @@ module _ (control : List ℕ) (lanes : Lanes) (full : Type 0) where
   -- a store that is staged in place of the control bytes
   pub stages_others : (step : Step) (before : History) (answer : Answer) (others : List ℕ) → step.op ≡ stage others → (others ≡ control → ⊥) → IsProvisioning control lanes full (step ∷ before) answer → ⊥
   stages_others step before answer others is differ outcome = elim outcome.shape.0 as (λ _. ⊥) [
-    | inl among ↦ none_among (read_module_state ∷ read_selection ∷ selection control_page ∷ selection status_page ∷ []) step.op (stage others) is refl among
-    | inr (inl (among, there)) ↦ none_among (read_path_states ∷ read_statuses ∷ read_active ∷ []) step.op (stage others) is refl among
+    | inl among ↦ not_among (read_module_state ∷ read_selection ∷ selection control_page ∷ selection status_page ∷ []) step.op (stage others) is refl among
+    | inr (inl (among, there)) ↦ not_among (read_path_states ∷ read_statuses ∷ read_active ∷ []) step.op (stage others) is refl among
     | inr (inr (inl e, there)) ↦ apart (stage others) (set_deinit (byte_of lanes)) refl (sym is ∙ e)
     | inr (inr (inr (inl e), there)) ↦ differ (ap given (sym is ∙ e))
-    | inr (inr (inr (inr among), there)) ↦ none_among (read_staged ∷ apply (byte_of lanes) ∷ []) step.op (stage others) is refl among
+    | inr (inr (inr (inr among), there)) ↦ not_among (read_staged ∷ apply (byte_of lanes) ∷ []) step.op (stage others) is refl among
   ]
 
   -- an Apply of other lanes
   pub applies_others : (step : Step) (before : History) (answer : Answer) (bits : ℕ) → step.op ≡ apply bits → (bits ≡ byte_of lanes → ⊥) → IsProvisioning control lanes full (step ∷ before) answer → ⊥
   applies_others step before answer bits is differ outcome = elim outcome.shape.0 as (λ _. ⊥) [
-    | inl among ↦ none_among (read_module_state ∷ read_selection ∷ selection control_page ∷ selection status_page ∷ []) step.op (apply bits) is refl among
-    | inr (inl (among, there)) ↦ none_among (read_path_states ∷ read_statuses ∷ read_active ∷ []) step.op (apply bits) is refl among
+    | inl among ↦ not_among (read_module_state ∷ read_selection ∷ selection control_page ∷ selection status_page ∷ []) step.op (apply bits) is refl among
+    | inr (inl (among, there)) ↦ not_among (read_path_states ∷ read_statuses ∷ read_active ∷ []) step.op (apply bits) is refl among
     | inr (inr (inl e, there)) ↦ apart (apply bits) (set_deinit (byte_of lanes)) refl (sym is ∙ e)
     | inr (inr (inr (inl e), there)) ↦ apart (apply bits) (stage control) refl (sym is ∙ e)
     | inr (inr (inr (inr (inl e)), there)) ↦ apart (apply bits) read_staged refl (sym is ∙ e)
@@ -147,7 +107,7 @@ module _ (control : List ℕ) (lanes : Lanes) (full : Type 0) where
   -- a step after one that ended in an answer
   pub goes_on_ended : (step : Step) (before : History) (answer : Answer) → IsProvisioning control lanes full (step ∷ low_power ∷ before) answer → ⊥
   goes_on_ended step before answer outcome = elim outcome.answered.answered as (λ _. ⊥) [
-    | inl ends ↦ ended_by (subst (NoneEnds (EndsProvisioning control lanes)) (sym (ap rest ends.split)) ends.first)
+    | inl ends ↦ ended_by (let same : low_power ∷ before ≡ ends.before = cc in subst (NoneEnds (EndsProvisioning control lanes)) (sym same) ends.first)
     | inr (inl gives_up) ↦ ended_by gives_up.none.1
     | inr (inr fills) ↦ ended_by fills.none.1
   ] where
@@ -156,10 +116,9 @@ module _ (control : List ℕ) (lanes : Lanes) (full : Type 0) where
 
   -- a list that isn't full is said to be
   pub fills_too_soon : (history : History) → (full → ⊥) → IsProvisioning control lanes full history (Err (Bus TraceFull)) → ⊥
-  unfolding fault_of
   fills_too_soon history room outcome = elim outcome.answered.answered as (λ _. ⊥) [
     | inl ends ↦ ends.ends
-    | inr (inl gives_up) ↦ let h : Bus TraceFull ≡ GaveUp = ap fault_of gives_up.fault in cc
+    | inr (inl gives_up) ↦ cc
     | inr (inr fills) ↦ room fills.is_full
   ]
 
@@ -188,20 +147,14 @@ module _ (control : List ℕ) (lanes : Lanes) (full : Type 0) where
   pub believes_refused : (step : Step) (before : History) (answer : Answer) → step.op ≡ read_statuses → (Stands (IsAccepted (apply (byte_of lanes))) before → ⊥) → IsProvisioning control lanes full (step ∷ before) answer → ⊥
   believes_refused step before answer is none outcome = none (outcome.order.statuses.0 is)
 
-read_of : Reply → List ℕ
-read_of (Bytes bytes) = bytes.items
-read_of Done = []
-read_of Refused = []
-
 -- the highest lane that differs in place of the lowest
 pub names_highest : (lanes : Lanes) (full : Type 0) (before : History) → IsProvisioning pairs lanes full (gave read_staged almost_pairs ∷ before) (Err (StagedDiffers 5)) → ⊥
-unfolding fault_of read_of
 names_highest lanes full before outcome = elim outcome.answered.answered as (λ _. ⊥) [
   | inl ends ↦
       let (bytes, gives, differs) = ends.ends in
-      let reply = ap (λ (step : Step). step.reply) (last_is pairs lanes full (gave read_staged almost_pairs) ends.last before ends.before ends.split) ∙ gives.1 in
-      let same : almost_pairs ≡ bytes = ap read_of reply in
+      let reply = ap (λ (step : Step). step.reply) (same_last ends.split) ∙ gives.1 in
+      let same : almost_pairs ≡ bytes = ap items_in reply in
       differs.lowest 2 (omega arith, omega arith) (omega arith) (λ h. let n : 0 ≡ 32 = ap (λ (bytes : List ℕ). byte_at bytes 2) same ∙ h in omega (arith, n))
-  | inr (inl gives_up) ↦ let h : StagedDiffers 5 ≡ GaveUp = ap fault_of gives_up.fault in cc
-  | inr (inr fills) ↦ let h : StagedDiffers 5 ≡ Bus TraceFull = ap fault_of fills.fault in cc
+  | inr (inl gives_up) ↦ cc
+  | inr (inr fills) ↦ cc
 ]

@@ -1,5 +1,8 @@
 -- What replies to the operations of tasks say, in the words of the outcomes.
 use Rattle.std.proofs.Common.{◌≡◌, ℕ, Bool, true, false, List, Option, Some, None, length, refl, sym, ap, ◌∙◌}
+use Rattle.arrayvec.specs.ArrayVec.{ArrayVec}
+use Rattle.bus_model.specs.declared.operation.Reply.TheVariants.{Bytes}
+use Rattle.bus_model.specs.Operations.{Answers}
 use Rattle.field_tables.specs.LaneSets.{Lanes, every_lane}
 use Rattle.module_states.specs.declared.state.ModuleState.{ModuleState as State}
 use Rattle.module_states.specs.declared.state.ModuleState.TheVariants.{Ready}
@@ -12,25 +15,24 @@ use Rattle.datapath_states.specs.Lanes.{code_in, codes_in}
 use Rattle.control_sets.specs.declared.fault.ProvisionFault.{ProvisionFault}
 use Rattle.control_sets.specs.declared.fault.ProvisionFault.TheVariants.{Rejected, StagedDiffers, ActiveDiffers, ModuleState, Reserved}
 use Rattle.control_sets.specs.declared.procedures.task.Task.{Task}
-use Rattle.control_sets.specs.declared.procedures.task.Task.TheVariants.{FindReady, Deinitialize, AwaitDeactivated, Stage, CheckStaged, Apply, AwaitApplied, CheckActive, AwaitActivated}
+use Rattle.control_sets.specs.declared.procedures.task.Task.TheVariants.{FindReady, AwaitDeactivated, CheckStaged, AwaitApplied, CheckActive, AwaitActivated}
 use Rattle.control_sets.specs.declared.procedures.judgement.ReplyJudgement.{ReplyJudgement}
 use Rattle.control_sets.specs.declared.procedures.judgement.ReplyJudgement.TheVariants.{Met, NotYet, Fails}
 use Rattle.control_sets.specs.Judgements.{all_lanes_have, at_lane, differing_lane, is_rejection, is_reserved_state, is_reserved_status, judged, lowest_lane, met_if, met_in, met_unless, unless_rejected, unless_reserved}
 use Rattle.control_sets.specs.OutcomeCodes.{AllHave, DiffersAt, HasSuch, IsInNoState, IsInOtherState, IsLowestReserved, IsReady, IsRejectedAt, IsRejection, IsReservedPathState, IsReservedStatus, NoneHas, module_code}
+use Rattle.control_sets.specs.Tasks.{operation}
 use Rattle.control_sets.proofs.OutcomeWords.{contradicts}
 use Rattle.control_sets.proofs.OutcomeLanes.{agree_bytes, bytes_agree, differs_at, each_has, has_each, no_such_lane, rejection, reserved_state, reserved_status, such_lane}
 
 -- the bytes that meet a task
 abbrev pub Condition : Task → List ℕ → Type 0
 Condition FindReady bytes = IsReady bytes
-Condition (Deinitialize bits) bytes = ⊥
 Condition (AwaitDeactivated lanes) bytes = AllHave (code_of Deactivated) lanes bytes
-Condition (Stage control) bytes = ⊥
 Condition (CheckStaged control) bytes = bytes ≡ control
-Condition (Apply bits) bytes = ⊥
 Condition (AwaitApplied lanes) bytes = AllHave (status_code_of Success) lanes bytes
 Condition (CheckActive control) bytes = bytes ≡ control
 Condition (AwaitActivated lanes) bytes = NoneHas IsReservedPathState every_lane bytes × AllHave (code_of Activated) lanes bytes
+Condition _ bytes = ⊥
 
 -- the bytes that show a fault of a task
 abbrev pub Shows : Task → ProvisionFault → List ℕ → Type 0
@@ -53,17 +55,16 @@ Told task bytes Met = Condition task bytes × ShowsNone task bytes
 Told task bytes NotYet = (Condition task bytes → ⊥) × ShowsNone task bytes
 Told task bytes (Fails fault) = (Condition task bytes → ⊥) × Shows task fault bytes
 
+-- a task that is met by a test which decides its condition
+met_by : (task : Task) (bytes : List ℕ) (met : Bool) → (met ≡ true → Condition task bytes) → (Condition task bytes → met ≡ true) → ShowsNone task bytes → Told task bytes (met_if met)
+met_by task bytes true holds decides none = (holds refl, none)
+met_by task bytes false holds decides none = (λ c. contradicts (decides c) refl, none)
+
 -- ---- the module's state
 
 ready_shows_none : (bytes : List ℕ) → IsReady bytes → ShowsNone FindReady bytes
 ready_shows_none bytes ready (ModuleState code) (is, state, found, other) =
-    other (state_is state (sym found ∙ ap module_state_at is ∙ ready)) where
-      held : Option State → State
-      held None = Ready
-      held (Some state) = state
-
-      state_is : (state : State) → Some state ≡ Some Ready → state ≡ Ready
-      state_is state e = ap held e
+    let h : Some state ≡ Some Ready = sym found ∙ ap module_state_at is ∙ ready in other cc
 ready_shows_none bytes ready (Reserved code) (is, none) = let h : None ≡ Some Ready = sym none ∙ ap module_state_at is ∙ ready in cc
 ready_shows_none bytes ready _ s = s
 
@@ -103,24 +104,20 @@ up_shows_none lanes bytes none _ s = s
 unreserved : (lanes : Lanes) (bytes : List ℕ) (lane : ℕ) → AllHave (code_of Deactivated) lanes bytes → HasSuch IsReservedPathState lanes bytes lane → ⊥
 unreserved lanes bytes lane all such = let h : Some Deactivated ≡ None = ap path_state_at (sym (all lane such.0)) ∙ such.1 in cc
 
-told_down_by : (lanes : Lanes) (bytes : List ℕ) (all : Bool) → NoneHas IsReservedPathState lanes bytes → all_lanes_have (code_of Deactivated) lanes (codes_in bytes 8) ≡ all → Told (AwaitDeactivated lanes) bytes (met_if all)
-told_down_by lanes bytes true none e = (each_has (code_of Deactivated) lanes bytes e, down_shows_none lanes bytes none)
-told_down_by lanes bytes false none e = (λ all. contradicts (has_each (code_of Deactivated) lanes bytes all) e, down_shows_none lanes bytes none)
-
 told_down : (lanes : Lanes) (bytes : List ℕ) (found : Option ℕ) → lowest_lane is_reserved_state lanes (codes_in bytes 8) ≡ found →
     Told (AwaitDeactivated lanes) bytes (unless_reserved (codes_in bytes 8) found (met_if (all_lanes_have (code_of Deactivated) lanes (codes_in bytes 8))))
-told_down lanes bytes None e = told_down_by lanes bytes (all_lanes_have (code_of Deactivated) lanes (codes_in bytes 8)) (no_such_lane is_reserved_state IsReservedPathState lanes bytes reserved_state e) refl
+told_down lanes bytes None e =
+    let none = no_such_lane is_reserved_state IsReservedPathState lanes bytes reserved_state e in
+    met_by (AwaitDeactivated lanes) bytes (all_lanes_have (code_of Deactivated) lanes (codes_in bytes 8)) (each_has (code_of Deactivated) lanes bytes) (has_each (code_of Deactivated) lanes bytes) (down_shows_none lanes bytes none)
 told_down lanes bytes (Some lane) e =
     let such = such_lane is_reserved_state IsReservedPathState lanes bytes lane reserved_state e in
     (λ all. unreserved lanes bytes lane all such.lowest.holds, (lane, such))
 
-told_up_by : (lanes : Lanes) (bytes : List ℕ) (all : Bool) → NoneHas IsReservedPathState every_lane bytes → all_lanes_have (code_of Activated) lanes (codes_in bytes 8) ≡ all → Told (AwaitActivated lanes) bytes (met_if all)
-told_up_by lanes bytes true none e = ((none, each_has (code_of Activated) lanes bytes e), up_shows_none lanes bytes none)
-told_up_by lanes bytes false none e = (λ all. contradicts (has_each (code_of Activated) lanes bytes all.1) e, up_shows_none lanes bytes none)
-
 told_up : (lanes : Lanes) (bytes : List ℕ) (found : Option ℕ) → lowest_lane is_reserved_state every_lane (codes_in bytes 8) ≡ found →
     Told (AwaitActivated lanes) bytes (unless_reserved (codes_in bytes 8) found (met_if (all_lanes_have (code_of Activated) lanes (codes_in bytes 8))))
-told_up lanes bytes None e = told_up_by lanes bytes (all_lanes_have (code_of Activated) lanes (codes_in bytes 8)) (no_such_lane is_reserved_state IsReservedPathState every_lane bytes reserved_state e) refl
+told_up lanes bytes None e =
+    let none = no_such_lane is_reserved_state IsReservedPathState every_lane bytes reserved_state e in
+    met_by (AwaitActivated lanes) bytes (all_lanes_have (code_of Activated) lanes (codes_in bytes 8)) (λ e. (none, each_has (code_of Activated) lanes bytes e)) (λ c. has_each (code_of Activated) lanes bytes c.1) (up_shows_none lanes bytes none)
 told_up lanes bytes (Some lane) e =
     let such = such_lane is_reserved_state IsReservedPathState every_lane bytes lane reserved_state e in
     (λ all. all.0 lane such.lowest.holds, (lane, such))
@@ -141,13 +138,11 @@ one_passes code e = ap is_rejection e
 success_unrejected : (lanes : Lanes) (bytes : List ℕ) (lane : ℕ) → AllHave (status_code_of Success) lanes bytes → HasSuch IsRejection lanes bytes lane → ⊥
 success_unrejected lanes bytes lane all such = contradicts (rejection.passes (code_in bytes lane) such.1) (one_passes (code_in bytes lane) (all lane such.0))
 
-told_applied_by : (lanes : Lanes) (bytes : List ℕ) (all : Bool) → NoneHas IsReservedStatus lanes bytes → NoneHas IsRejection lanes bytes → all_lanes_have 1 lanes (codes_in bytes 8) ≡ all → Told (AwaitApplied lanes) bytes (met_if all)
-told_applied_by lanes bytes true none none_rejected e = (each_has 1 lanes bytes e, applied_shows_none lanes bytes none none_rejected)
-told_applied_by lanes bytes false none none_rejected e = (λ all. contradicts (has_each 1 lanes bytes all) e, applied_shows_none lanes bytes none none_rejected)
-
 told_rejected : (lanes : Lanes) (bytes : List ℕ) (found : Option ℕ) → NoneHas IsReservedStatus lanes bytes → lowest_lane is_rejection lanes (codes_in bytes 8) ≡ found →
     Told (AwaitApplied lanes) bytes (unless_rejected (codes_in bytes 8) found (met_if (all_lanes_have 1 lanes (codes_in bytes 8))))
-told_rejected lanes bytes None none e = told_applied_by lanes bytes (all_lanes_have 1 lanes (codes_in bytes 8)) none (no_such_lane is_rejection IsRejection lanes bytes rejection e) refl
+told_rejected lanes bytes None none e =
+    let shows_none = applied_shows_none lanes bytes none (no_such_lane is_rejection IsRejection lanes bytes rejection e) in
+    met_by (AwaitApplied lanes) bytes (all_lanes_have 1 lanes (codes_in bytes 8)) (each_has 1 lanes bytes) (has_each 1 lanes bytes) shows_none
 told_rejected lanes bytes (Some lane) none e =
     let such = such_lane is_rejection IsRejection lanes bytes lane rejection e in
     (λ all. success_unrejected lanes bytes lane all such.lowest.holds, (none, such))
@@ -161,29 +156,32 @@ told_statuses lanes bytes (Some lane) e =
 
 -- ---- all tasks
 
--- the bytes that are compared with what was read are eight
-abbrev pub IsWhole : Task → List ℕ → Type 0
-IsWhole (CheckStaged control) bytes = (length bytes ≡ 8) × (length control ≡ 8)
-IsWhole (CheckActive control) bytes = (length bytes ≡ 8) × (length control ≡ 8)
-IsWhole _ bytes = Unit {0}
+-- the control bytes of a task are eight
+abbrev pub HasEight : Task → Type 0
+HasEight (CheckStaged control) = length control ≡ 8
+HasEight (CheckActive control) = length control ≡ 8
+HasEight _ = Unit {0}
 
-deinit_shows_none : (bits : ℕ) (bytes : List ℕ) → ShowsNone (Deinitialize bits) bytes
-deinit_shows_none bits bytes _ s = s
-
-stage_shows_none : (control : List ℕ) (bytes : List ℕ) → ShowsNone (Stage control) bytes
-stage_shows_none control bytes _ s = s
-
-apply_shows_none : (bits : ℕ) (bytes : List ℕ) → ShowsNone (Apply bits) bytes
-apply_shows_none bits bytes _ s = s
-
-pub told : (task : Task) (bytes : List ℕ) → IsWhole task bytes → Told task bytes (judged task bytes)
+pub told : (task : Task) (bytes : ArrayVec ℕ) → HasEight task → Answers (operation task) (Bytes bytes) → Told task bytes.items (judged task bytes.items)
 unfolding judged
-told FindReady bytes whole = told_module bytes (module_state_at (module_code bytes)) refl
-told (Deinitialize bits) bytes whole = (λ c. c, deinit_shows_none bits bytes)
-told (AwaitDeactivated lanes) bytes whole = told_down lanes bytes (lowest_lane is_reserved_state lanes (codes_in bytes 8)) refl
-told (Stage control) bytes whole = (λ c. c, stage_shows_none control bytes)
-told (CheckStaged control) bytes whole = told_staged control bytes (differing_lane bytes control) whole.0 whole.1 refl
-told (Apply bits) bytes whole = (λ c. c, apply_shows_none bits bytes)
-told (AwaitApplied lanes) bytes whole = told_statuses lanes bytes (lowest_lane is_reserved_status lanes (codes_in bytes 8)) refl
-told (CheckActive control) bytes whole = told_active control bytes (differing_lane bytes control) whole.0 whole.1 refl
-told (AwaitActivated lanes) bytes whole = told_up lanes bytes (lowest_lane is_reserved_state every_lane (codes_in bytes 8)) refl
+told FindReady bytes eight answers = told_module bytes.items (module_state_at (module_code bytes.items)) refl
+told (AwaitDeactivated lanes) bytes eight answers = told_down lanes bytes.items (lowest_lane is_reserved_state lanes (codes_in bytes.items 8)) refl
+told (CheckStaged control) bytes eight answers = told_staged control bytes.items (differing_lane bytes.items control) answers eight refl
+told (AwaitApplied lanes) bytes eight answers = told_statuses lanes bytes.items (lowest_lane is_reserved_status lanes (codes_in bytes.items 8)) refl
+told (CheckActive control) bytes eight answers = told_active control bytes.items (differing_lane bytes.items control) answers eight refl
+told (AwaitActivated lanes) bytes eight answers = told_up lanes bytes.items (lowest_lane is_reserved_state every_lane (codes_in bytes.items 8)) refl
+told _ bytes eight answers = (λ met. met, λ fault shown. shown)
+
+-- ---- what each answer decides
+
+pub module_decides : (bytes : List ℕ) → judged FindReady bytes ≡ NotYet → ⊥
+unfolding judged
+module_decides bytes e = by (module_code bytes) (module_state_at (module_code bytes)) e where
+  by : (code : ℕ) (found : Option State) → met_in code found ≡ NotYet → ⊥
+  by code None e = cc
+  by code (Some Ready) e = cc
+  by code (Some state) e = cc
+
+pub bytes_decide : (fault : ℕ → ProvisionFault) (found : Option ℕ) → met_unless fault found ≡ NotYet → ⊥
+bytes_decide fault None e = cc
+bytes_decide fault (Some lane) e = cc

@@ -1,5 +1,5 @@
 -- Selections of pages by a procedure, in the words of the outcomes; and what is known at each of its steps.
-use Rattle.std.proofs.Common.{◌≡◌, ◌⊎◌, ℕ, ◌&&◌, ◌||◌, Bool, true, false, if◌then◌else◌, not, List, [], ◌∷◌, Option, Some, None, refl, sym, ap, subst, ◌∙◌, inl, inr, slice_index}
+use Rattle.std.proofs.Common.{◌≡◌, ◌⊎◌, ℕ, ◌&&◌, ◌||◌, Bool, true, false, if◌then◌else◌, not, List, [], ◌∷◌, Some, None, refl, sym, ap, subst, ◌∙◌, inl, inr, slice_index, arith}
 use Rattle.std.proofs.lemmas.Bool.{and_parts, or_cases}
 use Rattle.bus_model.specs.declared.operation.Op.{Op}
 use Rattle.bus_model.specs.declared.operation.Op.TheVariants.{Fetch, Store}
@@ -10,16 +10,17 @@ use Rattle.bus_model.specs.Operations.{Answers}
 use Rattle.conversations.specs.Pauses.{is_refused}
 use Rattle.conversations.specs.Selecting.{since_refusal, trusted}
 use Rattle.control_sets.specs.declared.procedures.task.Task.{Task}
-use Rattle.control_sets.specs.declared.procedures.task.Task.TheVariants.{FindReady, Deinitialize, AwaitDeactivated, Stage, CheckStaged, Apply, AwaitApplied, CheckActive, AwaitActivated}
+use Rattle.control_sets.specs.declared.procedures.task.Task.TheVariants.{FindReady, AwaitDeactivated, AwaitApplied, CheckActive, AwaitActivated}
 use Rattle.bus_model.specs.SameOperation.{same_op}
 use Rattle.control_sets.specs.Pages.{EachStep, History, is_page_confirmed, is_open, is_read, leaves_open, may_select, read_selection, selection}
 use Rattle.control_sets.specs.Tasks.{operation, page_of}
 use Rattle.control_sets.specs.Procedures.{EachAnswers, EachGoesOn}
-use Rattle.control_sets.specs.OutcomeSteps.{Newest}
-use Rattle.control_sets.specs.OutcomeOperations.{AwaitsReadBack, IsSelection, ReadsSelectionsBackBy, control_page, status_page}
+use Rattle.control_sets.specs.OutcomeSteps.{IsAmong, Newest}
+use Rattle.control_sets.specs.OutcomeOperations.{AwaitsReadBack, IsSelection, ReadsSelectionsBackBy, control_page, read_module_state, status_page}
 use Rattle.control_sets.proofs.OutcomeWords.{contradicts, each_from}
-use Rattle.bus_model.proofs.SameOperations.{ops_are, ops_same}
-use Rattle.control_sets.proofs.OutcomeTurns.{Turn, no_read_back, no_selection}
+use Rattle.bus_model.proofs.SameOperations.{apart, ops_are}
+use Rattle.control_sets.proofs.OutcomeTurns.{Selects, Turn}
+use Rattle.control_sets.proofs.TaskLaws.{no_read_back, no_selection, not_selecting}
 
 -- what is known at a step
 pub record Here (doubts : Bool) (tasks : List Task) (step : Step) (before : History) : Type 0 where
@@ -37,32 +38,28 @@ each_here tasks step (last ∷ before) turns fits on =
 -- ---- the pages of tasks
 
 some_is : (x y : ℕ) → Some x ≡ Some y → x ≡ y
-some_is x y e = ap held e where
-  held : Option ℕ → ℕ
-  held None = 0
-  held (Some x) = x
+some_is x y e = cc
 
 pub page_is : (task : Task) (page : ℕ) → page_of task ≡ Some page → (page ≡ control_page) ⊎ (page ≡ status_page)
 page_is FindReady page e = let none : None ≡ Some page = e in cc
-page_is (Deinitialize bits) page e = inl (sym (some_is control_page page e))
 page_is (AwaitDeactivated lanes) page e = inr (sym (some_is status_page page e))
-page_is (Stage control) page e = inl (sym (some_is control_page page e))
-page_is (CheckStaged control) page e = inl (sym (some_is control_page page e))
-page_is (Apply bits) page e = inl (sym (some_is control_page page e))
 page_is (AwaitApplied lanes) page e = inr (sym (some_is status_page page e))
 page_is (CheckActive control) page e = inr (sym (some_is status_page page e))
 page_is (AwaitActivated lanes) page e = inr (sym (some_is status_page page e))
+page_is _ page e = inl (sym (some_is control_page page e))
 
-not_selecting : (task : Task) → may_select (operation task) ≡ false
-not_selecting FindReady = refl
-not_selecting (Deinitialize bits) = refl
-not_selecting (AwaitDeactivated lanes) = refl
-not_selecting (Stage control) = refl
-not_selecting (CheckStaged control) = refl
-not_selecting (Apply bits) = refl
-not_selecting (AwaitApplied lanes) = refl
-not_selecting (CheckActive control) = refl
-not_selecting (AwaitActivated lanes) = refl
+pub no_page : {page : ℕ} → None ≡ Some page → ⊥
+no_page e = cc
+
+-- a selection is one of the operations that need no page
+pub among_lower : (task : Task) (op : Op) (before : History) → Selects task op before → IsAmong (read_module_state ∷ read_selection ∷ selection control_page ∷ selection status_page ∷ []) op
+among_lower task op before selects = by (page_is task selects.page selects.needs) where
+  by : (selects.page ≡ control_page) ⊎ (selects.page ≡ status_page) → IsAmong (read_module_state ∷ read_selection ∷ selection control_page ∷ selection status_page ∷ []) op
+  by (inl e) = inr (inr (inl (selects.is ∙ ap selection e)))
+  by (inr e) = inr (inr (inr (inl (selects.is ∙ ap selection e))))
+
+pub other_page : Some status_page ≡ Some control_page → ⊥
+other_page e = let h : 17 ≡ 16 = some_is status_page control_page e in omega (arith, h)
 
 -- ---- selections are read back
 
@@ -99,9 +96,6 @@ newest_opens (last ∷ before) newest = leaves_unread last newest
 reads_next : {doubts : Bool} (tasks : List Task) (step : Step) (before : History) → Turn doubts tasks step before → Newest AwaitsReadBack (trusted doubts before) → step.op ≡ read_selection
 reads_next {doubts} tasks step before turn newest = open_reads tasks step before turn (newest_opens (trusted doubts before) newest)
 
-not_store : (page : ℕ) → selection page ≡ read_selection → ⊥
-not_store page e = contradicts (ops_same (selection page) read_selection e) refl
-
 refused : (reply : Reply) → Answers read_selection reply → not (is_read reply) ≡ true → reply ≡ Refused
 refused (Bytes bytes) answers e = cc
 refused Done answers e = absurd answers
@@ -128,8 +122,8 @@ open_awaits true tasks (last ∷ before) turns fits e = by (is_refused last.repl
 reads_only : {doubts : Bool} (tasks : List Task) (step : Step) (before : History) → Here doubts tasks step before → step.op ≡ read_selection → Newest AwaitsReadBack (trusted doubts before)
 reads_only {doubts} tasks step before here is = elim here.turn.does as (λ _. Newest AwaitsReadBack (trusted doubts before)) [
   | inl reads ↦ open_awaits doubts tasks before here.turns here.fits reads.awaited
-  | inr (inl selects) ↦ absurd (not_store selects.page (sym selects.is ∙ is))
-  | inr (inr works) ↦ absurd (no_read_back here.turn.task (sym works.is ∙ is))
+  | inr (inl selects) ↦ absurd (apart (selection selects.page) read_selection refl (sym selects.is ∙ is))
+  | inr (inr works) ↦ absurd (apart (operation here.turn.task) read_selection (no_read_back here.turn.task) (sym works.is ∙ is))
 ]
 
 pub reads_back : {doubts : Bool} (tasks : List Task) (history : History) → EachStep (Here doubts tasks) history → ReadsSelectionsBackBy doubts history
@@ -154,9 +148,9 @@ pub record Missing (tasks : List Task) (page : ℕ) (turn_task : Task) (before :
 
 pub missing_page : {doubts : Bool} (tasks : List Task) (page : ℕ) (step : Step) (before : History) (turn : Turn doubts tasks step before) → step.op ≡ selection page → Missing tasks page turn.task (trusted doubts before)
 missing_page {doubts} tasks page step before turn is = elim turn.does as (λ _. Missing tasks page turn.task (trusted doubts before)) [
-  | inl reads ↦ absurd (not_store page (sym is ∙ reads.is))
+  | inl reads ↦ absurd (apart (selection page) read_selection refl (sym is ∙ reads.is))
   | inr (inl selects) ↦
       let same = page_selected selects.page page (sym selects.is ∙ is) in
       record { needs = selects.needs ∙ ap (λ (page : ℕ). Some page) same; missing = ap (λ (page : ℕ). is_page_confirmed page (trusted doubts before)) (sym same) ∙ selects.missing }
-  | inr (inr works) ↦ absurd (no_selection turn.task page (sym works.is ∙ is))
+  | inr (inr works) ↦ absurd (apart (operation turn.task) (selection page) (no_selection turn.task page) (sym works.is ∙ is))
 ]

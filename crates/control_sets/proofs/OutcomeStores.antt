@@ -1,182 +1,131 @@
--- The accepted stores of provisioning, in their order.
-use Rattle.std.proofs.Common.{◌≡◌, ℕ, ◌||◌, Bool, true, false, List, [], ◌∷◌, ◌++◌, refl, sym, ap, subst, ◌∙◌, inl, inr, append-nil}
-use Rattle.std.proofs.lemmas.Bool.{cases_Bool, or_left, or_right}
+-- The accepted stores of a procedure are those of the tasks that were met, in their order.
+use Rattle.std.proofs.Common.{◌≡◌, ℕ, Bool, true, false, not, ◌||◌, List, [], ◌∷◌, ◌++◌, Some, None, if◌then◌else◌, refl, sym, ap, subst, ◌∙◌, inl, inr, append-nil, append_assoc}
+use Rattle.std.proofs.lemmas.Bool.{and_from, and_parts, cases_Bool, or_left}
+use Rattle.std.proofs.lemmas.List.Folds.{list_all-append}
 use Rattle.std.specs.List.{list_all}
 use Rattle.field_tables.specs.LaneSets.{Lanes, byte_of}
 use Rattle.bus_model.specs.declared.operation.Op.{Op}
 use Rattle.bus_model.specs.declared.operation.Op.TheVariants.{Fetch, Store}
 use Rattle.bus_model.specs.declared.operation.Reply.{Reply}
-use Rattle.bus_model.specs.declared.operation.Reply.TheVariants.{Bytes, Done, Refused}
+use Rattle.bus_model.specs.declared.operation.Reply.TheVariants.{Bytes}
 use Rattle.bus_model.specs.declared.operation.Step.{Step}
+use Rattle.control_sets.specs.declared.procedures.judgement.ReplyJudgement.{ReplyJudgement}
 use Rattle.control_sets.specs.declared.procedures.task.Task.{Task}
-use Rattle.control_sets.specs.declared.procedures.task.Task.TheVariants.{FindReady, Deinitialize, AwaitDeactivated, Stage, CheckStaged, Apply, AwaitApplied, CheckActive}
-use Rattle.bus_model.specs.SameOperation.{same_op}
-use Rattle.control_sets.specs.Pages.{EachStep, History, read_selection, selection}
+use Rattle.control_sets.specs.declared.procedures.task.Task.TheVariants.{Deinitialize, Stage, Apply}
+use Rattle.control_sets.specs.Pages.{EachStep, History, selection}
 use Rattle.control_sets.specs.Tasks.{operation, page_of, provisioning}
-use Rattle.control_sets.specs.Procedures.{is_met, is_on, meets, was_met}
-use Rattle.control_sets.specs.Judgements.{judgement}
+use Rattle.control_sets.specs.Procedures.{in_hand, is_met, is_on, meets, was_met}
+use Rattle.control_sets.specs.Judgements.{judged, judgement}
 use Rattle.control_sets.specs.OutcomeOfProvisioning.{IsPrefix, accepted_store, accepted_stores}
+use Rattle.control_sets.specs.OutcomeOperations.{apply, set_deinit, stage}
 use Rattle.control_sets.proofs.Doubts.{on_all}
-use Rattle.control_sets.proofs.OutcomeWords.{contradicts}
-use Rattle.bus_model.proofs.SameOperations.{ops_same}
-use Rattle.control_sets.proofs.OutcomeTurns.{meets_by, meets_is}
-use Rattle.control_sets.proofs.OutcomeFinds.{all_first, at_it, finds, one_of}
+use Rattle.control_sets.proofs.OutcomePlaces.{AllMet}
 use Rattle.control_sets.proofs.OutcomeSelections.{Here}
-use Rattle.control_sets.proofs.OutcomeProvisioned.{from_applied, from_staged, to_apply, to_stage, which}
+use Rattle.control_sets.proofs.Silence.{all_apart, in_hand_first, in_hand_past, met_stays, read_back_silent, rest_silent, selection_silent, unmet_stays}
+use Rattle.control_sets.proofs.TaskLaws.{judged_own}
+use Rattle.control_sets.proofs.UnderWayLaws.{none_met}
 
-not_done : (op : Op) (reply : Reply) → (reply ≡ Done → ⊥) → accepted_store op reply ≡ []
-not_done (Store dev offset bytes) (Bytes read) other = refl
-not_done (Store dev offset bytes) Done other = absurd (other refl)
-not_done (Store dev offset bytes) Refused other = refl
-not_done (Fetch dev offset count) reply other = refl
+abbrev store_of : Op → List Op
+store_of (Store dev offset bytes) = Store dev offset bytes ∷ []
+store_of (Fetch dev offset count) = []
+
+-- the operations of tasks that are stores
+abbrev stores_of : List Task → List Op
+stores_of [] = []
+stores_of (task ∷ tasks) = store_of (operation task) ++ stores_of tasks
+
+stores_of-append : (first rest : List Task) → stores_of (first ++ rest) ≡ stores_of first ++ stores_of rest
+stores_of-append [] rest = refl
+stores_of-append (task ∷ first) rest = ap (λ (ops : List Op). store_of (operation task) ++ ops) (stores_of-append first rest) ∙ sym (append_assoc (store_of (operation task)) (stores_of first) (stores_of rest))
+
+none_either : (met : Bool) → ◌≡◌ {A = List Op} [] (if met then [] else [])
+none_either true = refl
+none_either false = refl
+
+-- a store is accepted where it meets its task
+accepted : (task : Task) (reply : Reply) → accepted_store (operation task) reply ≡ (if is_met (judgement task reply) then store_of (operation task) else [])
+unfolding judged
+accepted (Deinitialize bits) (Bytes bytes) = refl
+accepted (Deinitialize bits) _ = refl
+accepted (Stage control) (Bytes bytes) = refl
+accepted (Stage control) _ = refl
+accepted (Apply bits) (Bytes bytes) = refl
+accepted (Apply bits) _ = refl
+accepted task reply = none_either (is_met (judgement task reply))
 
 selects_nothing : (page : ℕ) (reply : Reply) → accepted_store (selection page) reply ≡ []
 selects_nothing page (Bytes read) = refl
-selects_nothing page Done = refl
-selects_nothing page Refused = refl
+selects_nothing page _ = refl
 
-meets_not : (task : Task) (step : Step) (before : History) → (step.op ≡ operation task → ⊥) → meets task step before ≡ false
-meets_not task step before other = elim (cases_Bool (meets task step before)) as (λ _. meets task step before ≡ false) [
-  | inl met ↦ absurd (other (meets_is task step before met).is)
-  | inr no_ ↦ no_
-]
+-- the tasks up to some were met, and their stores accepted
+record Grown (tasks : List Task) (history : History) : Type 0 where
+  earlier : List Task
+  later : List Task
+  split : tasks ≡ earlier ++ later
+  met : AllMet earlier history
+  unmet : list_all (λ task. not (was_met task history)) later ≡ true
+  stored : accepted_stores history ≡ stores_of earlier
 
-module _ (control : List ℕ) (lanes : Lanes) where
-  abbrev bits : ℕ
-  bits = byte_of lanes
+module _ {doubts : Bool} (tasks : List Task) (apart : all_apart tasks ≡ true) (step : Step) (before : History) (here : Here doubts tasks step before)
+    (earlier : List Task) (met : AllMet earlier before) (stored : accepted_stores before ≡ stores_of earlier) where
+  -- the step meets no task
+  quiet : (later : List Task) → tasks ≡ earlier ++ later → list_all (λ task. not (was_met task (step ∷ before))) later ≡ true → accepted_store step.op step.reply ≡ [] → Grown tasks (step ∷ before)
+  quiet later split unmet none = record {
+    earlier = earlier;
+    later = later;
+    split = split;
+    met = met_stays step before earlier met;
+    unmet = unmet;
+    stored = ap (λ (more : List Op). accepted_stores before ++ more) none ∙ append-nil (accepted_stores before) ∙ stored;
+  }
 
-  abbrev deinit : Op
-  deinit = operation (Deinitialize bits)
+  -- it is one of the task in hand
+  works : (task : Task) (later : List Task) → tasks ≡ earlier ++ task ∷ later → list_all (λ task. not (was_met task before)) (task ∷ later) ≡ true → step.op ≡ operation task → is_on (page_of task) before ≡ true → Grown tasks (step ∷ before)
+  works task later split unmet own there =
+      let rest = unmet_stays step before later (rest_silent step before task own earlier later (subst (λ (tasks : List Task). all_apart tasks ≡ true) split apart)) (and_parts _ _ unmet).1 in
+      let made : accepted_store step.op step.reply ≡ (if meets task step before then store_of (operation task) else []) =
+      ap (λ (op : Op). accepted_store op step.reply) own ∙ accepted task step.reply
+      ∙ ap (λ (judged : ReplyJudgement). if is_met judged then store_of (operation task) else []) (sym (judged_own task step before own there)) in
+      elim (cases_Bool (meets task step before)) as (λ _. Grown tasks (step ∷ before)) [
+        | inl now ↦ record {
+          earlier = earlier ++ task ∷ [];
+          later = later;
+          split = split ∙ sym (append_assoc earlier (task ∷ []) later);
+          met = list_all-append _ earlier (task ∷ []) ∙ and_from _ _ (met_stays step before earlier met) (and_from _ _ (or_left _ _ now) refl);
+          unmet = rest;
+          stored =
+              (λ i. stored i ++ (made ∙ ap (λ (b : Bool). if b then store_of (operation task) else []) now) i)
+              ∙ ap (λ (ops : List Op). stores_of earlier ++ ops) (sym (append-nil (store_of (operation task))))
+              ∙ sym (stores_of-append earlier (task ∷ []));
+        }
+        | inr no_ ↦ quiet (task ∷ later) split (and_from _ _ (ap (λ (b : Bool). not (b || was_met task before)) no_ ∙ (and_parts _ _ unmet).0) rest)
+            (made ∙ ap (λ (b : Bool). if b then store_of (operation task) else []) no_)
+      ]
 
-  abbrev stages : Op
-  stages = operation (Stage control)
+  grows : (later : List Task) → tasks ≡ earlier ++ later → list_all (λ task. not (was_met task before)) later ≡ true → Grown tasks (step ∷ before)
+  grows [] split unmet = let none : None ≡ Some here.turn.task = sym (ap (λ (tasks : List Task). in_hand tasks before) split ∙ in_hand_past earlier [] before met) ∙ here.turn.hand in absurd cc
+  grows (task ∷ later) split unmet =
+      let hand : Some here.turn.task ≡ Some task =
+      sym here.turn.hand ∙ ap (λ (tasks : List Task). in_hand tasks before) split ∙ in_hand_past earlier (task ∷ later) before met ∙ in_hand_first task later before (and_parts _ _ unmet).0 in
+      let same : here.turn.task ≡ task = cc in
+      elim here.turn.does as (λ _. Grown tasks (step ∷ before)) [
+        | inl reads ↦ quiet (task ∷ later) split (unmet_stays step before (task ∷ later) (read_back_silent step before (task ∷ later) reads.is) unmet)
+            (ap (λ (op : Op). accepted_store op step.reply) reads.is)
+        | inr (inl selects) ↦ quiet (task ∷ later) split (unmet_stays step before (task ∷ later) (selection_silent step before selects.page (task ∷ later) selects.is) unmet)
+            (ap (λ (op : Op). accepted_store op step.reply) selects.is ∙ selects_nothing selects.page step.reply)
+        | inr (inr of_task) ↦ works task later split unmet (of_task.is ∙ ap operation same)
+            (ap (λ (task : Task). is_on (page_of task) before) (sym same) ∙ on_all doubts (page_of here.turn.task) before of_task.there)
+      ]
 
-  abbrev applies : Op
-  applies = operation (Apply bits)
+grown : (doubts : Bool) (tasks : List Task) → all_apart tasks ≡ true → (history : History) → EachStep (Here doubts tasks) history → Grown tasks history
+grown doubts tasks apart [] each = record { earlier = []; later = tasks; split = refl; met = refl; unmet = none_met tasks; stored = refl }
+grown doubts tasks apart (step ∷ before) each =
+    let g = grown doubts tasks apart before each.1 in
+    grows tasks apart step before each.0 g.earlier g.met g.stored g.later g.split g.unmet
 
-  -- by which of the three stores were accepted
-  expected : Bool → Bool → Bool → List Op
-  expected false second third = []
-  expected true false third = deinit ∷ []
-  expected true true false = deinit ∷ stages ∷ []
-  expected true true true = deinit ∷ stages ∷ applies ∷ []
-
-  is_prefix : (first second third : Bool) → IsPrefix (expected first second third) (deinit ∷ stages ∷ applies ∷ [])
-  unfolding expected
-  is_prefix false second third = record { rest = deinit ∷ stages ∷ applies ∷ []; split = refl }
-  is_prefix true false third = record { rest = stages ∷ applies ∷ []; split = refl }
-  is_prefix true true false = record { rest = applies ∷ []; split = refl }
-  is_prefix true true true = record { rest = []; split = refl }
-
-  abbrev AreExpected : History → Type 0
-  AreExpected history = accepted_stores history ≡ expected (was_met (Deinitialize bits) history) (was_met (Stage control) history) (was_met (Apply bits) history)
-
-  module _ {doubts : Bool} (step : Step) (before : History) (here : Here doubts (provisioning control lanes) step before) (so_far : AreExpected before) where
-    quiet : accepted_store step.op step.reply ≡ [] → meets (Deinitialize bits) step before ≡ false → meets (Stage control) step before ≡ false → meets (Apply bits) step before ≡ false → AreExpected (step ∷ before)
-    quiet none first second third =
-        ap (λ (more : List Op). accepted_stores before ++ more) none ∙ append-nil (accepted_stores before) ∙ so_far
-        ∙ (λ i. expected (sym first i || was_met (Deinitialize bits) before) (sym second i || was_met (Stage control) before) (sym third i || was_met (Apply bits) before))
-
-    other : (op : Op) (task : Task) → step.op ≡ op → same_op op (operation task) ≡ false → meets task step before ≡ false
-    other op task is apart = meets_not task step before (λ its. contradicts (ops_same op (operation task) (sym is ∙ its)) apart)
-
-    quiet_by : (op : Op) → step.op ≡ op → accepted_store op step.reply ≡ [] → same_op op deinit ≡ false → same_op op stages ≡ false → same_op op applies ≡ false → AreExpected (step ∷ before)
-    quiet_by op is none first second third =
-        quiet (ap (λ (op : Op). accepted_store op step.reply) is ∙ none) (other op (Deinitialize bits) is first) (other op (Stage control) is second) (other op (Apply bits) is third)
-
-    -- a store that wasn't met wasn't accepted
-    unaccepted : (task : Task) → step.op ≡ operation task → is_on (page_of task) before ≡ true → is_met (judgement task Done) ≡ true → meets task step before ≡ false → accepted_store step.op step.reply ≡ []
-    unaccepted task is there met_if_done unmet = not_done step.op step.reply (λ done.
-        contradicts (meets_by task step before (record { is = is; there = there; reply = subst (λ (reply : Reply). is_met (judgement task reply) ≡ true) (sym done) met_if_done })) unmet)
-
-    later_unmet : (task earlier : Task) → (was_met task before ≡ true → was_met earlier before ≡ true) → was_met earlier before ≡ false → was_met task before ≡ false
-    later_unmet task earlier after unmet = elim (cases_Bool (was_met task before)) as (λ _. was_met task before ≡ false) [
-      | inl met ↦ absurd (contradicts (after met) unmet)
-      | inr no_ ↦ no_
-    ]
-
-    stage_after_deinit : was_met (Stage control) before ≡ true → was_met (Deinitialize bits) before ≡ true
-    stage_after_deinit met = one_of (FindReady ∷ []) (Deinitialize bits) (AwaitDeactivated lanes ∷ []) before
-        (all_first (to_stage control lanes) (Stage control) (from_staged control lanes) refl refl doubts before here.turns met)
-
-    apply_after_stage : was_met (Apply bits) before ≡ true → was_met (Stage control) before ≡ true
-    apply_after_stage met = one_of (to_stage control lanes) (Stage control) (CheckStaged control ∷ []) before
-        (all_first (to_apply control lanes) (Apply bits) (from_applied control lanes) refl refl doubts before here.turns met)
-
-    grown_by : (old new made : List Op) → accepted_stores before ≡ old → accepted_store step.op step.reply ≡ made → old ++ made ≡ new → accepted_stores (step ∷ before) ≡ new
-    grown_by old new made e f g = (λ i. e i ++ f i) ∙ g
-
-    after_deinit : step.op ≡ deinit → is_on (page_of (Deinitialize bits)) before ≡ true → was_met (Deinitialize bits) before ≡ false → AreExpected (step ∷ before)
-    unfolding expected
-    after_deinit is there unmet = elim (cases_Bool (meets (Deinitialize bits) step before)) as (λ _. AreExpected (step ∷ before)) [
-      | inr not_now ↦ quiet (unaccepted (Deinitialize bits) is there refl not_now) not_now (other deinit (Stage control) is refl) (other deinit (Apply bits) is refl)
-      | inl now ↦
-          let done = (finds (Deinitialize bits) step before tt here.fit (meets_is (Deinitialize bits) step before now)).1 in
-          let not_staged = later_unmet (Stage control) (Deinitialize bits) stage_after_deinit unmet in
-          let no_stage = other deinit (Stage control) is refl in
-          grown_by [] (expected (was_met (Deinitialize bits) (step ∷ before)) (was_met (Stage control) (step ∷ before)) (was_met (Apply bits) (step ∷ before))) (deinit ∷ [])
-          (so_far ∙ (λ i. expected (unmet i) (was_met (Stage control) before) (was_met (Apply bits) before)))
-          (λ i. accepted_store (is i) (done i))
-          (λ i. expected (sym (or_left _ (was_met (Deinitialize bits) before) now) i) (sym no_stage i || sym not_staged i) (was_met (Apply bits) (step ∷ before)))
-    ]
-
-    after_stage : step.op ≡ stages → is_on (page_of (Stage control)) before ≡ true → was_met (Deinitialize bits) before ≡ true → was_met (Stage control) before ≡ false → AreExpected (step ∷ before)
-    unfolding expected
-    after_stage is there set unmet = elim (cases_Bool (meets (Stage control) step before)) as (λ _. AreExpected (step ∷ before)) [
-      | inr not_now ↦ quiet (unaccepted (Stage control) is there refl not_now) (other stages (Deinitialize bits) is refl) not_now (other stages (Apply bits) is refl)
-      | inl now ↦
-          let done = (finds (Stage control) step before tt here.fit (meets_is (Stage control) step before now)).1 in
-          let not_applied = later_unmet (Apply bits) (Stage control) apply_after_stage unmet in
-          let no_apply = other stages (Apply bits) is refl in
-          grown_by (deinit ∷ []) (expected (was_met (Deinitialize bits) (step ∷ before)) (was_met (Stage control) (step ∷ before)) (was_met (Apply bits) (step ∷ before))) (stages ∷ [])
-          (so_far ∙ (λ i. expected (set i) (unmet i) (was_met (Apply bits) before)))
-          (λ i. accepted_store (is i) (done i))
-          (λ i. expected (sym (or_right (meets (Deinitialize bits) step before) _ set) i) (sym (or_left _ (was_met (Stage control) before) now) i) (sym no_apply i || sym not_applied i))
-    ]
-
-    after_apply : step.op ≡ applies → is_on (page_of (Apply bits)) before ≡ true → was_met (Deinitialize bits) before ≡ true → was_met (Stage control) before ≡ true → was_met (Apply bits) before ≡ false → AreExpected (step ∷ before)
-    unfolding expected
-    after_apply is there set staged unmet = elim (cases_Bool (meets (Apply bits) step before)) as (λ _. AreExpected (step ∷ before)) [
-      | inr not_now ↦ quiet (unaccepted (Apply bits) is there refl not_now) (other applies (Deinitialize bits) is refl) (other applies (Stage control) is refl) not_now
-      | inl now ↦
-          let done = (finds (Apply bits) step before tt here.fit (meets_is (Apply bits) step before now)).1 in
-          grown_by (deinit ∷ stages ∷ []) (expected (was_met (Deinitialize bits) (step ∷ before)) (was_met (Stage control) (step ∷ before)) (was_met (Apply bits) (step ∷ before))) (applies ∷ [])
-          (so_far ∙ (λ i. expected (set i) (staged i) (unmet i)))
-          (λ i. accepted_store (is i) (done i))
-          (λ i. expected (sym (or_right (meets (Deinitialize bits) step before) _ set) i) (sym (or_right (meets (Stage control) step before) _ staged) i) (sym (or_left _ (was_met (Apply bits) before) now) i))
-    ]
-
-    met_to_stage : step.op ≡ stages → was_met (Deinitialize bits) before ≡ true
-    met_to_stage is = one_of (FindReady ∷ []) (Deinitialize bits) (AwaitDeactivated lanes ∷ []) before
-        (at_it (to_stage control lanes) (Stage control) (from_staged control lanes) refl refl step before here.turn is).met
-
-    met_to_apply : step.op ≡ applies → list_all (λ task. was_met task before) (to_apply control lanes) ≡ true
-    met_to_apply is = (at_it (to_apply control lanes) (Apply bits) (from_applied control lanes) refl refl step before here.turn is).met
-
-    grown : AreExpected (step ∷ before)
-    grown = elim here.turn.does as (λ _. AreExpected (step ∷ before)) [
-      | inl reads ↦ quiet_by read_selection reads.is refl refl refl refl
-      | inr (inl selects) ↦ quiet_by (selection selects.page) selects.is (selects_nothing selects.page step.reply) refl refl refl
-      | inr (inr works) ↦ which control lanes (λ task. step.op ≡ operation task → is_on (page_of task) before ≡ true → AreExpected (step ∷ before)) before here.turn.task here.turn.hand
-          (λ _ is _. quiet_by (operation FindReady) is refl refl refl refl)
-          (λ _ unmet is there. after_deinit is there unmet)
-          (λ _ _ _ is _. quiet_by (operation (AwaitDeactivated lanes)) is refl refl refl refl)
-          (λ _ _ unmet is there. after_stage is there (met_to_stage is) unmet)
-          (λ _ _ _ is _. quiet_by (operation (CheckStaged control)) is refl refl refl refl)
-          (λ _ _ unmet is there. after_apply is there
-          (one_of (FindReady ∷ []) (Deinitialize bits) (AwaitDeactivated lanes ∷ Stage control ∷ CheckStaged control ∷ []) before (met_to_apply is))
-          (one_of (to_stage control lanes) (Stage control) (CheckStaged control ∷ []) before (met_to_apply is)) unmet)
-          (λ _ _ _ is _. quiet_by (operation (AwaitApplied lanes)) is refl refl refl refl)
-          (λ _ _ _ is _. quiet_by (operation (CheckActive control)) is refl refl refl refl)
-          works.is (on_all doubts (page_of here.turn.task) before works.there)
-    ]
-
-  are_expected : (doubts : Bool) (history : History) → EachStep (Here doubts (provisioning control lanes)) history → AreExpected history
-  unfolding expected
-  are_expected doubts [] each = refl
-  are_expected doubts (step ∷ before) each = grown step before each.0 (are_expected doubts before each.1)
-
-  pub in_order : (doubts : Bool) (history : History) → EachStep (Here doubts (provisioning control lanes)) history → IsPrefix (accepted_stores history) (deinit ∷ stages ∷ applies ∷ [])
-  in_order doubts history each =
-      subst (λ (stored : List Op). IsPrefix stored (deinit ∷ stages ∷ applies ∷ [])) (sym (are_expected doubts history each))
-      (is_prefix (was_met (Deinitialize bits) history) (was_met (Stage control) history) (was_met (Apply bits) history))
+-- those of provisioning
+pub in_order : (control : List ℕ) (lanes : Lanes) (doubts : Bool) (history : History) → EachStep (Here doubts (provisioning control lanes)) history →
+    IsPrefix (accepted_stores history) (set_deinit (byte_of lanes) ∷ stage control ∷ apply (byte_of lanes) ∷ [])
+in_order control lanes doubts history each =
+    let g = grown doubts (provisioning control lanes) refl history each in
+    record { rest = stores_of g.later; split = ap (λ (ops : List Op). ops ++ stores_of g.later) g.stored ∙ sym (stores_of-append g.earlier g.later) ∙ ap stores_of (sym g.split) }

@@ -69,7 +69,7 @@ abbrev nth_task : Work → ℕ → Task
 nth_task work met = get_or (tasks_of work) met FindReady
 
 -- by the step of a task
-makes : (work : Work) (met : ℕ) (history : History) (reply : Reply) (judged : ReplyJudgement) → slice_get (tasks_of work) met ≡ Some (nth_task work met) → Answers (operation (nth_task work met)) reply →
+pub makes : (work : Work) (met : ℕ) (history : History) (reply : Reply) (judged : ReplyJudgement) → slice_get (tasks_of work) met ≡ Some (nth_task work met) → Answers (operation (nth_task work met)) reply →
     judgement (nth_task work met) reply ≡ judged → is_open history ≡ false → is_on (page_of (nth_task work met)) history ≡ true → Comes work history met →
     let s = judged_at (met, None) judged in Stands false (tasks_of work) (record { op = operation (nth_task work met); reply = reply } ∷ history) s.0 s.1
 makes work met history reply judged found answers says closed on at =

@@ -1,15 +1,14 @@
 -- Whose turn it is at a step of a procedure, and which tasks were met before it.
 use Rattle.std.proofs.Common.{◌≡◌, ◌≢◌, ◌⊎◌, ℕ, ◌&&◌, Bool, true, false, not, List, [], ◌∷◌, ◌++◌, Option, Some, None, refl, sym, ap, ◌∙◌, inl, inr, if◌then◌else◌}
-use Rattle.std.proofs.lemmas.Bool.{and_parts, and_from, cases_Bool, or_cases, or_right}
+use Rattle.std.proofs.lemmas.Bool.{and_parts, and_from, cases_Bool}
 use Rattle.std.specs.List.{list_all}
 use Rattle.std.specs.Option.{option_map}
 use Rattle.bus_model.specs.declared.operation.Op.{Op}
 use Rattle.bus_model.specs.declared.operation.Step.{Step}
 use Rattle.conversations.specs.Selecting.{trusted}
 use Rattle.control_sets.specs.declared.procedures.task.Task.{Task}
-use Rattle.control_sets.specs.declared.procedures.task.Task.TheVariants.{FindReady, Deinitialize, AwaitDeactivated, Stage, CheckStaged, Apply, AwaitApplied, CheckActive, AwaitActivated}
 use Rattle.control_sets.specs.declared.procedures.judgement.ReplyJudgement.{ReplyJudgement}
-use Rattle.control_sets.specs.declared.procedures.judgement.ReplyJudgement.TheVariants.{Met, NotYet, Fails}
+use Rattle.control_sets.specs.declared.procedures.judgement.ReplyJudgement.TheVariants.{Met, NotYet}
 use Rattle.bus_model.specs.SameOperation.{same_op}
 use Rattle.control_sets.specs.Pages.{EachStep, History, is_page_confirmed, is_open, read_selection, selection}
 use Rattle.control_sets.specs.Tasks.{operation, page_of}
@@ -17,7 +16,8 @@ use Rattle.control_sets.specs.Judgements.{judgement}
 use Rattle.control_sets.specs.Procedures.{EachIsNextBy, in_hand, is_met, is_on, judgement_at, meets, next_operation, operation_on, was_met}
 use Rattle.control_sets.proofs.Doubts.{on_all}
 use Rattle.control_sets.proofs.OutcomeWords.{contradicts}
-use Rattle.bus_model.proofs.SameOperations.{ops_are, ops_same}
+use Rattle.control_sets.proofs.TaskLaws.{judged_own, no_read_back, no_selection}
+use Rattle.bus_model.proofs.SameOperations.{apart, ops_are, ops_same}
 
 -- the selection is read back
 pub record ReadsBack (op : Op) (before : History) : Type 0 where
@@ -45,39 +45,22 @@ pub record Turn (doubts : Bool) (tasks : List Task) (step : Step) (before : Hist
 
 on_page : (task : Task) (op : Op) (before : History) (page : Option ℕ) → page_of task ≡ page → is_open before ≡ false → op ≡ operation_on before task page → Selects task op before ⊎ Works task op before
 on_page task op before None needs closed e = inr (record { is = e; closed = closed; there = ap (λ (page : Option ℕ). is_on page before) needs })
-on_page task op before (Some page) needs closed e =
-    elim (cases_Bool (is_page_confirmed page before)) as (λ _. Selects task op before ⊎ Works task op before) [
-      | inl there ↦ inr (record {
-        is = e ∙ ap (λ (b : Bool). if b then operation task else selection page) there;
-        closed = closed;
-        there = ap (λ (page : Option ℕ). is_on page before) needs ∙ there;
-      })
-      | inr missing ↦ inl (record {
-        page = page;
-        needs = needs;
-        is = e ∙ ap (λ (b : Bool). if b then operation task else selection page) missing;
-        closed = closed;
-        missing = missing;
-      })
-    ]
+on_page task op before (Some page) needs closed e = by (is_page_confirmed page before) refl e where
+  by : (there : Bool) → is_page_confirmed page before ≡ there → op ≡ (if there then operation task else selection page) → Selects task op before ⊎ Works task op before
+  by true there e = inr (record { is = e; closed = closed; there = ap (λ (page : Option ℕ). is_on page before) needs ∙ there })
+  by false missing e = inl (record { page = page; needs = needs; is = e; closed = closed; missing = missing })
 
 does_by : (task : Task) (op : Op) (before : History) → op ≡ next_operation before task → ReadsBack op before ⊎ (Selects task op before ⊎ Works task op before)
-does_by task op before e =
-    elim (cases_Bool (is_open before)) as (λ _. ReadsBack op before ⊎ (Selects task op before ⊎ Works task op before)) [
-      | inl awaited ↦ inl (record { is = e ∙ ap (λ (b : Bool). if b then read_selection else operation_on before task (page_of task)) awaited; awaited = awaited })
-      | inr closed ↦ inr (on_page task op before (page_of task) refl closed (e ∙ ap (λ (b : Bool). if b then read_selection else operation_on before task (page_of task)) closed))
-    ]
-
-some_is : {X : Type 0} (d x y : X) → Some x ≡ Some y → x ≡ y
-some_is {X} d x y e = ap (held d) e where
-  held : X → Option X → X
-  held d None = d
-  held d (Some x) = x
+does_by task op before e = by (is_open before) refl e where
+  by : (awaited : Bool) → is_open before ≡ awaited → op ≡ (if awaited then read_selection else operation_on before task (page_of task)) → ReadsBack op before ⊎ (Selects task op before ⊎ Works task op before)
+  by true awaited e = inl (record { is = e; awaited = awaited })
+  by false closed e = inr (on_page task op before (page_of task) refl closed e)
 
 turn_with : (doubts : Bool) (tasks : List Task) (step : Step) (before : History) (hand : Option Task) → in_hand tasks before ≡ hand → option_map (next_operation (trusted doubts before)) hand ≡ Some step.op → Turn doubts tasks step before
 turn_with doubts tasks step before None e next = cc
 turn_with doubts tasks step before (Some task) e next =
-    record { task = task; hand = e; does = does_by task step.op (trusted doubts before) (sym (some_is step.op (next_operation (trusted doubts before) task) step.op next)) }
+    let is : step.op ≡ next_operation (trusted doubts before) task = cc in
+    record { task = task; hand = e; does = does_by task step.op (trusted doubts before) is }
 
 -- each step is somebody's turn
 pub each_turn : (doubts : Bool) (tasks : List Task) (history : History) → EachIsNextBy doubts tasks history → EachStep (Turn doubts tasks) history
@@ -87,36 +70,10 @@ each_turn doubts tasks (step ∷ before) each =
 
 -- ---- which task is in hand
 
-pub no_read_back : (task : Task) → operation task ≡ read_selection → ⊥
-no_read_back task e = contradicts (ops_same (operation task) read_selection e) (by task) where
-  by : (task : Task) → same_op (operation task) read_selection ≡ false
-  by FindReady = refl
-  by (Deinitialize bits) = refl
-  by (AwaitDeactivated lanes) = refl
-  by (Stage control) = refl
-  by (CheckStaged control) = refl
-  by (Apply bits) = refl
-  by (AwaitApplied lanes) = refl
-  by (CheckActive control) = refl
-  by (AwaitActivated lanes) = refl
-
-pub no_selection : (task : Task) (page : ℕ) → operation task ≡ selection page → ⊥
-no_selection task page e = contradicts (ops_same (operation task) (selection page) e) (by task) where
-  by : (task : Task) → same_op (operation task) (selection page) ≡ false
-  by FindReady = refl
-  by (Deinitialize bits) = refl
-  by (AwaitDeactivated lanes) = refl
-  by (Stage control) = refl
-  by (CheckStaged control) = refl
-  by (Apply bits) = refl
-  by (AwaitApplied lanes) = refl
-  by (CheckActive control) = refl
-  by (AwaitActivated lanes) = refl
-
 peel_by : (task wanted : Task) (tasks : List Task) (before : History) (met : Bool) → was_met task before ≡ met → (if not met then Some task else in_hand tasks before) ≡ Some wanted →
     ((wanted ≡ task) × (was_met task before ≡ false)) ⊎ ((was_met task before ≡ true) × (in_hand tasks before ≡ Some wanted))
 peel_by task wanted tasks before true is hand = inr (is, hand)
-peel_by task wanted tasks before false is hand = inl (sym (some_is task task wanted hand), is)
+peel_by task wanted tasks before false is hand = let same : wanted ≡ task = cc in inl (same, is)
 
 -- the first task is in hand, or it was met, and one of the others is
 pub peel : (task wanted : Task) (tasks : List Task) (before : History) → in_hand (task ∷ tasks) before ≡ Some wanted →
@@ -165,8 +122,8 @@ pub is_at : {doubts : Bool} (first : List Task) (wanted : Task) (rest : List Tas
     Turn doubts (first ++ wanted ∷ rest) step before → step.op ≡ operation wanted → IsAt first wanted before
 is_at {doubts} first wanted rest step before before_differs after_differs turn is =
     elim turn.does as (λ _. IsAt first wanted before) [
-      | inl reads ↦ absurd (no_read_back wanted (sym is ∙ reads.is))
-      | inr (inl selects) ↦ absurd (no_selection wanted selects.page (sym is ∙ selects.is))
+      | inl reads ↦ absurd (apart (operation wanted) read_selection (no_read_back wanted) (sym is ∙ reads.is))
+      | inr (inl selects) ↦ absurd (apart (operation wanted) (selection selects.page) (no_selection wanted selects.page) (sym is ∙ selects.is))
       | inr (inr works) ↦
           let found = at_hand first wanted turn.task rest before before_differs after_differs (sym works.is ∙ is) turn.hand in
           record { met = found.0; unmet = found.2; there = ap (λ (task : Task). is_on (page_of task) before) (sym found.1) ∙ on_all doubts (page_of turn.task) before works.there }
@@ -179,10 +136,6 @@ pub record Meets (task : Task) (step : Step) (before : History) : Type 0 where
   pub is : step.op ≡ operation task
   pub there : is_on (page_of task) before ≡ true
   pub reply : is_met (judgement task step.reply) ≡ true
-
-pub judged_at : (task : Task) (step : Step) (before : History) → step.op ≡ operation task → is_on (page_of task) before ≡ true → judgement_at task step before ≡ judgement task step.reply
-judged_at task step before is there =
-    ap (λ (b : Bool). if b then judgement task step.reply else NotYet) (and_from _ _ (ops_same (operation task) step.op (sym is)) there)
 
 pub judged_by : (task : Task) (step : Step) (before : History) (judged : ReplyJudgement) → judged ≢ NotYet → judgement_at task step before ≡ judged →
     (step.op ≡ operation task) × (is_on (page_of task) before ≡ true) × (judgement task step.reply ≡ judged)
@@ -197,8 +150,7 @@ judged_by task step before judged some e =
 
 pub met_is : (judged : ReplyJudgement) → is_met judged ≡ true → judged ≡ Met
 met_is Met e = refl
-met_is NotYet e = cc
-met_is (Fails fault) e = cc
+met_is _ e = cc
 
 pub meets_is : (task : Task) (step : Step) (before : History) → meets task step before ≡ true → Meets task step before
 meets_is task step before e =
@@ -206,13 +158,4 @@ meets_is task step before e =
     record { is = found.0; there = found.1; reply = ap is_met found.2 }
 
 pub meets_by : (task : Task) (step : Step) (before : History) → Meets task step before → meets task step before ≡ true
-meets_by task step before m = ap is_met (judged_at task step before m.is m.there) ∙ m.reply
-
--- what met tasks were met after
-pub met_after : (task other : Task) (history : History) → EachStep (λ step before. Meets other step before → was_met task before ≡ true) history → was_met other history ≡ true → was_met task history ≡ true
-met_after task other [] each e = cc
-met_after task other (step ∷ before) each e =
-    elim (or_cases (meets other step before) (was_met other before) e) as (λ _. was_met task (step ∷ before) ≡ true) [
-      | inl now ↦ or_right _ _ (each.0 (meets_is other step before now))
-      | inr earlier ↦ or_right _ _ (met_after task other before each.1 earlier)
-    ]
+meets_by task step before m = ap is_met (judged_own task step before m.is m.there) ∙ m.reply

@@ -1,31 +1,32 @@
 -- What tests of steps say in the words of the outcomes.
-use Rattle.std.proofs.Common.{◌≡◌, ℕ, ◌+◌, ◌&&◌, Bool, true, false, not, List, [], ◌∷◌, ◌++◌, length, refl, sym, ap, subst, inl, inr, eq-eqb, lt-ltb, ltb-true}
-use Rattle.std.proofs.lemmas.Bool.{and_parts, and_from, eqb-true, or_cases, or_left, or_right}
-use Rattle.std.specs.List.{AllByRecursion}
+use Rattle.std.proofs.Common.{◌≡◌, ℕ, ◌+◌, ◌&&◌, Bool, true, false, not, List, [], ◌∷◌, ◌++◌, Ok, Err, length, refl, sym, ap, subst, ◌∙◌, inl, inr, eq-eqb, lt-ltb, ltb-true}
+use Rattle.std.proofs.lemmas.Bool.{and_from, and_parts, eqb-true, false≢true, or_cases, or_left, or_right}
+use Rattle.std.specs.List.{AllByRecursion, list_all}
 use Rattle.arrayvec.specs.ArrayVec.{ArrayVec}
-use Rattle.bus_model.specs.declared.device.Dev.TheVariants.{A0, A2}
+use Rattle.bus_model.specs.declared.device.Dev.TheVariants.{A0}
 use Rattle.bus_model.specs.declared.operation.Op.{Op}
-use Rattle.bus_model.specs.declared.operation.Op.TheVariants.{Fetch, Store}
+use Rattle.bus_model.specs.declared.operation.Op.TheVariants.{Store}
 use Rattle.bus_model.specs.declared.operation.Reply.{Reply}
-use Rattle.bus_model.specs.declared.operation.Reply.TheVariants.{Bytes, Done, Refused}
+use Rattle.bus_model.specs.declared.operation.Reply.TheVariants.{Bytes}
 use Rattle.bus_model.specs.declared.operation.Step.{Step}
-use Rattle.bus_model.proofs.SameOperations.{ops_are}
-use Rattle.control_sets.specs.Pages.{EachStep, History, is_page_confirmed, is_page, is_selection_of, may_select, read_selection, reads_back}
+use Rattle.bus_model.specs.SameOperation.{same_op}
+use Rattle.bus_model.proofs.SameOperations.{ops_are, ops_same}
+use Rattle.control_sets.specs.declared.fault.ProvisionFault.{ProvisionFault}
+use Rattle.paged_memory.specs.PageAddressing as addressing
+use Rattle.paged_memory.specs.declared.page_addressing.PageAddressing.TheVariants.{BankAndPage}
+use Rattle.control_sets.specs.Pages.{EachStep, History, is_page_confirmed, may_select, read_selection, reads_back}
+use Rattle.control_sets.specs.OutcomeAnswers.{Answer, EndsIn, IsAnswer}
 use Rattle.control_sets.specs.OutcomeOperations.{Confirms, CoversSelection, read_back_of}
-
-not_both : (b : Bool) → b ≡ true → b ≡ false → ⊥
-not_both true e h = cc
-not_both false e h = cc
+use Rattle.control_sets.specs.OutcomeSteps.{IsAmong}
 
 pub contradicts : {b : Bool} → b ≡ true → b ≡ false → ⊥
-contradicts {b} e h = not_both b e h
+contradicts e h = false≢true (sym h ∙ e)
 
 -- ---- confirmed pages
 
 covers : (op : Op) → may_select op ≡ false → CoversSelection op → ⊥
 covers (Store A0 offset bytes) e c = contradicts (and_from _ _ (lt-ltb offset 128 c.0) (lt-ltb 126 (offset + length bytes.items) c.1)) e
-covers (Store A2 offset bytes) e c = c
-covers (Fetch dev offset count) e c = c
+covers _ e c = c
 
 selects_by : (offset : ℕ) (bytes : ArrayVec ℕ) (b : Bool) → may_select (Store A0 offset bytes) ≡ b → (CoversSelection (Store A0 offset bytes) → ⊥) → b ≡ false
 selects_by offset bytes true e none =
@@ -35,23 +36,19 @@ selects_by offset bytes false e none = refl
 
 selects_not : (op : Op) → (CoversSelection op → ⊥) → may_select op ≡ false
 selects_not (Store A0 offset bytes) none = let b = may_select (Store A0 offset bytes) in selects_by offset bytes b refl none
-selects_not (Store A2 offset bytes) none = refl
-selects_not (Fetch dev offset count) none = refl
+selects_not _ none = refl
 
-selection_is : (page : ℕ) (bytes : List ℕ) → is_selection_of page bytes ≡ true → bytes ≡ 0 ∷ page ∷ []
-selection_is page [] e = cc
-selection_is page (bank ∷ []) e = cc
+selection_is : (page : ℕ) (bytes : List ℕ) → addressing.is_selection_of BankAndPage page bytes ≡ true → bytes ≡ 0 ∷ page ∷ []
 selection_is page (bank ∷ number ∷ []) e =
     let parts = and_parts _ _ e in
     let first = eqb-true bank 0 parts.0 in
     let second = eqb-true number page parts.1 in
     λ i. first i ∷ second i ∷ []
-selection_is page (bank ∷ number ∷ more ∷ bytes) e = cc
+selection_is page _ e = cc
 
-reply_is : (page : ℕ) (reply : Reply) → is_page page reply ≡ true → reply ≡ Bytes (record { items = 0 ∷ page ∷ [] })
+reply_is : (page : ℕ) (reply : Reply) → addressing.is_page BankAndPage page reply ≡ true → reply ≡ Bytes (record { items = 0 ∷ page ∷ [] })
 reply_is page (Bytes bytes) e = let items = selection_is page bytes.items e in λ i. Bytes (record { items = items i })
-reply_is page Done e = cc
-reply_is page Refused e = cc
+reply_is page _ e = cc
 
 read_back_is : (page : ℕ) (step : Step) → reads_back page step ≡ true → step ≡ read_back_of page
 read_back_is page step e =
@@ -97,10 +94,32 @@ unconfirmed page history missing found = contradicts (page_confirmed page histor
 
 -- ---- steps
 
-pub each_with : (P Q R : Step → History → Type 0) (history : History) → ((step : Step) (before : History) → P step before → Q step before → R step before) → EachStep P history → EachStep Q history → EachStep R history
-each_with P Q R [] f p q = tt
-each_with P Q R (step ∷ before) f p q = (f step before p.0 q.0, each_with P Q R before f p.1 q.1)
-
 pub each_from : (P R : Step → History → Type 0) (history : History) → ((step : Step) (before : History) → P step before → R step before) → EachStep P history → EachStep R history
 each_from P R [] f p = tt
 each_from P R (step ∷ before) f p = (f step before p.0, each_from P R before f p.1)
+
+-- none of these operations is the other one
+pub not_among : (ops : List Op) (op other : Op) → op ≡ other → list_all (λ some. not (same_op other some)) ops ≡ true → IsAmong ops op → ⊥
+not_among [] op other is differ among = among
+not_among (some ∷ ops) op other is differ (inl same) = contradicts (and_parts _ _ differ).0 (ap not (ops_same other some (sym is ∙ same)))
+not_among (some ∷ ops) op other is differ (inr later) = not_among ops op other is (and_parts _ _ differ).1 later
+
+pub same_last : {step last : Step} {before earlier : History} → step ∷ before ≡ last ∷ earlier → step ≡ last
+same_last e = cc
+
+abbrev pub items_in : Reply → List ℕ
+items_in (Bytes bytes) = bytes.items
+items_in _ = []
+
+-- ---- answers
+
+not_ok : (steps : ℕ) (fault : ProvisionFault) → Ok steps ≡ Err fault → ⊥
+not_ok steps fault e = cc
+
+-- a success has a last step
+pub success_ends : {Ends : Answer → Step → Type 0} {full : Type 0} {history : History} {steps : ℕ} → IsAnswer Ends full history (Ok steps) → EndsIn Ends history (Ok steps)
+success_ends {Ends} {full} {history} {steps} is = elim is.answered as (λ _. EndsIn Ends history (Ok steps)) [
+  | inl ends ↦ ends
+  | inr (inl gives_up) ↦ absurd (not_ok steps _ gives_up.fault)
+  | inr (inr fills) ↦ absurd (not_ok steps _ fills.fault)
+]

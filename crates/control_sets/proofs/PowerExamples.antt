@@ -16,50 +16,33 @@ use Rattle.control_sets.specs.OutcomeOperations.{read_module_state}
 use Rattle.control_sets.specs.OutcomeSteps.{Gives, Stands}
 use Rattle.control_sets.specs.Pages.{History}
 use Rattle.control_sets.specs.PowerControls.{read_controls, set_controls, wanted_controls}
-use Rattle.control_sets.proofs.PowerLaws.{ended_is_change, items_in, store_is_no_state, store_is_other, waits}
-
-awake_of_fd : 0xA5 ≡ wanted_controls Awake 0xFD
-unfolding wanted_controls
-awake_of_fd = refl
-
-awake_of_40 : 0x00 ≡ wanted_controls Awake 0x40
-unfolding wanted_controls
-awake_of_40 = refl
-
-asleep_of_ad : 0xB5 ≡ wanted_controls Asleep 0xAD
-unfolding wanted_controls
-asleep_of_ad = refl
-
-awake_of_0 : wanted_controls Awake 0 ≡ 0x00
-unfolding wanted_controls
-awake_of_0 = refl
-
-asleep_of_0 : wanted_controls Asleep 0 ≡ 0x10
-unfolding wanted_controls
-asleep_of_0 = refl
+use Rattle.control_sets.proofs.PowerLaws.{ended_is_change, store_is_no_state, store_is_other, waits}
+use Rattle.control_sets.proofs.OutcomeWords.{items_in}
 
 abbrev pub woken_before : History
 woken_before = took (set_controls 0xA5) ∷ refused (set_controls 0xA5) ∷ gave read_controls (0xFD ∷ []) ∷ refused read_controls ∷ []
 
 pub woken : (full : Type 0) → IsPowerChange Awake full (ready ∷ gave read_module_state (0x04 ∷ []) ∷ woken_before) (Ok 6)
+unfolding wanted_controls
 woken full =
-    let stored = ap set_controls awake_of_fd in
     ended_is_change Awake full (ready ∷ gave read_module_state (0x04 ∷ []) ∷ woken_before) (Ok 6) (
       (0x06 ∷ [], (refl, refl), refl),
       refl,
-      inl ((refl, waits Awake read_module_state (Bytes (record { items = 0x04 ∷ [] })) refl), inr (0xFD, (stored, refl), inl ((stored, refl), inr ((refl, refl), ((refl, refl), tt))))),
+      inl ((refl, waits Awake read_module_state (Bytes (record { items = 0x04 ∷ [] })) refl), inr (0xFD, (refl, refl), inl ((refl, refl), inr ((refl, refl), ((refl, refl), tt))))),
     )
     (omega arith) (λ steps e. cc)
 
 pub asleep : (full : Type 0) → IsPowerChange Asleep full (low_power ∷ took (set_controls 0xB5) ∷ gave read_controls (0xAD ∷ []) ∷ []) (Ok 3)
+unfolding wanted_controls
 asleep full =
     ended_is_change Asleep full (low_power ∷ took (set_controls 0xB5) ∷ gave read_controls (0xAD ∷ []) ∷ []) (Ok 3)
-    ((0x02 ∷ [], (refl, refl), refl), refl, inr (0xAD, (ap set_controls asleep_of_ad, refl), inr ((refl, refl), tt))) (omega arith) (λ steps e. cc)
+    ((0x02 ∷ [], (refl, refl), refl), refl, inr (0xAD, (refl, refl), inr ((refl, refl), tt))) (omega arith) (λ steps e. cc)
 
 pub faulty : (full : Type 0) → IsPowerChange Awake full (gave read_module_state (0x0A ∷ []) ∷ took (set_controls 0x00) ∷ gave read_controls (0x40 ∷ []) ∷ []) (Err (ModuleState 5))
+unfolding wanted_controls
 faulty full =
     ended_is_change Awake full (gave read_module_state (0x0A ∷ []) ∷ took (set_controls 0x00) ∷ gave read_controls (0x40 ∷ []) ∷ []) (Err (ModuleState 5))
-    ((0x0A ∷ [], (refl, refl), (refl, refl)), refl, inr (0x40, (ap set_controls awake_of_40, refl), inr ((refl, refl), tt))) (omega arith) (λ steps e. absurd cc)
+    ((0x0A ∷ [], (refl, refl), (refl, refl)), refl, inr (0x40, (refl, refl), inr ((refl, refl), tt))) (omega arith) (λ steps e. absurd cc)
 
 -- no fetch is a store that was taken
 untaken : (step : Step) → step.op ≡ read_controls → ¬ (Stands IsTaken (step ∷ []))
@@ -81,8 +64,9 @@ same_read : (byte : ℕ) → Bytes (record { items = 0x00 ∷ [] }) ≡ Bytes (r
 same_read byte e = ap (λ (reply : Reply). get_or (items_in reply) 0 0) e
 
 other_byte : (power : Power) (byte : ℕ) → byte ≡ wanted_controls power 0 → byte ≢ 0x00 → byte ≢ 0x10 → ⊥
-other_byte Awake byte e no_zero no_sixteen = no_zero (e ∙ awake_of_0)
-other_byte Asleep byte e no_zero no_sixteen = no_sixteen (e ∙ asleep_of_0)
+unfolding wanted_controls
+other_byte Awake byte e no_zero no_sixteen = no_zero e
+other_byte Asleep byte e no_zero no_sixteen = no_sixteen e
 
 read_as_0 : (found : ℕ) → Stands (Gives read_controls (found ∷ [])) (gave read_controls (0x00 ∷ []) ∷ []) → found ≡ 0
 read_as_0 found (inl gives) = sym (same_read found gives.1)

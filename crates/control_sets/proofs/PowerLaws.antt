@@ -1,19 +1,19 @@
 -- Waking a module up and putting it to sleep: each stage makes the steps that it may, and the answer is the outcome's.
-use Rattle.std.proofs.Common.{◌≡◌, ◌≢◌, ℕ, ◌<◌, ◌≤◌, Bool, cond, List, [], ◌∷◌, length, Option, Some, None, Ok, Err, IfOk, arith, refl, sym, subst, ap, inl, inr, ◌∙◌}
-use Rattle.std.proofs.lemmas.Bool.{cases_lt, lt-ltb, le-ltb}
+use Rattle.std.proofs.Common.{nat_lt, false, true, if◌then◌else◌, ◌≡◌, ◌≢◌, ℕ, ◌<◌, ◌≤◌, Bool, List, [], ◌∷◌, length, Option, Some, None, Ok, Err, IfOk, arith, refl, sym, subst, ap, inl, inr, ◌∙◌}
+use Rattle.std.proofs.lemmas.Bool.{ltb-false}
 use Rattle.arrayvec.specs.ArrayVec.{ArrayVec}
 use Rattle.bus_model.specs.declared.bus.BusFault.{BusFault}
 use Rattle.bus_model.specs.declared.bus.BusFault.TheVariants.{TraceFull}
 use Rattle.bus_model.specs.declared.operation.Op.{Op}
 use Rattle.bus_model.specs.declared.operation.Reply.{Reply}
-use Rattle.bus_model.specs.declared.operation.Reply.TheVariants.{Bytes, Refused}
-use Rattle.bus_model.specs.declared.operation.Reply.TheVariants as replies
+use Rattle.bus_model.specs.declared.operation.Reply.TheVariants.{Bytes}
 use Rattle.bus_model.specs.declared.operation.Step.{Step}
 use Rattle.bus_model.specs.Operations.{Answers}
-use Rattle.module_states.specs.declared.state.ModuleState.TheVariants.{Fault}
+use Rattle.module_states.specs.declared.state.ModuleState.TheVariants.{Fault, LowPwr, Ready}
+use Rattle.module_states.specs.declared.state.ModuleState.{ModuleState as State}
 use Rattle.module_states.specs.Codes.{state_at}
 use Rattle.control_sets.specs.declared.fault.ProvisionFault.{ProvisionFault}
-use Rattle.control_sets.specs.declared.fault.ProvisionFault.TheVariants.{Rejected, StagedDiffers, ActiveDiffers, GaveUp, Bus, ModuleState, Reserved}
+use Rattle.control_sets.specs.declared.fault.ProvisionFault.TheVariants.{GaveUp, Bus, ModuleState, Reserved}
 use Rattle.control_sets.specs.declared.procedures.judgement.ReplyJudgement.TheVariants.{Met, NotYet, Fails}
 use Rattle.conversations.specs.declared.next.Next.{Next}
 use Rattle.conversations.specs.declared.next.Next.TheVariants.{Do, End}
@@ -26,16 +26,17 @@ use Rattle.control_sets.specs.declared.procedures.power.Power.TheVariants.{Awake
 use Rattle.control_sets.specs.declared.procedures.power.PowerChange.{PowerChange}
 use Rattle.control_sets.specs.declared.procedures.power.PowerStage.{PowerStage}
 use Rattle.control_sets.specs.declared.procedures.power.PowerStage.TheVariants as stage
-use Rattle.control_sets.specs.Pages.{EachStep, History}
+use Rattle.control_sets.specs.Pages.{History}
 use Rattle.control_sets.specs.OutcomeSteps.{Gives, IsAnswered, Stands}
 use Rattle.control_sets.specs.OutcomeOperations.{read_module_state}
 use Rattle.control_sets.specs.OutcomeCodes.{module_code}
-use Rattle.control_sets.specs.OutcomeAnswers.{Answer, NoneEnds, most_steps}
+use Rattle.control_sets.specs.OutcomeAnswers.{Answer, most_steps}
 use Rattle.control_sets.specs.OutcomeOfProvisioning.{IsStore}
-use Rattle.control_sets.specs.OutcomeOfPower.{EndsPower, IsPowerChange, IsPowerOrder, IsPowerStep, IsTaken}
+use Rattle.control_sets.specs.OutcomeOfPower.{EndsPower, IsPowerChange, IsPowerOrder, IsTaken}
 use Rattle.control_sets.specs.PowerControls.{read_controls, set_controls, wanted_controls, wanted_state}
 use Rattle.paged_memory.proofs.KnownPageLaws.{step_of}
-use Rattle.control_sets.specs.PowerProgress.{GoesOnAt, HasComeTo, IsAtStage, IsEnded, IsEndedIn, IsFound, IsPowerAt, IsStored, IsUnread, answer_at, answer_of, judged_asleep, judged_awake, judged_power, operation_at, power_wants, wants_by}
+use Rattle.control_sets.proofs.OutcomeWords.{items_in}
+use Rattle.control_sets.specs.PowerProgress.{GoesOnAt, HasComeTo, IsAtStage, IsEnded, IsEndedIn, IsFound, IsPowerAt, IsStored, IsUnread, answer_at, answer_of, judged_power, judged_state, operation_at, power_wants, wants_by}
 
 -- ---- operations differ
 
@@ -49,9 +50,6 @@ pub store_is_no_state : (byte : ℕ) → set_controls byte ≢ read_module_state
 store_is_no_state byte e = absurd cc
 
 -- ---- the order of the steps, by the newest
-
-pub order_none : IsPowerOrder []
-order_none = record { controls = tt; stores = tt; states = tt }
 
 module _ (step : Step) (before : History) (order : IsPowerOrder before) where
   order_controls : step.op ≡ read_controls → ¬ (Stands (IsAnswered read_controls) before) → IsPowerOrder (step ∷ before)
@@ -75,25 +73,29 @@ module _ (step : Step) (before : History) (order : IsPowerOrder before) where
     states = (λ _. stored, order.states);
   }
 
--- ---- what ends it
-
 module _ (power : Power) where
-  -- only a read of the state does
+  -- only a read of the state ends anything
   reads_state : (answer : Answer) (step : Step) → EndsPower power answer step → step.op ≡ read_module_state
   reads_state (Ok steps) step (bytes, (is, gave), holds) = is
   reads_state (Err (ModuleState code)) step (bytes, (is, gave), holds) = is
   reads_state (Err (Reserved code)) step (bytes, (is, gave), holds) = is
-  reads_state (Err (Rejected lane code)) step ends = absurd ends
-  reads_state (Err (StagedDiffers lane)) step ends = absurd ends
-  reads_state (Err (ActiveDiffers lane)) step ends = absurd ends
-  reads_state (Err GaveUp) step ends = absurd ends
-  reads_state (Err (Bus fault)) step ends = absurd ends
+  reads_state (Err _) step ends = absurd ends
 
-  controls_end_nothing : (step : Step) → step.op ≡ read_controls → (answer : Answer) → ¬ (EndsPower power answer step)
-  controls_end_nothing step is answer ends = state_is_other (sym is ∙ reads_state answer step ends)
+  -- ---- the steps that may be made, the newest of which is of one kind or another
 
-  store_ends_nothing : (step : Step) (byte : ℕ) → step.op ≡ set_controls byte → (answer : Answer) → ¬ (EndsPower power answer step)
-  store_ends_nothing step byte is answer ends = store_is_no_state byte (sym is ∙ reads_state answer step ends)
+  reads_controls : (step : Step) (before : History) → GoesOnAt power before → step.op ≡ read_controls → ¬ (Stands (IsAnswered read_controls) before) → GoesOnAt power (step ∷ before)
+  reads_controls step before on is none = record {
+    shape = (inl is, on.shape);
+    order = order_controls step before on.order is none;
+    none = (λ answer ends. state_is_other (sym is ∙ reads_state answer step ends), on.none);
+  }
+
+  stores : (step : Step) (before : History) (byte : ℕ) → GoesOnAt power before → step.op ≡ set_controls (wanted_controls power byte) → Stands (Gives read_controls (byte ∷ [])) before → ¬ (Stands IsTaken before) → GoesOnAt power (step ∷ before)
+  stores step before byte on is found none = record {
+    shape = (inr (inl (byte, is, found)), on.shape);
+    order = order_store step before on.order (wanted_controls power byte) is none;
+    none = (λ answer ends. store_is_no_state (wanted_controls power byte) (sym is ∙ reads_state answer step ends), on.none);
+  }
 
   -- ---- before the controls were read
 
@@ -102,25 +104,14 @@ module _ (power : Power) where
   unread_unanswered (step ∷ before) (refused, unread) (inl (bytes, (is, gave), holds)) = let e = sym refused.1 ∙ gave in absurd cc
   unread_unanswered (step ∷ before) (refused, unread) (inr stands) = unread_unanswered before unread stands
 
-  no_read_is_taken : (step : Step) → step.op ≡ read_controls → ¬ (IsTaken step)
-  no_read_is_taken step is taken = subst IsStore is taken.0
-
   unread_untaken : (history : History) → IsUnread history → ¬ (Stands IsTaken history)
   unread_untaken [] unread stands = stands
-  unread_untaken (step ∷ before) (refused, unread) (inl taken) = no_read_is_taken step refused.0 taken
+  unread_untaken (step ∷ before) (refused, unread) (inl taken) = subst IsStore refused.0 taken.0
   unread_untaken (step ∷ before) (refused, unread) (inr stands) = unread_untaken before unread stands
 
-  unread_shape : (history : History) → IsUnread history → EachStep (IsPowerStep power) history
-  unread_shape [] unread = tt
-  unread_shape (step ∷ before) (refused, unread) = (inl refused.0, unread_shape before unread)
-
-  unread_order : (history : History) → IsUnread history → IsPowerOrder history
-  unread_order [] unread = order_none
-  unread_order (step ∷ before) (refused, unread) = order_controls step before (unread_order before unread) refused.0 (unread_unanswered before unread)
-
-  unread_none : (history : History) → IsUnread history → NoneEnds (EndsPower power) history
-  unread_none [] unread = tt
-  unread_none (step ∷ before) (refused, unread) = (controls_end_nothing step refused.0, unread_none before unread)
+  unread_goes_on : (history : History) → IsUnread history → GoesOnAt power history
+  unread_goes_on [] unread = record { shape = tt; order = record { controls = tt; stores = tt; states = tt }; none = tt }
+  unread_goes_on (step ∷ before) (refused, unread) = reads_controls step before (unread_goes_on before unread) refused.0 (unread_unanswered before unread)
 
   -- ---- before they were stored
 
@@ -133,23 +124,13 @@ module _ (power : Power) where
   found_untaken byte [] found stands = stands
   found_untaken byte (step ∷ before) (inl (refused, found)) (inl (store, done)) = let e = sym refused.1 ∙ done in absurd cc
   found_untaken byte (step ∷ before) (inl (refused, found)) (inr stands) = found_untaken byte before found stands
-  found_untaken byte (step ∷ before) (inr (gives, unread)) (inl taken) = no_read_is_taken step gives.0 taken
+  found_untaken byte (step ∷ before) (inr (gives, unread)) (inl taken) = subst IsStore gives.0 taken.0
   found_untaken byte (step ∷ before) (inr (gives, unread)) (inr stands) = unread_untaken before unread stands
 
-  found_shape : (byte : ℕ) (history : History) → IsFound power byte history → EachStep (IsPowerStep power) history
-  found_shape byte [] found = absurd found
-  found_shape byte (step ∷ before) (inl (refused, found)) = (inr (inl (byte, refused.0, found_gives byte before found)), found_shape byte before found)
-  found_shape byte (step ∷ before) (inr (gives, unread)) = (inl gives.0, unread_shape before unread)
-
-  found_order : (byte : ℕ) (history : History) → IsFound power byte history → IsPowerOrder history
-  found_order byte [] found = absurd found
-  found_order byte (step ∷ before) (inl (refused, found)) = order_store step before (found_order byte before found) (wanted_controls power byte) refused.0 (found_untaken byte before found)
-  found_order byte (step ∷ before) (inr (gives, unread)) = order_controls step before (unread_order before unread) gives.0 (unread_unanswered before unread)
-
-  found_none : (byte : ℕ) (history : History) → IsFound power byte history → NoneEnds (EndsPower power) history
-  found_none byte [] found = absurd found
-  found_none byte (step ∷ before) (inl (refused, found)) = (store_ends_nothing step (wanted_controls power byte) refused.0, found_none byte before found)
-  found_none byte (step ∷ before) (inr (gives, unread)) = (controls_end_nothing step gives.0, unread_none before unread)
+  found_goes_on : (byte : ℕ) (history : History) → IsFound power byte history → GoesOnAt power history
+  found_goes_on byte [] found = absurd found
+  found_goes_on byte (step ∷ before) (inl (refused, found)) = stores step before byte (found_goes_on byte before found) refused.0 (found_gives byte before found) (found_untaken byte before found)
+  found_goes_on byte (step ∷ before) (inr (gives, unread)) = reads_controls step before (unread_goes_on before unread) gives.0 (unread_unanswered before unread)
 
   -- ---- while the state is awaited
 
@@ -158,44 +139,38 @@ module _ (power : Power) where
   stored_taken (step ∷ before) (inl (waits, stored)) = inr (stored_taken before stored)
   stored_taken (step ∷ before) (inr (byte, accepted, found)) = inl (subst IsStore (sym accepted.0) tt, accepted.1)
 
-  stored_shape : (history : History) → IsStored power history → EachStep (IsPowerStep power) history
-  stored_shape [] stored = absurd stored
-  stored_shape (step ∷ before) (inl (waits, stored)) = (inr (inr waits.0), stored_shape before stored)
-  stored_shape (step ∷ before) (inr (byte, accepted, found)) = (inr (inl (byte, accepted.0, found_gives byte before found)), found_shape byte before found)
-
-  stored_order : (history : History) → IsStored power history → IsPowerOrder history
-  stored_order [] stored = absurd stored
-  stored_order (step ∷ before) (inl (waits, stored)) = order_state step before (stored_order before stored) waits.0 (stored_taken before stored)
-  stored_order (step ∷ before) (inr (byte, accepted, found)) = order_store step before (found_order byte before found) (wanted_controls power byte) accepted.0 (found_untaken byte before found)
-
-  stored_none : (history : History) → IsStored power history → NoneEnds (EndsPower power) history
-  stored_none [] stored = absurd stored
-  stored_none (step ∷ before) (inl (waits, stored)) = (waits.1, stored_none before stored)
-  stored_none (step ∷ before) (inr (byte, accepted, found)) = (store_ends_nothing step (wanted_controls power byte) accepted.0, found_none byte before found)
+  stored_goes_on : (history : History) → IsStored power history → GoesOnAt power history
+  stored_goes_on [] stored = absurd stored
+  stored_goes_on (step ∷ before) (inl (waits, stored)) =
+      let on = stored_goes_on before stored in
+      record { shape = (inr (inr waits.0), on.shape); order = order_state step before on.order waits.0 (stored_taken before stored); none = (waits.1, on.none) }
+  stored_goes_on (step ∷ before) (inr (byte, accepted, found)) = stores step before byte (found_goes_on byte before found) accepted.0 (found_gives byte before found) (found_untaken byte before found)
 
   -- ---- the end
 
   pub ended_is_change : (full : Type 0) (history : History) (answer : Answer) → IsEnded power answer history → length history ≤ most_steps
       → ((steps : ℕ) → answer ≡ Ok steps → steps ≡ length history) → IsPowerChange power full history answer
   ended_is_change full [] answer ended few counted = absurd ended
-  ended_is_change full (step ∷ before) answer (ends, is, stored) few counted = record {
-    shape = (inr (inr is), stored_shape before stored);
-    order = order_state step before (stored_order before stored) is (stored_taken before stored);
-    answered = record {
-      at_most = few;
-      counted = counts answer counted;
-      answered = inl (record { last = step; before = before; split = refl; ends = ends; first = stored_none before stored });
-    };
-  }
+  ended_is_change full (step ∷ before) answer (ends, is, stored) few counted =
+      let on = stored_goes_on before stored in
+      record {
+        shape = (inr (inr is), on.shape);
+        order = order_state step before on.order is (stored_taken before stored);
+        answered = record {
+          at_most = few;
+          counted = counts answer counted;
+          answered = inl (record { last = step; before = before; split = refl; ends = ends; first = on.none });
+        };
+      }
     where
       counts : (a : Answer) → ((steps : ℕ) → a ≡ Ok steps → steps ≡ length (step ∷ before)) → IfOk a (λ steps. steps ≡ length (step ∷ before))
       counts (Ok steps) c = c steps refl
       counts (Err fault) c = tt
 
   pub goes_on : (now : PowerStage) (history : History) (op : Op) → operation_at power now ≡ Some op → IsAtStage power now history → GoesOnAt power history
-  goes_on stage.Unread history op is at = record { shape = unread_shape history at; order = unread_order history at; none = unread_none history at }
-  goes_on (stage.Found byte) history op is at = record { shape = found_shape byte history at; order = found_order byte history at; none = found_none byte history at }
-  goes_on stage.Stored history op is at = record { shape = stored_shape history at; order = stored_order history at; none = stored_none history at }
+  goes_on stage.Unread history op is at = unread_goes_on history at
+  goes_on (stage.Found byte) history op is at = found_goes_on byte history at
+  goes_on stage.Stored history op is at = stored_goes_on history at
   goes_on stage.Met history op is at = absurd cc
 
   pub gives_up : (full : Type 0) (history : History) → GoesOnAt power history → length history ≡ most_steps → IsPowerChange power full history (Err GaveUp)
@@ -219,16 +194,17 @@ pub spent_is : (power : Power) (full : Type 0) (events : Events) (spent : Spent 
 spent_is power full events spent has = ended_is power full spent.steps events spent.end has.counted has.few has.ended
 
 -- a bus that is full before the end
-pub fills : (power : Power) (full : Type 0) (history : History) → GoesOnAt power history → length history < most_steps → full → IsPowerChange power full history (Err (Bus TraceFull))
-fills power full history on fewer is_full = record {
-  shape = on.shape;
-  order = on.order;
-  answered = record { at_most = omega (arith, fewer); counted = tt; answered = inr (inr (record { fault = refl; is_full = is_full; fewer = fewer; none = on.none })) };
-}
-
 pub fills_by : (power : Power) (full : Type 0) (history : History) (fault : BusFault) → fault ≡ TraceFull → GoesOnAt power history → length history < most_steps → full
     → IsPowerChange power full history (Err (Bus fault))
-fills_by power full history fault is on fewer is_full = subst (λ (f : BusFault). IsPowerChange power full history (Err (Bus f))) (sym is) (fills power full history on fewer is_full)
+fills_by power full history fault is on fewer is_full = record {
+  shape = on.shape;
+  order = on.order;
+  answered = record {
+    at_most = omega (arith, fewer);
+    counted = tt;
+    answered = inr (inr (record { fault = ap (λ (f : BusFault). Err (Bus f)) is; is_full = is_full; fewer = fewer; none = on.none }));
+  };
+}
 
 -- a conversation that was driven by hand
 pub driven_is : (within : Within PowerChange) (full : Type 0) (history : History) (spent : Spent (Option ProvisionFault)) → IsPowerAt history within
@@ -238,19 +214,14 @@ driven_is within full history spent at asks =
   where
     gives : (power : Power) (now : PowerStage) (steps limit : ℕ) (op : Op) → limit ≡ most_steps → length history ≡ steps → steps ≤ most_steps → operation_at power now ≡ Some op
         → IsAtStage power now history → next_within {E = Option ProvisionFault} steps limit (Do op) ≡ End spent → IsPowerChange power full history (answer_of spent)
-    gives power now steps limit op most counted few wanted at asks =
-        let go : Next (Spent (Option ProvisionFault)) = Do op in
-        let gave : Spent (Option ProvisionFault) = record { steps = steps; end = None } in
-        elim (cases_lt steps limit) [
-          | inl fewer ↦
-              let none : go ≡ End spent = sym (ap (λ (b : Bool). cond b go (End gave)) (lt-ltb _ _ fewer)) ∙ asks in
-              absurd cc
-          | inr all ↦
-              let ends : End gave ≡ End spent = sym (ap (λ (b : Bool). cond b go (End gave)) (le-ltb _ _ all)) ∙ asks in
-              let same : gave ≡ spent = cc in
-              subst (λ (s : Spent (Option ProvisionFault)). IsPowerChange power full history (answer_of s)) same
-              (gives_up power full history (goes_on power now history op wanted at) (omega (arith, counted, few, all, most)))
-        ]
+    gives power now steps limit op most counted few wanted at asks = by (nat_lt steps limit) refl asks where
+      by : (fewer : Bool) → nat_lt steps limit ≡ fewer → ◌≡◌ {A = Next (Spent (Option ProvisionFault))} (if fewer then Do op else End (record { steps = steps; end = None })) (End spent) → IsPowerChange power full history (answer_of spent)
+      by true fewer asks = absurd cc
+      by false all asks =
+          let gave : Spent (Option ProvisionFault) = record { steps = steps; end = None } in
+          let same : gave ≡ spent = cc in
+          subst (λ (s : Spent (Option ProvisionFault)). IsPowerChange power full history (answer_of s)) same
+          (gives_up power full history (goes_on power now history op wanted at) (omega (arith, counted, few, most, ltb-false steps limit all)))
 
     go : (power : Power) (now : PowerStage) (fault : Option ProvisionFault) (steps limit : ℕ) → limit ≡ most_steps → length history ≡ steps → steps ≤ most_steps
         → HasComeTo power now fault history → next_within steps limit (wants_by fault (operation_at power now)) ≡ End spent → IsPowerChange power full history (answer_of spent)
@@ -264,30 +235,18 @@ driven_is within full history spent at asks =
         let same : ended ≡ spent = cc in
         subst (λ (s : Spent (Option ProvisionFault)). IsPowerChange power full history (answer_of s)) same
         (subst (λ n. IsPowerChange power full history (Ok n)) counted (ended_is_change power full history (Ok (length history)) come (omega (arith, counted, few)) (λ n e. cc)))
-    go power stage.Unread None steps limit most counted few come asks = gives power stage.Unread steps limit _ most counted few refl come asks
-    go power (stage.Found byte) None steps limit most counted few come asks = gives power (stage.Found byte) steps limit _ most counted few refl come asks
-    go power stage.Stored None steps limit most counted few come asks = gives power stage.Stored steps limit _ most counted few refl come asks
+    go power now None steps limit most counted few come asks = gives power now steps limit _ most counted few refl come asks
 
 -- ---- what the state says
 
+says : (power : Power) (code : ℕ) (found : Option State) → state_at code ≡ found → judged_power power code ≡ judged_state code found power
+says power code found e = ap (λ (found : Option State). judged_state code found power) e
+
 wanted_says : (power : Power) (code : ℕ) → state_at code ≡ Some (wanted_state power) → judged_power power code ≡ Met
-wanted_says Awake code e = ap (judged_awake code) e
-wanted_says Asleep code e = ap (judged_asleep code) e
-
-fault_says : (power : Power) (code : ℕ) → state_at code ≡ Some Fault → judged_power power code ≡ Fails (ModuleState code)
-fault_says Awake code e = ap (judged_awake code) e
-fault_says Asleep code e = ap (judged_asleep code) e
-
-reserved_says : (power : Power) (code : ℕ) → state_at code ≡ None → judged_power power code ≡ Fails (Reserved code)
-reserved_says Awake code e = ap (judged_awake code) e
-reserved_says Asleep code e = ap (judged_asleep code) e
+wanted_says Awake code e = says Awake code (Some Ready) e
+wanted_says Asleep code e = says Asleep code (Some LowPwr) e
 
 -- ---- one step more
-
-abbrev pub items_in : Reply → List ℕ
-items_in (Bytes bytes) = bytes.items
-items_in replies.Done = []
-items_in Refused = []
 
 -- the code that a step with these bytes ends in
 same_code : (op : Op) (read : Reply) (bytes : List ℕ) → read ≡ Bytes (record { items = bytes }) → module_code (items_in read) ≡ module_code bytes
@@ -299,18 +258,14 @@ waits power op read not_yet (Ok steps) (bytes, (is, gave), holds) =
     let same = ap (judged_power power) (same_code op read bytes gave) in
     let no : NotYet ≡ Met = sym not_yet ∙ same ∙ met in absurd cc
 waits power op read not_yet (Err (ModuleState code)) (bytes, (is, gave), (coded, holds)) =
-    let fails = fault_says power code holds in
+    let fails = says power code (Some Fault) holds in
     let same = ap (judged_power power) (same_code op read bytes gave ∙ sym coded) in
     let no : NotYet ≡ Fails (ModuleState code) = sym not_yet ∙ same ∙ fails in absurd cc
 waits power op read not_yet (Err (Reserved code)) (bytes, (is, gave), (coded, holds)) =
-    let fails = reserved_says power code holds in
+    let fails = says power code None holds in
     let same = ap (judged_power power) (same_code op read bytes gave ∙ sym coded) in
     let no : NotYet ≡ Fails (Reserved code) = sym not_yet ∙ same ∙ fails in absurd cc
-waits power op read not_yet (Err (Rejected lane code)) ends = ends
-waits power op read not_yet (Err (StagedDiffers lane)) ends = ends
-waits power op read not_yet (Err (ActiveDiffers lane)) ends = ends
-waits power op read not_yet (Err GaveUp) ends = ends
-waits power op read not_yet (Err (Bus fault)) ends = ends
+waits power op read not_yet (Err _) ends = ends
 
 -- a reply to a fetch of one byte
 pub one_of_controls : (power : Power) (now : PowerStage) (read : Reply) (bytes : ArrayVec ℕ) → now ≡ stage.Unread → read ≡ Bytes bytes

@@ -3,7 +3,7 @@ use Rattle.std.proofs.Common.{◌≡◌, ◌<◌, ◌≤◌, ◌+◌, ℕ, ◌&&
 use Rattle.std.specs.Prelude.{slice_index}
 use Rattle.std.proofs.lemmas.Bool.{and_from, le-leb}
 use Rattle.std.proofs.lemmas.Option.{slice_get_within}
-use Rattle.bus_model.specs.declared.bus.BusFault.TheVariants.{TraceFull, BadShape}
+use Rattle.bus_model.specs.declared.bus.BusFault.TheVariants.{TraceFull}
 use Rattle.bus_model.specs.declared.operation.Op.{Op}
 use Rattle.bus_model.specs.declared.operation.Op.TheVariants.{Fetch, Store}
 use Rattle.bus_model.specs.declared.operation.Reply.{Reply}
@@ -17,18 +17,18 @@ use Rattle.datapath_states.specs.declared.state.PathState.TheVariants.{Activated
 use Rattle.datapath_states.specs.Lanes.{codes_in}
 use Rattle.datapath_states.specs.StateCodes.{code_of}
 use Rattle.module_states.specs.declared.state.ModuleState.{ModuleState as State}
-use Rattle.module_states.specs.declared.state.ModuleState.TheVariants as state
+use Rattle.module_states.specs.declared.state.ModuleState.TheVariants.{Ready}
 use Rattle.module_states.specs.Codes.{state_at as module_state_at}
 use Rattle.paged_memory.specs.declared.page_addressing.KnownPage.{KnownPage}
 use Rattle.control_sets.specs.declared.fault.ProvisionFault.{ProvisionFault}
-use Rattle.control_sets.specs.declared.fault.ProvisionFault.TheVariants.{Rejected, StagedDiffers, ActiveDiffers, GaveUp, Bus, ModuleState, Reserved}
+use Rattle.control_sets.specs.declared.fault.ProvisionFault.TheVariants.{StagedDiffers, ActiveDiffers, Bus}
 use Rattle.control_sets.specs.declared.procedures.judgement.ReplyJudgement.{ReplyJudgement}
 use Rattle.control_sets.specs.declared.procedures.judgement.ReplyJudgement.TheVariants.{Met, NotYet, Fails}
 use Rattle.control_sets.specs.declared.procedures.procedure.saved.SavedProcedure.{SavedProcedure}
 use Rattle.control_sets.specs.declared.procedures.procedure.TaskList.{TaskList}
 use Rattle.control_sets.specs.declared.procedures.procedure.Work.{Work}
 use Rattle.control_sets.specs.declared.procedures.task.Task.{Task}
-use Rattle.control_sets.specs.declared.procedures.task.Task.TheVariants.{FindReady, Deinitialize, AwaitDeactivated, Stage, CheckStaged, Apply, AwaitApplied, CheckActive, AwaitActivated}
+use Rattle.control_sets.specs.declared.procedures.task.Task.TheVariants.{FindReady, AwaitDeactivated, CheckStaged, AwaitApplied, CheckActive, AwaitActivated}
 use Rattle.control_sets.specs.Judgements.{all_lanes_have, differing_lane, is_rejection, is_reserved_state, is_reserved_status, judged, judged_done, judged_states, judged_statuses, judgement, lowest_lane, met_if, met_in, met_unless, unless_rejected, unless_reserved}
 use Rattle.control_sets.specs.OutcomeAnswers.{most_steps}
 use Rattle.control_sets.specs.Pages.{History}
@@ -37,15 +37,8 @@ use Rattle.control_sets.specs.SavedNumbers.{can_stand, due_numbered, fault_in, i
 use Rattle.control_sets.specs.Tasks.{operation}
 
 pub fault_back : (fault : Option ProvisionFault) → fault_in (saved_fault fault) ≡ Some fault
-fault_back None = refl
-fault_back (Some (Rejected lane status)) = refl
-fault_back (Some (StagedDiffers lane)) = refl
-fault_back (Some (ActiveDiffers lane)) = refl
-fault_back (Some GaveUp) = refl
 fault_back (Some (Bus TraceFull)) = refl
-fault_back (Some (Bus BadShape)) = refl
-fault_back (Some (ModuleState code)) = refl
-fault_back (Some (Reserved code)) = refl
+fault_back _ = refl
 
 pub due_back : (due : Bool) → due_numbered (number_of_due due) ≡ Some due
 due_back false = refl
@@ -61,9 +54,8 @@ saved_back saved work selected fault due has_work has_selected has_fault has_due
 -- ---- a procedure that was told events can have come so far
 
 abbrev found_in : ReplyJudgement → Bool
-found_in Met = true
-found_in NotYet = true
 found_in (Fails fault) = is_found fault
+found_in _ = true
 
 met_found : (met : Bool) → found_in (met_if met) ≡ true
 met_found true = refl
@@ -86,12 +78,8 @@ active_found None = refl
 active_found (Some lane) = refl
 
 module_found : (code : ℕ) (state : Option State) → found_in (met_in code state) ≡ true
-module_found code None = refl
-module_found code (Some state.LowPwr) = refl
-module_found code (Some state.PwrUp) = refl
-module_found code (Some state.Ready) = refl
-module_found code (Some state.PwrDn) = refl
-module_found code (Some state.Fault) = refl
+module_found code (Some Ready) = refl
+module_found code _ = refl
 
 states_found : (looked waiting : Lanes) (state : PathState) (codes : List ℕ) → found_in (judged_states looked waiting state codes) ≡ true
 states_found looked waiting state codes =
@@ -106,14 +94,12 @@ statuses_found lanes codes =
 read_found : (task : Task) (bytes : List ℕ) → found_in (judged task bytes) ≡ true
 unfolding judged
 read_found FindReady bytes = module_found (number_in_byte CModuleState (slice_index bytes 0)) (module_state_at (number_in_byte CModuleState (slice_index bytes 0)))
-read_found (Deinitialize bits) bytes = refl
 read_found (AwaitDeactivated lanes) bytes = states_found lanes lanes Deactivated (codes_in bytes 8)
-read_found (Stage control) bytes = refl
 read_found (CheckStaged control) bytes = staged_found (differing_lane bytes control)
-read_found (Apply bits) bytes = refl
 read_found (AwaitApplied lanes) bytes = statuses_found lanes (codes_in bytes 8)
 read_found (CheckActive control) bytes = active_found (differing_lane bytes control)
 read_found (AwaitActivated lanes) bytes = states_found every_lane lanes Activated (codes_in bytes 8)
+read_found _ bytes = refl
 
 done_found : (op : Op) → found_in (judged_done op) ≡ true
 done_found (Fetch dev offset count) = refl
@@ -161,13 +147,6 @@ module _ (procedure : PatientProcedure) (events : Events) (told : ToldPatient ev
   same =
       let (own, adds, (knows, with_own)) = told.0 in
       let taken = none_taken procedure.conversation.conversation.taken (λ page e. (knows.1.1.was page e).0) in
-      (λ i. record {
-        conversation = record {
-          conversation = record { conversation = list; selection = procedure.conversation.conversation.selection; taken = sym taken i; doubts = true };
-          patience = procedure.conversation.patience;
-          due = procedure.conversation.due;
-          idle = procedure.conversation.idle;
-        };
-        steps = procedure.steps;
-        limit = sym limit i;
-      })
+      let pausing = procedure.conversation in
+      let on = pausing.conversation in
+      λ i. record procedure { conversation = record pausing { conversation = record on { taken = sym taken i; doubts = true } }; limit = sym limit i }

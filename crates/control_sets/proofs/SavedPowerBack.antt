@@ -3,7 +3,7 @@ use Rattle.std.proofs.Common.{◌≡◌, ◌≤◌, ℕ, ◌&&◌, Bool, true, [
 use Rattle.std.proofs.lemmas.Bool.{and_from, le-leb}
 use Rattle.conversations.specs.Events.{Events, steps_of}
 use Rattle.control_sets.specs.declared.fault.ProvisionFault.{ProvisionFault}
-use Rattle.control_sets.specs.declared.fault.ProvisionFault.TheVariants.{Rejected, StagedDiffers, ActiveDiffers, GaveUp, Bus, ModuleState, Reserved}
+use Rattle.control_sets.specs.declared.fault.ProvisionFault.TheVariants.{ModuleState, Reserved}
 use Rattle.control_sets.specs.declared.procedures.procedure.saved.SavedProcedure.{SavedProcedure}
 use Rattle.control_sets.specs.declared.procedures.power.Power.{Power}
 use Rattle.control_sets.specs.declared.procedures.power.PowerStage.{PowerStage}
@@ -30,11 +30,7 @@ stops power stage None history come = refl
 stops power stage (Some (ModuleState code)) history come = refl
 stops power stage (Some (Reserved code)) history come = refl
 stops power stage (Some fault) [] come = absurd come
-stops power stage (Some (Rejected lane status)) (step ∷ before) come = absurd come.0
-stops power stage (Some (StagedDiffers lane)) (step ∷ before) come = absurd come.0
-stops power stage (Some (ActiveDiffers lane)) (step ∷ before) come = absurd come.0
-stops power stage (Some GaveUp) (step ∷ before) come = absurd come.0
-stops power stage (Some (Bus fault)) (step ∷ before) come = absurd come.0
+stops power stage (Some fault) (step ∷ before) come = absurd come.0
 
 module _ (change : PatientPower) (events : Events) (told : ToldPower events change) (limit : change.limit ≡ most_steps) where
   pub can_power : (more : Bool) → more ≡ true → (nat_le change.steps most_steps && (can_stop change.conversation.conversation.fault && more)) ≡ true

@@ -10,8 +10,16 @@ use Rattle.control_sets.specs.declared.procedures.task.Task.{Task}
 use Rattle.bus_model.specs.SameOperation.{same_op}
 use Rattle.control_sets.specs.Pages.{History, read_selection, selection}
 use Rattle.control_sets.specs.Tasks.{operation}
-use Rattle.control_sets.specs.Procedures.{all_apart, are_apart, fault_by, fault_in, in_hand, is_met, judgement_at, or_else, was_met}
+use Rattle.control_sets.specs.Procedures.{fault_by, fault_in, in_hand, is_met, judgement_at, or_else, was_met}
 use Rattle.control_sets.proofs.TaskLaws.{judged_read_back, judged_selection, not_said}
+
+-- no operation is that of both
+abbrev are_apart : Task → Task → Bool
+are_apart task other = not (same_op (operation task) (operation other))
+
+abbrev pub all_apart : List Task → Bool
+all_apart [] = true
+all_apart (task ∷ later) = list_all (λ other. are_apart task other && are_apart other task) later && all_apart later
 
 abbrev pub Silent : Step → History → List Task → Type 0
 Silent step before tasks = AllByRecursion (λ task. judgement_at task step before ≡ NotYet) tasks

@@ -1,7 +1,7 @@
 -- No task's operation is on the page selection, and a step is judged by its reply on its page alone.
 use Rattle.std.proofs.Common.{◌≡◌, ℕ, ◌&&◌, Bool, true, false, refl, sym, ap, ◌∙◌, if◌then◌else◌}
 use Rattle.control_sets.specs.declared.procedures.task.Task.{Task}
-use Rattle.control_sets.specs.declared.procedures.task.Task.TheVariants.{FindReady, Deinitialize, AwaitDeactivated, Stage, CheckStaged, Apply, AwaitApplied, CheckActive, AwaitActivated}
+use Rattle.control_sets.specs.declared.procedures.task.Task.TheVariants.{FindReady}
 use Rattle.bus_model.specs.SameOperation.{same_op}
 use Rattle.bus_model.proofs.SameOperations.{ops_same}
 use Rattle.control_sets.specs.Pages.{History, may_select, read_selection, selection}
@@ -13,47 +13,19 @@ use Rattle.control_sets.specs.Tasks.{operation, page_of}
 
 pub not_selecting : (task : Task) → may_select (operation task) ≡ false
 not_selecting FindReady = refl
-not_selecting (Deinitialize bits) = refl
-not_selecting (AwaitDeactivated lanes) = refl
-not_selecting (Stage control) = refl
-not_selecting (CheckStaged control) = refl
-not_selecting (Apply bits) = refl
-not_selecting (AwaitApplied lanes) = refl
-not_selecting (CheckActive control) = refl
-not_selecting (AwaitActivated lanes) = refl
+not_selecting _ = refl
 
 pub not_reading_back : (task : Task) → same_op read_selection (operation task) ≡ false
 not_reading_back FindReady = refl
-not_reading_back (Deinitialize bits) = refl
-not_reading_back (AwaitDeactivated lanes) = refl
-not_reading_back (Stage control) = refl
-not_reading_back (CheckStaged control) = refl
-not_reading_back (Apply bits) = refl
-not_reading_back (AwaitApplied lanes) = refl
-not_reading_back (CheckActive control) = refl
-not_reading_back (AwaitActivated lanes) = refl
+not_reading_back _ = refl
 
 pub no_read_back : (task : Task) → same_op (operation task) read_selection ≡ false
 no_read_back FindReady = refl
-no_read_back (Deinitialize bits) = refl
-no_read_back (AwaitDeactivated lanes) = refl
-no_read_back (Stage control) = refl
-no_read_back (CheckStaged control) = refl
-no_read_back (Apply bits) = refl
-no_read_back (AwaitApplied lanes) = refl
-no_read_back (CheckActive control) = refl
-no_read_back (AwaitActivated lanes) = refl
+no_read_back _ = refl
 
 pub no_selection : (task : Task) (page : ℕ) → same_op (operation task) (selection page) ≡ false
 no_selection FindReady page = refl
-no_selection (Deinitialize bits) page = refl
-no_selection (AwaitDeactivated lanes) page = refl
-no_selection (Stage control) page = refl
-no_selection (CheckStaged control) page = refl
-no_selection (Apply bits) page = refl
-no_selection (AwaitApplied lanes) page = refl
-no_selection (CheckActive control) page = refl
-no_selection (AwaitActivated lanes) page = refl
+no_selection _ page = refl
 
 -- a step with another operation says nothing of the task
 pub not_said : (task : Task) (step : Step) (before : History) → same_op (operation task) step.op ≡ false → judgement_at task step before ≡ NotYet

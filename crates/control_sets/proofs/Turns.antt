@@ -32,7 +32,9 @@ use Rattle.conversations.specs.Selecting.{AddsSelections, IsSelecting, next_on, 
 use Rattle.conversations.specs.Selecting as selecting
 use Rattle.conversations.specs.declared.pausing.Patience.{Patience}
 use Rattle.conversations.specs.declared.pausing.Timed.TheVariants.{InTime}
-use Rattle.conversations.specs.Pauses.{AddsPauses, EndsPausing, GoesOnPausing, is_refused}
+use Rattle.conversations.specs.declared.pausing.Timed.{Timed}
+use Rattle.conversations.specs.Pauses.{AddsPauses, AreSpaced, EndsPausing, GoesOnPausing, is_refused}
+use Rattle.conversations.proofs.PausingLaws.{ends_spaced, goes_on_spaced}
 use Rattle.conversations.specs.Wanted.{IsReplyTo}
 use Rattle.control_sets.specs.declared.procedures.task.Task.{Task}
 use Rattle.control_sets.specs.declared.procedures.judgement.ReplyJudgement.{ReplyJudgement}
@@ -45,13 +47,13 @@ use Rattle.control_sets.specs.declared.procedures.procedure.Work.TheVariants.{Pr
 use Rattle.control_sets.specs.Pages.{History, is_open, may_select, read_selection, selection}
 use Rattle.control_sets.specs.OutcomeAnswers.{most_steps}
 use Rattle.control_sets.specs.PowerProgress.{answer_at, answer_of}
-use Rattle.control_sets.specs.Procedures.{EachAnswers, EachGoesOn, EachIsNextBy, EndsFirst, HasEnded, HasEndedBy, IsOutcome, all_apart, is_on, next_operation, operation_on}
+use Rattle.control_sets.specs.Procedures.{EachAnswers, EachGoesOn, EachIsNextBy, EndsFirst, HasEnded, HasEndedBy, IsOutcome, is_on, next_operation, operation_on, IsUnfinishedBy}
 use Rattle.control_sets.specs.Progress.{EachIsWanted, Ends, Follows, GoesOn, IsAt, IsTold, Procedure, Standing, ToldProcedure, after_reply, hand_after, hand as hand_of, list_at, procedure_of, judged_at, needed_after, page_by, standing, task_at, tasks_of, told_at, WithOwn, wants, wants_by}
 use Rattle.control_sets.specs.Judgements.{judgement}
 use Rattle.control_sets.specs.Tasks.{operation, page_of}
 use Rattle.control_sets.proofs.Doubts.{on_all}
 use Rattle.control_sets.proofs.UnderWayLaws.{IsNext, UnderWay, all_met, begun, each_next, ends, goes_on, hand, moves, stays}
-use Rattle.control_sets.proofs.Silence.{earlier_silent, read_back_silent, rest_silent, selection_silent}
+use Rattle.control_sets.proofs.Silence.{all_apart, earlier_silent, read_back_silent, rest_silent, selection_silent}
 use Rattle.control_sets.proofs.TaskLaws.{judged_own, judged_read_back, judged_selection, not_reading_back, not_selecting}
 
 -- one reply more
@@ -178,14 +180,10 @@ none_open false = refl
 pub at_start : (doubts : Bool) (tasks : List Task) → Stands doubts tasks [] 0 None
 at_start doubts tasks = record { come = begun doubts tasks; closed = λ none. none_open doubts }
 
-not_both : (b : Bool) → b ≡ true → b ≡ false → ⊥
-not_both true e h = cc
-not_both false e h = cc
-
 -- one step more, for the selection
 pub selected : (doubts : Bool) (tasks : List Task) → all_apart tasks ≡ true → (history : History) (step : Step) → Answers step.op step.reply → (met : ℕ) (fault : Option ProvisionFault) (found : Option Task) → task_at tasks met fault ≡ found →
     IsSelecting BankAndPage (page_by found) step.op (trusted doubts history) → Stands doubts tasks history met fault → Stands doubts tasks (step ∷ history) met fault
-selected doubts tasks apart history step answers met fault None e (inl (awaited, reads)) at = absurd (not_both (is_open (trusted doubts history)) awaited (at.closed e))
+selected doubts tasks apart history step answers met fault None e (inl (awaited, reads)) at = let closed = at.closed e in absurd cc
 selected doubts tasks apart history step answers met fault None e (inr (closed, (page, needs, unconfirmed, is))) at = absurd cc
 selected doubts tasks apart history step answers met (Some fault) (Some task) e selecting at = absurd cc
 selected doubts tasks apart history step answers met None (Some task) e selecting at = record {
@@ -247,17 +245,12 @@ module _ (doubts : Bool) (tasks : List Task) (history : History) (few : length h
       record { each = u.each; answers = u.answers; few = few; answered = inl (all_met tasks (take met tasks) history u) }
   ended_at met (Some fault) e at = record { each = at.come.each; answers = at.come.answers; few = few; answered = inl at.come.ends }
 
-record GoesOnAt (doubts : Bool) (tasks : List Task) (history : History) : Type 0 where
-  pub each : EachIsNextBy doubts tasks history
-  pub answers : EachAnswers history
-  pub goes_on : EachGoesOn tasks history
-
 -- the task in hand is the first of the later ones
 begins : {doubts : Bool} (tasks : List Task) (history : History) (met : ℕ) (task : Task) → slice_get tasks met ≡ Some task → UnderWay doubts tasks (take met tasks) (drop met tasks) history → UnderWay doubts tasks (take met tasks) (task ∷ drop (suc met) tasks) history
 begins {doubts} tasks history met task found come =
     subst (λ later. UnderWay doubts tasks (take met tasks) later history) (drop-cons tasks met task (slice_get_within tasks met task found) ∙ ap (λ (t : Task). t ∷ drop (suc met) tasks) (get_or_from_slice_get tasks met task task found)) come
 
-goes_on_at : {doubts : Bool} (tasks : List Task) (history : History) (met : ℕ) (fault : Option ProvisionFault) (task : Task) → all_apart tasks ≡ true → task_at tasks met fault ≡ Some task → Stands doubts tasks history met fault → GoesOnAt doubts tasks history
+pub goes_on_at : {doubts : Bool} (tasks : List Task) (history : History) (met : ℕ) (fault : Option ProvisionFault) (task : Task) → all_apart tasks ≡ true → task_at tasks met fault ≡ Some task → Stands doubts tasks history met fault → IsUnfinishedBy doubts tasks history
 goes_on_at tasks history met (Some fault) task apart e at = absurd cc
 goes_on_at tasks history met None task apart e at =
     let u = begins tasks history met task e at.come in
@@ -267,7 +260,7 @@ pub works_apart : (work : Work) → all_apart (tasks_of work) ≡ true
 works_apart (Provisioning control lanes) = refl
 works_apart (Activation control lanes) = refl
 
-going_on : (doubts : Bool) (work : Work) (events : Events) → GoesOn doubts work events → GoesOnAt doubts (tasks_of work) (steps_of events)
+going_on : (doubts : Bool) (work : Work) (events : Events) → GoesOn doubts work events → IsUnfinishedBy doubts (tasks_of work) (steps_of events)
 going_on doubts work events (own, adds, on) =
     let tasks = tasks_of work in
     let s = standing tasks (steps_of own) in
@@ -411,10 +404,20 @@ ended_in_time patience work events fault few (due, idle, (own, adds, ended)) =
     let fits : length (steps_of own) ≤ most_steps = subst (λ (history : History). length history ≤ most_steps) (sym same) few in
     subst (λ (history : History). HasEndedBy true (tasks_of work) history (answer_at (length history) (Some fault))) same (ended_in true work (length (steps_of own)) own (Some fault) refl fits ended)
 
+-- it was stopped in the middle
+pub stopped : (patience : Patience) (work : Work) (own events : Events) (wanted : Option Op) (due : Bool) (idle : ℕ) → AddsPauses patience own events wanted due idle → GoesOn true work own →
+    IsUnfinishedBy true (tasks_of work) (steps_of events)
+stopped patience work own events wanted due idle adds on =
+    subst (λ (history : History). IsUnfinishedBy true (tasks_of work) history) (steps_paused patience own events wanted due idle adds) (going_on true work own on)
+
 -- or made as many steps as may be
 pub given_up : (patience : Patience) (work : Work) (events : Events) → length (steps_of events) ≡ most_steps → GoesOnPausing patience (GoesOn true work) events → HasEndedBy true (tasks_of work) (steps_of events) (Err GaveUp)
 given_up patience work events all (op, idle, (own, adds, on)) =
-    let same = steps_paused patience own events (Some op) false idle adds in
-    let at = going_on true work own on in
-    subst (λ (history : History). HasEndedBy true (tasks_of work) history (Err GaveUp)) same
-    (record { each = at.each; answers = at.answers; few = omega (arith, all, ap length same); answered = inr (record { fault = refl; all = ap length same ∙ all; goes_on = at.goes_on }) })
+    let at = stopped patience work own events (Some op) false idle adds on in
+    record { each = at.each; answers = at.answers; few = omega (arith, all); answered = inr (record { fault = refl; all = all; goes_on = at.goes_on }) }
+
+-- however it ended
+pub patiently_spaced : (patience : Patience) (work : Work) (own : Events) (end : Option (Timed (Option ProvisionFault))) →
+    budget.HasEnded most_steps (GoesOnPausing patience (GoesOn true work)) (EndsPausing patience (GoesOn true work) (Ends true work)) own end → AreSpaced patience.pause own
+patiently_spaced patience work own None (all, on) = goes_on_spaced patience (GoesOn true work) own on
+patiently_spaced patience work own (Some end) ended = ends_spaced patience (GoesOn true work) (Ends true work) own end ended

@@ -29,7 +29,7 @@ pub record UnderWay (doubts : Bool) (tasks earlier later : List Task) (history :
   pub no_fault : fault_after tasks history ≡ None
   pub before : BeforeGoesOn tasks history
 
-none_met : (tasks : List Task) → list_all (λ task. not (was_met task [])) tasks ≡ true
+pub none_met : (tasks : List Task) → list_all (λ task. not (was_met task [])) tasks ≡ true
 none_met [] = refl
 none_met (task ∷ tasks) = none_met tasks
 

@@ -42,12 +42,16 @@ longest_of (time ∷ times) = max time (longest_of times)
 abbrev pub polls : ℕ
 polls = 4000
 
+-- a module that is put to sleep while lanes are up turns their outputs off, takes the data paths down, and powers down
+abbrev pub states_in_a_row : ℕ
+states_in_a_row = 3
+
 abbrev pub shortest_pause : ℕ
 shortest_pause = 100
 
--- so long that the polls last twice as long as this
+-- so long that the polls last three times as long as this
 abbrev pub pause_after : ℕ → ℕ
-pause_after longest = max shortest_pause (div_ceil longest 2000)
+pause_after longest = max shortest_pause (div_ceil (states_in_a_row * longest) polls)
 
 abbrev pub pause_for : Memory → ℕ
 pause_for memory = pause_after (longest_of (states_of memory))
@@ -55,9 +59,9 @@ pause_for memory = pause_after (longest_of (states_of memory))
 abbrev pub shortest_limit : ℕ
 shortest_limit = 10000
 
--- twice as long as this
+-- three times as long as this
 abbrev pub limit_after : ℕ → ℕ
-limit_after longest = max shortest_limit (2 * longest)
+limit_after longest = max shortest_limit (states_in_a_row * longest)
 
 abbrev pub patience_for : Memory → Patience
 patience_for memory = record { pause = pause_for memory; limit = limit_after (longest_of (states_of memory)) }

@@ -21,7 +21,7 @@ use Rattle.bus_model.specs.declared.operation.Reply.TheVariants.{Bytes, Done, Re
 use Rattle.control_sets.specs.declared.fault.ProvisionFault.{ProvisionFault}
 use Rattle.control_sets.specs.declared.fault.ProvisionFault.TheVariants.{Rejected, StagedDiffers, ActiveDiffers, ModuleState, Reserved}
 use Rattle.control_sets.specs.declared.procedures.task.Task.{Task}
-use Rattle.control_sets.specs.declared.procedures.task.Task.TheVariants.{FindReady, Deinitialize, AwaitDeactivated, Stage, CheckStaged, Apply, AwaitApplied, CheckActive, AwaitActivated}
+use Rattle.control_sets.specs.declared.procedures.task.Task.TheVariants.{FindReady, AwaitDeactivated, CheckStaged, AwaitApplied, CheckActive, AwaitActivated}
 use Rattle.control_sets.specs.declared.procedures.judgement.ReplyJudgement.{ReplyJudgement}
 use Rattle.control_sets.specs.declared.procedures.judgement.ReplyJudgement.TheVariants.{Met, NotYet, Fails}
 use Rattle.control_sets.specs.Tasks.{operation}
@@ -94,14 +94,12 @@ judged_statuses lanes codes =
 -- what the bytes that were read say of the task; a store has none
 unfoldable pub judged : Task → List ℕ → ReplyJudgement
 judged FindReady bytes = judged_module (number_in_byte CModuleState (slice_index bytes 0))
-judged (Deinitialize bits) bytes = NotYet
 judged (AwaitDeactivated lanes) bytes = judged_states lanes lanes Deactivated (codes_in bytes 8)
-judged (Stage control) bytes = NotYet
 judged (CheckStaged control) bytes = met_unless StagedDiffers (differing_lane bytes control)
-judged (Apply bits) bytes = NotYet
 judged (AwaitApplied lanes) bytes = judged_statuses lanes (codes_in bytes 8)
 judged (CheckActive control) bytes = met_unless ActiveDiffers (differing_lane bytes control)
 judged (AwaitActivated lanes) bytes = judged_states every_lane lanes Activated (codes_in bytes 8)
+judged task bytes = NotYet
 
 -- so many bytes can answer the operation
 abbrev pub HasCount : Op → ℕ → Type 0

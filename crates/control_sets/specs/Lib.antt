@@ -27,3 +27,4 @@ pub mod Progress
 pub mod SavedNumbers
 pub mod SavedPower
 pub mod PatientProcedures
+pub mod Watching

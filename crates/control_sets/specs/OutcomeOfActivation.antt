@@ -4,7 +4,7 @@ use Rattle.std.specs.Prelude.{Bool, false, ◌≡◌, ◌⊎◌, ◌-◌, ℕ, L
 use Rattle.bus_model.specs.declared.operation.Op.{Op}
 use Rattle.bus_model.specs.declared.operation.Step.{Step}
 use Rattle.conversations.specs.Selecting.{trusted}
-use Rattle.control_sets.specs.declared.fault.ProvisionFault.TheVariants.{Rejected, StagedDiffers, ActiveDiffers, GaveUp, Bus, ModuleState, Reserved}
+use Rattle.control_sets.specs.declared.fault.ProvisionFault.TheVariants.{ActiveDiffers, ModuleState, Reserved}
 use Rattle.field_tables.specs.LaneSets.{Lanes, byte_of, every_lane}
 use Rattle.datapath_states.specs.declared.state.PathState.TheVariants.{Activated}
 use Rattle.datapath_states.specs.StateCodes.{code_of}
@@ -12,7 +12,7 @@ use Rattle.control_sets.specs.Pages.{EachStep, History, read_selection, selectio
 use Rattle.control_sets.specs.OutcomeSteps.{Gives, IsAccepted, IsAmong, Reads, ReadsOnce, Stands, StandsAfter}
 use Rattle.control_sets.specs.OutcomeOperations.{Confirms, ReadsSelectionsBackBy, control_page, read_active, read_module_state, read_path_states, set_deinit, status_page}
 use Rattle.control_sets.specs.OutcomeCodes.{AllHave, DiffersAt, IsInNoState, IsInOtherState, IsLowestReserved, IsReservedPathState, NoneHas}
-use Rattle.control_sets.specs.OutcomeAnswers.{Answer, IsAnswer}
+use Rattle.control_sets.specs.OutcomeAnswers.{Answer, IsAnswer, NoneEnds}
 use Rattle.control_sets.specs.OutcomeOfProvisioning.{FindsReady, IsStore}
 
 -- DPDeinit is cleared for these lanes and set for all others
@@ -49,10 +49,7 @@ EndsActivation control lanes (Err (ModuleState code)) step =
 EndsActivation control lanes (Err (Reserved code)) step =
     Reads read_module_state (IsInNoState code) step
     ⊎ Reads read_path_states (IsLowestReserved IsReservedPathState every_lane code) step
-EndsActivation control lanes (Err (Rejected lane code)) step = ⊥
-EndsActivation control lanes (Err (StagedDiffers lane)) step = ⊥
-EndsActivation control lanes (Err GaveUp) step = ⊥
-EndsActivation control lanes (Err (Bus fault)) step = ⊥
+EndsActivation control lanes (Err fault) step = ⊥
 
 -- no step is needless
 pub record IsActivationBriefBy (doubts : Bool) (control : List ℕ) (lanes : Lanes) (history : History) : Type 0 where
@@ -65,9 +62,6 @@ pub record IsActivationBriefBy (doubts : Bool) (control : List ℕ) (lanes : Lan
   pub module_state : ReadsOnce read_module_state history
   pub active : ReadsOnce read_active history
 
-abbrev pub IsActivationBrief : List ℕ → Lanes → History → Type 0
-IsActivationBrief control lanes history = IsActivationBriefBy false control lanes history
-
 -- these steps, the newest first, and this answer are activation of these lanes, which needs the control bytes active; full says
 -- that the bus's list is full after them
 pub record IsActivationBy (doubts : Bool) (control : List ℕ) (lanes : Lanes) (full : Type 0) (history : History) (answer : Answer) : Type 0 where
@@ -79,3 +73,10 @@ pub record IsActivationBy (doubts : Bool) (control : List ℕ) (lanes : Lanes) (
 -- without doubt
 abbrev pub IsActivation : List ℕ → Lanes → Type 0 → History → Answer → Type 0
 IsActivation control lanes full history answer = IsActivationBy false control lanes full history answer
+
+-- these steps, the newest first, are the first ones of activation, and determine no answer
+pub record IsUnfinishedActivationBy (doubts : Bool) (control : List ℕ) (lanes : Lanes) (history : History) : Type 0 where
+  pub shape : EachStep (IsActivationStepBy doubts lanes) history
+  pub order : IsActivationOrder control lanes history
+  pub none : NoneEnds (EndsActivation control lanes) history
+  pub brief : IsActivationBriefBy doubts control lanes history

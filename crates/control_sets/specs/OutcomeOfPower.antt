@@ -5,7 +5,7 @@ use Rattle.bus_model.specs.declared.operation.Reply.TheVariants.{Done}
 use Rattle.bus_model.specs.declared.operation.Step.{Step}
 use Rattle.module_states.specs.declared.state.ModuleState.TheVariants.{Fault}
 use Rattle.module_states.specs.Codes.{state_at}
-use Rattle.control_sets.specs.declared.fault.ProvisionFault.TheVariants.{Rejected, StagedDiffers, ActiveDiffers, GaveUp, Bus, ModuleState, Reserved}
+use Rattle.control_sets.specs.declared.fault.ProvisionFault.TheVariants.{ModuleState, Reserved}
 use Rattle.control_sets.specs.declared.procedures.power.Power.{Power}
 use Rattle.control_sets.specs.Pages.{EachStep, History}
 use Rattle.control_sets.specs.OutcomeSteps.{Gives, IsAnswered, Reads, Stands, StandsAfter, StandsAfterNo}
@@ -41,11 +41,7 @@ abbrev pub EndsPower : Power → Answer → Step → Type 0
 EndsPower power (Ok steps) step = Reads read_module_state (IsInWanted power) step
 EndsPower power (Err (ModuleState code)) step = Reads read_module_state (IsInFault code) step
 EndsPower power (Err (Reserved code)) step = Reads read_module_state (IsInNoState code) step
-EndsPower power (Err (Rejected lane code)) step = ⊥
-EndsPower power (Err (StagedDiffers lane)) step = ⊥
-EndsPower power (Err (ActiveDiffers lane)) step = ⊥
-EndsPower power (Err GaveUp) step = ⊥
-EndsPower power (Err (Bus fault)) step = ⊥
+EndsPower power (Err fault) step = ⊥
 
 -- in which order the steps stand, and that none is needless
 pub record IsPowerOrder (history : History) : Type 0 where

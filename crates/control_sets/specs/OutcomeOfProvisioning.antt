@@ -4,10 +4,10 @@ use Rattle.std.specs.Prelude.{Bool, false, ◌≡◌, ◌⊎◌, ◌++◌, ◌==
 use Rattle.bus_model.specs.declared.operation.Op.{Op}
 use Rattle.bus_model.specs.declared.operation.Op.TheVariants.{Fetch, Store}
 use Rattle.bus_model.specs.declared.operation.Reply.{Reply}
-use Rattle.bus_model.specs.declared.operation.Reply.TheVariants.{Bytes, Done, Refused}
+use Rattle.bus_model.specs.declared.operation.Reply.TheVariants.{Done}
 use Rattle.bus_model.specs.declared.operation.Step.{Step}
 use Rattle.conversations.specs.Selecting.{trusted}
-use Rattle.control_sets.specs.declared.fault.ProvisionFault.TheVariants.{Rejected, StagedDiffers, ActiveDiffers, GaveUp, Bus, ModuleState, Reserved}
+use Rattle.control_sets.specs.declared.fault.ProvisionFault.TheVariants.{Rejected, StagedDiffers, ActiveDiffers, ModuleState, Reserved}
 use Rattle.field_tables.specs.declared.field.Register.TheVariants.{CPageMapping}
 use Rattle.field_tables.specs.Registers.{first_byte}
 use Rattle.field_tables.specs.LaneSets.{Lanes, byte_of}
@@ -19,7 +19,7 @@ use Rattle.control_sets.specs.Pages.{EachStep, History, read_selection, selectio
 use Rattle.control_sets.specs.OutcomeSteps.{Gives, IsAccepted, IsAmong, Reads, ReadsOnce, Stands, StandsAfter, StandsAfterNo}
 use Rattle.control_sets.specs.OutcomeOperations.{Confirms, ReadsSelectionsBackBy, apply, control_page, read_active, read_module_state, read_path_states, read_staged, read_statuses, set_deinit, stage, status_page}
 use Rattle.control_sets.specs.OutcomeCodes.{AllHave, DiffersAt, IsInNoState, IsInOtherState, IsLowestReserved, IsReady, IsRejectedAt, IsReservedPathState, IsReservedStatus}
-use Rattle.control_sets.specs.OutcomeAnswers.{Answer, IsAnswer}
+use Rattle.control_sets.specs.OutcomeAnswers.{Answer, IsAnswer, NoneEnds}
 
 -- ModuleReady was read
 abbrev pub FindsReady : Step → Type 0
@@ -51,9 +51,7 @@ IsStore (Fetch dev offset count) = ⊥
 -- the store, if it is no selection and was accepted
 abbrev pub accepted_store : Op → Reply → List Op
 accepted_store (Store dev offset bytes) Done = if offset == first_byte CPageMapping then [] else Store dev offset bytes ∷ []
-accepted_store (Store dev offset bytes) (Bytes read) = []
-accepted_store (Store dev offset bytes) Refused = []
-accepted_store (Fetch dev offset count) reply = []
+accepted_store op reply = []
 
 -- the accepted stores but for selections, in the order in which they were made
 abbrev pub accepted_stores : History → List Op
@@ -95,8 +93,7 @@ EndsProvisioning control lanes (Err (Reserved code)) step =
     Reads read_module_state (IsInNoState code) step
     ⊎ (Reads read_path_states (IsLowestReserved IsReservedPathState lanes code) step
     ⊎ Reads read_statuses (IsLowestReserved IsReservedStatus lanes code) step)
-EndsProvisioning control lanes (Err GaveUp) step = ⊥
-EndsProvisioning control lanes (Err (Bus fault)) step = ⊥
+EndsProvisioning control lanes (Err fault) step = ⊥
 
 -- when page 10h is selected: for DPDeinit, or to stage and to apply
 abbrev pub WantsControls : Lanes → History → Type 0
@@ -122,9 +119,6 @@ pub record IsProvisioningBriefBy (doubts : Bool) (lanes : Lanes) (history : Hist
   pub path_states : StandsAfterNo read_path_states (FindsDeactivated lanes) history
   pub statuses : StandsAfterNo read_statuses (FindsApplied lanes) history
 
-abbrev pub IsProvisioningBrief : Lanes → History → Type 0
-IsProvisioningBrief lanes history = IsProvisioningBriefBy false lanes history
-
 -- these steps, the newest first, and this answer are provisioning of the control bytes, by the lanes of the mask; full says
 -- that the bus's list is full after them
 pub record IsProvisioningBy (doubts : Bool) (control : List ℕ) (lanes : Lanes) (full : Type 0) (history : History) (answer : Answer) : Type 0 where
@@ -136,3 +130,10 @@ pub record IsProvisioningBy (doubts : Bool) (control : List ℕ) (lanes : Lanes)
 -- without doubt
 abbrev pub IsProvisioning : List ℕ → Lanes → Type 0 → History → Answer → Type 0
 IsProvisioning control lanes full history answer = IsProvisioningBy false control lanes full history answer
+
+-- these steps, the newest first, are the first ones of provisioning, and determine no answer
+pub record IsUnfinishedProvisioningBy (doubts : Bool) (control : List ℕ) (lanes : Lanes) (history : History) : Type 0 where
+  pub shape : EachStep (IsProvisioningStepBy doubts control lanes) history
+  pub order : IsProvisioningOrder control lanes history
+  pub none : NoneEnds (EndsProvisioning control lanes) history
+  pub brief : IsProvisioningBriefBy doubts lanes history

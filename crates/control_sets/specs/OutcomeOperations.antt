@@ -1,10 +1,10 @@
 -- The operations of provisioning and activation, and when the steps before a step confirm a page. (docs/bus.md, "Outcomes";
 -- OIF-CMIS-05.0: Bank and Page Select of the lower memory, Staged Control Set 0 on page 10h, the lane statuses on page 11h)
-use Rattle.std.specs.Prelude.{Bool, false, ◌≡◌, ◌⊎◌, ◌++◌, ◌+◌, ◌<◌, ℕ, List, [], ◌∷◌, length, Option, Some, None}
+use Rattle.std.specs.Prelude.{Bool, ◌≡◌, ◌⊎◌, ◌++◌, ◌+◌, ◌<◌, ℕ, List, [], ◌∷◌, length, Option, Some, None}
 use Rattle.std.specs.List.{AllByRecursion}
-use Rattle.bus_model.specs.declared.device.Dev.TheVariants.{A0, A2}
+use Rattle.bus_model.specs.declared.device.Dev.TheVariants.{A0}
 use Rattle.bus_model.specs.declared.operation.Op.{Op}
-use Rattle.bus_model.specs.declared.operation.Op.TheVariants.{Fetch, Store}
+use Rattle.bus_model.specs.declared.operation.Op.TheVariants.{Store}
 use Rattle.bus_model.specs.declared.operation.Reply.TheVariants.{Bytes}
 use Rattle.bus_model.specs.declared.operation.Step.{Step}
 use Rattle.field_tables.specs.declared.field.Register.{Register}
@@ -55,8 +55,7 @@ status_page = (span_of CActiveControl).page
 -- a store on bank or page select, whatever became of it
 abbrev pub CoversSelection : Op → Type 0
 CoversSelection (Store A0 offset bytes) = (offset < first_byte CPageMapping + byte_count CPageMapping) × (first_byte CPageMapping < offset + length bytes.items)
-CoversSelection (Store A2 offset bytes) = ⊥
-CoversSelection (Fetch dev offset count) = ⊥
+CoversSelection op = ⊥
 
 -- bank 0 and the page were read back
 abbrev pub read_back_of : ℕ → Step
@@ -83,9 +82,6 @@ pub record ReadsSelectionsBackBy (doubts : Bool) (history : History) : Type 0 wh
   pub at_once : EachStep (λ step before. Newest AwaitsReadBack (trusted doubts before) → step.op ≡ read_selection) history
   -- else the selection isn't read
   pub only : EachStep (λ step before. step.op ≡ read_selection → Newest AwaitsReadBack (trusted doubts before)) history
-
-abbrev pub ReadsSelectionsBack : History → Type 0
-ReadsSelectionsBack history = ReadsSelectionsBackBy false history
 
 -- the page, if one is needed, is confirmed
 abbrev pub IsConfirmed : Option ℕ → History → Type 0

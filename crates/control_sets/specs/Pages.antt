@@ -1,6 +1,6 @@
 -- Page selection as provisioning and activation make it, by bank and page: the words of paged_memory for that form.
 -- (docs/bus.md, "Confirmed pages"; OIF-CMIS-05.0, BankSelect and PageSelect, bytes 126 and 127 of the lower memory)
-use Rattle.std.specs.Prelude.{ℕ, Bool, List}
+use Rattle.std.specs.Prelude.{ℕ, Bool}
 use Rattle.bus_model.specs.declared.operation.Op.{Op}
 use Rattle.bus_model.specs.declared.operation.Reply.{Reply}
 use Rattle.bus_model.specs.declared.operation.Step.{Step}
@@ -23,12 +23,6 @@ read_selection = addressing.read_selection BankAndPage
 -- a store that covers BankSelect or PageSelect
 abbrev pub may_select : Op → Bool
 may_select = addressing.may_select BankAndPage
-
-abbrev pub is_selection_of : ℕ → List ℕ → Bool
-is_selection_of = addressing.is_selection_of BankAndPage
-
-abbrev pub is_page : ℕ → Reply → Bool
-is_page = addressing.is_page BankAndPage
 
 abbrev pub reads_back : ℕ → Step → Bool
 reads_back = addressing.reads_back BankAndPage

@@ -3,11 +3,11 @@
 use Rattle.std.specs.Prelude.{◌≡◌, ◌⊎◌, ◌≤◌, ℕ, Bool, [], ◌∷◌, length, Option, Some, None, Result, Ok, Err, slice_index}
 use Rattle.bus_model.specs.declared.operation.Op.{Op}
 use Rattle.bus_model.specs.declared.operation.Reply.{Reply}
-use Rattle.bus_model.specs.declared.operation.Reply.TheVariants.{Bytes, Refused}
+use Rattle.bus_model.specs.declared.operation.Reply.TheVariants.{Bytes}
 use Rattle.bus_model.specs.declared.operation.Reply.TheVariants as replies
 use Rattle.bus_model.specs.declared.operation.Step.{Step}
 use Rattle.module_states.specs.declared.state.ModuleState.{ModuleState as State}
-use Rattle.module_states.specs.declared.state.ModuleState.TheVariants.{LowPwr, PwrUp, Ready, PwrDn, Fault}
+use Rattle.module_states.specs.declared.state.ModuleState.TheVariants.{LowPwr, Ready, Fault}
 use Rattle.module_states.specs.Codes.{state_at}
 use Rattle.control_sets.specs.declared.fault.ProvisionFault.{ProvisionFault}
 use Rattle.control_sets.specs.declared.fault.ProvisionFault.TheVariants.{GaveUp, ModuleState, Reserved}
@@ -60,26 +60,16 @@ answer_at steps (Some (Some fault)) = Err fault
 abbrev pub answer_of : Spent (Option ProvisionFault) → Answer
 answer_of spent = answer_at spent.steps spent.end
 
-abbrev pub judged_awake : ℕ → Option State → ReplyJudgement
-judged_awake code None = Fails (Reserved code)
-judged_awake code (Some Ready) = Met
-judged_awake code (Some Fault) = Fails (ModuleState code)
-judged_awake code (Some LowPwr) = NotYet
-judged_awake code (Some PwrUp) = NotYet
-judged_awake code (Some PwrDn) = NotYet
+-- what the code of a module state says, by the state
+abbrev pub judged_state : ℕ → Option State → Power → ReplyJudgement
+judged_state code None power = Fails (Reserved code)
+judged_state code (Some Fault) power = Fails (ModuleState code)
+judged_state code (Some Ready) Awake = Met
+judged_state code (Some LowPwr) Asleep = Met
+judged_state code (Some state) power = NotYet
 
-abbrev pub judged_asleep : ℕ → Option State → ReplyJudgement
-judged_asleep code None = Fails (Reserved code)
-judged_asleep code (Some LowPwr) = Met
-judged_asleep code (Some Fault) = Fails (ModuleState code)
-judged_asleep code (Some Ready) = NotYet
-judged_asleep code (Some PwrUp) = NotYet
-judged_asleep code (Some PwrDn) = NotYet
-
--- what the code of a module state says
 abbrev pub judged_power : Power → ℕ → ReplyJudgement
-judged_power Awake code = judged_awake code (state_at code)
-judged_power Asleep code = judged_asleep code (state_at code)
+judged_power power code = judged_state code (state_at code) power
 
 -- where a change stands after the state was read
 abbrev pub stage_judged : ReplyJudgement → Result PowerStage ProvisionFault
@@ -87,22 +77,16 @@ stage_judged Met = Ok stage.Met
 stage_judged NotYet = Ok stage.Stored
 stage_judged (Fails fault) = Err fault
 
--- and after a reply to what is done at a stage
+-- and after a reply to what is done at a stage, which another reply leaves as it is
 abbrev pub stage_after : Power → PowerStage → Reply → Result PowerStage ProvisionFault
 stage_after power stage.Unread (Bytes bytes) = Ok (stage.Found (slice_index bytes.items 0))
-stage_after power stage.Unread replies.Done = Ok stage.Unread
-stage_after power stage.Unread Refused = Ok stage.Unread
-stage_after power (stage.Found byte) (Bytes bytes) = Ok (stage.Found byte)
 stage_after power (stage.Found byte) replies.Done = Ok stage.Stored
-stage_after power (stage.Found byte) Refused = Ok (stage.Found byte)
 stage_after power stage.Stored (Bytes bytes) = stage_judged (judged_power power (module_code bytes.items))
-stage_after power stage.Stored replies.Done = Ok stage.Stored
-stage_after power stage.Stored Refused = Ok stage.Stored
-stage_after power stage.Met reply = Ok stage.Met
+stage_after power same reply = Ok same
 
 abbrev pub moved_to : PowerChange → Result PowerStage ProvisionFault → PowerChange
-moved_to change (Ok stage) = record { power = change.power; stage = stage; fault = change.fault }
-moved_to change (Err fault) = record { power = change.power; stage = change.stage; fault = Some fault }
+moved_to change (Ok stage) = record change { stage = stage }
+moved_to change (Err fault) = record change { fault = Some fault }
 
 abbrev pub change_after : PowerChange → Reply → PowerChange
 change_after change reply = moved_to change (stage_after change.power change.stage reply)

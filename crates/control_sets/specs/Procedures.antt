@@ -1,7 +1,7 @@
 -- Procedures: tasks in order, each worked at until it is met. What may come next, and how a procedure ends.
 -- Steps stand with the newest first. (docs/bus.md, "Procedures"; this project's own)
 use Rattle.std.specs.Prelude.{◌≡◌, ◌≢◌, ℕ, ◌<◌, ◌≤◌, ◌⊎◌, ◌&&◌, ◌||◌, not, Bool, true, false, List, [], ◌∷◌, length, Option, Some, None, if◌then◌else◌, find, Result, Ok, Err, reverse}
-use Rattle.std.specs.List.{AllByRecursion, list_all}
+use Rattle.std.specs.List.{AllByRecursion}
 use Rattle.std.specs.Option.{option_map}
 use Rattle.bus_model.specs.declared.bus.BusFault.TheVariants.{TraceFull}
 use Rattle.bus_model.specs.declared.operation.Op.{Op}
@@ -31,8 +31,7 @@ judgement_at task step before = if same_op (operation task) step.op && is_on (pa
 
 abbrev pub is_met : ReplyJudgement → Bool
 is_met Met = true
-is_met NotYet = false
-is_met (Fails fault) = false
+is_met judged = false
 
 abbrev pub meets : Task → Step → History → Bool
 meets task step before = is_met (judgement_at task step before)
@@ -71,9 +70,8 @@ EachAnswers history = AllByRecursion (λ step. Answers step.op step.reply) histo
 
 -- the fault that a judgement is
 abbrev pub fault_in : ReplyJudgement → Option ProvisionFault
-fault_in Met = None
-fault_in NotYet = None
 fault_in (Fails fault) = Some fault
+fault_in judged = None
 
 abbrev pub or_else : Option ProvisionFault → Option ProvisionFault → Option ProvisionFault
 or_else None later = later
@@ -109,18 +107,16 @@ abbrev pub EndsFirst : List Task → History → Result ℕ ProvisionFault → T
 EndsFirst tasks [] answer = EndsTasks tasks [] answer
 EndsFirst tasks (step ∷ before) answer = EndsTasks tasks (step ∷ before) answer × EachGoesOn tasks before
 
--- no operation is that of both
-abbrev pub are_apart : Task → Task → Bool
-are_apart task other = not (same_op (operation task) (operation other))
-
-abbrev pub all_apart : List Task → Bool
-all_apart [] = true
-all_apart (task ∷ later) = list_all (λ other. are_apart task other && are_apart other task) later && all_apart later
-
 -- as many steps were made as may be
 pub record GivesTasksUp (tasks : List Task) (history : History) (answer : Result ℕ ProvisionFault) : Type 0 where
   pub fault : answer ≡ Err GaveUp
   pub all : length history ≡ most_steps
+  pub goes_on : EachGoesOn tasks history
+
+-- these steps are the first ones of a procedure, which has not come to its end
+pub record IsUnfinishedBy (doubts : Bool) (tasks : List Task) (history : History) : Type 0 where
+  pub each : EachIsNextBy doubts tasks history
+  pub answers : EachAnswers history
   pub goes_on : EachGoesOn tasks history
 
 -- these steps end in the answer

@@ -139,16 +139,7 @@ abbrev pub doubting : PatientProcedure → PatientProcedure
 doubting procedure =
     let pausing = procedure.conversation in
     let on = pausing.conversation in
-    record {
-      conversation = record {
-        conversation = record { conversation = on.conversation; selection = on.selection; taken = on.taken; doubts = true };
-        patience = pausing.patience;
-        due = pausing.due;
-        idle = pausing.idle;
-      };
-      steps = procedure.steps;
-      limit = procedure.limit;
-    }
+    record procedure { conversation = record pausing { conversation = record on { doubts = true } } }
 
 -- its tasks' own events, with selections added
 abbrev pub WithOwn : Bool → Work → (Events → Type 0) → Events → Type 0

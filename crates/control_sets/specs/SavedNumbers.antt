@@ -37,9 +37,8 @@ due_numbered number = if number == 0 then Some false else (if number == 1 then S
 
 -- the page that was read back; 0 if none was
 abbrev pub page_read_back : KnownPage → ℕ
-page_read_back Unknown = 0
-page_read_back Open = 0
 page_read_back (Page page) = page
+page_read_back selected = 0
 
 abbrev pub number_of_due : Bool → ℕ
 number_of_due false = 0
@@ -93,13 +92,9 @@ saved_fault (Some fault) = numbers_of fault
 
 -- a reply shows the fault
 abbrev pub is_found : ProvisionFault → Bool
-is_found (Rejected lane status) = true
-is_found (StagedDiffers lane) = true
-is_found (ActiveDiffers lane) = true
 is_found GaveUp = false
 is_found (Bus fault) = false
-is_found (ModuleState code) = true
-is_found (Reserved code) = true
+is_found fault = true
 
 -- no more tasks can be met than there are, and a fault is found by one that isn't
 abbrev pub can_stand : List Task → ℕ → Option ProvisionFault → Bool

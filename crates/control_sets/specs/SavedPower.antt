@@ -2,7 +2,7 @@
 -- (docs/firmware.md, "The numbers of a conversation"; this project's own)
 use Rattle.std.specs.Prelude.{ℕ, ◌==◌, ◌&&◌, nat_le, Bool, true, false, ◌∷◌, Option, Some, None, if◌then◌else◌, replicate, slice_index}
 use Rattle.control_sets.specs.declared.fault.ProvisionFault.{ProvisionFault}
-use Rattle.control_sets.specs.declared.fault.ProvisionFault.TheVariants.{Rejected, StagedDiffers, ActiveDiffers, GaveUp, Bus, ModuleState, Reserved}
+use Rattle.control_sets.specs.declared.fault.ProvisionFault.TheVariants.{ModuleState, Reserved}
 use Rattle.control_sets.specs.declared.procedures.procedure.saved.SavedProcedure.{SavedProcedure}
 use Rattle.control_sets.specs.declared.procedures.power.Power.{Power}
 use Rattle.control_sets.specs.declared.procedures.power.Power.TheVariants.{Awake, Asleep}
@@ -28,13 +28,9 @@ stage_numbered met found =
 -- a fault of the module's state may be found, and no other
 abbrev pub can_stop : Option ProvisionFault → Bool
 can_stop None = true
-can_stop (Some (Rejected lane status)) = false
-can_stop (Some (StagedDiffers lane)) = false
-can_stop (Some (ActiveDiffers lane)) = false
-can_stop (Some GaveUp) = false
-can_stop (Some (Bus fault)) = false
 can_stop (Some (ModuleState code)) = true
 can_stop (Some (Reserved code)) = true
+can_stop (Some fault) = false
 
 -- the numbers that stand for nothing are 0
 abbrev pub has_no_more : SavedProcedure → Bool

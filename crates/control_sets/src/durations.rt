@@ -1,5 +1,6 @@
 //! How long states last, as a module advertises, and how long to pause between two polls of them.
-ghost use Rattle.std.specs.Prelude.{◌≡◌, ◌≤◌, max};
+ghost use Rattle.std.specs.Prelude.{◌≡◌, ◌≤◌, ◌*◌, max};
+ghost use Rattle.control_sets.specs.Durations.{states_in_a_row};
 ghost use Rattle.control_sets.specs.Durations as spec;
 
 use conversations::Patience;
@@ -7,23 +8,25 @@ use field_tables::{Field, number};
 use paged_memory::Image;
 
 /// How many milliseconds to pause wherever a transaction brought nothing, if the module has this memory: at least 100, and so
-/// long that 4,000 pauses last twice as long as the longest state that it advertises.
+/// long that 4,000 pauses last three times as long as the longest state that it advertises.
 pub fn pause_for(image: &Image) -> u32
     ensures { result ≡ spec.pause_for image.now }
 {
-    larger(SHORTEST_PAUSE, longest_state(image).div_ceil(2000))
+    larger(SHORTEST_PAUSE, longest_wait(image).div_ceil(POLLS))
 }
 
 const SHORTEST_PAUSE: u32 = 100;
 
+const POLLS: u32 = 4000;
+
 /// How patient a conversation is on a real bus, if the module has this memory: it pauses so long, and gives up after pauses that last
-/// twice as long as the longest state that the module advertises, and at least ten seconds.
+/// three times as long as the longest state that the module advertises, and at least ten seconds.
 pub fn patience_for(image: &Image) -> Patience
     ensures { result ≡ spec.patience_for image.now }
 {
     Patience {
         pause: pause_for(image),
-        limit: larger(SHORTEST_LIMIT, 2 * longest_state(image)),
+        limit: larger(SHORTEST_LIMIT, longest_wait(image)),
     }
 }
 
@@ -39,6 +42,14 @@ pub fn longest_duration(code: u8) -> Option<u32>
 const DURATIONS: [u32; 13] = [
     1, 5, 10, 50, 100, 500, 1_000, 5_000, 10_000, 60_000, 300_000, 600_000, 3_000_000,
 ];
+
+// For three states in a row.
+fn longest_wait(image: &Image) -> u32
+    ensures value { result ≡ states_in_a_row * spec.longest_of (spec.states_of image.now) }
+    ensures few { result ≤ 9000000 }
+{
+    3 * longest_state(image)
+}
 
 fn longest_state(image: &Image) -> u32
     ensures value { result ≡ spec.longest_of (spec.states_of image.now) }

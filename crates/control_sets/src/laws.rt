@@ -19,10 +19,10 @@ ghost use Rattle.control_sets.specs.OutcomeSteps.{Gives, IsAccepted, IsAnswered,
 ghost use Rattle.control_sets.specs.OutcomeOperations.{IsAtRegister, apply, control_page, read_active, read_module_state, read_path_states, read_staged, read_statuses, stage, status_page};
 ghost use Rattle.control_sets.specs.OutcomeExamples.{activated, almost_pairs, gave, low_power, on_controls, on_status_at_once, other_bank, pairs, provisioned, provisioned_beside_reserved_codes, ready, refused, refused_reads, refused_selection, repeated_selection, took};
 ghost use Rattle.control_sets.specs.Tasks.{activation, provisioning};
-ghost use Rattle.control_sets.specs.Procedures.{HasEndedBy};
+ghost use Rattle.control_sets.specs.Procedures.{HasEndedBy, IsUnfinishedBy};
 ghost use Rattle.control_sets.specs.OutcomeAnswers.{Answer, most_steps};
-ghost use Rattle.control_sets.specs.OutcomeOfProvisioning.{IsProvisioning, IsProvisioningBy};
-ghost use Rattle.control_sets.specs.OutcomeOfActivation.{IsActivation, IsActivationBy, release};
+ghost use Rattle.control_sets.specs.OutcomeOfProvisioning.{IsProvisioning, IsProvisioningBy, IsUnfinishedProvisioningBy};
+ghost use Rattle.control_sets.specs.OutcomeOfActivation.{IsActivation, IsActivationBy, IsUnfinishedActivationBy, release};
 ghost use Rattle.control_sets.specs.OutcomeCodes.{IsOf, IsReservedPathState};
 ghost use Rattle.datapath_states.specs.Lanes.{code_in};
 ghost use Rattle.control_sets.specs.OutcomeOfPower.{IsPowerChange};
@@ -46,14 +46,25 @@ ghost use Rattle.control_sets.specs.declared.procedures.power.Power.TheVariants.
 ghost use Rattle.control_sets.specs.declared.procedures.power.PowerChange.{PowerChange};
 ghost use Rattle.control_sets.specs.declared.procedures.power.PowerStage.TheVariants.{Unread};
 ghost use Rattle.control_sets.specs.StoredBits.{HasBitsOf, LeavesOthers};
-ghost use Rattle.control_sets.specs.Durations.{patience_for, polls, states_of};
+ghost use Rattle.control_sets.specs.Durations.{patience_for, polls, states_in_a_row, states_of};
 ghost use Rattle.conversations.specs.declared.pausing.Patience.{Patience};
 ghost use Rattle.conversations.specs.declared.pausing.Timed.{Timed};
-ghost use Rattle.conversations.specs.declared.pausing.Timed.TheVariants.{InTime};
+ghost use Rattle.conversations.specs.declared.pausing.Timed.TheVariants.{InTime, Overdue};
 ghost use Rattle.conversations.specs.Pauses.{AddsPauses, AreMade, AreSpaced, EndsPausing, GoesOnPausing, paused_for};
 ghost use Rattle.conversations.specs.Selecting.{ConfirmsStores};
 ghost use Rattle.paged_memory.specs.declared.page_addressing.PageAddressing.TheVariants.{BankAndPage};
 ghost use Rattle.paged_memory.specs.Images.{Memory};
+ghost use Rattle.conversations.specs.declared.next.Next.TheVariants.{Do};
+ghost use Rattle.control_sets.specs.declared.procedures.judgement.ReplyJudgement.TheVariants.{Fails};
+ghost use Rattle.control_sets.specs.declared.procedures.task.Task.TheVariants.{FindReady};
+ghost use Rattle.control_sets.specs.declared.procedures.watching.Look.{Look};
+ghost use Rattle.control_sets.specs.declared.procedures.watching.Look.TheVariants.{Due, Left};
+ghost use Rattle.control_sets.specs.declared.procedures.watching.Watched.{Watched};
+ghost use Rattle.control_sets.specs.declared.procedures.watching.Watched.TheVariants as watched;
+ghost use Rattle.control_sets.specs.declared.procedures.watching.Watching.{Watching};
+ghost use Rattle.control_sets.specs.Judgements.{judgement};
+ghost use Rattle.control_sets.specs.PatientProcedures.{EndsPatiently, EndsWatched};
+ghost use Rattle.control_sets.specs.Watching.{AddsLooks, EachLooks, ShowsLeft, after_watching, is_look, next_watching};
 
 use crate::procedures::{PowerChange, Procedure};
 use conversations::{Conversation, Within};
@@ -118,6 +129,10 @@ pub fn procedures_have_their_outcomes()
     ensures activation { (doubts : Bool) (control : List ℕ) (lanes : Lanes) (made room : ℕ) (history : History) (answer : Answer) →
         length control ≡ 8 → HasEndedBy doubts (activation control lanes) history answer →
         IsActivationBy doubts control lanes (made ≡ room) history answer }
+    ensures unfinished_provisioning { (doubts : Bool) (control : List ℕ) (lanes : Lanes) (history : History) →
+        length control ≡ 8 → IsUnfinishedBy doubts (provisioning control lanes) history → IsUnfinishedProvisioningBy doubts control lanes history }
+    ensures unfinished_activation { (doubts : Bool) (control : List ℕ) (lanes : Lanes) (history : History) →
+        length control ≡ 8 → IsUnfinishedBy doubts (activation control lanes) history → IsUnfinishedActivationBy doubts control lanes history }
     ensures begun { (work : Work) → IsAt (tasks_of work) [] (procedure_of (list_at work (0, None)) Unknown 0) }
     ensures follows { (tasks : List Task) (history : History) (procedure : Procedure) → IsAt tasks history procedure →
         Follows tasks history (⟦<Procedure as Conversation>⟧.wants procedure) }
@@ -265,10 +280,11 @@ pub fn what_changes_of_power_may_do()
         ¬ (IsPowerChange power (made ≡ room) (took (set_controls byte) ∷ took (set_controls other) ∷ before) answer) }
 {}
 
-/// A conversation with a module's patience waits for twice as long as each state that the module advertises before it gives up, and its
-/// steps leave room for that: as many pauses as there may be polls last as long, and no more than two pauses more are made in a row.
+/// A conversation with a module's patience waits for three times as long as each state that the module advertises before it gives up, so
+/// for as long as any three of them, which may follow each other. Its steps leave room for that: as many pauses as there may be polls last
+/// as long, and no more than two pauses more are made in a row.
 pub fn patience_outlasts_states()
-    ensures longer { (memory : Memory) → AllByRecursion (λ time. 2 * time ≤ (patience_for memory).limit) (states_of memory) }
+    ensures longer { (memory : Memory) → AllByRecursion (λ time. states_in_a_row * time ≤ (patience_for memory).limit) (states_of memory) }
     ensures within { (memory : Memory) → (patience_for memory).limit ≤ polls * (patience_for memory).pause }
     ensures room { polls + 96 ≤ most_steps }
     ensures fruitless { (memory : Memory) (own events : Events) (wanted : Option Op) (due : Bool) (idle : ℕ) →
@@ -276,14 +292,32 @@ pub fn patience_outlasts_states()
         paused_for (patience_for memory).pause wanted (steps_of events) ≤ (polls + 2) * (patience_for memory).pause }
 {}
 
-/// Provisioning and activation on a real bus that ended in time, or gave up, did so as they may without pauses: their steps and answer
-/// have the outcome, with the selections of those who doubt.
+/// Provisioning and activation on a real bus, however they end, do what they may without pauses, with the selections of those who doubt.
+/// Those that ended in time, or gave up, have the outcome; the steps of those that are overdue, or whose bus failed, are the first ones of
+/// such a procedure, and determine no answer.
 pub fn patient_procedures_have_their_outcomes()
     ensures ended { (patience : Patience) (work : Work) (events : Events) (fault : Option ProvisionFault) → length (steps_of events) ≤ most_steps →
         EndsPausing patience (GoesOn true work) (Ends true work) events (InTime fault) →
         HasEndedBy true (tasks_of work) (steps_of events) (answer_of (record { steps = length (steps_of events); end = Some fault })) }
     ensures gave_up { (patience : Patience) (work : Work) (events : Events) → length (steps_of events) ≡ most_steps →
         GoesOnPausing patience (GoesOn true work) events → HasEndedBy true (tasks_of work) (steps_of events) (Err GaveUp) }
+    ensures overdue { (patience : Patience) (work : Work) (events : Events) →
+        EndsPausing patience (GoesOn true work) (Ends true work) events Overdue → IsUnfinishedBy true (tasks_of work) (steps_of events) }
+    ensures stopped { (patience : Patience) (work : Work) (events : Events) →
+        GoesOnPausing patience (GoesOn true work) events → IsUnfinishedBy true (tasks_of work) (steps_of events) }
+{}
+
+/// So it is with changes of power, which need no page.
+pub fn patient_changes_of_power_have_their_outcomes()
+    ensures ended { (patience : Patience) (power : Power) (made room : ℕ) (events : Events) (fault : Option ProvisionFault) → length (steps_of events) ≤ most_steps →
+        EndsPausing patience (λ own. GoesOnAt power (steps_of own)) (λ own fault. IsEndedIn power fault (steps_of own)) events (InTime fault) →
+        IsPowerChange power (made ≡ room) (steps_of events) (answer_of (record { steps = length (steps_of events); end = Some fault })) }
+    ensures gave_up { (patience : Patience) (power : Power) (made room : ℕ) (events : Events) → length (steps_of events) ≡ most_steps →
+        GoesOnPausing patience (λ own. GoesOnAt power (steps_of own)) events → IsPowerChange power (made ≡ room) (steps_of events) (Err GaveUp) }
+    ensures overdue { (patience : Patience) (power : Power) (events : Events) →
+        EndsPausing patience (λ own. GoesOnAt power (steps_of own)) (λ own fault. IsEndedIn power fault (steps_of own)) events Overdue → GoesOnAt power (steps_of events) }
+    ensures stopped { (patience : Patience) (power : Power) (events : Events) →
+        GoesOnPausing patience (λ own. GoesOnAt power (steps_of own)) events → GoesOnAt power (steps_of events) }
 {}
 
 /// Whatever a real bus answers to provisioning, activation and changes of power: between a fruitless transaction and the next one there is
@@ -296,6 +330,32 @@ pub fn procedures_pause()
         GoesOnPausing patience (λ own. GoesOnAt power (steps_of own)) events → AreSpaced patience.pause events }
     ensures power_ended { (patience : Patience) (power : Power) (events : Events) (end : Timed (Option ProvisionFault)) →
         EndsPausing patience (λ own. GoesOnAt power (steps_of own)) (λ own fault. IsEndedIn power fault (steps_of own)) events end → AreSpaced patience.pause events }
+{}
+
+/// A conversation that looks at the module's state makes no transaction after a wait before it was shown in ModuleReady. Where it ends since
+/// the module left that state, the newest transaction shows the other one; and where a look shows another one, it ends.
+pub fn looks_follow_waits()
+    ensures looks { (own events : Events) (look : Look) (wanted : Option Op) → AddsLooks true own events look wanted → EachLooks events }
+    ensures left { (watches : Bool) (own events : Events) (fault : ProvisionFault) (wanted : Option Op) →
+        AddsLooks watches own events (Left fault) wanted → ShowsLeft fault events }
+    ensures ends { (watching : Watching (Unit {0})) (op : Op) (reply : Reply) (fault : ProvisionFault) → watching.look ≡ Due → is_look op ≡ false →
+        judgement FindReady reply ≡ Fails fault →
+        next_watching {E = Unit {0}} (after_watching {E = Unit {0}} (λ c. Do op) (λ c r. c) watching reply).look (Do op) ≡ End (watched.Left fault) }
+    ensures spaced { (watches : Bool) (pause : ℕ) (own events : Events) (look : Look) (wanted : Option Op) →
+        AddsLooks watches own events look wanted → AreSpaced pause own → AreSpaced pause events }
+{}
+
+/// Provisioning and activation on a real bus that look at the module's state: what they do besides is what they may do without looks,
+/// where refused looks stand for refusals; also where the module left ModuleReady.
+pub fn watchful_procedures_have_their_outcomes()
+    ensures ended { (patience : Patience) (work : Work) (events : Events) (spent : Spent (Timed (Option ProvisionFault))) →
+        EndsWatched patience work events (watched.InOrder spent) →
+        (own : Events) × (look : Look) × AddsLooks true own events look None × EndsPatiently patience work own spent }
+    ensures left { (patience : Patience) (work : Work) (events : Events) (fault : ProvisionFault) →
+        EndsWatched patience work events (watched.Left fault) →
+        (own : Events) × (op : Op) × AddsLooks true own events (Left fault) (Some op) × IsUnfinishedBy true (tasks_of work) (steps_of own) }
+    ensures spaced { (patience : Patience) (work : Work) (events : Events) (end : Watched (Spent (Timed (Option ProvisionFault)))) →
+        EndsWatched patience work events end → AreSpaced patience.pause events × EachLooks events }
 {}
 
 /// On a real bus provisioning and activation store nothing on a page that wasn't read back since the newest refusal.

@@ -1,16 +1,16 @@
 -- No reply and no pause changes what a conversation is about.
-use Rattle.std.proofs.Common.{◌≡◌, ◌≢◌, ◌∷◌, ℕ, Bool, true, false, List, length, inl, inr, Option, Some, None, Result, Ok, Err, refl, ap, sym, subst, ◌∙◌}
+use Rattle.std.proofs.Common.{◌≡◌, ◌≢◌, ◌∷◌, ℕ, true, false, List, length, inl, inr, Option, Some, None, Result, Ok, Err, refl, ap, sym, subst, ◌∙◌}
 use Rattle.std.specs.Prelude.{◌⊎◌}
 use Rattle.std.specs.Option.{option_map}
 use Rattle.std.proofs.Math.Dec.{eqb}
 use Rattle.std.proofs.lemmas.Bool.Decides.{eqb_tells}
+use Rattle.std.proofs.lemmas.Option.{none-some}
 use Rattle.bus_model.specs.declared.operation.Op.{Op}
 use Rattle.bus_model.specs.declared.operation.Op.TheVariants.{Fetch, Store}
 use Rattle.bus_model.specs.declared.operation.Reply.{Reply}
 use Rattle.bus_model.specs.declared.operation.Reply.TheVariants.{Bytes, Refused}
 use Rattle.bus_model.specs.declared.operation.Reply.TheVariants as replies
 use Rattle.bus_model.specs.Operations.{Answers}
-use Rattle.conversations.specs.declared.event.Event.{Event}
 use Rattle.conversations.specs.declared.event.Event.TheVariants.{Waited}
 use Rattle.conversations.specs.declared.next.Next.{Next}
 use Rattle.conversations.specs.declared.next.Next.TheVariants.{Do, Wait}
@@ -23,20 +23,21 @@ use Rattle.control_sets.specs.declared.fault.ProvisionFault.{ProvisionFault}
 use Rattle.control_sets.specs.declared.procedures.power.PowerChange.{PowerChange}
 use Rattle.control_sets.specs.declared.procedures.power.PowerStage.{PowerStage}
 use Rattle.control_sets.specs.declared.procedures.procedure.TaskList.{TaskList}
-use Rattle.control_sets.specs.declared.procedures.procedure.Work.{Work}
 use Rattle.control_sets.specs.PowerProgress.{moved_to, stage_after}
 use Rattle.control_sets.specs.Progress as tasks
 use Rattle.module_reading.specs.declared.halves.Halves.{Halves}
 use Rattle.module_reading.specs.ImageReading as reading
+use Rattle.module_reading.proofs.HalvesLaws.{lacks_same_request, same_request}
 use Rattle.firmware_api.specs.declared.conversation.numbers.SavedConversation.{SavedConversation}
 use Rattle.firmware_api.specs.declared.half.HalfBytes.{HalfBytes}
 use Rattle.firmware_api.specs.declared.kept.Kept.{Kept}
 use Rattle.firmware_api.specs.declared.kept.Kept.TheVariants.{OfTasks, OfPower, OfReading}
-use Rattle.firmware_api.specs.KeptConversations.{Bringing, Ending, Fetching, InHand, Subject, Turning, WasTold, about, after, after_pause, halves_after, halves_want, needed, next_of, patience_of, pieces_after}
+use Rattle.firmware_api.specs.KeptConversations.{Bringing, Ending, Fetching, InHand, Subject, Turning, WasTold, Watchful, about, after, after_pause, halves_after, halves_want, needed, next_of, patience_of}
 use Rattle.firmware_api.specs.SavedConversations.{IsReplyFor, IsSavedAt, conversation_in, wanted}
 use Rattle.firmware_api.proofs.PauseLaws.{told_after_pause}
 use Rattle.firmware_api.proofs.ReadingRoom.{same_piece}
 use Rattle.firmware_api.proofs.SavedLaws.{same_some}
+use Rattle.firmware_api.proofs.WatchfulLaws.{watchful_by}
 use Rattle.firmware_api.proofs.WholeHalfLaws.{keeps_doubts, on_page_by}
 
 same_power : (change : PowerChange) (result : Result PowerStage ProvisionFault) → (moved_to change result).power ≡ change.power
@@ -49,13 +50,22 @@ doubts_by pieces reply (Some whole) =
     let on = pieces.conversation in
     keeps_doubts reading.after_reply (λ (halves : Halves) (page : ℕ). reading.after_lack halves) true (chosen (reading.addressing on.conversation)) (needed on.conversation) on whole
 
+request_by : (pieces : InHand) (reply : Reply) (whole : Option Reply) → (after_told halves_want halves_after pieces reply whole).conversation.conversation.request ≡ pieces.conversation.conversation.request
+request_by pieces reply None = refl
+request_by pieces reply (Some whole) =
+    let on = pieces.conversation in
+    let hand = reading.in_hand on.conversation in
+    on_page_by reading.after_reply (λ (halves : Halves) (page : ℕ). reading.after_lack halves) true (chosen (reading.addressing on.conversation)) (needed on.conversation) on whole
+    (λ (halves : Halves). halves.request ≡ on.conversation.request) refl (same_request hand on.conversation whole) (λ number. lacks_same_request hand on.conversation)
+
 pub same_about : (kept : Kept) (reply : Reply) → about (after kept reply) ≡ about kept
 same_about (OfTasks procedure) reply =
-    let on = procedure.conversation.conversation in
+    let on = procedure.conversation.conversation.conversation in
     let page = tasks.page_by (tasks.hand on.conversation) in
-    let work = on_page_by tasks.after_reply (λ (list : TaskList) (number : ℕ). list) false BankAndPage page on reply (λ (list : TaskList). list.work ≡ on.conversation.work) refl refl (λ number. refl) in
-    let doubts = keeps_doubts tasks.after_reply (λ (list : TaskList) (number : ℕ). list) false BankAndPage page on reply in
-    (λ i. Bringing (work i) (doubts i))
+    watchful_by procedure reply (λ (it : Watchful). about (OfTasks it) ≡ about (OfTasks procedure)) (λ look. refl) (λ r look.
+    let work = on_page_by tasks.after_reply (λ (list : TaskList) (number : ℕ). list) false BankAndPage page on r (λ (list : TaskList). list.work ≡ on.conversation.work) refl refl (λ number. refl) in
+    let doubts = keeps_doubts tasks.after_reply (λ (list : TaskList) (number : ℕ). list) false BankAndPage page on r in
+    (λ i. Bringing (work i) (doubts i) procedure.watches))
 same_about (OfPower change) reply =
     let own = change.conversation.conversation in
     ap Turning (same_power own (stage_after own.power own.stage reply))
@@ -63,22 +73,21 @@ same_about (OfReading read) reply =
     let pieces = read.conversation.conversation in
     let piece = same_piece pieces reply in
     let doubts = doubts_by pieces reply (whole_reply pieces.piece pieces.part.items (halves_want pieces.conversation) reply) in
-    (λ i. Fetching (piece i) (doubts i))
+    let request = request_by pieces reply (whole_reply pieces.piece pieces.part.items (halves_want pieces.conversation) reply) in
+    (λ i. Fetching (request i) (piece i) (doubts i))
 
 same_patience : (kept : Kept) (reply : Reply) → patience_of (after kept reply) ≡ patience_of kept
-same_patience (OfTasks procedure) reply = refl
+same_patience (OfTasks procedure) reply = watchful_by procedure reply (λ (it : Watchful). patience_of (OfTasks it) ≡ patience_of (OfTasks procedure)) (λ look. refl) (λ r look. refl)
 same_patience (OfPower change) reply = refl
 same_patience (OfReading read) reply = refl
 
 pause_about : (kept : Kept) → about (after_pause kept) ≡ about kept
 pause_about (OfTasks procedure) = refl
-pause_about (OfPower change) = refl
-pause_about (OfReading read) = refl
+pause_about _ = refl
 
 pause_patience : (kept : Kept) → patience_of (after_pause kept) ≡ patience_of kept
 pause_patience (OfTasks procedure) = refl
-pause_patience (OfPower change) = refl
-pause_patience (OfReading read) = refl
+pause_patience _ = refl
 
 pub wanted_is : (saved : SavedConversation) (halves : List HalfBytes) (kept : Kept) (next : Next Ending) → conversation_in saved halves ≡ Some kept → wanted saved halves ≡ Some next → next_of kept ≡ next
 wanted_is saved halves kept next is asks = same_some (next_of kept) next (sym (ap (option_map next_of) is) ∙ asks)
@@ -97,15 +106,12 @@ answers_or (Store dev offset given) (Bytes bytes) = inr (λ no. no)
 answers_or (Store dev offset given) replies.Done = inl tt
 answers_or (Store dev offset given) Refused = inl tt
 
-is_there : {A : Type 0} (a : A) → Some a ≡ None → ⊥
-is_there a none = cc
-
 pub reply_is : (found : Option Reply) (op : Op) (taken reply : Reply) → found ≡ Some taken → IsReplyFor found op (Some reply) → taken ≡ reply
 reply_is found op taken reply is (can, cannot) = by (answers_or op reply)
   where
     by : Answers op reply ⊎ (¬ (Answers op reply)) → taken ≡ reply
     by (inl answers) = same_some taken reply (sym is ∙ can answers)
-    by (inr other) = absurd (is_there taken (sym is ∙ cannot other))
+    by (inr other) = absurd (none-some taken (sym (cannot other) ∙ is))
 
 module _ (old new : SavedConversation) (before halves : List HalfBytes) (kept : Kept) (is : conversation_in old before ≡ Some kept) (subject : Subject) (patience : Patience) (events : Events) where
   pub taken_at : (op : Op) (reply : Reply) → wanted old before ≡ Some (Do op) →

@@ -4,7 +4,7 @@ use Rattle.std.proofs.Common.{◌≡◌, ℕ, Bool, true, false, not, List, [], 
 use Rattle.std.specs.Prelude.{◌≢◌, ◌&&◌, ◌||◌, IfSome, IsTrue}
 use Rattle.std.specs.List.{list_all}
 use Rattle.std.specs.Option.{option_map, option_or}
-use Rattle.std.proofs.lemmas.Bool.{and_from, and_parts, not_from_false, or_left, or_right}
+use Rattle.std.proofs.lemmas.Bool.{and_from, and_parts, or_right}
 use Rattle.bus_model.specs.declared.device.Dev.TheVariants.{A0}
 use Rattle.paged_memory.specs.declared.family.Family.{Family}
 use Rattle.paged_memory.specs.declared.family.Family.TheVariants.{Cmis, Sff8636, Sff8472}
@@ -104,8 +104,7 @@ module _ (memory : Memory) where
 
   own : (family : Family) (id : ℕ) → family_by id ≡ Some family → not (is_of family id) ≡ false
   own Cmis id is = rw (is) refl
-  own Sff8636 id is = rw (is) refl
-  own Sff8472 id is = rw (is) refl
+  own _ id is = rw (is) refl
 
   qsfp_own : IsOf Sff8636 → not (is_of Sff8636 (number memory QIdentifier)) ≡ false
   unfolding reading_at value_in

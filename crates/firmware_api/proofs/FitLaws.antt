@@ -1,11 +1,10 @@
 -- What the numbers say that were taken for a conversation.
-use Rattle.std.proofs.Common.{◌≡◌, ◌≤◌, ◌<◌, ◌==◌, ℕ, zero, suc, Bool, true, false, List, [], ◌∷◌, length, take, Option, Some, None, refl, ap, sym, subst, arith, if◌then◌else◌, nat_lt}
-use Rattle.std.specs.Prelude.{◌&&◌, IsTrue, nat_le, not}
+use Rattle.std.proofs.Common.{◌≡◌, ◌≤◌, ◌==◌, ℕ, zero, suc, Bool, true, false, List, [], ◌∷◌, length, take, Option, Some, None, refl, subst, arith, if◌then◌else◌, nat_lt, option_map}
+use Rattle.std.specs.Prelude.{nat_le, not}
 use Rattle.std.specs.FinMap as map
-use Rattle.std.specs.List.{list_all}
-use Rattle.std.specs.Option.{option_map}
 use Rattle.std.proofs.lemmas.Bool.{and_parts, leb-true, ltb-true}
 use Rattle.paged_memory.specs.declared.page_addressing.KnownPage.{KnownPage}
+use Rattle.control_sets.specs.declared.procedures.watching.Look.{Look}
 use Rattle.control_sets.specs.OutcomeAnswers.{most_steps}
 use Rattle.control_sets.specs.PowerProgress.{PatientPower}
 use Rattle.control_sets.specs.Progress.{PatientProcedure}
@@ -15,15 +14,14 @@ use Rattle.firmware_api.specs.declared.conversation.numbers.SavedConversation.{S
 use Rattle.firmware_api.specs.declared.half.HalfBytes.{HalfBytes}
 use Rattle.firmware_api.specs.declared.kept.Kept.{Kept}
 use Rattle.firmware_api.specs.declared.kept.Kept.TheVariants.{OfTasks, OfPower, OfReading}
-use Rattle.firmware_api.specs.Halves.{has_place, memory_of}
 use Rattle.firmware_api.specs.KeptConversations.{halves_of}
-use Rattle.firmware_api.specs.SavedConversations.{HasNumbers, HasRead, conversation_in, halves_in, is_reading, is_sound, procedure_by, reading_by, reading_in, reading_with, tasks_in, work_of_reading}
+use Rattle.firmware_api.specs.SavedConversations.{HasNumbers, HasRead, conversation_in, halves_in, is_reading, is_sound, look_in, procedure_by, reading_by, reading_in, reading_with, tasks_in, work_of_reading}
 use Rattle.firmware_api.proofs.HalfMemories.{memory_has_few}
 use Rattle.firmware_api.proofs.SavedLaws.{power_says, same_some, tasks_say}
 
 -- it may make as many steps as each, and a reading has the halves
 abbrev pub Fits : SavedConversation → List HalfBytes → Kept → Type 0
-Fits saved halves (OfTasks procedure) = procedure.limit ≡ most_steps
+Fits saved halves (OfTasks procedure) = procedure.conversation.limit ≡ most_steps
 Fits saved halves (OfPower change) = change.limit ≡ most_steps
 Fits saved halves (OfReading read) = HasNumbers read saved.halves × HasRead read (halves_in saved halves) × (map.len (halves_of read).image ≤ 5)
 
@@ -61,13 +59,15 @@ module _ (saved : SavedConversation) (halves : List HalfBytes) (kept : Kept) whe
       (if reads then reading_by saved halves selected due else None) ≡ Some kept → Fits saved halves kept
   by_reading true (Some selection) (Some due) reads is =
       subst (Fits saved halves) (same_some (reading_with saved halves selection due) kept is) (reading_fits saved halves selection due reads)
-  by_reading true (Some selection) None reads is = absurd cc
-  by_reading true None due reads is = absurd cc
-  by_reading false selected due reads is = absurd cc
+  by_reading _ _ _ reads is = absurd cc
+
+  by_look : (procedure : PatientProcedure) (look : Option Look) → procedure.limit ≡ most_steps → option_map (tasks_in saved procedure) look ≡ Some kept → Fits saved halves kept
+  by_look procedure (Some look) limit found = subst (Fits saved halves) (same_some (tasks_in saved procedure look) kept found) limit
+  by_look procedure None limit found = absurd cc
 
   by_procedure : (tasks : Option PatientProcedure) (change : Option PatientPower) → restored saved.saved ≡ tasks → restored_power saved.saved ≡ change →
       procedure_by saved tasks change ≡ Some kept → Fits saved halves kept
-  by_procedure (Some procedure) change is is_change found = subst (Fits saved halves) (same_some (tasks_in saved procedure) kept found) (tasks_say saved.saved procedure is).1
+  by_procedure (Some procedure) change is is_change found = by_look procedure (look_in saved) (tasks_say saved.saved procedure is).1 found
   by_procedure None (Some change) is is_change found = subst (Fits saved halves) (same_some (OfPower change) kept found) (power_says saved.saved change is_change).1
   by_procedure None None is is_change found = absurd cc
 

@@ -2,6 +2,7 @@
 use Rattle.std.proofs.Common.{◌≡◌, List, Option, Some, None, Result, Ok, Err, refl, ap, sym, subst, ◌∙◌}
 use Rattle.std.specs.Prelude.{IfOk, MatchOption}
 use Rattle.std.specs.Option.{option_map}
+use Rattle.std.proofs.lemmas.Option.{none-some}
 use Rattle.paged_memory.specs.Images.{Memory}
 use Rattle.applications.specs.Advertised.{Advertised}
 use Rattle.applications.specs.Refusals.{advert_fault}
@@ -97,8 +98,5 @@ pub active_in : (numbers : SavedModule) (moving : Moving) → restored numbers �
 active_in numbers moving is fixed sim made =
     ap active_bytes (same_some (module_of fixed moving) sim (sym (ap (option_map (module_of fixed)) is) ∙ made))
 
-not_both : {A : Type 0} (value : A) → ◌≡◌ {A = Option A} None (Some value) → ⊥
-not_both value same = cc
-
 pub no_active : (numbers : SavedModule) (fixed : Fixed) (sim : SimModule) → restored numbers ≡ None → module_in fixed numbers ≡ Some sim → ⊥
-no_active numbers fixed sim none made = not_both sim (sym (ap (option_map (module_of fixed)) none) ∙ made)
+no_active numbers fixed sim none made = none-some sim (sym (ap (option_map (module_of fixed)) none) ∙ made)

@@ -13,6 +13,9 @@ mod ReadingRoom
 mod AfterLaws
 mod BeginLaws
 mod AboutLaws
+mod ReadingEnds
 mod RefusalTexts
 mod ShortTexts
 mod DecodersRefuse
+mod WatchfulLaws
+mod LeftLaws

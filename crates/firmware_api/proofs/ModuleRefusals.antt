@@ -1,9 +1,9 @@
 -- Which refusal comes first of halves, and what is read of them where none does.
-use Rattle.std.proofs.Common.{◌≡◌, ℕ, ◌<◌, ◌≤◌, Bool, true, false, List, length, Option, Some, None, Result, Ok, Err, refl, ap, subst, not, if◌then◌else◌, nat_lt, arith}
+use Rattle.std.proofs.Common.{◌≡◌, ℕ, ◌<◌, ◌≤◌, Bool, true, false, List, length, Option, Some, None, Result, Ok, Err, refl, ap, subst, not, if◌then◌else◌, nat_lt}
 use Rattle.std.specs.Prelude.{MatchOption}
 use Rattle.std.specs.List.{list_all}
 use Rattle.std.specs.Option.{option_map}
-use Rattle.std.proofs.lemmas.Bool.{ltb-true, ltb-false}
+use Rattle.std.proofs.lemmas.Bool.{le-ltb, lt-ltb, ltb-false}
 use Rattle.paged_memory.specs.Images.{Memory}
 use Rattle.applications.specs.Advertised.{Advertised, advertised_by, advertised_under}
 use Rattle.applications.specs.declared.conventions.Conventions.{Conventions}
@@ -15,26 +15,18 @@ use Rattle.firmware_api.specs.declared.status.Refusal.TheVariants.{TooManyHalves
 use Rattle.firmware_api.specs.Halves.{advert_of, as_it_stands, has_place, memory_of, module_refusal, refusal_under}
 use Rattle.firmware_api.specs.Statuses.{advert_status, status_of}
 
-is_below : (m n : ℕ) (b : Bool) → nat_lt m n ≡ b → m < n → nat_lt m n ≡ true
-is_below m n true e below = e
-is_below m n false e below = absurd (omega (arith, below, ltb-false m n e))
-
-is_not_below : (m n : ℕ) (b : Bool) → nat_lt m n ≡ b → n ≤ m → nat_lt m n ≡ false
-is_not_below m n true e over = absurd (omega (arith, over, ltb-true m n e))
-is_not_below m n false e over = e
-
 pub too_many : (conventions : Conventions) (halves : List HalfBytes) → 16 < length halves → refusal_under conventions halves ≡ Some TooManyHalves
 unfolding refusal_under
-too_many conventions halves more = rw (is_below 16 (length halves) _ refl more) refl
+too_many conventions halves more = let many : nat_lt 16 (length halves) ≡ true = lt-ltb 16 (length halves) more in rw many refl
 
 pub no_place : (conventions : Conventions) (halves : List HalfBytes) → length halves ≤ 16 → list_all has_place halves ≡ false → refusal_under conventions halves ≡ Some NoPlace
 unfolding refusal_under
-no_place conventions halves few some = rw (is_not_below 16 (length halves) _ refl few, some) refl
+no_place conventions halves few some = let fits : nat_lt 16 (length halves) ≡ false = le-ltb 16 (length halves) few in rw (fits, some) refl
 
 pub placed : (conventions : Conventions) (halves : List HalfBytes) → length halves ≤ 16 → list_all has_place halves ≡ true →
     refusal_under conventions halves ≡ option_map Advert (advert_fault_under conventions (memory_of halves))
 unfolding refusal_under
-placed conventions halves few all = rw (is_not_below 16 (length halves) _ refl few, all) refl
+placed conventions halves few all = let fits : nat_lt 16 (length halves) ≡ false = le-ltb 16 (length halves) few in rw (fits, all) refl
 
 -- what the module says, or the status of its fault
 abbrev pub passed : Result Advertised AdvertFault → Result Advertised ℕ

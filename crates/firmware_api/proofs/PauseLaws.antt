@@ -1,16 +1,16 @@
 -- A pause in a conversation, and its beginning.
-use Rattle.std.proofs.Common.{◌≡◌, ◌≢◌, ◌≤◌, ◌<◌, ◌+◌, ℕ, Bool, true, false, List, [], ◌∷◌, length, Option, Some, None, refl, ap, sym, subst, ◌∙◌, arith, inl, if◌then◌else◌, nat_lt}
+use Rattle.std.proofs.Common.{◌≡◌, ◌≢◌, ◌≤◌, ◌+◌, ℕ, Bool, true, false, List, ◌∷◌, Option, Some, None, refl, ap, sym, subst, inl, if◌then◌else◌, nat_lt}
 use Rattle.std.proofs.lemmas.Bool.{ltb-false}
 use Rattle.bus_model.specs.declared.operation.Op.{Op}
 use Rattle.conversations.specs.declared.event.Event.TheVariants.{Waited}
 use Rattle.conversations.specs.declared.next.Next.{Next}
 use Rattle.conversations.specs.declared.next.Next.TheVariants.{Do, Wait, End}
 use Rattle.conversations.specs.declared.pausing.Timed.{Timed}
-use Rattle.conversations.specs.declared.pausing.Timed.TheVariants.{InTime, Overdue}
+use Rattle.conversations.specs.declared.pausing.Timed.TheVariants.{Overdue}
 use Rattle.conversations.specs.declared.within.Spent.{Spent}
 use Rattle.conversations.specs.Budgets.{next_within}
-use Rattle.conversations.specs.Events.{Events, steps_of}
-use Rattle.conversations.specs.Pauses.{AddsPauses, WithPauses, counted, next_pausing}
+use Rattle.conversations.specs.Events.{Events}
+use Rattle.conversations.specs.Pauses.{AddsPauses, counted, next_pausing}
 use Rattle.conversations.specs.Pieces.{next_piece}
 use Rattle.conversations.specs.Selecting.{next_on}
 use Rattle.conversations.specs.Wanted.{IfEnd, op_of}
@@ -21,13 +21,16 @@ use Rattle.control_sets.specs.declared.fault.ProvisionFault.{ProvisionFault}
 use Rattle.control_sets.specs.declared.procedures.power.PowerChange.{PowerChange}
 use Rattle.control_sets.specs.declared.procedures.task.Task.{Task}
 use Rattle.control_sets.specs.PowerProgress.{operation_at, power_wants}
+use Rattle.control_sets.specs.declared.procedures.watching.Watched.TheVariants.{InOrder}
 use Rattle.control_sets.specs.PowerProgress as power
+use Rattle.control_sets.specs.Watching.{AddsLooks}
+use Rattle.control_sets.proofs.WatchingLaws.{own_wait}
 use Rattle.control_sets.specs.Progress as tasks
 use Rattle.module_reading.specs.declared.region.Region.{Region}
 use Rattle.module_reading.specs.ImageReading as reading
 use Rattle.firmware_api.specs.declared.kept.Kept.{Kept}
 use Rattle.firmware_api.specs.declared.kept.Kept.TheVariants.{OfTasks, OfPower, OfReading}
-use Rattle.firmware_api.specs.KeptConversations.{Ending, InHand, OnTasks, Patient, ToldPatiently, WasTold, after_pause, as_ending, halves_want, next_of, paused, pieces_want, power_told, pieces_told, read_ending, tasks_told, tasks_want, wants_patiently}
+use Rattle.firmware_api.specs.KeptConversations.{Ending, InHand, OnTasks, Patient, Spending, ToldPatiently, WasTold, after_pause, as_ending, in_order, next_of, paused, pieces_want, power_told, pieces_told, tasks_told, tasks_want, wants_patiently}
 
 -- ---- none of them waits by itself
 
@@ -39,9 +42,8 @@ tasks_wait_not : (on : OnTasks) (time : ℕ) → tasks_want on ≢ Wait time
 tasks_wait_not on time waits = tasks_wait on.selection (tasks.page_by (tasks.hand on.conversation)) on.conversation.fault (tasks.hand on.conversation) time waits
 
 power_wait : (fault : Option ProvisionFault) (op : Option Op) (time : ℕ) → power.wants_by fault op ≢ Wait time
-power_wait (Some fault) op time waits = cc
 power_wait None None time waits = cc
-power_wait None (Some op) time waits = cc
+power_wait _ _ time waits = cc
 
 power_waits_not : (change : PowerChange) (time : ℕ) → power_wants change ≢ Wait time
 power_waits_not change time waits = power_wait change.fault (operation_at change.power change.stage) time waits
@@ -57,11 +59,6 @@ pieces_wait_not pieces time waits =
 
 -- ---- so a wait that is wanted is a pause that is due
 
-abbrev time_in : {E : Type 0} → Next E → ℕ
-time_in (Do op) = 0
-time_in (Wait time) = time
-time_in (End end) = 0
-
 module _ {C E : Type 0} (wants : C → Next E) (told : Events → C → Type 0) (it : Patient C) (time : ℕ) where
   abbrev inner : C
   inner = it.conversation.conversation
@@ -73,7 +70,7 @@ module _ {C E : Type 0} (wants : C → Next E) (told : Events → C → Type 0) 
   by_patience : (beyond : Bool) → ◌≡◌ {A = Next (Spent (Timed E))} (next_within it.steps it.limit (if beyond then End Overdue else Wait it.conversation.patience.pause)) (Wait time) →
       (beyond ≡ false) × (time ≡ it.conversation.patience.pause)
   by_patience true waits = absurd cc
-  by_patience false waits = (refl, sym (ap time_in waits))
+  by_patience false waits = let same : ◌≡◌ {A = Next (Spent (Timed E))} (Wait it.conversation.patience.pause) (Wait time) = waits in (refl, cc)
 
   due_by : (wanted : Next E) → ((t : ℕ) → wanted ≢ Wait t) → (due : Bool) → next_within it.steps it.limit (next_pausing due it.conversation.idle it.conversation.patience wanted) ≡ Wait time →
       (op : Op) × (wanted ≡ Do op) × (due ≡ true) × (it.conversation.idle ≤ it.conversation.patience.limit) × (time ≡ it.conversation.patience.pause)
@@ -96,29 +93,37 @@ module _ {C E : Type 0} (wants : C → Next E) (told : Events → C → Type 0) 
       ((own, after, told_own), counted_steps, few)
 
 not_ending : (wanted : Next (Spent (Timed (Unit {0})))) (time : ℕ) → as_ending wanted ≡ Wait time → wanted ≡ Wait time
-not_ending (Do op) time waits = absurd cc
-not_ending (Wait other) time waits = ap (λ (t : ℕ). Wait t) (ap time_in waits)
-not_ending (End spent) time waits = absurd cc
+not_ending (Wait other) time waits = let same : other ≡ time = cc in ap (λ (t : ℕ). Wait t) same
+not_ending _ time waits = absurd cc
+
+not_in_order : (wanted : Next Spending) (time : ℕ) → in_order wanted ≡ Wait time → wanted ≡ Wait time
+not_in_order (Wait other) time waits = let same : other ≡ time = cc in ap (λ (t : ℕ). Wait t) same
+not_in_order _ time waits = absurd cc
 
 -- a conversation that was told its events is told the pause
 pub told_after_pause : (kept : Kept) (time : ℕ) → next_of kept ≡ Wait time → (events : Events) → WasTold events kept → WasTold (Waited time ∷ events) (after_pause kept)
-told_after_pause (OfTasks procedure) time waits = told_pause tasks_want tasks_told procedure time (tasks_wait_not procedure.conversation.conversation) waits
-told_after_pause (OfPower change) time waits = told_pause power_wants power_told change time (power_waits_not change.conversation.conversation) waits
-told_after_pause (OfReading read) time waits = told_pause pieces_want pieces_told read time (pieces_wait_not read.conversation.conversation) (not_ending (wants_patiently pieces_want read) time waits)
+told_after_pause (OfTasks procedure) time waits events (own, adds, told) =
+    let inner = procedure.conversation in
+    let wants = own_wait procedure.look (wants_patiently tasks_want inner) time waits in
+    let before = subst (λ (w : Option Op). AddsLooks procedure.watches own events procedure.look w) (ap (λ (n : Next Spending). op_of n) wants) adds in
+    (Waited time ∷ own, (own, procedure.look, refl, before, refl), told_pause tasks_want tasks_told inner time (tasks_wait_not inner.conversation.conversation) wants own told)
+told_after_pause (OfPower change) time waits events told = told_pause power_wants power_told change time (power_waits_not change.conversation.conversation) (not_in_order (wants_patiently power_wants change) time waits) events told
+told_after_pause (OfReading read) time waits events told = told_pause pieces_want pieces_told read time (pieces_wait_not read.conversation.conversation) (not_ending (wants_patiently pieces_want read) time waits) events told
+
+-- ---- the end of a change of power, as that of each conversation
+
+pub same_order : (wanted : Next Spending) (op : Op) → in_order wanted ≡ Do op → wanted ≡ Do op
+same_order (Do other) op is = let same : other ≡ op = cc in ap (λ (o : Op). Do o) same
+same_order _ op is = absurd cc
+
+pub ends_in_order : (P : Spending → Type 0) (wanted : Next Spending) → IfEnd wanted P →
+    IfEnd (in_order wanted) (λ (ending : Ending). (spent : Spending) × (ending ≡ InOrder spent) × P spent)
+ends_in_order P (Do op) ends = tt
+ends_in_order P (Wait time) ends = tt
+ends_in_order P (End spent) ends = (spent, refl, ends)
 
 -- ---- the end of a reading, as that of each conversation
 
 pub same_do : (wanted : Next (Spent (Timed (Unit {0})))) (op : Op) → as_ending wanted ≡ Do op → wanted ≡ Do op
-same_do (Do other) op is = ap (λ (o : Option Op). do_of o other) (ap (λ (n : Next Ending). op_of n) is)
-  where
-    do_of : Option Op → Op → Next (Spent (Timed (Unit {0})))
-    do_of None other = Do other
-    do_of (Some op) other = Do op
-same_do (Wait time) op is = absurd cc
-same_do (End spent) op is = absurd cc
-
-pub ends_read : (P : Spent (Timed (Unit {0})) → Type 0) (wanted : Next (Spent (Timed (Unit {0})))) → IfEnd wanted P →
-    IfEnd (as_ending wanted) (λ (ending : Ending). (spent : Spent (Timed (Unit {0}))) × (ending ≡ read_ending spent) × P spent)
-ends_read P (Do op) ends = tt
-ends_read P (Wait time) ends = tt
-ends_read P (End spent) ends = (spent, refl, ends)
+same_do (Do other) op is = let same : other ≡ op = cc in ap (λ (o : Op). Do o) same
+same_do _ op is = absurd cc

@@ -1,14 +1,13 @@
 -- The numbers of a reading after a reply.
-use Rattle.std.proofs.Common.{◌≡◌, ◌≤◌, ◌<◌, ◌+◌, ◌==◌, ℕ, zero, suc, Bool, true, false, List, [], ◌∷◌, ◌++◌, length, take, Option, Some, None, refl, ap, sym, subst, ◌∙◌, arith, if◌then◌else◌, eq-eqb, inl, inr}
+use Rattle.std.proofs.Common.{◌≡◌, ◌≤◌, ◌<◌, ◌+◌, ◌==◌, ℕ, suc, Bool, true, false, List, [], ◌∷◌, ◌++◌, length, take, Option, Some, None, refl, ap, sym, subst, ◌∙◌, arith, if◌then◌else◌, eq-eqb, inl, inr}
 use Rattle.std.specs.Prelude.{◌&&◌, IsTrue}
 use Rattle.std.specs.FinMap as map
 use Rattle.std.specs.List.{list_all}
 use Rattle.std.proofs.lemmas.List.{append-nil, length-append, take-take}
-use Rattle.bus_model.specs.declared.operation.Op.{Op}
 use Rattle.bus_model.specs.declared.operation.Reply.{Reply}
 use Rattle.bus_model.specs.declared.operation.Reply.TheVariants.{Bytes, Done, Refused}
 use Rattle.conversations.specs.declared.next.Next.{Next}
-use Rattle.conversations.specs.declared.next.Next.TheVariants.{Do, Wait, End}
+use Rattle.conversations.specs.declared.next.Next.TheVariants.{Do}
 use Rattle.conversations.specs.declared.pausing.Timed.{Timed}
 use Rattle.conversations.specs.declared.within.Spent.{Spent}
 use Rattle.conversations.specs.Pieces.{after_told, bytes_in, fits, half_of, is_half_in, is_same_wanted, next_piece, part_left, whole_reply}
@@ -18,14 +17,12 @@ use Rattle.conversations.specs.Wanted.{IsReplyTo, op_of}
 use Rattle.conversations.proofs.InPiecesLaws.{none_room}
 use Rattle.paged_memory.specs.declared.page_addressing.KnownPage.{KnownPage}
 use Rattle.paged_memory.specs.declared.page_addressing.PageAddressing.{PageAddressing}
-use Rattle.control_sets.specs.OutcomeAnswers.{most_steps}
-use Rattle.module_reading.specs.declared.halves.Halves.{Halves}
 use Rattle.module_reading.specs.declared.region.Region.{Region}
 use Rattle.module_reading.specs.ImageReading.{in_hand, wants_by}
 use Rattle.firmware_api.specs.declared.half.HalfBytes.{HalfBytes}
 use Rattle.firmware_api.specs.Halves.{has_place, key_of, memory_of}
-use Rattle.firmware_api.specs.KeptConversations.{InHand, OnHalves, Patient, after_patiently, as_ending, halves_after, halves_of, halves_want, pieces_after, pieces_want, wants_patiently}
-use Rattle.firmware_api.specs.SavedConversations.{HasHalf, HasInFront, HasNumbers, HasRead, IsInFront, Leaves, Puts}
+use Rattle.firmware_api.specs.KeptConversations.{InHand, Patient, after_patiently, as_ending, halves_after, halves_of, halves_want, pieces_after, pieces_want, wants_patiently}
+use Rattle.firmware_api.specs.SavedConversations.{HasHalf, HasInFront, HasNumbers, HasRead, IsInFront}
 use Rattle.firmware_api.proofs.RoomLaws.{made}
 use Rattle.firmware_api.proofs.WholeHalfLaws.{placed_by}
 
@@ -33,8 +30,7 @@ use Rattle.firmware_api.proofs.WholeHalfLaws.{placed_by}
 
 pub ending_reply : (wanted : Next (Spent (Timed (Unit {0})))) (reply : Reply) → IsReplyTo (as_ending wanted) reply → IsReplyTo wanted reply
 ending_reply (Do op) reply answers = answers
-ending_reply (Wait time) reply answers = answers
-ending_reply (End spent) reply answers = answers
+ending_reply _ reply answers = answers
 
 hand_by : (piece : ℕ) (part : List ℕ) (by : PageAddressing) (selected : KnownPage) (page : Option ℕ) (found : Option Region) (reply : Reply) →
     IsReplyTo (next_piece piece part (next_on by selected page (wants_by found))) reply → (region : Region) × (found ≡ Some region)

@@ -22,66 +22,40 @@ use Rattle.firmware_api.specs.declared.status.Refusal.TheVariants as refusal
 of_advert : (f : AdvertFault) → IsTrue (is_answered (refusal.Advert f)) → IsTrue (is_some (text_by statuses (status_of (refusal.Advert f))))
 unfolding statuses sentences
 of_advert (advert.Absent x) answered = refl
-of_advert (advert.NotCmis x) answered = refl
-of_advert (advert.Revision x) answered = refl
-of_advert (advert.NotEightLanes x) answered = refl
-of_advert advert.FlatMemory answered = refl
-of_advert (advert.BadSum x) answered = refl
+of_advert _ answered = refl
 
 of_certificate : (f : CertificateFault) → IsTrue (is_answered (refusal.Certificate f)) → IsTrue (is_some (text_by statuses (status_of (refusal.Certificate f))))
 unfolding statuses sentences
 of_certificate (certificate.BadLine x) answered = refl
-of_certificate (certificate.OutOfOrder x) answered = refl
-of_certificate certificate.TooMany answered = refl
-of_certificate certificate.NoEnd answered = refl
+of_certificate _ answered = refl
 
 of_start : (f : SimFault) → IsTrue (is_answered (refusal.NoStart f)) → IsTrue (is_some (text_by statuses (status_of (refusal.NoStart f))))
 unfolding statuses sentences
-of_start (sim.Absent x) answered = refl
 of_start (sim.Advert f) answered = of_advert f refl
-of_start sim.BadDelay answered = refl
-of_start (sim.ActiveNotPaths x) answered = refl
+of_start _ answered = refl
 
 of_module : (f : ModuleFault) → IsTrue (is_answered (refusal.Module f)) → IsTrue (is_some (text_by statuses (status_of (refusal.Module f))))
 unfolding statuses sentences
 of_module (module_fault.Absent x) answered = refl
-of_module (module_fault.Unknown x) answered = refl
-of_module (module_fault.Revision x) answered = refl
+of_module _ answered = refl
 
 of_sff : (f : SffFault) → IsTrue (is_answered (refusal.Sff f)) → IsTrue (is_some (text_by statuses (status_of (refusal.Sff f))))
 unfolding statuses sentences
-of_sff (sff.Absent x) answered = refl
 of_sff (sff.WrongIdentifier x) answered = absurd cc
 of_sff sff.FlatMemory answered = absurd cc
-of_sff sff.NoDiagnostics answered = refl
-of_sff sff.AddressChange answered = refl
-of_sff sff.ExternalCalibration answered = refl
+of_sff _ answered = refl
 
 of_weights : (f : WeightLinesFault) → IsTrue (is_answered (refusal.Weights f)) → IsTrue (is_some (text_by statuses (status_of (refusal.Weights f))))
 unfolding statuses sentences
 of_weights (weights.BadLine x) answered = refl
-of_weights (weights.SameIdTwice x) answered = refl
-of_weights weights.NoHost answered = refl
+of_weights _ answered = refl
 
 pub each_refusal_has_a_text : (r : Refusal) → IsTrue (is_answered r) → IsTrue (is_some (text_by statuses (status_of r)))
 unfolding statuses sentences
-each_refusal_has_a_text refusal.TooManyHalves answered = refl
-each_refusal_has_a_text refusal.NoPlace answered = refl
-each_refusal_has_a_text refusal.NoText answered = refl
-each_refusal_has_a_text refusal.TooSmall answered = refl
 each_refusal_has_a_text (refusal.Advert f) answered = of_advert f answered
 each_refusal_has_a_text (refusal.Certificate f) answered = of_certificate f answered
-each_refusal_has_a_text refusal.TooManyKept answered = refl
-each_refusal_has_a_text refusal.KeptNotAdmissible answered = refl
-each_refusal_has_a_text refusal.NoConversation answered = refl
-each_refusal_has_a_text refusal.Ended answered = refl
-each_refusal_has_a_text refusal.NotEnded answered = refl
-each_refusal_has_a_text refusal.NoReply answered = refl
-each_refusal_has_a_text refusal.TooFewBytes answered = refl
 each_refusal_has_a_text (refusal.NoStart f) answered = of_start f answered
-each_refusal_has_a_text refusal.NoModule answered = refl
-each_refusal_has_a_text refusal.NoRange answered = refl
-each_refusal_has_a_text refusal.NotTaken answered = refl
 each_refusal_has_a_text (refusal.Module f) answered = of_module f answered
 each_refusal_has_a_text (refusal.Sff f) answered = of_sff f answered
 each_refusal_has_a_text (refusal.Weights f) answered = of_weights f answered
+each_refusal_has_a_text _ answered = refl

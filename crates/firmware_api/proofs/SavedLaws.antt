@@ -1,17 +1,19 @@
 -- The numbers of a conversation stand for it.
-use Rattle.std.proofs.Common.{◌≡◌, ◌≤◌, ◌<◌, ◌+◌, ◌==◌, ℕ, Bool, true, false, List, length, take, Option, Some, None, refl, ap, sym, subst, ◌∙◌, if◌then◌else◌}
-use Rattle.std.specs.Prelude.{◌&&◌, ◌||◌, IsTrue, is_some, nat_le, nat_lt, not}
+use Rattle.std.proofs.Common.{◌⊎◌, inl, inr, ◌≡◌, ◌≤◌, ◌<◌, ◌+◌, ◌==◌, ℕ, Bool, true, false, List, length, take, Option, Some, None, refl, ap, sym, subst, ◌∙◌, if◌then◌else◌}
+use Rattle.std.specs.Prelude.{◌&&◌, ◌||◌, IsTrue, is_some, nat_le, not}
 use Rattle.std.specs.Prelude.{unwrap_or as or_else}
 use Rattle.std.specs.List.{list_all}
 use Rattle.std.specs.List.{slice_index}
-use Rattle.std.specs.Option.{option_map, unwrap_or}
-use Rattle.std.proofs.lemmas.Bool.{and_from, and_parts, eqb-true, le-leb, lt-ltb}
+use Rattle.std.specs.Option.{option_map}
+use Rattle.std.proofs.lemmas.Bool.{and_from, eqb-true, le-leb, lt-ltb}
 use Rattle.field_tables.specs.LaneSets.{lanes_in}
-use Rattle.conversations.specs.declared.pausing.Patience.{Patience}
-use Rattle.conversations.specs.Events.{Events}
 use Rattle.conversations.specs.Pauses.{counted}
 use Rattle.paged_memory.specs.declared.page_addressing.KnownPage.{KnownPage}
 use Rattle.control_sets.specs.declared.fault.ProvisionFault.{ProvisionFault}
+use Rattle.control_sets.specs.declared.fault.ProvisionFault.TheVariants.{Rejected, StagedDiffers, ActiveDiffers, GaveUp, Bus, ModuleState, Reserved}
+use Rattle.control_sets.specs.declared.procedures.watching.Look.{Look}
+use Rattle.control_sets.specs.declared.procedures.watching.Look.TheVariants.{Seen, Due, Left}
+use Rattle.control_sets.specs.Watching.{look_after_wait}
 use Rattle.control_sets.specs.declared.procedures.power.Power.{Power}
 use Rattle.control_sets.specs.declared.procedures.power.Power.TheVariants.{Awake, Asleep}
 use Rattle.control_sets.specs.declared.procedures.power.PowerStage.{PowerStage}
@@ -21,18 +23,18 @@ use Rattle.control_sets.specs.declared.procedures.procedure.saved.SavedProcedure
 use Rattle.control_sets.specs.OutcomeAnswers.{most_steps}
 use Rattle.control_sets.specs.PowerProgress.{PatientPower, patient_power}
 use Rattle.control_sets.specs.Progress.{PatientProcedure, doubting, patient_of, tasks_of}
-use Rattle.control_sets.specs.SavedNumbers.{can_stand, due_numbered, fault_in, numbered, restored, selected_numbered, work_numbered}
+use Rattle.control_sets.specs.SavedNumbers.{can_stand, due_numbered, fault_in, numbered, restored, saved_fault, selected_numbered, work_numbered}
 use Rattle.control_sets.specs.SavedPower.{can_stop, change_of, has_no_more, power_numbered, restored_power, stage_numbered}
 use Rattle.firmware_api.specs.declared.conversation.numbers.SavedConversation.{SavedConversation}
 use Rattle.firmware_api.specs.declared.half.HalfBytes.{HalfBytes}
 use Rattle.firmware_api.specs.declared.kept.Kept.{Kept}
 use Rattle.firmware_api.specs.declared.kept.Kept.TheVariants.{OfTasks, OfPower, OfReading}
 use Rattle.firmware_api.specs.Halves.{has_place, memory_of}
-use Rattle.firmware_api.specs.KeptConversations.{InHand, Patient, after_pause, halves_of, paused}
-use Rattle.firmware_api.specs.SavedConversations.{AreOfReading, HasNumbers, HasRead, conversation_in, halves_in, is_reading, is_sound, number_of, patience_in, paused_numbers, paused_procedure, procedure_by, procedure_numbers, reading_by, reading_in, reading_with, tasks_in, work_of_reading}
+use Rattle.firmware_api.specs.KeptConversations.{InHand, Patient, Watchful, after_pause, halves_of, paused}
+use Rattle.firmware_api.specs.SavedConversations.{AreOfReading, HasNumbers, HasRead, conversation_in, fault_of_look, is_reading, is_sound, look_by, look_in, number_of, number_of_look, paused_look, paused_numbers, paused_procedure, procedure_by, procedure_numbers, reading_by, reading_in, reading_with, tasks_in, work_of_reading}
 
 pub same_some : {A : Type 0} (a b : A) → Some a ≡ Some b → a ≡ b
-same_some {A = A} a b same = ap (λ (o : Option A). unwrap_or o a) same
+same_some a b same = cc
 
 -- ---- parts
 
@@ -58,29 +60,24 @@ due_back false = refl
 
 -- ---- works
 
-work_by : (control : List ℕ) (lanes : ℕ) (one two five : Bool) (work : Work) →
-    (if one then Some (Provisioning control (lanes_in lanes)) else (if two then Some (Activation control (lanes_in lanes)) else None)) ≡ Some work →
-    (one ≡ true → five ≡ false) → (two ≡ true → five ≡ false) → five ≡ false
-work_by control lanes true two five work is not_one not_two = not_one refl
-work_by control lanes false true five work is not_one not_two = not_two refl
-work_by control lanes false false five work is not_one not_two = absurd cc
+-- one of two, by its number
+chosen : {A : Type 0} (number n m : ℕ) (a b x : A) → (if number == n then Some a else (if number == m then Some b else None)) ≡ Some x → (number ≡ n) ⊎ (number ≡ m)
+chosen number n m a b x is = by (number == n) refl (number == m) refl is where
+  by : (one : Bool) → (number == n) ≡ one → (other : Bool) → (number == m) ≡ other → (if one then Some a else (if other then Some b else None)) ≡ Some x → (number ≡ n) ⊎ (number ≡ m)
+  by true one other e is = inl (eqb-true number n one)
+  by false one true other is = inr (eqb-true number m other)
+  by false one false other is = absurd cc
 
-not_five : (work other : ℕ) → (other == work_of_reading) ≡ false → (work == other) ≡ true → (work == work_of_reading) ≡ false
-not_five work other apart is = subst (λ (n : ℕ). (n == work_of_reading) ≡ false) (sym (eqb-true work other is)) apart
+-- it is no reading
+not_reading : (number n m : ℕ) → (n == work_of_reading) ≡ false → (m == work_of_reading) ≡ false → (number ≡ n) ⊎ (number ≡ m) → (number == work_of_reading) ≡ false
+not_reading number n m one other (inl is) = ap (λ (k : ℕ). k == work_of_reading) is ∙ one
+not_reading number n m one other (inr is) = ap (λ (k : ℕ). k == work_of_reading) is ∙ other
 
 other_work : (saved : SavedProcedure) (work : Work) → work_numbered saved.work saved.control saved.lanes ≡ Some work → (saved.work == work_of_reading) ≡ false
-other_work saved work is =
-    work_by saved.control saved.lanes (saved.work == 1) (saved.work == 2) (saved.work == work_of_reading) work is (not_five saved.work 1 refl) (not_five saved.work 2 refl)
-
-power_by : (three four five : Bool) (power : Power) → (if three then Some Awake else (if four then Some Asleep else None)) ≡ Some power →
-    (three ≡ true → five ≡ false) → (four ≡ true → five ≡ false) → five ≡ false
-power_by true four five power is not_three not_four = not_three refl
-power_by false true five power is not_three not_four = not_four refl
-power_by false false five power is not_three not_four = absurd cc
+other_work saved work is = not_reading saved.work 1 2 refl refl (chosen saved.work 1 2 (Provisioning saved.control (lanes_in saved.lanes)) (Activation saved.control (lanes_in saved.lanes)) work is)
 
 other_power : (saved : SavedProcedure) (power : Power) → power_numbered saved.work ≡ Some power → (saved.work == work_of_reading) ≡ false
-other_power saved power is =
-    power_by (saved.work == 3) (saved.work == 4) (saved.work == work_of_reading) power is (not_five saved.work 3 refl) (not_five saved.work 4 refl)
+other_power saved power is = not_reading saved.work 3 4 refl refl (chosen saved.work 3 4 Awake Asleep power is)
 
 -- ---- procedures of tasks
 
@@ -96,10 +93,7 @@ module _ (saved : SavedProcedure) (procedure : PatientProcedure) where
       go : (can : Bool) → (if can then Some made else None) ≡ Some procedure → procedure.limit ≡ most_steps
       go true found = ap (λ (p : PatientProcedure). p.limit) (sym (same_some made procedure found))
       go false found = absurd cc
-  tasks_by (Some work) (Some selected) (Some fault) None is found = absurd cc
-  tasks_by (Some work) (Some selected) None due is found = absurd cc
-  tasks_by (Some work) None fault due is found = absurd cc
-  tasks_by None selected fault due is found = absurd cc
+  tasks_by _ _ _ _ is found = absurd cc
 
   pub tasks_say : restored saved ≡ Some procedure → ((saved.work == work_of_reading) ≡ false) × (procedure.limit ≡ most_steps)
   unfolding restored
@@ -107,24 +101,37 @@ module _ (saved : SavedProcedure) (procedure : PatientProcedure) where
       tasks_by (work_numbered saved.work saved.control saved.lanes) (selected_numbered saved.selection saved.page) (fault_in saved.fault) (due_numbered saved.due) refl found
 
 found_tasks : (saved : SavedConversation) (halves : List HalfBytes) (procedure : PatientProcedure) → is_sound saved ≡ true → (saved.saved.work == work_of_reading) ≡ false →
-    restored saved.saved ≡ Some procedure → conversation_in saved halves ≡ Some (tasks_in saved procedure)
+    restored saved.saved ≡ Some procedure → (look : Look) → look_in saved ≡ Some look → conversation_in saved halves ≡ Some (tasks_in saved procedure look)
 unfolding conversation_in
-found_tasks saved halves procedure sound other is = rw (sound, other, is) refl
+found_tasks saved halves procedure sound other is look looks = rw (sound, other, is, looks) refl
 
-sound_procedure : (saved : SavedProcedure) (doubts : Bool) → is_sound (procedure_numbers saved doubts) ≡ true
-sound_procedure saved true = refl
-sound_procedure saved false = refl
+sound_procedure : (saved : SavedProcedure) (doubts watches : Bool) (look : Look) → is_sound (procedure_numbers saved doubts watches look) ≡ true
+sound_procedure saved true true look = refl
+sound_procedure saved true false look = refl
+sound_procedure saved false true look = refl
+sound_procedure saved false false look = refl
 
-doubts_back : (saved : SavedProcedure) (procedure : PatientProcedure) →
-    tasks_in (procedure_numbers saved procedure.conversation.conversation.doubts) (doubting procedure) ≡ OfTasks procedure
-doubts_back saved procedure = rw (yes_back procedure.conversation.conversation.doubts) refl
+doubts_back : (saved : SavedProcedure) (it : Watchful) →
+    tasks_in (procedure_numbers saved it.conversation.conversation.conversation.doubts it.watches it.look) (doubting it.conversation) it.look ≡ OfTasks it
+doubts_back saved it = rw (yes_back it.conversation.conversation.conversation.doubts, yes_back it.watches) refl
 
-pub tasks_back : (procedure : PatientProcedure) (saved : SavedProcedure) (halves : List HalfBytes) → restored saved ≡ Some (doubting procedure) →
-    conversation_in (procedure_numbers saved procedure.conversation.conversation.doubts) halves ≡ Some (OfTasks procedure)
-tasks_back procedure saved halves is =
-    let doubts = procedure.conversation.conversation.doubts in
-    found_tasks (procedure_numbers saved doubts) halves (doubting procedure) (sound_procedure saved doubts) (tasks_say saved (doubting procedure) is).0 is
-    ∙ ap (λ (kept : Kept). Some kept) (doubts_back saved procedure)
+look_back : (look : Look) → can_stop (fault_of_look look) ≡ true → look_by (number_of_look look) (fault_in (saved_fault (fault_of_look look))) ≡ Some look
+look_back Seen can = refl
+look_back Due can = refl
+look_back (Left (ModuleState code)) can = refl
+look_back (Left (Reserved code)) can = refl
+look_back (Left (Rejected lane status)) can = absurd cc
+look_back (Left (StagedDiffers lane)) can = absurd cc
+look_back (Left (ActiveDiffers lane)) can = absurd cc
+look_back (Left GaveUp) can = absurd cc
+look_back (Left (Bus fault)) can = absurd cc
+
+pub tasks_back : (it : Watchful) (saved : SavedProcedure) (halves : List HalfBytes) → can_stop (fault_of_look it.look) ≡ true → restored saved ≡ Some (doubting it.conversation) →
+    conversation_in (procedure_numbers saved it.conversation.conversation.conversation.doubts it.watches it.look) halves ≡ Some (OfTasks it)
+tasks_back it saved halves can is =
+    let doubts = it.conversation.conversation.conversation.doubts in
+    found_tasks (procedure_numbers saved doubts it.watches it.look) halves (doubting it.conversation) (sound_procedure saved doubts it.watches it.look) (tasks_say saved (doubting it.conversation) is).0 is it.look (look_back it.look can)
+    ∙ ap (λ (kept : Kept). Some kept) (doubts_back saved it)
 
 -- ---- changes of power
 
@@ -139,10 +146,7 @@ module _ (saved : SavedProcedure) (change : PatientPower) where
       go : (can : Bool) → (if can then Some made else None) ≡ Some change → change.limit ≡ most_steps
       go true found = ap (λ (p : PatientPower). p.limit) (sym (same_some made change found))
       go false found = absurd cc
-  change_by (Some power) (Some stage) (Some fault) None is found = absurd cc
-  change_by (Some power) (Some stage) None due is found = absurd cc
-  change_by (Some power) None fault due is found = absurd cc
-  change_by None stage fault due is found = absurd cc
+  change_by _ _ _ _ is found = absurd cc
 
   pub power_says : restored_power saved ≡ Some change → ((saved.work == work_of_reading) ≡ false) × (change.limit ≡ most_steps)
   unfolding restored_power
@@ -154,8 +158,8 @@ unfolding conversation_in
 found_power saved halves change sound other none is = rw (sound, other, none, is) refl
 
 pub power_back : (change : PatientPower) (saved : SavedProcedure) (halves : List HalfBytes) → restored saved ≡ None → restored_power saved ≡ Some change →
-    conversation_in (procedure_numbers saved false) halves ≡ Some (OfPower change)
-power_back change saved halves none is = found_power (procedure_numbers saved false) halves change refl (power_says saved change is).0 none is
+    conversation_in (procedure_numbers saved false false Seen) halves ≡ Some (OfPower change)
+power_back change saved halves none is = found_power (procedure_numbers saved false false Seen) halves change refl (power_says saved change is).0 none is
 
 -- ---- readings
 
@@ -170,6 +174,7 @@ pub record Writes (new : SavedConversation) (read : Patient InHand) (count : ℕ
   pub piece : new.piece ≡ read.conversation.conversation.piece
   pub part : take new.read new.part ≡ read.conversation.conversation.part.items
   pub short : new.read ≡ length read.conversation.conversation.part.items
+  pub watches : new.watches ≡ 0
 
 found_reading : (saved : SavedConversation) (halves : List HalfBytes) (selection : KnownPage) (due : Bool) → is_sound saved ≡ true → saved.saved.work ≡ work_of_reading →
     is_reading saved halves ≡ true → selected_numbered saved.saved.selection saved.saved.page ≡ Some selection → due_numbered saved.saved.due ≡ Some due →
@@ -186,8 +191,9 @@ module _ (new : SavedConversation) (read : Patient InHand) (count : ℕ) (halves
       let on = read.conversation.conversation.conversation in
       and_from _ _ writes.magic (and_from _ _ (subst (λ (n : ℕ). nat_le n 1 ≡ true) (sym writes.doubts) (yes_few on.doubts))
       (and_from _ _ (subst (λ (n : ℕ). nat_le n 1 ≡ true) (sym writes.taken) (yes_few (is_some on.taken)))
-      (subst (λ (n : ℕ). (n == 1 || new.taken_page == 0) ≡ true) (sym writes.taken)
-      (subst (λ (n : ℕ). (number_of (is_some on.taken) == 1 || n == 0) ≡ true) (sym writes.taken_page) (taken_page on.taken)))))
+      (and_from _ _ (subst (λ (n : ℕ). (n == 1 || new.taken_page == 0) ≡ true) (sym writes.taken)
+      (subst (λ (n : ℕ). (number_of (is_some on.taken) == 1 || n == 0) ≡ true) (sym writes.taken_page) (taken_page on.taken)))
+      (subst (λ (n : ℕ). nat_le n 1 ≡ true) (sym writes.watches) refl))))
 
   reads_so : is_reading new halves ≡ true
   reads_so =
@@ -215,7 +221,7 @@ module _ (new : SavedConversation) (read : Patient InHand) (count : ℕ) (halves
         conversation = record {
           conversation = record {
             conversation = record {
-              conversation = record { image = image i; settled = numbers.met i };
+              conversation = record { request = record { halves = numbers.request i }; image = image i; settled = numbers.met i };
               selection = read.conversation.conversation.conversation.selection;
               taken = taken i;
               doubts = doubts i;
@@ -249,10 +255,7 @@ module _ (saved : SavedProcedure) where
       go : (can : Bool) → (if can then Some (made due saved.idle) else None) ≡ Some procedure → (if can then Some (made false (counted (saved.idle + saved.pause))) else None) ≡ Some (paused procedure)
       go true found = ap (λ (p : PatientProcedure). Some (paused p)) (same_some (made due saved.idle) procedure found)
       go false found = absurd cc
-  tasks_pause procedure (Some work) (Some selected) (Some fault) None found = absurd cc
-  tasks_pause procedure (Some work) (Some selected) None due found = absurd cc
-  tasks_pause procedure (Some work) None fault due found = absurd cc
-  tasks_pause procedure None selected fault due found = absurd cc
+  tasks_pause procedure _ _ _ _ found = absurd cc
 
   restored_pause : (procedure : PatientProcedure) → restored saved ≡ Some procedure → restored (paused_procedure saved) ≡ Some (paused procedure)
   unfolding restored
@@ -269,30 +272,19 @@ module _ (saved : SavedProcedure) where
       go : (can : Bool) → (if can then Some (made due saved.idle) else None) ≡ Some change → (if can then Some (made false (counted (saved.idle + saved.pause))) else None) ≡ Some (paused change)
       go true found = ap (λ (p : PatientPower). Some (paused p)) (same_some (made due saved.idle) change found)
       go false found = absurd cc
-  power_pause change (Some power) (Some stage) (Some fault) None found = absurd cc
-  power_pause change (Some power) (Some stage) None due found = absurd cc
-  power_pause change (Some power) None fault due found = absurd cc
-  power_pause change None stage fault due found = absurd cc
+  power_pause change _ _ _ _ found = absurd cc
 
   restored_power_pause : (change : PatientPower) → restored_power saved ≡ Some change → restored_power (paused_procedure saved) ≡ Some (paused change)
   unfolding restored_power
   restored_power_pause change found =
       power_pause change (power_numbered saved.work) (stage_numbered saved.met (slice_index saved.control 0)) (fault_in saved.fault) (due_numbered saved.due) found
 
-  no_work_by : (three four one two : Bool) (power : Power) → (if three then Some Awake else (if four then Some Asleep else None)) ≡ Some power → (three ≡ true → (one ≡ false) × (two ≡ false)) →
-      (four ≡ true → (one ≡ false) × (two ≡ false)) →
-      (if one then Some (Provisioning saved.control (lanes_in saved.lanes)) else (if two then Some (Activation saved.control (lanes_in saved.lanes)) else None)) ≡ None
-  no_work_by true four one two power is apart other = rw ((apart refl).0, (apart refl).1) refl
-  no_work_by false true one two power is apart other = rw ((other refl).0, (other refl).1) refl
-  no_work_by false false one two power is apart other = absurd cc
-
-  not_these : (number : ℕ) → ((number == 1) ≡ false) × ((number == 2) ≡ false) → (saved.work == number) ≡ true → ((saved.work == 1) ≡ false) × ((saved.work == 2) ≡ false)
-  not_these number apart is = subst (λ (n : ℕ). ((n == 1) ≡ false) × ((n == 2) ≡ false)) (sym (eqb-true saved.work number is)) apart
-
   no_tasks : (power : Option Power) (change : PatientPower) (stage : Option PowerStage) (fault : Option (Option ProvisionFault)) (due : Option Bool) → power_numbered saved.work ≡ power →
       change_of saved power stage fault due ≡ Some change → work_numbered saved.work saved.control saved.lanes ≡ None
-  no_tasks (Some power) change stage fault due is found =
-      no_work_by (saved.work == 3) (saved.work == 4) (saved.work == 1) (saved.work == 2) power is (not_these 3 (refl, refl)) (not_these 4 (refl, refl))
+  no_tasks (Some power) change stage fault due is found = by (chosen saved.work 3 4 Awake Asleep power is) where
+    by : (saved.work ≡ 3) ⊎ (saved.work ≡ 4) → work_numbered saved.work saved.control saved.lanes ≡ None
+    by (inl three) = ap (λ (n : ℕ). work_numbered n saved.control saved.lanes) three
+    by (inr four) = ap (λ (n : ℕ). work_numbered n saved.control saved.lanes) four
   no_tasks None change stage fault due is found = absurd cc
 
   none_numbered : (work : Option Work) (selected : Option KnownPage) (fault : Option (Option ProvisionFault)) (due : Option Bool) → work ≡ None → numbered (paused_procedure saved) work selected fault due ≡ None
@@ -310,16 +302,39 @@ module _ (saved : SavedConversation) (halves : List HalfBytes) where
       (if reads then reading_by saved halves selected due else None) ≡ Some kept →
       (if reads then reading_by (paused_numbers saved) halves selected (Some false) else None) ≡ Some (after_pause kept)
   paused_reading true (Some selected) (Some due) kept is = ap (λ (k : Kept). Some (after_pause k)) (same_some (reading_with saved halves selected due) kept is)
-  paused_reading true (Some selected) None kept is = absurd cc
-  paused_reading true None due kept is = absurd cc
-  paused_reading false selected due kept is = absurd cc
+  paused_reading _ _ _ kept is = absurd cc
+
+  by_numbers : (watches zero one : Bool) (number : ℕ) (look : Look) → (if zero then Some Seen else (if one then Some Due else None)) ≡ Some look → (number == 0) ≡ zero → (number == 1) ≡ one →
+      look_by (if watches then 1 else number) (Some None) ≡ Some (look_after_wait watches look)
+  by_numbers true true one number look is zeros ones = ap (λ (l : Look). Some (look_after_wait true l)) (same_some Seen look is)
+  by_numbers true false true number look is zeros ones = ap (λ (l : Look). Some (look_after_wait true l)) (same_some Due look is)
+  by_numbers true false false number look is zeros ones = absurd cc
+  by_numbers false true one number look is zeros ones = rw (zeros) (ap (λ (l : Look). Some (look_after_wait false l)) (same_some Seen look is))
+  by_numbers false false true number look is zeros ones = rw (zeros, ones) (ap (λ (l : Look). Some (look_after_wait false l)) (same_some Due look is))
+  by_numbers false false false number look is zeros ones = absurd cc
+
+  left_by_number : (watches holds : Bool) (fault : ProvisionFault) (look : Look) → (if holds then Some (Left fault) else None) ≡ Some look → (if holds then Some (Left fault) else None) ≡ Some (look_after_wait watches look)
+  left_by_number watches true fault look is = ap (λ (l : Look). Some (look_after_wait watches l)) (same_some (Left fault) look is)
+  left_by_number watches false fault look is = absurd cc
+
+  look_pause : (watches : Bool) (number : ℕ) (fault : Option (Option ProvisionFault)) (look : Look) → look_by number fault ≡ Some look → look_by (paused_look watches number fault) fault ≡ Some (look_after_wait watches look)
+  look_pause watches number None look is = absurd cc
+  look_pause watches number (Some None) look is = by_numbers watches (number == 0) (number == 1) number look is refl refl
+  look_pause watches number (Some (Some fault)) look is = left_by_number watches (number == 0 && can_stop (Some fault)) fault look is
+
+  looked_pause : (procedure : PatientProcedure) (kept : Kept) (look : Option Look) → look_in saved ≡ look → option_map (tasks_in saved procedure) look ≡ Some kept →
+      option_map (tasks_in (paused_numbers saved) (paused procedure)) (look_in (paused_numbers saved)) ≡ Some (after_pause kept)
+  looked_pause procedure kept None is found = absurd cc
+  looked_pause procedure kept (Some look) is found =
+      ap (λ (l : Option Look). option_map (tasks_in (paused_numbers saved) (paused procedure)) l) (look_pause (saved.watches == 1) saved.look (fault_in saved.left) look is)
+      ∙ ap (λ (k : Kept). Some (after_pause k)) (same_some (tasks_in saved procedure look) kept found)
 
   paused_procedure_by : (tasks : Option PatientProcedure) (change : Option PatientPower) (kept : Kept) → restored saved.saved ≡ tasks → restored_power saved.saved ≡ change →
       procedure_by saved tasks change ≡ Some kept →
       procedure_by (paused_numbers saved) (restored (paused_procedure saved.saved)) (restored_power (paused_procedure saved.saved)) ≡ Some (after_pause kept)
   paused_procedure_by (Some procedure) change kept has_tasks has_change is =
       ap (λ (t : Option PatientProcedure). procedure_by (paused_numbers saved) t (restored_power (paused_procedure saved.saved))) (restored_pause saved.saved procedure has_tasks)
-      ∙ ap (λ (k : Kept). Some (after_pause k)) (same_some (tasks_in saved procedure) kept is)
+      ∙ looked_pause procedure kept (look_in saved) refl is
   paused_procedure_by None (Some change) kept has_tasks has_change is =
       ap (λ (t : Option PatientProcedure). procedure_by (paused_numbers saved) t (restored_power (paused_procedure saved.saved))) (power_apart saved.saved change has_change)
       ∙ ap (λ (p : Option PatientPower). option_map OfPower p) (restored_power_pause saved.saved change has_change)

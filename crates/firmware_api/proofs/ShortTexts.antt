@@ -1,11 +1,10 @@
 -- No text for C is longer than 256 bytes.
-use Rattle.std.proofs.Common.{◌≡◌, ℕ, Bool, true, false, not, ◌==◌, List, [], ◌∷◌, length, Option, Some, None, refl, cond, find, nat_lt, if◌then◌else◌}
+use Rattle.std.proofs.Common.{ℕ, Bool, true, false, not, ◌==◌, List, [], ◌∷◌, length, Option, Some, None, refl, cond, find, nat_lt, if◌then◌else◌}
 use Rattle.std.specs.Prelude.{◌≢◌, IsTrue, option_and_then}
 use Rattle.std.specs.List.{list_all}
 use Rattle.std.proofs.lemmas.Bool.{and_parts}
 use Rattle.notices.specs.Numbers.{Says, procedure_faults, reasons, said_of, statuses, text_by}
 use Rattle.notices.specs.Sentences.{sentences}
-use Rattle.firmware_api.specs.declared.status.Refusal.{Refusal}
 use Rattle.firmware_api.specs.declared.status.Refusal.TheVariants.{TooSmall}
 use Rattle.firmware_api.specs.Texts.{text_refusal}
 

@@ -1,23 +1,15 @@
 -- What is known of refusals by results in which their statuses stand.
-use Rattle.std.proofs.Common.{◌≡◌, ℕ, Option, Some, None, Result, Ok, Err, ap, sym, subst, ◌∙◌}
+use Rattle.std.proofs.Common.{◌≡◌, ℕ, Option, Some, None, Result, Ok, Err, sym, subst, ◌∙◌}
 use Rattle.std.specs.Prelude.{MatchOption}
 use Rattle.firmware_api.specs.declared.status.Refusal.{Refusal}
 use Rattle.firmware_api.specs.Plans.{refusal_before}
 use Rattle.firmware_api.specs.Statuses.{status_of}
 
-abbrev in_ok : {A E : Type 0} → A → Result A E → A
-in_ok other (Ok value) = value
-in_ok other (Err fault) = other
-
-abbrev in_err : {A E : Type 0} → E → Result A E → E
-in_err other (Ok value) = other
-in_err other (Err fault) = fault
-
 pub same_ok : {A E : Type 0} (a b : A) → ◌≡◌ {A = Result A E} (Ok a) (Ok b) → a ≡ b
-same_ok a b same = ap (in_ok a) same
+same_ok a b same = cc
 
 pub same_err : {A E : Type 0} (a b : E) → ◌≡◌ {A = Result A E} (Err a) (Err b) → a ≡ b
-same_err a b same = ap (in_err a) same
+same_err a b same = cc
 
 pub not_both : {A E : Type 0} (value : A) (fault : E) → ◌≡◌ {A = Result A E} (Ok value) (Err fault) → ⊥
 not_both value fault same = cc

@@ -1,18 +1,17 @@
 -- What a reply makes of the halves of a reading.
-use Rattle.std.proofs.Common.{◌≡◌, ℕ, ◌+◌, ◌<◌, ◌≤◌, ◌==◌, Bool, true, false, List, ◌++◌, length, Option, Some, None, refl, sym, ap, subst, ◌∙◌, if◌then◌else◌, arith}
+use Rattle.std.proofs.Common.{◌≡◌, ℕ, ◌<◌, ◌≤◌, ◌==◌, Bool, true, false, List, length, Option, Some, None, refl, sym, ap, subst, ◌∙◌, if◌then◌else◌, arith}
 use Rattle.std.specs.Prelude.{◌&&◌, ◌||◌, is_some, not}
 use Rattle.std.specs.FinMap as map
 use Rattle.std.specs.Option.{option_map}
 use Rattle.std.proofs.lemmas.Bool.Decides.{nat_tests}
 use Rattle.std.proofs.lemmas.Option.{slice_get_within}
 use Rattle.arrayvec.specs.ArrayVec.{ArrayVec}
-use Rattle.bus_model.specs.declared.operation.Op.{Op}
 use Rattle.bus_model.specs.declared.operation.Reply.{Reply}
 use Rattle.bus_model.specs.declared.operation.Reply.TheVariants.{Bytes, Done, Refused}
 use Rattle.bus_model.specs.Operations.{Answers}
 use Rattle.conversations.specs.declared.on_page.OnPage.{OnPage}
 use Rattle.conversations.specs.Pauses.{is_refused}
-use Rattle.conversations.specs.Selecting.{after_missing, after_trusting, chosen, doubting, lacked, next_on, on_after, taken_after, told_lacked}
+use Rattle.conversations.specs.Selecting.{after_missing, chosen, doubting, lacked, next_on, on_after, taken_after, told_lacked}
 use Rattle.conversations.specs.Wanted.{IsReplyTo}
 use Rattle.paged_memory.specs.declared.key.Key.{Key}
 use Rattle.paged_memory.specs.declared.page_addressing.KnownPage.{KnownPage}
@@ -23,7 +22,7 @@ use Rattle.paged_memory.specs.KnownPages.{is_awaited, missing_page, selecting_fi
 use Rattle.paged_memory.specs.PageAddressing.{read_selection}
 use Rattle.module_reading.specs.declared.halves.Halves.{Halves}
 use Rattle.module_reading.specs.declared.region.Region.{Region}
-use Rattle.module_reading.specs.declared.region.Region.TheVariants.{Lower, FirstPage, Page as PageOf}
+use Rattle.module_reading.specs.declared.region.Region.TheVariants.{Lower}
 use Rattle.module_reading.specs.Regions.{key_of, operation, regions_of}
 use Rattle.module_reading.specs.ImageReading.{addressing, after_fetch, after_lack, after_reply, in_hand, leaving_out, put_in, wants_by}
 use Rattle.module_reading.proofs.RegionLaws.{at_most_five}
@@ -70,9 +69,8 @@ module _ {C : Type 0} (after : C → Reply → C) (lacking : C → ℕ → C) (m
 
 module _ {C : Type 0} (after : C → Reply → C) (lacking : C → ℕ → C) (may : Bool) (by : PageAddressing) (page : Option ℕ) (on : OnPage C) (reply : Reply) where
   later_doubts : (awaited : Bool) (missing : Option ℕ) → (later after lacking may by page on reply awaited missing).doubts ≡ on.doubts
-  later_doubts true missing = refl
   later_doubts false None = refl
-  later_doubts false (Some number) = refl
+  later_doubts _ _ = refl
 
   doubting_doubts : (trusting : OnPage C) → (doubting trusting reply).doubts ≡ trusting.doubts
   doubting_doubts trusting = go (trusting.doubts && is_refused reply)
@@ -104,8 +102,8 @@ asks on reply answers = asks_by (chosen (addressing on.conversation)) on.selecti
 
 pub placed_by : (halves : Halves) (region : Region) → in_hand halves ≡ Some region → halves.settled < 5
 placed_by halves region is =
-    let within = slice_get_within (regions_of halves.image) halves.settled region is in
-    let most = at_most_five halves.image in
+    let within = slice_get_within (regions_of halves.request halves.image) halves.settled region is in
+    let most = at_most_five halves.request halves.image in
     omega (arith, within, most)
 
 -- ---- the half that it gives
@@ -138,8 +136,7 @@ has_room image key bytes few = ap (λ (b : Bool). if b then image else map.inser
 
 whole_half : (region : Region) (bytes : ArrayVec ℕ) → Answers (operation region) (Bytes bytes) → length bytes.items ≡ 128
 whole_half (Lower dev) bytes answers = answers
-whole_half FirstPage bytes answers = answers
-whole_half (PageOf page) bytes answers = answers
+whole_half _ bytes answers = answers
 
 fetched : (halves : Halves) (found : Option Region) (region : Region) (reply : Reply) → map.len halves.image ≤ 5 → found ≡ Some region → Answers (operation region) reply →
     Keeps (if_bytes (option_map key_of found) reply) reply halves (after_fetch found halves reply)

@@ -1,6 +1,6 @@
 -- The conversations that C keeps: procedures of tasks, changes of power, and readings. What each wants, what a reply or a pause makes
 -- of it, which events it was told, and how it ends. (docs/firmware.md, "Conversations"; this project's own)
-use Rattle.std.specs.Prelude.{◌≡◌, ◌≤◌, ◌+◌, ℕ, length, [], false, true, Bool, Option, Some, None}
+use Rattle.std.specs.Prelude.{◌≡◌, ◌≤◌, ◌<◌, ◌+◌, ℕ, length, false, true, Bool, Option, Some, None}
 use Rattle.std.specs.Option.{option_map}
 use Rattle.bus_model.specs.declared.operation.Reply.{Reply}
 use Rattle.conversations.specs.declared.in_pieces.InPieces.{InPieces}
@@ -25,9 +25,14 @@ use Rattle.control_sets.specs.declared.procedures.power.Power.{Power}
 use Rattle.control_sets.specs.declared.procedures.power.PowerChange.{PowerChange}
 use Rattle.control_sets.specs.declared.procedures.procedure.TaskList.{TaskList}
 use Rattle.control_sets.specs.declared.procedures.procedure.Work.{Work}
+use Rattle.control_sets.specs.declared.procedures.watching.Watched.{Watched}
+use Rattle.control_sets.specs.declared.procedures.watching.Watched.TheVariants.{InOrder}
+use Rattle.control_sets.specs.declared.procedures.watching.Watching.{Watching}
 use Rattle.control_sets.specs.PowerProgress.{GoesOnAt, HasComeTo, IsEndedIn, change_after, power_wants}
 use Rattle.control_sets.specs.Progress as tasks
+use Rattle.control_sets.specs.Watching.{EndsWatching, WithLooks, after_watching, look_after_wait, next_watching}
 use Rattle.module_reading.specs.declared.halves.Halves.{Halves}
+use Rattle.module_reading.specs.declared.request.Request.{Request}
 use Rattle.module_reading.specs.ImageReading as reading
 use Rattle.firmware_api.specs.declared.kept.Kept.{Kept}
 use Rattle.firmware_api.specs.declared.kept.Kept.TheVariants.{OfTasks, OfPower, OfReading}
@@ -88,6 +93,24 @@ tasks_told events on =
     Knows false (Some BankAndPage) on.selection on.taken (trusted on.doubts (steps_of events))
     × OfTheTasks on (λ own. tasks.IsTold (steps_of own) on.conversation) events
 
+-- ---- and with looks at the module's state
+
+abbrev pub Watchful : Type 0
+Watchful = Watching (Patient OnTasks)
+
+abbrev pub watchful_want : Watchful → Next (Watched (Spent (Timed (Option ProvisionFault))))
+watchful_want it = next_watching it.look (wants_patiently tasks_want it.conversation)
+
+abbrev pub watchful_after : Watchful → Reply → Watchful
+watchful_after it reply = after_watching (wants_patiently tasks_want) (after_patiently tasks_want tasks_after) it reply
+
+abbrev pub watchful_paused : Watchful → Watchful
+watchful_paused it = record { conversation = paused it.conversation; watches = it.watches; look = look_after_wait it.watches it.look }
+
+abbrev pub watchful_told : Events → Watchful → Type 0
+watchful_told events it =
+    WithLooks it.watches it.look (op_of (wants_patiently tasks_want it.conversation)) (λ own. ToldPatiently tasks_want tasks_told own it.conversation) events
+
 -- ---- a change of power
 
 abbrev pub power_told : Events → PowerChange → Type 0
@@ -112,7 +135,7 @@ halves_after on reply =
     on_after reading.after_reply (λ halves page. reading.after_lack halves) true (chosen (reading.addressing on.conversation)) (needed on.conversation) on reply
 
 abbrev pub OfTheHalves : OnHalves → (Events → Type 0) → Events → Type 0
-OfTheHalves on P events = WithSelections on.doubts true reading.addressed_after reading.needed_after P events
+OfTheHalves on P events = WithSelections on.doubts true (reading.addressed_after on.conversation.request) (reading.needed_after on.conversation.request) P events
 
 abbrev pub halves_told : OnHalves → Events → Type 0
 halves_told on events =
@@ -134,76 +157,91 @@ halves_of read = read.conversation.conversation.conversation.conversation
 
 -- ---- each of the three
 
+abbrev pub Spending : Type 0
+Spending = Spent (Timed (Option ProvisionFault))
+
 -- how it ends: a reading that was read whole has no fault
 abbrev pub Ending : Type 0
-Ending = Spent (Timed (Option ProvisionFault))
+Ending = Watched Spending
 
 abbrev pub no_fault : Timed (Unit {0}) → Timed (Option ProvisionFault)
 no_fault (InTime end) = InTime None
 no_fault Overdue = Overdue
 
 abbrev pub read_ending : Spent (Timed (Unit {0})) → Ending
-read_ending spent = record { steps = spent.steps; end = option_map no_fault spent.end }
+read_ending spent = InOrder (record { steps = spent.steps; end = option_map no_fault spent.end })
 
 abbrev pub as_ending : Next (Spent (Timed (Unit {0}))) → Next Ending
 as_ending (Do op) = Do op
 as_ending (Wait time) = Wait time
 as_ending (End spent) = End (read_ending spent)
 
+-- what looks at no state ends as it ends
+abbrev pub in_order : Next Spending → Next Ending
+in_order (Do op) = Do op
+in_order (Wait time) = Wait time
+in_order (End spent) = End (InOrder spent)
+
 abbrev pub next_of : Kept → Next Ending
-next_of (OfTasks procedure) = wants_patiently tasks_want procedure
-next_of (OfPower change) = wants_patiently power_wants change
+next_of (OfTasks procedure) = watchful_want procedure
+next_of (OfPower change) = in_order (wants_patiently power_wants change)
 next_of (OfReading read) = as_ending (wants_patiently pieces_want read)
 
 abbrev pub after : Kept → Reply → Kept
-after (OfTasks procedure) reply = OfTasks (after_patiently tasks_want tasks_after procedure reply)
+after (OfTasks procedure) reply = OfTasks (watchful_after procedure reply)
 after (OfPower change) reply = OfPower (after_patiently power_wants change_after change reply)
 after (OfReading read) reply = OfReading (after_patiently pieces_want pieces_after read reply)
 
 abbrev pub after_pause : Kept → Kept
-after_pause (OfTasks procedure) = OfTasks (paused procedure)
+after_pause (OfTasks procedure) = OfTasks (watchful_paused procedure)
 after_pause (OfPower change) = OfPower (paused change)
 after_pause (OfReading read) = OfReading (paused read)
 
 abbrev pub WasTold : Events → Kept → Type 0
-WasTold events (OfTasks procedure) = ToldPatiently tasks_want tasks_told events procedure
+WasTold events (OfTasks procedure) = watchful_told events procedure
 WasTold events (OfPower change) = ToldPatiently power_wants power_told events change
 WasTold events (OfReading read) = ToldPatiently pieces_want pieces_told events read
 
-abbrev pub TasksEnd : Patient OnTasks → Events → Ending → Type 0
-TasksEnd procedure events ending =
+abbrev pub TasksGoOn : Patient OnTasks → Events → Type 0
+TasksGoOn procedure events =
+    let on = procedure.conversation.conversation in
+    let list = tasks.tasks_of on.conversation.work in
+    GoesOnPausing procedure.conversation.patience (OfTheTasks on (λ own. tasks.GoesOnList list (steps_of own))) events × (length (steps_of events) < procedure.limit)
+
+abbrev pub TasksEnd : Patient OnTasks → Events → Spending → Type 0
+TasksEnd procedure events spent =
     let on = procedure.conversation.conversation in
     let list = tasks.tasks_of on.conversation.work in
     EndsPatiently (OfTheTasks on (λ own. tasks.GoesOnList list (steps_of own))) (λ events fault. OfTheTasks on (λ own. tasks.EndsList list (steps_of own) fault) events)
-    procedure events ending
+    procedure events spent
 
-abbrev pub PowerEnds : Patient PowerChange → Events → Ending → Type 0
-PowerEnds change events ending =
+abbrev pub PowerEnds : Patient PowerChange → Events → Spending → Type 0
+PowerEnds change events spent =
     let power = change.conversation.conversation.power in
-    EndsPatiently (λ own. GoesOnAt power (steps_of own)) (λ own fault. IsEndedIn power fault (steps_of own)) change events ending
+    EndsPatiently (λ own. GoesOnAt power (steps_of own)) (λ own fault. IsEndedIn power fault (steps_of own)) change events spent
 
 abbrev pub ReadingEnds : Patient InHand → Events → Spent (Timed (Unit {0})) → Type 0
 ReadingEnds read events spent =
     let on = read.conversation.conversation.conversation in
-    EndsPatiently (InHalvesSoFar (OfTheHalves on reading.GoesOnHalves)) (λ events end. InHalves (OfTheHalves on reading.EndsHalves) events) read events spent
+    EndsPatiently (InHalvesSoFar (OfTheHalves on (reading.GoesOnHalves on.conversation.request))) (λ events end. InHalves (OfTheHalves on (reading.EndsHalves on.conversation.request)) events) read events spent
 
 abbrev pub EndsSo : Kept → Events → Ending → Type 0
-EndsSo (OfTasks procedure) events ending = TasksEnd procedure events ending
-EndsSo (OfPower change) events ending = PowerEnds change events ending
+EndsSo (OfTasks procedure) events ending = EndsWatching procedure.watches (TasksGoOn procedure.conversation) (TasksEnd procedure.conversation) events ending
+EndsSo (OfPower change) events ending = (spent : Spending) × (ending ≡ InOrder spent) × PowerEnds change events spent
 EndsSo (OfReading read) events ending = (spent : Spent (Timed (Unit {0}))) × (ending ≡ read_ending spent) × ReadingEnds read events spent
 
 -- what it is about, which no reply changes
 pub data Subject : Type 0 where
-  Bringing : Work → Bool → Subject
+  Bringing : Work → Bool → Bool → Subject
   Turning : Power → Subject
-  Fetching : ℕ → Bool → Subject
+  Fetching : Request → ℕ → Bool → Subject
 
 abbrev pub about : Kept → Subject
-about (OfTasks procedure) = let on = procedure.conversation.conversation in Bringing on.conversation.work on.doubts
+about (OfTasks procedure) = let on = procedure.conversation.conversation.conversation in Bringing on.conversation.work on.doubts procedure.watches
 about (OfPower change) = Turning change.conversation.conversation.power
-about (OfReading read) = let pieces = read.conversation.conversation in Fetching pieces.piece pieces.conversation.doubts
+about (OfReading read) = let pieces = read.conversation.conversation in Fetching pieces.conversation.conversation.request pieces.piece pieces.conversation.doubts
 
 abbrev pub patience_of : Kept → Patience
-patience_of (OfTasks procedure) = procedure.conversation.patience
+patience_of (OfTasks procedure) = procedure.conversation.conversation.patience
 patience_of (OfPower change) = change.conversation.patience
 patience_of (OfReading read) = read.conversation.patience

@@ -6,6 +6,7 @@ pub mod Checks
 pub mod Operations
 pub mod KeptConversations
 pub mod SavedConversations
+pub mod ReadEnds
 pub mod Patiences
 pub mod SimulatedModules
 pub mod WholeHalves

@@ -66,12 +66,12 @@ no_levels = record { high_alarm = 0; low_alarm = 0; high_warning = 0; low_warnin
 abbrev pub no_codes : List ℕ
 no_codes = 0 ∷ 0 ∷ 0 ∷ 0 ∷ 0 ∷ 0 ∷ 0 ∷ 0 ∷ []
 
--- a module with flat memory tells nothing of its lanes
-abbrev pub flat_flags : Memory → ModuleFlags
-flat_flags memory = record {
-  family = family_number Cmis;
+-- what a module doesn't tell is 0
+abbrev pub no_flags : ModuleFlags
+no_flags = record {
+  family = 0;
   lanes = 0;
-  state = number memory fields.CModuleState;
+  state = 0;
   path_states = no_codes;
   statuses = no_codes;
   path_state_changed = 0;
@@ -81,18 +81,25 @@ flat_flags memory = record {
   tx_eq_fail = 0;
   rx_los = 0;
   rx_lol = 0;
-  temperature = past_limits memory fields.CModuleFlag 1;
-  vcc = past_limits memory fields.CModuleFlag 5;
+  temperature = no_levels;
+  vcc = no_levels;
   tx_power = no_levels;
   tx_bias = no_levels;
   rx_power = no_levels;
 }
 
-abbrev pub paged_flags : Memory → ModuleFlags
-paged_flags memory = record {
+-- with flat memory it tells nothing of its lanes
+abbrev pub flat_flags : Memory → ModuleFlags
+flat_flags memory = record no_flags {
   family = family_number Cmis;
-  lanes = 8;
   state = number memory fields.CModuleState;
+  temperature = past_limits memory fields.CModuleFlag 1;
+  vcc = past_limits memory fields.CModuleFlag 5;
+}
+
+abbrev pub paged_flags : Memory → ModuleFlags
+paged_flags memory = record (flat_flags memory) {
+  lanes = 8;
   path_states = all_numbers memory fields.CPathStates;
   statuses = all_numbers memory fields.CConfigStatus;
   path_state_changed = eight_lanes memory fields.CPathStateChanged;
@@ -102,25 +109,18 @@ paged_flags memory = record {
   tx_eq_fail = eight_lanes memory fields.CTxEqFail;
   rx_los = eight_lanes memory fields.CRxLos;
   rx_lol = eight_lanes memory fields.CRxLol;
-  temperature = past_limits memory fields.CModuleFlag 1;
-  vcc = past_limits memory fields.CModuleFlag 5;
   tx_power = of_fields (eight_lanes memory) fields.CTxPowerHighAlarm fields.CTxPowerLowAlarm fields.CTxPowerHighWarning fields.CTxPowerLowWarning;
   tx_bias = of_fields (eight_lanes memory) fields.CTxBiasHighAlarm fields.CTxBiasLowAlarm fields.CTxBiasHighWarning fields.CTxBiasLowWarning;
   rx_power = of_fields (eight_lanes memory) fields.CRxPowerHighAlarm fields.CRxPowerLowAlarm fields.CRxPowerHighWarning fields.CRxPowerLowWarning;
 }
 
 abbrev pub qsfp_flags : Memory → ModuleFlags
-qsfp_flags memory = record {
+qsfp_flags memory = record no_flags {
   family = family_number Sff8636;
   lanes = 4;
-  state = 0;
-  path_states = no_codes;
-  statuses = no_codes;
-  path_state_changed = 0;
   tx_fault = four_lanes memory fields.QTxFault;
   tx_los = four_lanes memory fields.QTxLos;
   tx_lol = four_lanes memory fields.QTxLol;
-  tx_eq_fail = 0;
   rx_los = four_lanes memory fields.QRxLos;
   rx_lol = four_lanes memory fields.QRxLol;
   temperature = past_limits memory fields.QTempFlag 1;
@@ -131,19 +131,11 @@ qsfp_flags memory = record {
 }
 
 abbrev pub sfp_flags : Memory → ModuleFlags
-sfp_flags memory = record {
+sfp_flags memory = record no_flags {
   family = family_number Sff8472;
   lanes = 1;
-  state = 0;
-  path_states = no_codes;
-  statuses = no_codes;
-  path_state_changed = 0;
   tx_fault = lane_bit memory fields.STxFault 1 1;
-  tx_los = 0;
-  tx_lol = 0;
-  tx_eq_fail = 0;
   rx_los = lane_bit memory fields.SRxLos 1 1;
-  rx_lol = 0;
   temperature = past_pairs memory fields.SAlarms fields.SWarnings 1;
   vcc = past_pairs memory fields.SAlarms fields.SWarnings 3;
   tx_power = past_pairs memory fields.SAlarms fields.SWarnings 7;

@@ -1,6 +1,6 @@
 -- Conversations as the numbers that C keeps: which numbers are one's, and of which; what C is told of it, and what becomes of it.
 -- (docs/firmware.md, "The numbers of a conversation"; this project's own)
-use Rattle.std.specs.Prelude.{◌≡◌, ◌⊎◌, ◌==◌, ◌&&◌, ◌||◌, ◌≤◌, ◌<◌, ◌+◌, ◌*◌, ◌/◌, nat_le, nat_lt, ℕ, Bool, false, not, IsTrue, List, ◌∷◌, length, take, replicate, Option, Some, None, Result, Ok, Err, if◌then◌else◌}
+use Rattle.std.specs.Prelude.{◌≡◌, ◌⊎◌, ◌==◌, ◌&&◌, ◌||◌, ◌≤◌, ◌<◌, ◌+◌, ◌*◌, ◌/◌, nat_le, nat_lt, ℕ, Bool, false, not, IsTrue, List, ◌∷◌, length, take, replicate, Option, Some, None, if◌then◌else◌}
 use Rattle.std.specs.FinMap as map
 use Rattle.std.specs.List.{list_all}
 use Rattle.std.specs.Option.{option_map}
@@ -12,20 +12,26 @@ use Rattle.conversations.specs.declared.next.Next.TheVariants as next
 use Rattle.conversations.specs.declared.pausing.Patience.{Patience}
 use Rattle.conversations.specs.declared.pausing.Timed.{Timed}
 use Rattle.conversations.specs.declared.pausing.Timed.TheVariants.{InTime, Overdue}
-use Rattle.conversations.specs.declared.within.Spent.{Spent}
 use Rattle.conversations.specs.Events.{Events}
 use Rattle.conversations.specs.Pauses.{counted}
 use Rattle.paged_memory.specs.declared.key.Key.{Key}
 use Rattle.paged_memory.specs.declared.page_addressing.KnownPage.{KnownPage}
 use Rattle.control_sets.specs.declared.fault.ProvisionFault.{ProvisionFault}
-use Rattle.control_sets.specs.declared.fault.ProvisionFault.TheVariants.{GaveUp}
+use Rattle.control_sets.specs.declared.fault.ProvisionFault.TheVariants.{Rejected, StagedDiffers, ActiveDiffers, GaveUp, Bus, ModuleState, Reserved}
 use Rattle.control_sets.specs.declared.procedures.procedure.saved.SavedProcedure.{SavedProcedure}
 use Rattle.control_sets.specs.declared.procedures.saved_fault.SavedFault.{SavedFault}
+use Rattle.control_sets.specs.declared.procedures.watching.Look.{Look}
+use Rattle.control_sets.specs.declared.procedures.watching.Look.TheVariants.{Seen, Due, Left}
+use Rattle.control_sets.specs.declared.procedures.watching.Watched.TheVariants.{InOrder}
+use Rattle.control_sets.specs.declared.procedures.watching.Watched.TheVariants as watched
 use Rattle.control_sets.specs.OutcomeAnswers.{most_steps}
 use Rattle.control_sets.specs.PowerProgress.{PatientPower}
 use Rattle.control_sets.specs.Progress.{PatientProcedure}
-use Rattle.control_sets.specs.SavedNumbers.{due_numbered, numbers, restored, saved_fault, selected_numbered}
-use Rattle.control_sets.specs.SavedPower.{restored_power}
+use Rattle.control_sets.specs.SavedNumbers.{due_numbered, fault_in, numbers, restored, saved_fault, selected_numbered}
+use Rattle.control_sets.specs.SavedPower.{can_stop, restored_power}
+use Rattle.module_states.specs.declared.state.ModuleState.{ModuleState as State}
+use Rattle.module_states.specs.declared.state.ModuleState.TheVariants as state
+use Rattle.module_states.specs.Codes.{state_at}
 use Rattle.module_reading.specs.declared.halves.Halves.{Halves}
 use Rattle.firmware_api.specs.declared.conversation.numbers.SavedConversation.{SavedConversation}
 use Rattle.firmware_api.specs.declared.conversation.SavedEnd.{SavedEnd}
@@ -37,8 +43,8 @@ use Rattle.firmware_api.specs.declared.status.Refusal.{Refusal}
 use Rattle.firmware_api.specs.declared.status.Refusal.TheVariants.{NoConversation, NoReply, NotEnded, TooFewBytes}
 use Rattle.firmware_api.specs.declared.status.Refusal.TheVariants as refusals
 use Rattle.firmware_api.specs.Halves.{has_place, key_of, memory_of}
-use Rattle.firmware_api.specs.KeptConversations.{Ending, InHand, Patient, Subject, WasTold, about, after, after_pause, halves_of, next_of, patience_of}
-use Rattle.firmware_api.specs.Operations.{operation_of, reply_of, waited, waiting}
+use Rattle.firmware_api.specs.KeptConversations.{Ending, InHand, Patient, Subject, WasTold, about, after, halves_of, next_of, patience_of}
+use Rattle.firmware_api.specs.Operations.{operation_of, waited, waiting}
 use Rattle.firmware_api.specs.Statuses.{done, status_of}
 
 -- ---- the numbers
@@ -54,26 +60,39 @@ work_of_reading = 5
 -- a number says yes by 1, and no by 0; a page is told only with what tells of it
 abbrev pub is_sound : SavedConversation → Bool
 is_sound saved =
-    saved.magic == conversation_magic && (nat_le saved.doubts 1 && (nat_le saved.taken 1 && (saved.taken == 1 || saved.taken_page == 0)))
+    saved.magic == conversation_magic && (nat_le saved.doubts 1 && (nat_le saved.taken 1 && ((saved.taken == 1 || saved.taken_page == 0) && nat_le saved.watches 1)))
 
 abbrev pub taken_in : SavedConversation → Option ℕ
 taken_in saved = if saved.taken == 1 then Some saved.taken_page else None
 
+-- whether a look is due, or has shown a fault: 1 if it is due, and the fault, which is one of the module's state
+abbrev pub look_by : ℕ → Option (Option ProvisionFault) → Option Look
+look_by number None = None
+look_by number (Some None) = if number == 0 then Some Seen else (if number == 1 then Some Due else None)
+look_by number (Some (Some fault)) = if number == 0 && can_stop (Some fault) then Some (Left fault) else None
+
+abbrev pub look_in : SavedConversation → Option Look
+look_in saved = look_by saved.look (fault_in saved.left)
+
 -- the procedure, which doubts or doesn't
-abbrev pub tasks_in : SavedConversation → PatientProcedure → Kept
-tasks_in saved procedure =
+abbrev pub doubting_by : Bool → PatientProcedure → PatientProcedure
+doubting_by doubts procedure =
     let pausing = procedure.conversation in
     let on = pausing.conversation in
-    OfTasks (record {
+    record {
       conversation = record {
-        conversation = record { conversation = on.conversation; selection = on.selection; taken = on.taken; doubts = saved.doubts == 1 };
+        conversation = record { conversation = on.conversation; selection = on.selection; taken = on.taken; doubts = doubts };
         patience = pausing.patience;
         due = pausing.due;
         idle = pausing.idle;
       };
       steps = procedure.steps;
       limit = procedure.limit;
-    })
+    }
+
+-- and which looks at the module's state or doesn't
+abbrev pub tasks_in : SavedConversation → PatientProcedure → Look → Kept
+tasks_in saved procedure look = OfTasks (record { conversation = doubting_by (saved.doubts == 1) procedure; watches = saved.watches == 1; look = look })
 
 abbrev pub patience_in : SavedProcedure → Patience
 patience_in saved = record { pause = saved.pause; limit = saved.limit }
@@ -90,7 +109,7 @@ reading_with saved halves selection due = OfReading (record {
   conversation = record {
     conversation = record {
       conversation = record {
-        conversation = record { image = memory_of (halves_in saved halves); settled = saved.saved.met };
+        conversation = record { request = record { halves = saved.saved.lanes }; image = memory_of (halves_in saved halves); settled = saved.saved.met };
         selection = selection;
         taken = taken_in saved;
         doubts = saved.doubts == 1;
@@ -123,7 +142,7 @@ reading_in saved halves =
 
 -- no numbers are those of both
 abbrev pub procedure_by : SavedConversation → Option PatientProcedure → Option PatientPower → Option Kept
-procedure_by saved (Some procedure) change = Some (tasks_in saved procedure)
+procedure_by saved (Some procedure) change = option_map (tasks_in saved procedure) (look_in saved)
 procedure_by saved None change = option_map OfPower change
 
 -- the conversation that has these numbers, of which these halves were read; none for memory that is no conversation
@@ -166,17 +185,47 @@ overdue = numbers 8 0 0
 abbrev pub ended_with : ℕ → SavedFault → SavedEnd
 ended_with steps fault = record { steps = steps; fault = fault }
 
+-- the module was reset: it is in this other state
+abbrev pub reset : ℕ → SavedFault
+reset code = numbers 9 code 0
+
+-- it is in ModuleFault
+abbrev pub faulty : ℕ → SavedFault
+faulty code = numbers 10 code 0
+
+abbrev pub left_in : ℕ → Option State → SavedFault
+left_in code (Some state.Fault) = faulty code
+left_in code (Some state.LowPwr) = reset code
+left_in code (Some state.PwrUp) = reset code
+left_in code (Some state.Ready) = reset code
+left_in code (Some state.PwrDn) = reset code
+left_in code None = reset code
+
+-- a look showed this
+abbrev pub left_by : ProvisionFault → SavedFault
+left_by (ModuleState code) = left_in code (state_at code)
+left_by (Rejected lane status) = saved_fault (Some (Rejected lane status))
+left_by (StagedDiffers lane) = saved_fault (Some (StagedDiffers lane))
+left_by (ActiveDiffers lane) = saved_fault (Some (ActiveDiffers lane))
+left_by GaveUp = saved_fault (Some GaveUp)
+left_by (Bus fault) = saved_fault (Some (Bus fault))
+left_by (Reserved code) = saved_fault (Some (Reserved code))
+
 abbrev pub ended_by : ℕ → Option (Timed (Option ProvisionFault)) → SavedEnd
 ended_by steps None = ended_with 0 (saved_fault (Some GaveUp))
 ended_by steps (Some Overdue) = ended_with 0 overdue
 ended_by steps (Some (InTime None)) = ended_with steps (saved_fault None)
 ended_by steps (Some (InTime (Some fault))) = ended_with 0 (saved_fault (Some fault))
 
+abbrev pub end_of : Ending → SavedEnd
+end_of (InOrder spent) = ended_by spent.steps spent.end
+end_of (watched.Left fault) = ended_with 0 (left_by fault)
+
 abbrev pub IsEndTold : ℕ → SavedEnd → Option (Next Ending) → Type 0
 IsEndTold status ended None = status ≡ status_of NoConversation
 IsEndTold status ended (Some (next.Do op)) = status ≡ status_of NotEnded
 IsEndTold status ended (Some (next.Wait time)) = status ≡ status_of NotEnded
-IsEndTold status ended (Some (next.End ending)) = (status ≡ done) × (ended ≡ ended_by ending.steps ending.end)
+IsEndTold status ended (Some (next.End ending)) = (status ≡ done) × (ended ≡ end_of ending)
 
 -- ---- what became of it
 
@@ -217,14 +266,27 @@ HasHalf (Some half) halves later = Puts halves (key_of half) half.bytes later ×
 abbrev pub number_of : Bool → ℕ
 number_of bit = if bit then 1 else 0
 
--- the numbers of a procedure, which doubts or doesn't
-abbrev pub procedure_numbers : SavedProcedure → Bool → SavedConversation
-procedure_numbers saved doubts = record {
+abbrev pub number_of_look : Look → ℕ
+number_of_look Seen = 0
+number_of_look Due = 1
+number_of_look (Left fault) = 0
+
+abbrev pub fault_of_look : Look → Option ProvisionFault
+fault_of_look Seen = None
+fault_of_look Due = None
+fault_of_look (Left fault) = Some fault
+
+-- the numbers of a procedure, which doubts or doesn't, and looks at the module's state or doesn't
+abbrev pub procedure_numbers : SavedProcedure → Bool → Bool → Look → SavedConversation
+procedure_numbers saved doubts watches look = record {
   magic = conversation_magic;
   saved = saved;
   doubts = number_of doubts;
   taken = 0;
   taken_page = 0;
+  watches = number_of watches;
+  look = number_of_look look;
+  left = saved_fault (fault_of_look look);
   halves = 0;
   piece = 0;
   read = 0;
@@ -247,6 +309,12 @@ paused_procedure saved = record {
   limit = saved.limit;
 }
 
+-- if it looks, a look is due then, unless one has shown a fault
+abbrev pub paused_look : Bool → ℕ → Option (Option ProvisionFault) → ℕ
+paused_look watches number None = number
+paused_look watches number (Some None) = if watches then 1 else number
+paused_look watches number (Some (Some fault)) = number
+
 abbrev pub paused_numbers : SavedConversation → SavedConversation
 paused_numbers saved = record {
   magic = saved.magic;
@@ -254,6 +322,9 @@ paused_numbers saved = record {
   doubts = saved.doubts;
   taken = saved.taken;
   taken_page = saved.taken_page;
+  watches = saved.watches;
+  look = paused_look (saved.watches == 1) saved.look (fault_in saved.left);
+  left = saved.left;
   halves = saved.halves;
   piece = saved.piece;
   read = saved.read;
@@ -282,6 +353,7 @@ pub record HasNumbers (read : Patient InHand) (number : ℕ) : Type 0 where
 -- the numbers of a reading, besides its halves and its part
 pub record AreOfReading (numbers : SavedProcedure) (read : Patient InHand) : Type 0 where
   pub work : numbers.work ≡ work_of_reading
+  pub request : numbers.lanes ≡ (halves_of read).request.halves
   pub met : numbers.met ≡ (halves_of read).settled
   pub steps : numbers.steps ≡ read.steps
   pub selected : selected_numbered numbers.selection numbers.page ≡ Some read.conversation.conversation.conversation.selection

@@ -8,13 +8,18 @@ ghost use Rattle.conversations.specs.declared.pausing.Patience.{Patience as Give
 ghost use Rattle.conversations.specs.Events.{Events, made};
 ghost use Rattle.control_sets.specs.declared.procedures.power.Power.TheVariants.{Asleep, Awake};
 ghost use Rattle.control_sets.specs.declared.procedures.procedure.Work.TheVariants.{Activation, Provisioning};
+ghost use Rattle.module_reading.specs.declared.request.Request.{Request};
+ghost use Rattle.module_reading.specs.Regions.{everything};
 ghost use Rattle.firmware_api.specs.declared.half.HalfBytes.{HalfBytes};
 ghost use Rattle.firmware_api.specs.declared.kept.Kept.{Kept};
 ghost use Rattle.firmware_api.specs.declared.kept.Kept.TheVariants as kinds;
 ghost use Rattle.firmware_api.specs.KeptConversations.{Bringing, Ending, EndsSo, Fetching, InHand, Patient, Subject, Turning, WasTold, after, after_pause};
+ghost use Rattle.firmware_api.specs.Halves.{memory_of};
 ghost use Rattle.firmware_api.specs.Operations.{reply_of, waited};
 ghost use Rattle.firmware_api.specs.Patiences.{doubts, given};
-ghost use Rattle.firmware_api.specs.SavedConversations.{HasInFront, IsEndTold, IsNextTold, IsReplyFor, IsReplyTold, IsSavedAt, conversation_in, ended_by, ended_with, halves_in, piece_for, size_refusal, wanted};
+ghost use Rattle.firmware_api.specs.ReadEnds.{HasReadModule};
+ghost use Rattle.firmware_api.specs.SavedConversations.{HasInFront, IsEndTold, IsNextTold, IsReplyFor, IsReplyTold, IsSavedAt, conversation_in, end_of, ended_by, ended_with, halves_in, left_by, piece_for, size_refusal, wanted};
+ghost use Rattle.control_sets.specs.SavedNumbers.{numbers};
 ghost use Rattle.firmware_api.specs.Statuses.{done, status_by};
 
 mod begun;
@@ -27,9 +32,11 @@ use crate::operation::{Operation, reply_of};
 use crate::patience::Patience;
 use crate::status::{DONE, ENDED, NO_CONVERSATION, NO_REPLY, NOT_ENDED, TOO_FEW_BYTES};
 use bus_model::{Op, Reply};
-use control_sets::{ControlSet, Power, ProvisionFault, SavedFault, Work};
-use conversations::{Next, Timed, can_have};
+use control_sets::{ControlSet, Power, ProvisionFault, SavedFault, Watched, Work};
+use conversations::{Next, Spent, Timed, can_have};
 use field_tables::LaneSet;
+use module_reading::Request;
+use module_states::{ModuleState, state_of};
 pub use numbers::{MAX_READ, SavedConversation};
 
 /// How a conversation ended.
@@ -54,7 +61,7 @@ pub extern "C" fn dovecounter_provision_begin(
     conversation: &mut SavedConversation,
 )
     ensures { (halves : List HalfBytes) →
-        IsSavedAt (Bringing (Provisioning control.now (lanes_in lanes)) (doubts patience.now)) (given patience.now) [] conversation.new halves }
+        IsSavedAt (Bringing (Provisioning control.now (lanes_in lanes)) (doubts patience.now) (doubts patience.now)) (given patience.now) [] conversation.new halves }
 {
     let (control, lanes) = (*control, LaneSet::from(lanes));
     begun::put_tasks(
@@ -74,7 +81,7 @@ pub extern "C" fn dovecounter_activate_begin(
     conversation: &mut SavedConversation,
 )
     ensures { (halves : List HalfBytes) →
-        IsSavedAt (Bringing (Activation control.now (lanes_in lanes)) (doubts patience.now)) (given patience.now) [] conversation.new halves }
+        IsSavedAt (Bringing (Activation control.now (lanes_in lanes)) (doubts patience.now) (doubts patience.now)) (given patience.now) [] conversation.new halves }
 {
     let (control, lanes) = (*control, LaneSet::from(lanes));
     begun::put_tasks(Work::Activation { control, lanes }, patience, conversation);
@@ -96,8 +103,8 @@ pub extern "C" fn dovecounter_sleep_begin(patience: &Patience, conversation: &mu
     begun::put_power(Power::Asleep, patience, conversation);
 }
 
-/// Puts into `conversation` a reading that has read nothing yet, over a bus that fetches at most so many bytes at once. A piece of a
-/// half has a multiple of 8 bytes.
+/// Puts into `conversation` a reading that has read nothing yet, of all that may be requested, over a bus that fetches at most so many
+/// bytes at once. A piece of a half has a multiple of 8 bytes.
 #[unsafe(no_mangle)]
 pub extern "C" fn dovecounter_read_begin(
     most: u8,
@@ -106,14 +113,33 @@ pub extern "C" fn dovecounter_read_begin(
 ) -> u32
     ensures status { result ≡ status_by (size_refusal most) }
     ensures begun { result ≡ done → (halves : List HalfBytes) →
-        IsSavedAt (Fetching (piece_for most) (doubts patience.now)) (given patience.now) [] conversation.new halves }
+        IsSavedAt (Fetching everything (piece_for most) (doubts patience.now)) (given patience.now) [] conversation.new halves }
+    ensures halves { result ≡ done → conversation.new.halves ≡ 0 }
+    ensures refused { result ≢ done → conversation.new ≡ conversation.old }
+{
+    let requested = Request::everything().halves;
+    dovecounter_read_some_begin(requested, most, patience, conversation)
+}
+
+/// Puts into `conversation` such a reading of the lower half of A0 and of the halves that are requested, each by its bit.
+#[unsafe(no_mangle)]
+pub extern "C" fn dovecounter_read_some_begin(
+    requested: u8,
+    most: u8,
+    patience: &Patience,
+    conversation: &mut SavedConversation,
+) -> u32
+    ensures status { result ≡ status_by (size_refusal most) }
+    ensures begun { result ≡ done → (halves : List HalfBytes) →
+        IsSavedAt (Fetching (record { halves = requested }) (piece_for most) (doubts patience.now)) (given patience.now) [] conversation.new halves }
     ensures halves { result ≡ done → conversation.new.halves ≡ 0 }
     ensures refused { result ≢ done → conversation.new ≡ conversation.old }
 {
     if most < 8 {
         return TOO_FEW_BYTES;
     }
-    begun::put_reading(begun::piece_for(most), patience, conversation);
+    let request = Request { halves: requested };
+    begun::put_reading(request, begun::piece_for(most), patience, conversation);
     DONE
 }
 
@@ -184,7 +210,8 @@ pub extern "C" fn dovecounter_reply(
     }
 }
 
-/// Puts into `ended` how the conversation ended.
+/// Puts into `ended` how the conversation ended. Of a reading that ended in time, `halves` has the image of a module by the steps made
+/// since it began, whatever the bus refused.
 #[unsafe(no_mangle)]
 pub extern "C" fn dovecounter_end(
     conversation: &SavedConversation,
@@ -195,13 +222,16 @@ pub extern "C" fn dovecounter_end(
     ensures refused { result ≢ done → ended.new ≡ ended.old }
     ensures ends { (kept : Kept) (events : Events) (ending : Ending) → conversation_in conversation.now halves.now ≡ Some kept →
         wanted conversation.now halves.now ≡ Some (nexts.End ending) → WasTold events kept → EndsSo kept events ending }
+    ensures read { (request : Request) (piece : ℕ) (doubts : Bool) (patience : Given) (events : Events) (ending : Ending) →
+        IsSavedAt (Fetching request piece doubts) patience events conversation.now halves.now → wanted conversation.now halves.now ≡ Some (nexts.End ending) →
+        HasReadModule doubts request events (memory_of (halves_in conversation.now halves.now)) ending }
 {
     let Some(kept) = numbers::restore(conversation, halves) else {
         return NO_CONVERSATION;
     };
     match kept.next() {
         Next::End(ending) => {
-            *ended = ended_by(ending);
+            *ended = end_of(ending);
             DONE
         }
         Next::Do(_) | Next::Wait(_) => NOT_ENDED,
@@ -228,12 +258,48 @@ fn reply_to(op: &Op, outcome: u8, bytes: &[u8]) -> Option<Reply>
     }
 }
 
-fn ended_by(ending: Ending) -> SavedEnd
-    ensures { result ≡ ended_by ending.steps ending.end }
+fn end_of(ending: Ending) -> SavedEnd
+    ensures { result ≡ end_of ending }
 {
-    match ending.end {
+    match ending {
+        Watched::InOrder(spent) => ended_by(spent),
+        Watched::Left(fault) => without_success(left_by(fault)),
+    }
+}
+
+// What is said of a module whose state shows this fault.
+fn left_by(fault: ProvisionFault) -> SavedFault
+    ensures { result ≡ left_by fault }
+{
+    match fault {
+        ProvisionFault::ModuleState(code) => match state_of(code) {
+            Ok(ModuleState::Fault) => of_state(FAULTY, code),
+            _ => of_state(RESET, code),
+        },
+        fault => SavedFault::of(Some(fault)),
+    }
+}
+
+const RESET: u8 = 9;
+
+const FAULTY: u8 = 10;
+
+fn of_state(code: u8, state: u8) -> SavedFault
+    ensures { result ≡ numbers code state 0 }
+{
+    SavedFault {
+        code,
+        first: state,
+        second: 0,
+    }
+}
+
+fn ended_by(spent: Spent<Timed<Option<ProvisionFault>>>) -> SavedEnd
+    ensures { result ≡ ended_by spent.steps spent.end }
+{
+    match spent.end {
         Some(Timed::InTime(None)) => SavedEnd {
-            steps: ending.steps,
+            steps: spent.steps,
             fault: SavedFault::of(None),
         },
         Some(Timed::InTime(fault)) => without_success(SavedFault::of(fault)),

@@ -3,28 +3,25 @@ ghost use Rattle.bus_model.specs.declared.operation.Op.{Op};
 ghost use Rattle.conversations.specs.declared.next.Next.TheVariants.{Do};
 ghost use Rattle.conversations.specs.Events.{Events, made};
 ghost use Rattle.conversations.specs.Wanted.{IfEnd, IsReplyTo};
-ghost use Rattle.firmware_api.specs.KeptConversations.{EndsSo, WasTold, after, as_ending, next_of, no_fault};
+ghost use Rattle.firmware_api.specs.KeptConversations.{EndsSo, WasTold, after, as_ending, in_order, next_of, no_fault};
 
 use bus_model::Reply;
-use control_sets::{PatientPower, PatientProcedure, ProvisionFault};
-use conversations::{Conversation, InPieces, Next, OnPage, Pausing, Spent, Timed, Within};
-use module_reading::Halves;
-
-/// The halves of a module, in pieces. A pause is no reason to read the pieces of a half again, so the pieces are within.
-pub type PieceReading = Within<Pausing<InPieces<OnPage<Halves>>>>;
+use control_sets::{PatientPower, ProvisionFault, Watched, WatchfulProcedure};
+use conversations::{Conversation, Next, Spent, Timed};
+use module_reading::PatientReading;
 
 /// How a conversation ended.
-pub type Ending = Spent<Timed<Option<ProvisionFault>>>;
+pub type Ending = Watched<Spent<Timed<Option<ProvisionFault>>>>;
 
 /// A conversation that C keeps.
 #[derive(Drop)]
 pub enum Kept {
     /// Provisioning or activation.
-    OfTasks(PatientProcedure),
+    OfTasks(WatchfulProcedure),
     /// Waking a module up, or putting it to sleep.
     OfPower(PatientPower),
     /// Reading a module.
-    OfReading(PieceReading),
+    OfReading(PatientReading),
 }
 
 impl Kept {
@@ -35,7 +32,7 @@ impl Kept {
     {
         match self {
             Kept::OfTasks(procedure) => procedure.next(),
-            Kept::OfPower(change) => change.next(),
+            Kept::OfPower(change) => in_order(change.next()),
             Kept::OfReading(read) => as_ending(read.next()),
         }
     }
@@ -54,6 +51,17 @@ impl Kept {
     }
 }
 
+// What looks at no state ends as it ends.
+fn in_order(next: Next<Spent<Timed<Option<ProvisionFault>>>>) -> Next<Ending>
+    ensures { result ≡ in_order next }
+{
+    match next {
+        Next::Do(op) => Next::Do(op),
+        Next::Wait(time) => Next::Wait(time),
+        Next::End(spent) => Next::End(Watched::InOrder(spent)),
+    }
+}
+
 // A module that was read is no fault.
 fn as_ending(next: Next<Spent<Timed<()>>>) -> Next<Ending>
     ensures { result ≡ as_ending next }
@@ -61,13 +69,13 @@ fn as_ending(next: Next<Spent<Timed<()>>>) -> Next<Ending>
     match next {
         Next::Do(op) => Next::Do(op),
         Next::Wait(time) => Next::Wait(time),
-        Next::End(spent) => Next::End(Spent {
+        Next::End(spent) => Next::End(Watched::InOrder(Spent {
             steps: spent.steps,
             end: match spent.end {
                 Some(timed) => Some(no_fault(timed)),
                 None => None,
             },
-        }),
+        })),
     }
 }
 

@@ -17,11 +17,11 @@ pub mod LaterPaths
 mod ChosenPaths
 mod FirstPlans
 pub mod KeptTaken
-mod FirstLaws
+pub mod FirstLaws
 mod ReadOffs
 mod PlansReadOff
 mod ReachedEntries
 mod MarkedEntries
 mod CertifiedPlans
 mod PutPieces
-mod OneText
+pub mod OneText

@@ -20,29 +20,45 @@ use Rattle.paged_memory.specs.Keys.{lower_key}
 use Rattle.paged_memory.proofs.KeyLaws.{keys_total}
 use Rattle.module_reading.specs.declared.halves.Halves.{Halves}
 use Rattle.module_reading.specs.declared.region.Region.{Region}
+use Rattle.module_reading.specs.declared.request.Request.{Request}
 use Rattle.module_reading.specs.declared.region.Region.TheVariants.{Lower}
 use Rattle.module_reading.specs.Regions.{addressing_of, key_of, regions_of}
-use Rattle.module_reading.specs.ImageReading.{IsTold, addressed_after, addressing, addressing_by, after_fetch, after_lack, after_reply, halves_after, in_hand, keeping, leaving_out, page_by, put_in, wants}
+use Rattle.module_reading.specs.ImageReading.{EachIsWanted, IsTold, addressed_after, addressing, addressing_by, after_fetch, after_lack, after_reply, halves_after, in_hand, keeping, leaving_out, page_by, put_in, wants}
+use Rattle.module_reading.proofs.KeptHalves.{gets_other}
 use Rattle.module_reading.proofs.RegionLaws.{all_other, all_others, begins_lower, is_other, other_keys, same_asked, same_paging}
 
+pub same_request : (found : Option Region) (halves : Halves) (reply : Reply) → (after_fetch found halves reply).request ≡ halves.request
+same_request None halves reply = refl
+same_request (Some region) halves (Bytes bytes) = refl
+same_request (Some region) halves Done = refl
+same_request (Some region) halves Refused = refl
+
+pub lacks_same_request : (found : Option Region) (halves : Halves) → (leaving_out found halves).request ≡ halves.request
+lacks_same_request None halves = refl
+lacks_same_request (Some region) halves = refl
+
 pub told_more : (old new : Halves) (op : Op) (reply : Reply) (own : Events) → new ≡ after_reply old reply → IsReplyTo (wants old) reply → wants old ≡ Do op → IsTold own old → IsTold (made op reply ∷ own) new
-told_more old new op reply own is answers asked told = record {
-  is = is ∙ ap (λ (h : Halves). after_reply h reply) told.is;
-  each = (
-    ap wants (sym told.is) ∙ asked,
-    subst (λ (n : Next (Unit {0})). IsReplyTo n reply) asked answers,
-    told.each,
-  );
-}
+told_more old new op reply own is answers asked told =
+    let same : old.request ≡ new.request = sym (ap (λ (h : Halves). h.request) is ∙ same_request (in_hand old) old reply) in
+    record {
+      is = is ∙ ap (λ (h : Halves). after_reply h reply) told.is ∙ ap (λ (r : Request). halves_after r (made op reply ∷ own)) same;
+      each = subst (λ (r : Request). EachIsWanted r (made op reply ∷ own)) same
+          (ap wants (sym told.is) ∙ asked, subst (λ (n : Next (Unit {0})). IsReplyTo n reply) asked answers, told.each);
+    }
 
 pub lacks_more : (old new : Halves) (page : ℕ) (own : Events) → new ≡ after_lack old → IsTold own old → IsTold (Lacked page ∷ own) new
-lacks_more old new page own is told = record { is = is ∙ ap after_lack told.is; each = told.each }
+lacks_more old new page own is told =
+    let same : old.request ≡ new.request = sym (ap (λ (h : Halves). h.request) is ∙ lacks_same_request (in_hand old) old) in
+    record {
+      is = is ∙ ap after_lack told.is ∙ ap (λ (r : Request). halves_after r (Lacked page ∷ own)) same;
+      each = subst (λ (r : Request). EachIsWanted r (Lacked page ∷ own)) same told.each;
+    }
 
 -- before the lower half was read, it is in hand, and no page is needed
 pub none_needed : (halves : Halves) → addressing halves ≡ None → page_by (in_hand halves) ≡ None
 none_needed halves none = by (halves.settled == 0) refl none where
   first : halves.settled ≡ 0 → page_by (in_hand halves) ≡ None
-  first e = ap (λ (n : ℕ). page_by (slice_get (regions_of halves.image) n)) e ∙ ap (λ (regions : List Region). page_by (slice_get regions 0)) (begins_lower halves.image)
+  first e = ap (λ (n : ℕ). page_by (slice_get (regions_of halves.request halves.image) n)) e ∙ ap (λ (regions : List Region). page_by (slice_get regions 0)) (begins_lower halves.request halves.image)
 
   by : (b : Bool) → (halves.settled == 0) ≡ b → (if b then None else Some (addressing_of halves.image)) ≡ None → page_by (in_hand halves) ≡ None
   by true e none = first (eqb-true halves.settled 0 e)
@@ -58,15 +74,13 @@ other_of hand (first ∷ later) (suc n) region all e = other_of hand later n reg
 -- a half in hand after the first is another
 other_hand : (halves : Halves) (n : ℕ) (region : Region) → halves.settled ≡ suc n → in_hand halves ≡ Some region → is_other (Lower A0) region ≡ true
 other_hand halves n region later hand =
-    let begins = begins_lower halves.image in
-    let all = subst (λ (regions : List Region). all_other regions ≡ true) begins (all_others halves.image) in
-    let here : slice_get (Lower A0 ∷ drop 1 (regions_of halves.image)) (suc n) ≡ Some region = sym (λ i. slice_get (begins i) (later i)) ∙ hand in
-    other_of (Lower A0) (drop 1 (regions_of halves.image)) n region (and_parts _ _ all).0 here
+    let begins = begins_lower halves.request halves.image in
+    let all = subst (λ (regions : List Region). all_other regions ≡ true) begins (all_others halves.request halves.image) in
+    let here : slice_get (Lower A0 ∷ drop 1 (regions_of halves.request halves.image)) (suc n) ≡ Some region = sym (λ i. slice_get (begins i) (later i)) ∙ hand in
+    other_of (Lower A0) (drop 1 (regions_of halves.request halves.image)) n region (and_parts _ _ all).0 here
 
 gets_lower : (image : Memory) (region : Region) (bytes : List ℕ) → is_other (Lower A0) region ≡ true → map.get (map.insert image (key_of region) bytes) (lower_key A0) ≡ map.get image (lower_key A0)
-gets_lower image region bytes other =
-    map.get-insert keys_total image (key_of region) bytes (lower_key A0)
-    ∙ ap (λ (b : Bool). cond b (Some bytes) (map.get image (lower_key A0))) (other_keys (Lower A0) region other)
+gets_lower image region bytes other = gets_other image (key_of region) bytes (lower_key A0) (other_keys (Lower A0) region other)
 
 same_addressing : (image : Memory) (region : Region) (bytes : List ℕ) → is_other (Lower A0) region ≡ true → addressing_of (put_in image (key_of region) bytes) ≡ addressing_of image
 same_addressing image region bytes other = by (map.len image == most_pages && not (map.contains_key image (key_of region))) where
@@ -105,8 +119,8 @@ lack_stays halves (Some region) by known = go halves.settled known where
   go zero known = absurd cc
   go (suc n) known = later_known halves.settled halves.image ∙ sym (known_later n halves.image) ∙ known
 
-pub steady : (event : Event) (own : Events) (by : PageAddressing) → addressed_after own ≡ Some by → addressed_after (event ∷ own) ≡ Some by
-steady (Made step) own by known = fetch_stays (halves_after own) step.reply (in_hand (halves_after own)) refl by known
-steady (Waited time) own by known = known
-steady (Asked number) own by known = known
-steady (Lacked page) own by known = lack_stays (halves_after own) (in_hand (halves_after own)) by known
+pub steady : (request : Request) (event : Event) (own : Events) (by : PageAddressing) → addressed_after request own ≡ Some by → addressed_after request (event ∷ own) ≡ Some by
+steady request (Made step) own by known = fetch_stays (halves_after request own) step.reply (in_hand (halves_after request own)) refl by known
+steady request (Waited time) own by known = known
+steady request (Asked number) own by known = known
+steady request (Lacked page) own by known = lack_stays (halves_after request own) (in_hand (halves_after request own)) by known

@@ -1,8 +1,8 @@
 -- What tells the halves apart that are read of a module, and which they are.
-use Rattle.std.proofs.Common.{◌≡◌, ◌≤◌, ℕ, ◌==◌, ◌&&◌, Bool, true, false, not, List, [], ◌∷◌, length, drop, Option, Some, None, refl, sym, ap, ◌∙◌, inl, inr, if◌then◌else◌, eq-eqb, arith}
-use Rattle.std.proofs.lemmas.Bool.{cases_Bool}
-use Rattle.std.specs.Prelude.{option_map, unwrap_or, unsigned_abs, pos}
-use Rattle.std.specs.List.{list_all}
+use Rattle.std.proofs.Common.{◌≡◌, ◌≤◌, ℕ, ◌==◌, ◌&&◌, Bool, true, false, not, List, [], ◌∷◌, ◌++◌, length, drop, Option, Some, None, refl, sym, ap, ◌∙◌, inl, inr, if◌then◌else◌, eq-eqb}
+use Rattle.std.proofs.lemmas.Bool.{and_parts, cases_Bool, leb-true}
+use Rattle.std.specs.Prelude.{nat_le, option_map, unwrap_or, unsigned_abs, pos}
+use Rattle.std.specs.List.{list_all, slice_get}
 use Rattle.std.specs.FinMap as map
 use Rattle.std.specs.Ordering.{eq_by_cmp, is_eq}
 use Rattle.std.specs.declared.cmp.Ordering.{Ordering}
@@ -23,8 +23,9 @@ use Rattle.field_tables.specs.declared.field.Field.{Field}
 use Rattle.field_tables.specs.declared.field.Field.TheVariants.{CIdentifier, CFlatMemory, QFlatMemory, SAddressChange, SDiagPresent}
 use Rattle.field_tables.specs.FieldValues.{field_key, value_in}
 use Rattle.field_tables.specs.Readings.{bit, number, reading_at}
-use Rattle.module_reading.specs.Regions.{cmis_regions, flat_regions, has_diagnostics, identifier, is_flat, key_of, addressing_in, addressing_of, qsfp_regions, regions_in, regions_of, sfp_regions}
+use Rattle.module_reading.specs.Regions.{and_if, cmis_regions, has_diagnostics, identifier, is_flat, key_of, lower_alone, addressing_in, addressing_of, qsfp_regions, regions_in, regions_of, sfp_regions, wants}
 use Rattle.module_reading.specs.declared.region.Region.{Region}
+use Rattle.module_reading.specs.declared.request.Request.{Request}
 use Rattle.module_reading.specs.declared.region.Region.TheVariants.{Lower, FirstPage, Page}
 
 -- no fetch can be of both
@@ -89,27 +90,56 @@ other_keys a b e = elim (cases_Bool (eq_by_cmp key_cmp (key_of a) (key_of b))) [
   | inr differs ↦ differs
 ]
 
-choose : (b : Bool) (xs ys : List Region) (P : List Region → Type 0) → P xs → P ys → P (if b then xs else ys)
-choose true xs ys P p q = p
-choose false xs ys P p q = q
+-- ---- what holds of each list of halves, by what is wanted
 
--- what holds of each list of halves
-by_lists : (P : List Region → Type 0) → P flat_regions → P (cmis_regions false) → P (qsfp_regions false) → P (sfp_regions true) → P (sfp_regions false) → (memory : Memory) → P (regions_of memory)
-by_lists P flat cmis qsfp sfp other memory = by (managed_by (identifier memory)) where
-  by : (family : Option Family) → P (regions_in family memory)
-  by (Some Cmis) = choose (is_flat memory) _ _ P flat cmis
-  by (Some Sff8636) = choose (bit memory QFlatMemory) _ _ P flat qsfp
-  by (Some Sff8472) = choose (has_diagnostics memory) _ _ P sfp other
-  by None = other
+abbrev all_two : (Bool → Bool) → Bool
+all_two test = test true && test false
 
-pub all_others : (memory : Memory) → all_other (regions_of memory) ≡ true
-all_others = by_lists (λ regions. all_other regions ≡ true) refl refl refl refl refl
+both : (test : Bool → Bool) → all_two test ≡ true → (b : Bool) → test b ≡ true
+both test e true = (and_parts _ _ e).0
+both test e false = (and_parts _ _ e).1
 
-pub begins_lower : (memory : Memory) → regions_of memory ≡ Lower A0 ∷ drop 1 (regions_of memory)
-begins_lower = by_lists (λ regions. regions ≡ Lower A0 ∷ drop 1 regions) refl refl refl refl refl
+two : (test : Bool → Bool → Bool) → all_two (λ a. all_two (test a)) ≡ true → (a b : Bool) → test a b ≡ true
+two test e a b = both (test a) (both (λ a. all_two (test a)) e a) b
 
-pub at_most_five : (memory : Memory) → length (regions_of memory) ≤ 5
-at_most_five = by_lists (λ regions. length regions ≤ 5) (omega arith) (omega arith) (omega arith) (omega arith) (omega arith)
+four : (test : Bool → Bool → Bool → Bool → Bool) → all_two (λ a. all_two (λ b. all_two (λ c. all_two (test a b c)))) ≡ true → (a b c d : Bool) → test a b c d ≡ true
+four test e a b c d = two (test a b) (two (λ a b. all_two (λ c. all_two (test a b c))) e a b) c d
+
+-- the lower half of A0 comes first, no fetch can be of two halves, and there are five at most
+abbrev is_fit : List Region → Bool
+is_fit regions = all_other regions && (not (is_other (Lower A0) (unwrap_or (slice_get regions 0) FirstPage)) && nat_le (length regions) 5)
+
+abbrev paged : Bool → Bool → Bool → Bool → List Region
+paged a b c d = and_if d (Page 0x11) (and_if c (Page 0x02) (and_if b (Page 0x01) (and_if a (Page 0x00) lower_alone)))
+
+all_fit : (request : Request) (memory : Memory) → is_fit (regions_of request memory) ≡ true
+all_fit request memory = by (managed_by (identifier memory)) where
+  choose : (b : Bool) (xs ys : List Region) → is_fit xs ≡ true → is_fit ys ≡ true → is_fit (if b then xs else ys) ≡ true
+  choose true xs ys fit other = fit
+  choose false xs ys fit other = other
+
+  by : (family : Option Family) → is_fit (regions_in request family memory) ≡ true
+  by (Some Cmis) = choose (is_flat memory) _ _ (both (λ a. is_fit (and_if a FirstPage lower_alone)) refl (wants request 0))
+      (four (λ a b c d. is_fit (paged a b c d)) refl (wants request 0) (wants request 1) (wants request 2) (wants request 3))
+  by (Some Sff8636) = choose (bit memory QFlatMemory) _ _ (both (λ a. is_fit (and_if a FirstPage lower_alone)) refl (wants request 4))
+      (two (λ a b. is_fit (and_if b (Page 0x03) (and_if a (Page 0x00) lower_alone))) refl (wants request 4) (wants request 5))
+  by (Some Sff8472) = choose (has_diagnostics memory) _ _ (both (λ a. is_fit (and_if a (Lower A2) lower_alone)) refl (wants request 6)) refl
+  by None = refl
+
+pub all_others : (request : Request) (memory : Memory) → all_other (regions_of request memory) ≡ true
+all_others request memory = (and_parts _ _ (all_fit request memory)).0
+
+pub at_most_five : (request : Request) (memory : Memory) → length (regions_of request memory) ≤ 5
+at_most_five request memory = leb-true _ _ (and_parts _ _ (and_parts _ _ (all_fit request memory)).1).1
+
+pub begins_lower : (request : Request) (memory : Memory) → regions_of request memory ≡ Lower A0 ∷ drop 1 (regions_of request memory)
+begins_lower request memory = by (regions_of request memory) (and_parts _ _ (and_parts _ _ (all_fit request memory)).1).0 where
+  by : (regions : List Region) → not (is_other (Lower A0) (unwrap_or (slice_get regions 0) FirstPage)) ≡ true → regions ≡ Lower A0 ∷ drop 1 regions
+  by [] e = absurd cc
+  by (Lower A0 ∷ rest) e = refl
+  by (Lower A2 ∷ rest) e = absurd cc
+  by (FirstPage ∷ rest) e = absurd cc
+  by (Page page ∷ rest) e = absurd cc
 
 -- two memories that tell the same of which halves are read
 pub record AsksSame (memory other : Memory) : Type 0 where
@@ -119,12 +149,12 @@ pub record AsksSame (memory other : Memory) : Type 0 where
   pub present : number memory SDiagPresent ≡ number other SDiagPresent
   pub changed : number memory SAddressChange ≡ number other SAddressChange
 
-pub same_regions : (memory other : Memory) → AsksSame memory other → regions_of memory ≡ regions_of other
-same_regions memory other asks = ap (λ (id : ℕ). regions_in (managed_by id) memory) asks.identifier ∙ same_in (managed_by (identifier other)) where
-  same_in : (family : Option Family) → regions_in family memory ≡ regions_in family other
-  same_in (Some Cmis) = λ i. cmis_regions (asks.flat i == 1)
-  same_in (Some Sff8636) = λ i. qsfp_regions (asks.qsfp_flat i == 1)
-  same_in (Some Sff8472) = λ i. sfp_regions ((asks.present i == 1) && not (asks.changed i == 1))
+pub same_regions : (request : Request) (memory other : Memory) → AsksSame memory other → regions_of request memory ≡ regions_of request other
+same_regions request memory other asks = ap (λ (id : ℕ). regions_in request (managed_by id) memory) asks.identifier ∙ same_in (managed_by (identifier other)) where
+  same_in : (family : Option Family) → regions_in request family memory ≡ regions_in request family other
+  same_in (Some Cmis) = λ i. cmis_regions request (asks.flat i == 1)
+  same_in (Some Sff8636) = λ i. qsfp_regions request (asks.qsfp_flat i == 1)
+  same_in (Some Sff8472) = λ i. sfp_regions request ((asks.present i == 1) && not (asks.changed i == 1))
   same_in None = refl
 
 pub same_paging : (memory other : Memory) → AsksSame memory other → addressing_of memory ≡ addressing_of other
@@ -156,8 +186,8 @@ no_family = refl
 family_of_nothing : managed_by (identifier map.empty) ≡ None
 family_of_nothing = ap managed_by (number_of_nothing CIdentifier) ∙ no_family
 
-pub asked_of_nothing : regions_of map.empty ≡ Lower A0 ∷ []
-asked_of_nothing = ap (λ (family : Option Family). regions_in family map.empty) family_of_nothing
+pub asked_of_nothing : (request : Request) → regions_of request map.empty ≡ lower_alone
+asked_of_nothing request = ap (λ (family : Option Family). regions_in request family map.empty) family_of_nothing
 
 pub paging_of_nothing : addressing_of map.empty ≡ BankAndPage
 paging_of_nothing = ap addressing_in family_of_nothing

@@ -1,7 +1,8 @@
--- The halves of a module that are read over a bus, those that its reports speak of. (docs/bus.md, "Reading an image";
--- OIF-CMIS-05.0, "Management Memory Map"; SFF-8636, "Memory Map"; SFF-8472, "Memory Organization" and "Diagnostic Monitoring
--- Type")
-use Rattle.std.specs.Prelude.{ℕ, ◌==◌, ◌&&◌, not, nat_lt, Bool, false, List, [], ◌∷◌, Option, Some, None, if◌then◌else◌}
+-- The halves of a module that are read over a bus: the lower one of A0, and those that are requested of the ones that its fields stand
+-- in. (docs/bus.md, "Reading an image"; OIF-CMIS-05.0, "Management Memory Map"; SFF-8636, "Memory Map"; SFF-8472, "Memory Organization"
+-- and "Diagnostic Monitoring Type")
+use Rattle.std.specs.Prelude.{ℕ, ◌==◌, ◌&&◌, not, nat_lt, Bool, false, List, [], ◌∷◌, ◌++◌, Option, Some, None, if◌then◌else◌}
+use Rattle.std.specs.Int.{bit_at}
 use Rattle.bus_model.specs.declared.device.Dev.TheVariants.{A0, A2}
 use Rattle.bus_model.specs.declared.operation.Op.{Op}
 use Rattle.bus_model.specs.declared.operation.Op.TheVariants.{Fetch}
@@ -16,6 +17,7 @@ use Rattle.paged_memory.specs.Keys.{lower_key, upper_key}
 use Rattle.field_tables.specs.declared.field.Field.TheVariants.{CFlatMemory, CIdentifier, QFlatMemory, SAddressChange, SDiagPresent}
 use Rattle.field_tables.specs.Readings.{bit, number}
 use Rattle.module_reading.specs.declared.region.Region.{Region}
+use Rattle.module_reading.specs.declared.request.Request.{Request}
 use Rattle.module_reading.specs.declared.region.Region.TheVariants.{Lower, FirstPage, Page}
 
 abbrev pub operation : Region → Op
@@ -48,32 +50,51 @@ identifier memory = number memory CIdentifier
 abbrev pub is_flat : Memory → Bool
 is_flat memory = number memory CFlatMemory == 1
 
-abbrev pub flat_regions : List Region
-flat_regions = Lower A0 ∷ FirstPage ∷ []
+-- each half that may be requested has a bit
+abbrev pub wants : Request → ℕ → Bool
+wants request number = bit_at request.halves number == 1
 
-abbrev pub cmis_regions : Bool → List Region
-cmis_regions flat = if flat then flat_regions else Lower A0 ∷ Page 0x00 ∷ Page 0x01 ∷ Page 0x02 ∷ Page 0x11 ∷ []
+-- one half more, if it is wanted
+abbrev pub and_if : Bool → Region → List Region → List Region
+and_if wanted region regions = if wanted then regions ++ region ∷ [] else regions
 
-abbrev pub qsfp_regions : Bool → List Region
-qsfp_regions flat = if flat then flat_regions else Lower A0 ∷ Page 0x00 ∷ Page 0x03 ∷ []
+abbrev pub lower_alone : List Region
+lower_alone = Lower A0 ∷ []
 
-abbrev pub sfp_regions : Bool → List Region
-sfp_regions diagnosed = if diagnosed then Lower A0 ∷ Lower A2 ∷ [] else Lower A0 ∷ []
+-- bits 0 to 3
+abbrev pub cmis_regions : Request → Bool → List Region
+cmis_regions request flat =
+    if flat then and_if (wants request 0) FirstPage lower_alone
+    else and_if (wants request 3) (Page 0x11) (and_if (wants request 2) (Page 0x02) (and_if (wants request 1) (Page 0x01) (and_if (wants request 0) (Page 0x00) lower_alone)))
+
+-- bits 4 and 5
+abbrev pub qsfp_regions : Request → Bool → List Region
+qsfp_regions request flat =
+    if flat then and_if (wants request 4) FirstPage lower_alone
+    else and_if (wants request 5) (Page 0x03) (and_if (wants request 4) (Page 0x00) lower_alone)
+
+-- bit 6
+abbrev pub sfp_regions : Request → Bool → List Region
+sfp_regions request diagnosed = if diagnosed then and_if (wants request 6) (Lower A2) lower_alone else lower_alone
+
+-- each bit is 1
+abbrev pub everything : Request
+everything = record { halves = 0x7F }
 
 -- device A2 has diagnostics, and they can be read without an address change
 abbrev pub has_diagnostics : Memory → Bool
 has_diagnostics memory = bit memory SDiagPresent && not (bit memory SAddressChange)
 
 -- of a module of this family
-abbrev pub regions_in : Option Family → Memory → List Region
-regions_in (Some Cmis) memory = cmis_regions (is_flat memory)
-regions_in (Some Sff8636) memory = qsfp_regions (bit memory QFlatMemory)
-regions_in (Some Sff8472) memory = sfp_regions (has_diagnostics memory)
-regions_in None memory = Lower A0 ∷ []
+abbrev pub regions_in : Request → Option Family → Memory → List Region
+regions_in request (Some Cmis) memory = cmis_regions request (is_flat memory)
+regions_in request (Some Sff8636) memory = qsfp_regions request (bit memory QFlatMemory)
+regions_in request (Some Sff8472) memory = sfp_regions request (has_diagnostics memory)
+regions_in request None memory = lower_alone
 
 -- of a module whose lower half of A0 is in memory; that half alone if it isn't, or if its identifier is none that is read
-abbrev pub regions_of : Memory → List Region
-regions_of memory = regions_in (managed_by (identifier memory)) memory
+abbrev pub regions_of : Request → Memory → List Region
+regions_of request memory = regions_in request (managed_by (identifier memory)) memory
 
 -- how the pages of a module of this family are selected
 abbrev pub addressing_in : Option Family → PageAddressing

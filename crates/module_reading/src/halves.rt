@@ -6,14 +6,17 @@ ghost use Rattle.module_reading.specs.Regions.{key_of};
 
 use crate::asked::{addressing, region};
 use crate::region::Region;
+use crate::request::Request;
 use bus_model::Reply;
 use control_sets::MAX_STEPS;
-use conversations::{Conversation, NeedsPages, Next, OnPage, Within};
+use conversations::{Conversation, InPieces, NeedsPages, Next, OnPage, Pausing, Within};
 use paged_memory::{Image, Key, KnownPage, PAGE_LEN, Page, PageAddressing};
 
 /// What was read of a module so far: a conversation that ends when each half was read, or left out since the module lacks it.
 #[derive(Drop)]
 pub struct Halves {
+    /// Which ones are read.
+    pub request: Request,
     /// The halves that were read.
     pub image: Image,
     /// How many were read or left out.
@@ -23,14 +26,19 @@ pub struct Halves {
 /// The reading of a module without a bus: halves on confirmed pages, within as many steps as may be made.
 pub type Reading = Within<OnPage<Halves>>;
 
+/// The same with pauses, over a bus that carries few bytes at once. A pause is no reason to read the pieces of a half again, so the
+/// pieces are within.
+pub type PatientReading = Within<Pausing<InPieces<OnPage<Halves>>>>;
+
 impl Halves {
     ghost use Rattle.conversations.specs.Wanted.{IsReplyTo};
 
-    /// Nothing was read, and no step was made.
-    pub fn reading() -> Reading
-        ensures { result ≡ spec.begun_reading }
+    /// Nothing was read of what is requested, and no step was made.
+    pub fn reading(request: Request) -> Reading
+        ensures { result ≡ spec.begun_reading request }
     {
         let halves = Halves {
+            request,
             image: Image::new(),
             settled: 0,
         };
@@ -47,7 +55,7 @@ impl Halves {
     fn region(&self) -> Option<Region>
         ensures { result ≡ spec.in_hand self.now }
     {
-        region(&self.image, self.settled)
+        region(self.request, &self.image, self.settled)
     }
 
     /// Where an image has the half in hand.
@@ -62,7 +70,8 @@ impl Halves {
 
     fn told(&mut self, reply: &Reply)
         requires { IsReplyTo (spec.wants self.old) reply.now }
-        ensures { self.new ≡ spec.after_reply self.old reply.now }
+        ensures after { self.new ≡ spec.after_reply self.old reply.now }
+        ensures request { self.new.request ≡ self.old.request }
     {
         if let Some(region) = self.region() {
             if let Reply::Bytes(bytes) = reply {
@@ -75,7 +84,8 @@ impl Halves {
     }
 
     fn left_out(&mut self)
-        ensures { self.new ≡ spec.after_lack self.old }
+        ensures after { self.new ≡ spec.after_lack self.old }
+        ensures request { self.new.request ≡ self.old.request }
     {
         if self.region().is_some() {
             self.settled += 1;
@@ -86,11 +96,11 @@ impl Halves {
 impl Conversation for Halves {
     ghost use Rattle.module_reading.specs.ImageReading.{EndsHalves, GoesOnHalves, IsTold, after_reply, wants};
 
-    type Topic = ();
+    type Topic = Request;
 
     type End = ();
 
-    ghost topic = { λ halves. tt };
+    ghost topic = { λ halves. halves.request };
 
     ghost wants = { wants };
 
@@ -98,9 +108,9 @@ impl Conversation for Halves {
 
     ghost told = { λ events halves. IsTold events halves };
 
-    ghost ends = { λ topic events end. EndsHalves events };
+    ghost ends = { λ topic events end. EndsHalves topic events };
 
-    ghost goes_on = { λ topic events. GoesOnHalves events };
+    ghost goes_on = { λ topic events. GoesOnHalves topic events };
 
     fn next(&self) -> Next<()> {
         match self.region() {
@@ -124,11 +134,11 @@ impl NeedsPages for Halves {
 
     ghost page = { λ halves. page_by (in_hand halves) };
 
-    ghost needs = { λ topic events. needed_after events };
+    ghost needs = { λ topic events. needed_after topic events };
 
     ghost addressing = { addressing };
 
-    ghost addressed = { λ topic events. addressed_after events };
+    ghost addressed = { λ topic events. addressed_after topic events };
 
     ghost may_lack = { λ topic. true };
 

@@ -5,5 +5,7 @@ mod asked;
 mod halves;
 pub mod laws;
 mod region;
+mod request;
 
-pub use halves::{Halves, Reading};
+pub use halves::{Halves, PatientReading, Reading};
+pub use request::Request;

@@ -15,6 +15,17 @@ pub enum Region {
     Page(u8),
 }
 
+impl Default for Region {
+    ghost use Rattle.std.specs.Prelude.{◌≡◌};
+    ghost use Rattle.module_reading.specs.declared.region.Region.TheVariants.{FirstPage};
+
+    ghost is_default = { λ region. region ≡ FirstPage };
+
+    fn default() -> Self {
+        Region::FirstPage
+    }
+}
+
 impl Region {
     ghost use Rattle.module_reading.specs.Regions.{key_of, may_lack, operation, page_of};
 

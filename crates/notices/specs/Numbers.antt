@@ -71,6 +71,8 @@ procedure_faults =
     ∷ stands_for 6 (codes "PV6")
     ∷ stands_for 7 (codes "PV7")
     ∷ says 8 (codes "nothing new was done for longer than may be waited: look whether the module answers, and begin again")
+    ∷ says 9 (codes "the module left ModuleReady meanwhile, as after a reset: read it again, and begin again")
+    ∷ says 10 (codes "the module went to ModuleFault meanwhile: look at its flags, and reset it")
     ∷ []
 
 unfoldable pub reasons : List Says

@@ -80,6 +80,8 @@ pub fn procedure_faults() -> &'static [Numbered]
         6 "PV6" "";
         7 "PV7" "";
         8 "" "nothing new was done for longer than may be waited: look whether the module answers, and begin again";
+        9 "" "the module left ModuleReady meanwhile, as after a reset: read it again, and begin again";
+        10 "" "the module went to ModuleFault meanwhile: look at its flags, and reset it";
     }
 }
 

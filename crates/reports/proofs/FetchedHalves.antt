@@ -16,6 +16,7 @@ use Rattle.bus_model.specs.Runs.{IsFull, Ran, Seen}
 use Rattle.bus_model.specs.ScriptedBus.{script_rules, transacted}
 use Rattle.bus_model.proofs.Histories.{AnyPin, found_keeps, may_each}
 use Rattle.bus_model.proofs.ScriptRuns.{all_allow, fetched_at, step_keeps}
+use Rattle.conversations.specs.Selecting.{IsFetch, WasTaken}
 use Rattle.paged_memory.specs.declared.family.Family.{Family}
 use Rattle.paged_memory.specs.declared.family.Family.TheVariants.{Cmis, Sff8636, Sff8472}
 use Rattle.paged_memory.specs.declared.page_addressing.PageAddressing.{PageAddressing}
@@ -38,8 +39,8 @@ use Rattle.field_tables.proofs.PlaceNumbers.{number-bits_up}
 use Rattle.field_tables.proofs.SameValues.{Agree, same_absent, same_number}
 use Rattle.module_decoding.specs.ModuleFamilies.{identifier}
 use Rattle.reports.specs.FetchedImages.{IsFetching}
-use Rattle.module_reading.specs.ReadImages.{IsFetch, IsImageOf, IsLeftOut, IsRead, IsSettled, IsShown, SomeStep, StoresNothing, WasSelected}
-use Rattle.module_reading.specs.Regions.{has_diagnostics, key_of, operation, addressing_in, addressing_of, regions_in, regions_of, sfp_regions}
+use Rattle.module_reading.specs.ReadImages.{IsImageOf, IsLeftOut, IsRead, IsSettled, IsShown, SomeStep, StoresNothing}
+use Rattle.module_reading.specs.Regions.{everything, has_diagnostics, key_of, operation, addressing_in, addressing_of, regions_in, regions_of, sfp_regions}
 use Rattle.module_reading.specs.declared.region.Region.{Region}
 use Rattle.module_reading.specs.declared.region.Region.TheVariants.{Lower, FirstPage, Page}
 use Rattle.module_reading.proofs.RegionLaws.{begins_lower}
@@ -48,27 +49,24 @@ use Rattle.module_reading.proofs.RegionLaws.{begins_lower}
 
 abbrev offset_of : Region → ℕ
 offset_of (Lower dev) = 0
-offset_of FirstPage = 128
-offset_of (Page page) = 128
+offset_of _ = 128
 
 abbrev device_of : Region → Dev
 device_of (Lower dev) = dev
-device_of FirstPage = A0
-device_of (Page page) = A0
+device_of _ = A0
 
 is_fetch : (region : Region) → operation region ≡ Fetch (device_of region) (offset_of region) 128
 is_fetch (Lower dev) = refl
-is_fetch FirstPage = refl
-is_fetch (Page page) = refl
+is_fetch _ = refl
 
 -- before the steps the half was shown, and it was answered with these bytes
 record WasRead (addressing : PageAddressing) (region : Region) (bytes : List ℕ) (state : State) : Type 0 where
   before : History
   may : May state before
-  shown : IsShown addressing region before
+  shown : IsShown false addressing region before
   answer : (window_fetched (found (left state before)) (device_of region) (offset_of region) 128).0 ≡ Some bytes
 
-was_read : (addressing : PageAddressing) (region : Region) (bytes : List ℕ) (state : State) (history : History) → May state history → IsRead addressing region bytes history → WasRead addressing region bytes state
+was_read : (addressing : PageAddressing) (region : Region) (bytes : List ℕ) (state : State) (history : History) → May state history → IsRead false addressing region bytes history → WasRead addressing region bytes state
 was_read addressing region bytes state [] may read = absurd read
 was_read addressing region bytes state (step ∷ before) may (inl now) =
     let there = left state before in
@@ -94,7 +92,7 @@ shows_first memory state [] nothing shows = shows
 shows_first memory state (step ∷ before) nothing shows = shows_next memory 0 (left state before) step nothing.0 (shows_first memory state before nothing.1 shows)
 
 shows_chosen : (memory : Memory) (addressing : PageAddressing) → selecting_on memory A0 ≡ selecting_of addressing → (page : ℕ) (state : State) (history : History) → map.contains_key memory (upper_key A0 0 page) ≡ true → IsOf memory state.1 →
-    May state history → WasSelected addressing page history → Shows memory page (left state history).1
+    May state history → WasTaken addressing page history → Shows memory page (left state history).1
 shows_chosen memory addressing by page state [] has of may selected = absurd selected
 shows_chosen memory addressing by page state (step ∷ before) has of may (inl accepted) =
     let there = left state before in
@@ -147,7 +145,7 @@ module _ (memory copy : Memory) (addressing : PageAddressing) (state : State) (i
   agrees_read FirstPage bytes by read held = same_page 0 (left state read.before) bytes (shows_first memory state read.before read.shown shows_start) read.answer held
   agrees_read (Page page) bytes by read held = same_page page (left state read.before) bytes (shows_confirmed memory addressing by page state read.before sound_start read.may read.shown) read.answer held
 
-  lacks_step : (page : ℕ) → selecting_on memory A0 ≡ selecting_of addressing → 0 < page → (step : Step) (before : History) → May state (step ∷ before) → IsTrue (reads_back addressing 0 step) → WasSelected addressing page before →
+  lacks_step : (page : ℕ) → selecting_on memory A0 ≡ selecting_of addressing → 0 < page → (step : Step) (before : History) → May state (step ∷ before) → IsTrue (reads_back addressing 0 step) → WasTaken addressing page before →
       map.contains_key memory (upper_key A0 0 page) ≡ true → ⊥
   lacks_step page by above step before may reads selected has =
       let there = left state before in
@@ -156,12 +154,12 @@ module _ (memory copy : Memory) (addressing : PageAddressing) (state : State) (i
       omega (arith, above, zeroth.number, chosen.number)
 
   lacks : (page : ℕ) → selecting_on memory A0 ≡ selecting_of addressing → 0 < page → (history : History) → May state history →
-      SomeStep (λ step before. IsTrue (reads_back addressing 0 step) × WasSelected addressing page before) history → map.contains_key memory (upper_key A0 0 page) ≡ true → ⊥
+      SomeStep (λ step before. IsTrue (reads_back addressing 0 step) × WasTaken addressing page before) history → map.contains_key memory (upper_key A0 0 page) ≡ true → ⊥
   lacks page by above [] may out = absurd out
   lacks page by above (step ∷ before) may (inl now) = lacks_step page by above step before may now.0 now.1
   lacks page by above (step ∷ before) may (inr earlier) = lacks page by above before may.1 earlier
 
-  agrees_out : (region : Region) (history : History) → SelectsBy memory addressing region → May state history → IsLeftOut addressing region history → map.get copy (key_of region) ≡ None → Agree copy memory (key_of region)
+  agrees_out : (region : Region) (history : History) → SelectsBy memory addressing region → May state history → IsLeftOut false addressing region history → map.get copy (key_of region) ≡ None → Agree copy memory (key_of region)
   agrees_out (Lower dev) history by may out held = absurd out
   agrees_out FirstPage history by may out held = absurd out
   agrees_out (Page page) history by may out held =
@@ -170,7 +168,7 @@ module _ (memory copy : Memory) (addressing : PageAddressing) (state : State) (i
       ap (option_map (take 128)) (held ∙ sym none)
 
   agrees_by : (region : Region) (history : History) (half : Option (List ℕ)) → SelectsBy memory addressing region → May state history → map.get copy (key_of region) ≡ half →
-      MatchOption half (IsLeftOut addressing region history) (λ bytes. IsRead addressing region bytes history) → Agree copy memory (key_of region)
+      MatchOption half (IsLeftOut false addressing region history) (λ bytes. IsRead false addressing region bytes history) → Agree copy memory (key_of region)
   agrees_by region history None by may held out = agrees_out region history by may out held
   agrees_by region history (Some bytes) by may held read = agrees_read region bytes by (was_read addressing region bytes state history may read) held
 
@@ -190,15 +188,12 @@ identifier_is memory half image has =
 abbrev asks_pages : Option Family → Bool
 asks_pages (Some Cmis) = true
 asks_pages (Some Sff8636) = true
-asks_pages (Some Sff8472) = false
-asks_pages None = false
+asks_pages _ = false
 
 -- and it selects pages as it is asked to
 selecting_right : (family : Option Family) → asks_pages family ≡ true → selecting_in family ≡ selecting_of (addressing_in family)
-selecting_right (Some Cmis) asks = refl
-selecting_right (Some Sff8636) asks = refl
 selecting_right (Some Sff8472) asks = absurd cc
-selecting_right None asks = refl
+selecting_right _ asks = refl
 
 selecting_is : (memory : Memory) (half : List ℕ) → map.get memory (lower_key A0) ≡ Some half → selecting_on memory A0 ≡ selecting_by (slice_index half 0)
 selecting_is memory half has = ap (λ (bytes : Option (List ℕ)). unwrap_or (option_map selecting_by (option_map (λ bytes. slice_index bytes 0) bytes)) (Some BankAndPage)) has
@@ -207,7 +202,7 @@ selecting_is memory half has = ap (λ (bytes : Option (List ℕ)). unwrap_or (op
 
 -- the halves that are asked for agree, and the lower half is there
 pub record HalvesAgree (copy memory : Memory) : Type 0 where
-  pub agree : AllByRecursion (λ region. Agree copy memory (key_of region)) (regions_of copy)
+  pub agree : AllByRecursion (λ region. Agree copy memory (key_of region)) (regions_of everything copy)
   pub present : is_absent copy (lower_key A0) ≡ false
 
 present_by : (half : Option (List ℕ)) (L : Type 0) (R : List ℕ → Type 0) → MatchOption half L R → (L → ⊥) → is_some half ≡ true
@@ -218,22 +213,22 @@ half_of : (half : Option (List ℕ)) → not (is_some half) ≡ false → (bytes
 half_of None e = absurd cc
 half_of (Some bytes) e = (bytes, refl)
 
-lowers_alone : (family : Option Family) (copy : Memory) → asks_pages family ≡ false → regions_in family copy ≡ sfp_regions (is_family Sff8472 family && has_diagnostics copy)
+lowers_alone : (family : Option Family) (copy : Memory) → asks_pages family ≡ false → regions_in everything family copy ≡ sfp_regions everything (is_family Sff8472 family && has_diagnostics copy)
 lowers_alone (Some Cmis) copy none = absurd cc
 lowers_alone (Some Sff8636) copy none = absurd cc
 lowers_alone (Some Sff8472) copy none = refl
 lowers_alone None copy none = refl
 
 module _ (memory copy : Memory) (state : State) (history : History) (image : IsImage memory) (start : state.1 ≡ started memory) (may : May state history) where
-  agrees_settled : (region : Region) → SelectsBy memory (addressing_of copy) region → IsSettled history copy region → Agree copy memory (key_of region)
+  agrees_settled : (region : Region) → SelectsBy memory (addressing_of copy) region → IsSettled false history copy region → Agree copy memory (key_of region)
   agrees_settled region by settled =
       agrees_by memory copy (addressing_of copy) state image start region history (map.get copy (key_of region)) by may refl settled
 
-  agree_all : (regions : List Region) → ((region : Region) → SelectsBy memory (addressing_of copy) region) → AllByRecursion (IsSettled history copy) regions → AllByRecursion (λ region. Agree copy memory (key_of region)) regions
+  agree_all : (regions : List Region) → ((region : Region) → SelectsBy memory (addressing_of copy) region) → AllByRecursion (IsSettled false history copy) regions → AllByRecursion (λ region. Agree copy memory (key_of region)) regions
   agree_all [] by settled = tt
   agree_all (region ∷ regions) by settled = (agrees_settled region (by region) settled.0, agree_all regions by settled.1)
 
-  agree_lowers : (diagnosed : Bool) → AllByRecursion (IsSettled history copy) (sfp_regions diagnosed) → AllByRecursion (λ region. Agree copy memory (key_of region)) (sfp_regions diagnosed)
+  agree_lowers : (diagnosed : Bool) → AllByRecursion (IsSettled false history copy) (sfp_regions everything diagnosed) → AllByRecursion (λ region. Agree copy memory (key_of region)) (sfp_regions everything diagnosed)
   agree_lowers true settled = (agrees_settled (Lower A0) tt settled.0, (agrees_settled (Lower A2) tt settled.1.0, tt))
   agree_lowers false settled = (agrees_settled (Lower A0) tt settled.0, tt)
 
@@ -248,20 +243,20 @@ module _ (memory copy : Memory) (state : State) (history : History) (image : IsI
       let id : identifier copy ≡ slice_index half 0 = same_number copy memory CIdentifier low refl refl ∙ identifier_is memory half image has in
       selecting_is memory half has ∙ ap selecting_by (sym id) ∙ selecting_right (managed_by (identifier copy)) paged
 
-  halves_agree : IsImageOf history copy → HalvesAgree copy memory
+  halves_agree : IsImageOf false everything history copy → HalvesAgree copy memory
   halves_agree is =
       let each = is.each in
-      let first : IsSettled history copy (Lower A0) = (subst (AllByRecursion (IsSettled history copy)) (begins_lower copy) each).0 in
+      let first : IsSettled false history copy (Lower A0) = (subst (AllByRecursion (IsSettled false history copy)) (begins_lower everything copy) each).0 in
       let low : Agree copy memory (lower_key A0) = agrees_settled (Lower A0) tt first in
-      let present : is_absent copy (lower_key A0) ≡ false = ap not (present_by (map.get copy (lower_key A0)) ⊥ (λ bytes. IsRead (addressing_of copy) (Lower A0) bytes history) first (λ none. none)) in
+      let present : is_absent copy (lower_key A0) ≡ false = ap not (present_by (map.get copy (lower_key A0)) ⊥ (λ bytes. IsRead false (addressing_of copy) (Lower A0) bytes history) first (λ none. none)) in
       let there : is_absent memory (lower_key A0) ≡ false = sym (same_absent copy memory (lower_key A0) low) ∙ present in
-      let all : AllByRecursion (λ region. Agree copy memory (key_of region)) (regions_of copy) =
+      let all : AllByRecursion (λ region. Agree copy memory (key_of region)) (regions_of everything copy) =
       elim (cases_Bool (asks_pages (managed_by (identifier copy)))) [
-        | inl paged ↦ agree_all (regions_of copy) (selects_all (same_selecting low there paged)) each
+        | inl paged ↦ agree_all (regions_of everything copy) (selects_all (same_selecting low there paged)) each
         | inr other ↦
             let regions = lowers_alone (managed_by (identifier copy)) copy other in
             let diagnosed = is_family Sff8472 (managed_by (identifier copy)) && has_diagnostics copy in
-            subst (AllByRecursion (λ region. Agree copy memory (key_of region))) (sym regions) (agree_lowers diagnosed (subst (AllByRecursion (IsSettled history copy)) regions each))
+            subst (AllByRecursion (λ region. Agree copy memory (key_of region))) (sym regions) (agree_lowers diagnosed (subst (AllByRecursion (IsSettled false history copy)) regions each))
       ] in
       record { agree = all; present = present }
 

@@ -1,12 +1,11 @@
 -- Memories that agree in the halves of their family advertise the same.
-use Rattle.std.proofs.Common.{◌≡◌, ℕ, zero, suc, ◌+◌, ◌-◌, ◌≤◌, Bool, true, false, ◌∷◌, ◌++◌, Option, Some, None, map, refl, sym, ap, subst, if◌then◌else◌, nat_le, arith}
+use Rattle.std.proofs.Common.{◌≡◌, ℕ, ◌+◌, ◌-◌, ◌≤◌, Bool, true, false, ◌++◌, Option, Some, None, map, refl, sym, ap, subst, if◌then◌else◌, nat_le, arith}
 use Rattle.std.proofs.lemmas.Bool.{not-false}
 use Rattle.std.proofs.lemmas.Bool.Decides.{nat_tests}
 use Rattle.std.specs.Prelude.{option_map, take_while, unsigned_abs}
-use Rattle.std.specs.List.{range_with_len}
 use Rattle.bus_model.specs.declared.device.Dev.TheVariants.{A0}
 use Rattle.paged_memory.specs.declared.family.Family.{Family}
-use Rattle.paged_memory.specs.declared.family.Family.TheVariants.{Cmis, Sff8636, Sff8472}
+use Rattle.paged_memory.specs.declared.family.Family.TheVariants.{Cmis}
 use Rattle.paged_memory.specs.Families.{family_by, is_family, is_of}
 use Rattle.paged_memory.specs.declared.key.Key.{Key}
 use Rattle.paged_memory.specs.Images.{Memory}
@@ -31,6 +30,7 @@ use Rattle.module_decoding.specs.CmisPages.{is_flat}
 use Rattle.module_decoding.specs.ModuleFamilies.{identifier}
 use Rattle.reports.specs.SameReports.{IsSame}
 use Rattle.reports.proofs.SameFamilies.{CmisAgree, FamilyAgrees, is_managed, none_applies, none_mapped}
+use Rattle.reports.proofs.SameRows.{numbered_same}
 
 -- a field of so many numbers in this half
 abbrev IsOfHalf : Field → Key → ℕ → Type 0
@@ -38,9 +38,7 @@ IsOfHalf field key count = (field_key field ≡ key) × ((is_selection field ≡
 
 is_cmis : (family : Option Family) → is_family Cmis family ≡ true → family ≡ Some Cmis
 is_cmis (Some Cmis) e = refl
-is_cmis (Some Sff8636) e = absurd cc
-is_cmis (Some Sff8472) e = absurd cc
-is_cmis None e = absurd cc
+is_cmis _ e = absurd cc
 
 -- a paged CMIS module
 pub record IsPaged (a : Memory) : Type 0 where
@@ -87,16 +85,9 @@ module _ (a b : Memory) (agree : CmisAgree a b) (second : Agree a b (upper_key A
         media_starts = lanes_in (media_starts i);
       }
 
-  same_apps_from : (first count : ℕ) → 1 ≤ first → first + count ≤ 16 → map (app_at a) (range_with_len first count) ≡ map (app_at b) (range_with_len first count)
-  same_apps_from first zero from to = refl
-  same_apps_from first (suc count) from to =
-      let here = same_app first from (omega (arith, to)) in
-      let later = same_apps_from (first + 1) count (omega (arith, from)) (omega (arith, to)) in
-      λ i. here i ∷ later i
-
   pub same_apps_of : apps_of a ≡ apps_of b
   unfolding apps_of
-  same_apps_of = ap (take_while is_listed) (same_apps_from 1 15 (omega arith) (omega arith))
+  same_apps_of = ap (take_while is_listed) (numbered_same (app_at a) (app_at b) 1 15 (λ n from to. same_app n from (omega (arith, to))))
 
   pub same_advertised : advertised_by a ≡ advertised_by b
   same_advertised =

@@ -1,6 +1,6 @@
 -- Memories that agree in halves have the same of each row of details that reads of these halves alone, which a test of rows tells.
-use Rattle.std.proofs.Common.{◌≡◌, inl, inr, ℕ, zero, suc, ◌≤◌, ◌∙◌, sym, ◌+◌, ◌-◌, ◌*◌, ◌^◌, ◌==◌, ◌&&◌, ◌||◌, Bool, true, false, List, [], ◌∷◌, ◌++◌, Option, Some, None, refl, ap, if◌then◌else◌, nat_le, arith}
-use Rattle.std.proofs.lemmas.Bool.{and_parts, not-true, or_cases, true≢false, leb-true}
+use Rattle.std.proofs.Common.{◌≡◌, ℕ, zero, suc, ◌≤◌, ◌∙◌, ◌+◌, ◌-◌, ◌*◌, ◌^◌, ◌==◌, ◌&&◌, ◌||◌, Bool, true, false, List, [], ◌∷◌, ◌++◌, Option, Some, None, refl, ap, if◌then◌else◌, nat_le, arith}
+use Rattle.std.proofs.lemmas.Bool.{and_parts, not-true, leb-true}
 use Rattle.std.specs.Prelude.{ℤ, pos, not, nat_lt, unsigned_abs, is_none, is_some}
 use Rattle.std.specs.List.{AllByRecursion, flat_map, list_all, list_any, range_with_len}
 use Rattle.paged_memory.specs.declared.key.Key.{Key}
@@ -35,7 +35,7 @@ use Rattle.report_entries.specs.Facts.{Fact}
 use Rattle.report_entries.specs.PrintedUnits.{printed_in}
 use Rattle.report_entries.specs.declared.fact.Place.TheVariants.{Module, Lane}
 use Rattle.report_entries.specs.declared.printed_unit.PrintedUnit.TheVariants as units
-use Rattle.reports.proofs.SameRows.{agree_among, is_among}
+use Rattle.reports.proofs.SameRows.{agree_among, each_same, is_among}
 
 -- ---- the test
 
@@ -133,11 +133,14 @@ module _ (a b : Memory) (keys : List Key) (all : AllByRecursion (λ key. Agree a
       (λ j. millis_of (times a (steps j) power) (unit_of field))
       ∙ ap (λ (steps : ℤ). millis_of steps (unit_of field)) (times_same (readings.reading_at b field i) power counts)
 
-  length_same : (base power : Field) → value_in keys base 1 ≡ true → value_in keys power 1 ≡ true → length_in a base power ≡ length_in b base power
-  length_same base power e f =
-      let size = number_same base 1 e in
-      let tens = number_same power 1 f in
-      λ i. pos (size i * 100 * 10 ^ tens i)
+  -- what is made of two values
+  numbers_same : {A : Type 0} (f : ℕ → ℕ → A) (field other : Field) (i j : ℕ) → (value_in keys field i && value_in keys other j) ≡ true
+      → f (readings.number_at a field i) (readings.number_at a other j) ≡ f (readings.number_at b field i) (readings.number_at b other j)
+  numbers_same f field other i j e =
+      let parts = and_parts (value_in keys field i) (value_in keys other j) e in
+      let one = number_same field i parts.0 in
+      let two = number_same other j parts.1 in
+      λ k. f (one k) (two k)
 
   -- the names of the first values
   names_from : (table : Table) (field : Field) (code : ℕ) → field_in keys field ≡ true → (first count : ℕ) → 1 ≤ first → first + count ≤ (row_of field).count + 1 →
@@ -251,11 +254,7 @@ module _ (a b : Memory) (keys : List Key) (all : AllByRecursion (λ key. Agree a
   fact_same (Names table field first) i e = ap names_fact (names_same table field first e)
   fact_same (Number field more) i e = ap (λ (n : ℕ). Some (facts.number (n + more))) (number_same field i e)
   fact_same (Revision field) i e = ap (λ (n : ℕ). Some (facts.revision n)) (number_same field i e)
-  fact_same (Version field) i e =
-      let parts = and_parts (value_in keys field i) (value_in keys field (i + 1)) e in
-      let major = number_same field i parts.0 in
-      let minor = number_same field (i + 1) parts.1 in
-      λ j. Some (facts.version (major j) (minor j))
+  fact_same (Version field) i e = numbers_same (λ major minor. Some (facts.version major minor)) field field i (i + 1) e
   fact_same (Text field) i e = ap text_fact (same_text a b field (agree_among a b keys all (text_key field) e))
   fact_same (Oui field) i e = ap (λ (bytes : List ℕ). Some (facts.oui bytes)) (same_numbers a b field (field_agrees field e) (field_other field e))
   fact_same (Amount field power) i e =
@@ -263,14 +262,8 @@ module _ (a b : Memory) (keys : List Key) (all : AllByRecursion (λ key. Agree a
       ap (λ (z : ℤ). Some (facts.amount z (printed_in (unit_of field)))) (amount_same field power i parts.0 parts.1)
   fact_same (Steps field step unit) i e = ap (λ (z : ℤ). Some (steps_fact z step unit)) (reading_same field i e)
   fact_same (StepsIfAny field step unit) i e = ap (λ (z : ℤ). if_any (is_positive z) (steps_fact z step unit)) (reading_same field i e)
-  fact_same (PairIfAny field step unit) i e =
-      let parts = and_parts (value_in keys field i) (value_in keys field (i + 1)) e in
-      let high = number_same field i parts.0 in
-      let low = number_same field (i + 1) parts.1 in
-      λ j. pair_fact (pair (high j) (low j)) step unit
-  fact_same (TenthsIfAny base power unit) i e =
-      let parts = and_parts (value_in keys base 1) (value_in keys power 1) e in
-      ap (λ (z : ℤ). amount_fact z unit) (length_same base power parts.0 parts.1)
+  fact_same (PairIfAny field step unit) i e = numbers_same (λ high low. pair_fact (pair high low) step unit) field field i (i + 1) e
+  fact_same (TenthsIfAny base power unit) i e = numbers_same (λ size tens. amount_fact (pos (size * 100 * 10 ^ tens)) unit) base power 1 1 e
   fact_same (Celsius field) i e = ap (λ (n : ℕ). Some (celsius_fact n)) (number_same field i e)
   fact_same (Percent field) i e = ap (λ (z : ℤ). Some (percent_fact z)) (reading_same field i e)
   fact_same (Temperature field) i e = ap (λ (z : ℤ). Some (temperature_fact z)) (reading_same field i e)
@@ -283,16 +276,8 @@ module _ (a b : Memory) (keys : List Key) (all : AllByRecursion (λ key. Agree a
   fact_same (ModuleState field) i e = ap (λ (n : ℕ). Some (facts.module_state n)) (number_same field i e)
   fact_same (PathState field) i e = ap (λ (n : ℕ). Some (facts.path_state n)) (number_same field i e)
   fact_same (ConfigStatus field) i e = ap (λ (n : ℕ). Some (facts.config_status n)) (number_same field i e)
-  fact_same (FirstLane apps paths) i e =
-      let parts = and_parts (value_in keys apps i) (value_in keys paths i) e in
-      let app = number_same apps i parts.0 in
-      let path = number_same paths i parts.1 in
-      λ j. first_lane_fact (app j) (path j)
-  fact_same (BitRate rate more) i e =
-      let parts = and_parts (value_in keys rate 1) (value_in keys more 1) e in
-      let slow = number_same rate 1 parts.0 in
-      let fast = number_same more 1 parts.1 in
-      λ j. bit_rate_fact (bit_rate (slow j) (fast j))
+  fact_same (FirstLane apps paths) i e = numbers_same first_lane_fact apps paths i i e
+  fact_same (BitRate rate more) i e = numbers_same (λ slow fast. bit_rate_fact (bit_rate slow fast)) rate more 1 1 e
   fact_same PowerClass i e = ap (λ (n : ℕ). Some (facts.number n)) (class_same e)
   fact_same ClassPower i e = ap (λ (n : ℕ). Some (facts.amount (pos n) units.Watt)) (power_same e)
 
@@ -305,12 +290,7 @@ module _ (a b : Memory) (keys : List Key) (all : AllByRecursion (λ key. Agree a
 
   lanes_same : (name : List ℕ) (item : Item) (lanes : List ℕ) → list_all (item_in keys item) lanes ≡ true → value_in keys CIdentifier 1 ≡ true
       → flat_map (lane_entries a name item) lanes ≡ flat_map (lane_entries b name item) lanes
-  lanes_same name item [] e id = refl
-  lanes_same name item (lane ∷ lanes) e id =
-      let parts = and_parts (item_in keys item lane) (list_all (item_in keys item) lanes) e in
-      let here = lane_same name item lane parts.0 id in
-      let later = lanes_same name item lanes parts.1 id in
-      λ i. here i ++ later i
+  lanes_same name item lanes e id = each_same (lane_entries a name item) (lane_entries b name item) (item_in keys item) (λ lane e. lane_same name item lane e id) lanes e
 
   values_same : (name : List ℕ) (item : Item) (values : Values) → values_in keys item values ≡ true → values_entries a name item values ≡ values_entries b name item values
   values_same name item (One i) e = ap (λ (f : Option Fact). fact_entries name Module f) (fact_same item i e)
@@ -321,16 +301,8 @@ module _ (a b : Memory) (keys : List Key) (all : AllByRecursion (λ key. Agree a
   applies_same : (case : Case) → case_in keys case ≡ true → applies a case ≡ applies b case
   applies_same (Within field i low high) e = ap (λ (n : ℕ). is_within low high n) (number_same field i e)
   applies_same (Outside field i low high) e = ap (λ (n : ℕ). not (is_within low high n)) (number_same field i e)
-  applies_same (Neither field i j) e =
-      let parts = and_parts (value_in keys field i) (value_in keys field j) e in
-      let one = bit_same field i parts.0 in
-      let other = bit_same field j parts.1 in
-      λ k. not (one k || other k)
-  applies_same (LacksSince field i since first) e =
-      let parts = and_parts (value_in keys field i) (value_in keys since 1) e in
-      let set = bit_same field i parts.0 in
-      let number = number_same since 1 parts.1 in
-      λ k. not (set k) && nat_le first (number k)
+  applies_same (Neither field i j) e = numbers_same (λ one other. not (one == 1 || other == 1)) field field i j e
+  applies_same (LacksSince field i since first) e = numbers_same (λ set number. not (set == 1) && nat_le first number) field since i 1 e
 
   any_same : (cases : List Case) → list_all (case_in keys) cases ≡ true → list_any (applies a) cases ≡ list_any (applies b) cases
   any_same [] e = refl
@@ -340,26 +312,17 @@ module _ (a b : Memory) (keys : List Key) (all : AllByRecursion (λ key. Agree a
       let later = any_same cases parts.1 in
       λ i. here i || later i
 
-  unless : (absent : Bool) (s t : Bool) (u v : List Entry) → (absent ≡ false → (s ≡ t) × (u ≡ v)) → (if absent || s then [] else u) ≡ (if absent || t then [] else v)
-  unless true s t u v same = refl
-  unless false s t u v same = let both = same refl in let test = both.0 in let said = both.1 in λ i. if test i then [] else said i
+  unless : (absent reads : Bool) (s t : Bool) (u v : List Entry) → (absent || reads) ≡ true → (reads ≡ true → (s ≡ t) × (u ≡ v)) → (if absent || s then [] else u) ≡ (if absent || t then [] else v)
+  unless true reads s t u v e same = refl
+  unless false reads s t u v e same = let (test, said) = same e in λ i. if test i then [] else said i
 
   row_same : (flat : Bool) (row : Row) → detail_in flat keys row ≡ true → row_entries a flat row ≡ row_entries b flat row
   unfolding row_entries
   row_same flat row e =
-      unless (row.paged && flat) (list_any (applies a) row.cases) (list_any (applies b) row.cases)
-      (values_entries a row.name row.item row.values) (values_entries b row.name row.item row.values) (λ shown.
-      elim (or_cases (row.paged && flat) (list_all (case_in keys) row.cases && values_in keys row.item row.values) e) [
-        | inl absent ↦ absurd (true≢false (sym absent ∙ shown))
-        | inr reads ↦
-            let parts = and_parts (list_all (case_in keys) row.cases) (values_in keys row.item row.values) reads in
-            (any_same row.cases parts.0, values_same row.name row.item row.values parts.1)
-      ])
+      unless (row.paged && flat) (list_all (case_in keys) row.cases && values_in keys row.item row.values) (list_any (applies a) row.cases) (list_any (applies b) row.cases)
+      (values_entries a row.name row.item row.values) (values_entries b row.name row.item row.values) e (λ reads.
+      let parts = and_parts (list_all (case_in keys) row.cases) (values_in keys row.item row.values) reads in
+      (any_same row.cases parts.0, values_same row.name row.item row.values parts.1))
 
   pub details_same : (flat : Bool) (rows : List Row) → list_all (detail_in flat keys) rows ≡ true → rows_entries a flat rows ≡ rows_entries b flat rows
-  details_same flat [] e = refl
-  details_same flat (row ∷ rows) e =
-      let parts = and_parts (detail_in flat keys row) (list_all (detail_in flat keys) rows) e in
-      let here = row_same flat row parts.0 in
-      let later = details_same flat rows parts.1 in
-      λ i. here i ++ later i
+  details_same flat rows e = each_same (row_entries a flat) (row_entries b flat) (detail_in flat keys) (row_same flat) rows e

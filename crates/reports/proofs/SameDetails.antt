@@ -1,6 +1,6 @@
 -- Memories that agree in the halves of their family have the same details.
 use Rattle.std.proofs.Common.{◌≡◌, ◌++◌, ◌∷◌, [], ◌&&◌, ◌==◌, ℕ, Bool, true, false, List, Option, None, Some, refl, ap, ◌∙◌, if◌then◌else◌}
-use Rattle.std.proofs.lemmas.Bool.{and_parts, not-false}
+use Rattle.std.proofs.lemmas.Bool.{not-false}
 use Rattle.std.specs.Prelude.{not}
 use Rattle.std.specs.List.{AllByRecursion, list_all}
 use Rattle.std.specs.Option.{option_or}
@@ -15,6 +15,7 @@ use Rattle.field_tables.specs.Readings.{bit}
 use Rattle.field_tables.proofs.SameValues.{Agree, same_absent, same_number}
 use Rattle.module_decoding.specs.CmisPages.{absent_page, is_flat}
 use Rattle.module_details.specs.CmisDetails as cmis
+use Rattle.module_details.specs.Details.{rows_entries}
 use Rattle.module_details.specs.Families.{cmis_entries, lacks_diagnostics, qsfp_entries, sfp_entries, tables_entries}
 use Rattle.module_details.specs.QsfpDetails as qsfp
 use Rattle.module_details.specs.Rows.{Row}
@@ -28,6 +29,7 @@ use Rattle.reports.proofs.SameDetailApps.{same_apps_said}
 use Rattle.reports.proofs.SameDetailRows.{detail_in, details_same}
 use Rattle.reports.proofs.SameFamilies.{CmisAgree, FamilyAgrees, QsfpAgree, SfpAgree, by_detail_family, same_flat, same_pages}
 use Rattle.reports.proofs.SameInventories.{same_qsfp_fault, same_sfp_fault}
+use Rattle.reports.proofs.SameRows.{each_same}
 
 -- ---- tables
 
@@ -36,12 +38,7 @@ tables_in flat keys tables = list_all (λ rows. list_all (detail_in flat keys) r
 
 tables_same : (a b : Memory) (keys : List Key) → AllByRecursion (λ key. Agree a b key) keys → (flat : Bool) (tables : List (List Row)) → tables_in flat keys tables ≡ true
     → tables_entries a flat tables ≡ tables_entries b flat tables
-tables_same a b keys all flat [] e = refl
-tables_same a b keys all flat (rows ∷ tables) e =
-    let parts = and_parts (list_all (detail_in flat keys) rows) (tables_in flat keys tables) e in
-    let here = details_same a b keys all flat rows parts.0 in
-    let later = tables_same a b keys all flat tables parts.1 in
-    λ i. here i ++ later i
+tables_same a b keys all flat tables e = each_same (rows_entries a flat) (rows_entries b flat) (λ rows. list_all (detail_in flat keys) rows) (details_same a b keys all flat) tables e
 
 -- of modules that are both flat, or neither
 tables_by_flat : (a b : Memory) (tables : List (List Row)) (f g : Bool) → f ≡ g → ((flat : Bool) → f ≡ flat → tables_entries a flat tables ≡ tables_entries b flat tables)

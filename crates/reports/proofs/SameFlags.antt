@@ -1,5 +1,5 @@
 -- Memories that agree in the halves of their family warn of the same.
-use Rattle.std.proofs.Common.{◌≡◌, Bool, true, false, List, [], ◌∷◌, ◌++◌, None, map, refl, ap, ◌∙◌}
+use Rattle.std.proofs.Common.{◌≡◌, Bool, true, false, List, [], ◌∷◌, ◌++◌, None, drop, map, refl, ap, ◌∙◌}
 use Rattle.bus_model.specs.declared.device.Dev.TheVariants.{A0, A2}
 use Rattle.paged_memory.specs.declared.family.Family.TheVariants.{Cmis, Sff8636, Sff8472}
 use Rattle.paged_memory.specs.Images.{Memory}
@@ -22,7 +22,7 @@ use Rattle.report_entries.specs.Rows.{rows_entries}
 use Rattle.reports.specs.SameReports.{IsSame}
 use Rattle.reports.specs.FlagsByFamily.{entries_in, fault_in, flags_entries, flags_fault, flags_told, told_in}
 use Rattle.reports.proofs.SameFamilies.{CmisAgree, FamilyAgrees, QsfpAgree, SfpAgree, by_family, no_sff, none_applies, same_flat, same_unless_flat}
-use Rattle.reports.proofs.SameMonitors.{are_diagnosed, same_qsfp_module}
+use Rattle.reports.proofs.SameMonitors.{agree_diagnosed, are_diagnosed, same_qsfp_module}
 
 -- ---- of a CMIS module
 
@@ -72,20 +72,7 @@ module _ (a b : Memory) (agree : SfpAgree a b) where
   same_flags_fault : sfp_refusals.flags_fault a ≡ sfp_refusals.flags_fault b
   unfolding sfp_refusals.flags_fault
   same_flags_fault =
-      same_refusal a b sfp_refusals.flags_reasons refl (
-        agree.low,
-        λ here. (
-          agree.low,
-          λ of. (
-            agree.low,
-            λ present. (
-              agree.low,
-              λ unchanged.
-                  (agree.diagnostics (are_diagnosed a present unchanged), λ there. tt),
-            ),
-          ),
-        ),
-      )
+      same_refusal a b sfp_refusals.flags_reasons refl (agree_diagnosed a b agree (drop 4 sfp_refusals.flags_reasons) (λ has. (agree.diagnostics has, λ there. tt)))
 
   diagnosed : sfp_refusals.flags_fault a ≡ None → has_diagnostics a ≡ true
   unfolding sfp_refusals.flags_fault

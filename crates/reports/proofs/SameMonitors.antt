@@ -1,5 +1,5 @@
 -- Memories that agree in the halves of their family measure the same.
-use Rattle.std.proofs.Common.{◌≡◌, Bool, true, false, [], ◌∷◌, None, map, refl, sym, ap}
+use Rattle.std.proofs.Common.{◌≡◌, Bool, true, false, List, [], ◌∷◌, ◌++◌, None, drop, map, refl, sym, ap}
 use Rattle.std.proofs.lemmas.Bool.{and_from, not-false}
 use Rattle.std.specs.Prelude.{not}
 use Rattle.std.specs.Option.{option_or}
@@ -9,8 +9,9 @@ use Rattle.paged_memory.specs.Images.{Memory}
 use Rattle.paged_memory.specs.Keys.{lower_key, upper_key}
 use Rattle.field_tables.specs.declared.field.Field.TheVariants as fields
 use Rattle.field_tables.specs.Readings.{bit}
-use Rattle.field_tables.specs.Reasons.{judged}
-use Rattle.field_tables.proofs.SameRefusals.{same_refusal}
+use Rattle.field_tables.specs.declared.sff_fault.SffFault.{SffFault}
+use Rattle.field_tables.specs.Reasons.{Reason, judged}
+use Rattle.field_tables.proofs.SameRefusals.{AgreeInTurn, same_refusal}
 use Rattle.field_tables.proofs.SameValues.{Agree}
 use Rattle.sff8472_map.specs.Refusals as sfp_refusals
 use Rattle.sff8636_map.specs.Refusals as qsfp_refusals
@@ -85,26 +86,15 @@ are_diagnosed a present unchanged =
     and_from (bit a fields.SDiagPresent) (not (bit a fields.SAddressChange)) (not-false (bit a fields.SDiagPresent) present) (ap not unchanged)
 
 module _ (a b : Memory) (agree : SfpAgree a b) where
+  -- the halves agree that are looked at in turn until diagnostics are found, and for what comes then
+  pub agree_diagnosed : (later : List (Reason SffFault)) → (has_diagnostics a ≡ true → AgreeInTurn a b later) → AgreeInTurn a b (sfp_refusals.diagnostics_reasons ++ later)
+  agree_diagnosed later after = (agree.low, λ here. (agree.low, λ of. (agree.low, λ present. (agree.low, λ unchanged. after (are_diagnosed a present unchanged)))))
+
   same_measured_fault : sfp_refusals.measured_fault a ≡ sfp_refusals.measured_fault b
   unfolding sfp_refusals.measured_fault
   same_measured_fault =
-      same_refusal a b sfp_refusals.measured_reasons refl (
-        agree.low,
-        λ here. (
-          agree.low,
-          λ of. (
-            agree.low,
-            λ present. (
-              agree.low,
-              λ unchanged. (
-                agree.low,
-                λ internal.
-                    (agree.diagnostics (are_diagnosed a present unchanged), λ there. tt),
-              ),
-            ),
-          ),
-        ),
-      )
+      same_refusal a b sfp_refusals.measured_reasons refl
+      (agree_diagnosed (drop 4 sfp_refusals.measured_reasons) (λ has. (agree.low, λ internal. (agree.diagnostics has, λ there. tt))))
 
   diagnosed : sfp_refusals.measured_fault a ≡ None → has_diagnostics a ≡ true
   unfolding sfp_refusals.measured_fault

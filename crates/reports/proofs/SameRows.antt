@@ -1,9 +1,9 @@
 -- Memories that agree in halves have the same of each row that reads of these halves alone, which a test of rows tells.
-use Rattle.std.proofs.Common.{◌≡◌, inl, inr, ℕ, zero, suc, ◌≤◌, ◌∙◌, sym, ◌+◌, ◌*◌, ◌^◌, ◌==◌, ◌&&◌, ◌||◌, Bool, true, false, List, [], ◌∷◌, ◌++◌, map, Option, Some, None, refl, ap, subst, if◌then◌else◌, nat_le, arith}
-use Rattle.std.proofs.lemmas.Bool.{and_parts, false≢true, not-true, or_cases, true≢false}
+use Rattle.std.proofs.Common.{◌≡◌, inl, inr, ℕ, zero, suc, ◌<◌, ◌≤◌, ◌∙◌, sym, ◌+◌, ◌*◌, ◌^◌, ◌==◌, ◌&&◌, ◌||◌, Bool, true, false, List, [], ◌∷◌, ◌++◌, map, Option, Some, None, refl, ap, subst, if◌then◌else◌, nat_le, arith}
+use Rattle.std.proofs.lemmas.Bool.{and_parts, false≢true, not-true, or_cases}
 use Rattle.std.proofs.lemmas.Bool.Decides.{nat_tests}
 use Rattle.std.specs.Prelude.{ℤ, pos, ◌*ℤ◌, not, unsigned_abs}
-use Rattle.std.specs.List.{AllByRecursion, list_all, list_any, range_with_len}
+use Rattle.std.specs.List.{AllByRecursion, flat_map, list_all, list_any, range_with_len}
 use Rattle.std.specs.Ordering.{eq_by_cmp}
 use Rattle.paged_memory.specs.declared.key.Key.{Key}
 use Rattle.paged_memory.specs.Images.{Memory}
@@ -18,11 +18,35 @@ use Rattle.field_tables.specs.Texts.{text_key}
 use Rattle.field_tables.specs.Units.{millis_of}
 use Rattle.field_tables.proofs.SameValues.{Agree, is_selection, same_number, same_numbers, same_reading_at, same_sum_right, same_text}
 use Rattle.module_decoding.specs.Amounts.{amount_at, limit_amounts, times, unit_of}
-use Rattle.report_entries.specs.Entries.{Entry, entry, word, right, number, code, revision, text, oui, amount, lanes, limits, state, lane_states}
+use Rattle.report_entries.specs.Entries.{entry, word, right, number, code, revision, text, oui, amount, lanes, limits, state, lane_states}
 use Rattle.report_entries.specs.declared.entry.LaneState.{LaneState}
 use Rattle.report_entries.specs.declared.printed_unit.PrintedUnit.TheVariants.{Metre}
 use Rattle.report_entries.specs.Rows.{Row, Source, Instead, Word, Either, Code, Revision, Next, Text, Oui, Right, Amount, Length, Lanes, Limits, State, LaneStates, Nothing, Says, applies, decided_entries, deciding, lane_state_at, printed_unit, row_entries, rows_entries, source_said}
 use Rattle.module_reading.proofs.RegionLaws.{keys_are}
+
+-- ---- lists of which each part is the same
+
+-- what is said of each row, where that is the same of those that pass a test
+pub each_same : {R E : Type 0} (f g : R → List E) (test : R → Bool) → ((row : R) → test row ≡ true → f row ≡ g row) → (rows : List R) → list_all test rows ≡ true → flat_map f rows ≡ flat_map g rows
+each_same f g test same [] e = refl
+each_same f g test same (row ∷ rows) e =
+    let parts = and_parts (test row) (list_all test rows) e in
+    let here = same row parts.0 in
+    let later = each_same f g test same rows parts.1 in
+    λ i. here i ++ later i
+
+-- and of a row that is left out, or reads of these halves alone
+pub unless_left_out : {E : Type 0} (absent reads : Bool) (u v : List E) → (absent || reads) ≡ true → (reads ≡ true → u ≡ v) → (if absent then [] else u) ≡ (if absent then [] else v)
+unless_left_out true reads u v e same = refl
+unless_left_out false reads u v e same = same e
+
+-- what is so of each number from one on
+pub numbered_same : {A : Type 0} (f g : ℕ → A) (first count : ℕ) → ((i : ℕ) → first ≤ i → i < first + count → f i ≡ g i) → map f (range_with_len first count) ≡ map g (range_with_len first count)
+numbered_same f g first zero same = refl
+numbered_same f g first (suc count) same =
+    let here = same first (omega arith) (omega arith) in
+    let later = numbered_same f g (first + 1) count (λ i from to. same i (omega (arith, from)) (omega (arith, to))) in
+    λ i. here i ∷ later i
 
 -- ---- the test
 
@@ -99,14 +123,6 @@ module _ (a b : Memory) (keys : List Key) (all : AllByRecursion (λ key. Agree a
       (λ j. millis_of (times a (steps j) power) (unit_of field))
       ∙ ap (λ (steps : ℤ). millis_of steps (unit_of field)) (times_same (readings.reading_at b field i) power counts)
 
-  amounts_same : (field : Field) (power : Option Field) → field_in keys 1 field ≡ true → power_in keys power ≡ true → (first count : ℕ) → 1 ≤ first → first + count ≤ (row_of field).count + 1 →
-      map (amount_at a field power) (range_with_len first count) ≡ map (amount_at b field power) (range_with_len first count)
-  amounts_same field power e counts first zero from to = refl
-  amounts_same field power e counts first (suc count) from to =
-      let here = amount_same field power 1 first e counts from (omega (arith, to)) in
-      let later = amounts_same field power e counts (first + 1) count (omega (arith, from)) (omega (arith, to)) in
-      λ i. here i ∷ later i
-
   limits_same : (field : Field) (power : Option Field) → field_in keys 4 field ≡ true → power_in keys power ≡ true → limit_amounts a field power ≡ limit_amounts b field power
   limits_same field power e counts =
       let counted = field_counted field 4 e in
@@ -124,14 +140,11 @@ module _ (a b : Memory) (keys : List Key) (all : AllByRecursion (λ key. Agree a
       let many : n ≤ (row_of field).count = grind (arith, nat_tests) in
       ap unsigned_abs (same_reading_at a b field i (field_agrees field n e) (field_other field n e) first (omega (arith, last, many)))
 
-  lane_states_same : (paths statuses : Field) → field_in keys 8 paths ≡ true → field_in keys 8 statuses ≡ true → (first count : ℕ) → 1 ≤ first → first + count ≤ 9 →
-      map (lane_state_at a paths statuses) (range_with_len first count) ≡ map (lane_state_at b paths statuses) (range_with_len first count)
-  lane_states_same paths statuses p s first zero from to = refl
-  lane_states_same paths statuses p s first (suc count) from to =
-      let path = number_at_same paths 8 first p from (omega (arith, to)) in
-      let status = number_at_same statuses 8 first s from (omega (arith, to)) in
-      let later = lane_states_same paths statuses p s (first + 1) count (omega (arith, from)) (omega (arith, to)) in
-      λ i. (record { path = path i; status = status i }) ∷ later i
+  lane_state_same : (paths statuses : Field) (lane : ℕ) → field_in keys 8 paths ≡ true → field_in keys 8 statuses ≡ true → 1 ≤ lane → lane ≤ 8 → lane_state_at a paths statuses lane ≡ lane_state_at b paths statuses lane
+  lane_state_same paths statuses lane p s from to =
+      let path = number_at_same paths 8 lane p from to in
+      let status = number_at_same statuses 8 lane s from to in
+      λ i. record { path = path i; status = status i }
 
   source_same : (s : Source) → source_in keys s ≡ true → source_said a s ≡ source_said b s
   unfolding source_said
@@ -153,14 +166,16 @@ module _ (a b : Memory) (keys : List Key) (all : AllByRecursion (λ key. Agree a
       λ i. amount (pos (of i * 100 * 10 ^ tens i)) Metre
   source_same (Lanes field power) e =
       let parts = and_parts (field_in keys 1 field) (power_in keys power) e in
-      ap (λ (values : List ℤ). lanes values (printed_unit field)) (amounts_same field power parts.0 parts.1 1 (row_of field).count (omega arith) (omega arith))
+      ap (λ (values : List ℤ). lanes values (printed_unit field))
+      (numbered_same (amount_at a field power) (amount_at b field power) 1 (row_of field).count (λ i from to. amount_same field power 1 i parts.0 parts.1 from (omega (arith, to))))
   source_same (Limits field power) e =
       let parts = and_parts (field_in keys 4 field) (power_in keys power) e in
       ap (λ (levels : PerLimit ℤ). limits levels (printed_unit field)) (limits_same field power parts.0 parts.1)
   source_same (State field) e = ap (λ (n : ℕ). state n) (number_same field e)
   source_same (LaneStates paths statuses) e =
       let parts = and_parts (field_in keys 8 paths) (field_in keys 8 statuses) e in
-      ap (λ (states : List LaneState). lane_states states) (lane_states_same paths statuses parts.0 parts.1 1 8 (omega arith) (omega arith))
+      ap (λ (states : List LaneState). lane_states states)
+      (numbered_same (lane_state_at a paths statuses) (lane_state_at b paths statuses) 1 8 (λ lane from to. lane_state_same paths statuses lane parts.0 parts.1 from (omega (arith, to))))
 
   applies_same : (case : Instead) → instead_in keys case ≡ true → applies a case ≡ applies b case
   applies_same (Nothing field n) e = ap (λ (m : ℕ). m == n) (number_same field e)
@@ -179,10 +194,6 @@ module _ (a b : Memory) (keys : List Key) (all : AllByRecursion (λ key. Agree a
   decided_same row (Some (Nothing field n)) e = refl
   decided_same row (Some (Says field n w)) e = refl
 
-  unless : (absent : Bool) (u v : List Entry) → (absent ≡ false → u ≡ v) → (if absent then [] else u) ≡ (if absent then [] else v)
-  unless true u v same = refl
-  unless false u v same = same refl
-
   read_same : (row : Row) → (list_all (instead_in keys) row.instead && source_in keys row.source) ≡ true → decided_entries a row (deciding a row.instead) ≡ decided_entries b row (deciding b row.instead)
   read_same row e =
       let parts = and_parts (list_all (instead_in keys) row.instead) (source_in keys row.source) e in
@@ -191,19 +202,11 @@ module _ (a b : Memory) (keys : List Key) (all : AllByRecursion (λ key. Agree a
   row_same : (flat : Bool) (row : Row) → row_in flat keys row ≡ true → row_entries a flat row ≡ row_entries b flat row
   unfolding row_entries
   row_same flat row e =
-      unless (row.paged && flat) (decided_entries a row (deciding a row.instead)) (decided_entries b row (deciding b row.instead)) (λ shown.
-      elim (or_cases (row.paged && flat) (list_all (instead_in keys) row.instead && source_in keys row.source) e) [
-        | inl absent ↦ absurd (true≢false (sym absent ∙ shown))
-        | inr reads ↦ read_same row reads
-      ])
+      unless_left_out (row.paged && flat) (list_all (instead_in keys) row.instead && source_in keys row.source)
+      (decided_entries a row (deciding a row.instead)) (decided_entries b row (deciding b row.instead)) e (read_same row)
 
   pub rows_same : (flat : Bool) (rows : List Row) → list_all (row_in flat keys) rows ≡ true → rows_entries a flat rows ≡ rows_entries b flat rows
-  rows_same flat [] e = refl
-  rows_same flat (row ∷ rows) e =
-      let parts = and_parts (row_in flat keys row) (list_all (row_in flat keys) rows) e in
-      let here = row_same flat row parts.0 in
-      let later = rows_same flat rows parts.1 in
-      λ i. here i ++ later i
+  rows_same flat rows e = each_same (row_entries a flat) (row_entries b flat) (row_in flat keys) (row_same flat) rows e
 
 -- of modules that are both flat, or neither
 pub by_flat : (a b : Memory) (rows : List Row) (f g : Bool) → f ≡ g → ((flat : Bool) → f ≡ flat → rows_entries a flat rows ≡ rows_entries b flat rows) → rows_entries a f rows ≡ rows_entries b g rows

@@ -89,7 +89,7 @@ lane_key_text name lane small = ap (λ (digits : List ℕ). name ++ (codes "-lan
 
 abbrev values_keys : List ℕ → Values → List (List ℕ)
 values_keys name (One i) = key_text name Module ∷ []
-values_keys name (Lanes n) = map (lane_key name) (range_with_len 1 n)
+values_keys name (Lanes n) = flat_map (λ lane. lane_key name lane ∷ []) (range_with_len 1 n)
 
 abbrev are_small : Values → Bool
 are_small (One i) = true
@@ -107,18 +107,28 @@ tables_keys tables = flat_map rows_keys tables
 abbrev keys_of : List Entry → List (List ℕ)
 keys_of entries = map entry_key entries
 
--- of two lists of entries
-both_parts : (xs ys : List Entry) (ks ls : List (List ℕ)) → Part (keys_of xs) ks → Part (keys_of ys) ls → Part (keys_of (xs ++ ys)) (ks ++ ls)
-both_parts xs ys ks ls p q = subst (λ (keys : List (List ℕ)). Part keys (ks ++ ls)) (sym (map-append entry_key xs ys)) (part_append (keys_of xs) ks (keys_of ys) ls p q)
+-- of entries that are told of each of some things
+each_part : {X : Type 0} (f : X → List Entry) (keys : X → List (List ℕ)) (small : X → Bool) → ((x : X) → small x ≡ true → Part (keys_of (f x)) (keys x)) → (xs : List X) → list_all small xs ≡ true
+    → Part (keys_of (flat_map f xs)) (flat_map keys xs)
+each_part f keys small part [] e = tt
+each_part f keys small part (x ∷ xs) e =
+    let both = and_parts (small x) (list_all small xs) e in
+    let whole = part_append (keys_of (f x)) (keys x) (keys_of (flat_map f xs)) (flat_map keys xs) (part x both.0) (each_part f keys small part xs both.1) in
+    subst (λ (ks : List (List ℕ)). Part ks (keys x ++ flat_map keys xs)) (sym (map-append entry_key (f x) (flat_map f xs))) whole
+
+-- and of entries that may be left out
+if_part : (has : Bool) (entries : List Entry) (ks : List (List ℕ)) → Part (keys_of entries) ks → Part (keys_of (if has then entries else [])) ks
+if_part true entries ks p = p
+if_part false entries ks p = tt
+
+unless_part : (absent : Bool) (entries : List Entry) (ks : List (List ℕ)) → Part (keys_of entries) ks → Part (keys_of (if absent then [] else entries)) ks
+unless_part true entries ks p = tt
+unless_part false entries ks p = p
 
 fact_part : (name : List ℕ) (place : Place) (found : Option Fact) → Part (keys_of (fact_entries name place found)) (key_text name place ∷ [])
 unfolding fact_entries entry
 fact_part name place None = tt
 fact_part name place (Some f) = inl (refl, tt)
-
-if_part : (has : Bool) (entries : List Entry) (ks : List (List ℕ)) → Part (keys_of entries) ks → Part (keys_of (if has then entries else [])) ks
-if_part true entries ks p = p
-if_part false entries ks p = tt
 
 lane_part : (memory : Memory) (name : List ℕ) (item : Item) (lane : ℕ) → lane < 10 → Part (keys_of (lane_entries memory name item lane)) (lane_key name lane ∷ [])
 unfolding lane_entries
@@ -127,21 +137,10 @@ lane_part memory name item lane small =
     if_part (has_lane memory lane) said (lane_key name lane ∷ [])
     (subst (λ (key : List ℕ). Part (keys_of said) (key ∷ [])) (lane_key_text name lane small) (fact_part name (Lane lane) (fact_at memory item lane)))
 
-lanes_part : (memory : Memory) (name : List ℕ) (item : Item) (lanes : List ℕ) → list_all (λ (lane : ℕ). nat_lt lane 10) lanes ≡ true
-    → Part (keys_of (flat_map (lane_entries memory name item) lanes)) (map (lane_key name) lanes)
-lanes_part memory name item [] e = tt
-lanes_part memory name item (lane ∷ lanes) e =
-    let both = and_parts (nat_lt lane 10) (list_all (λ (l : ℕ). nat_lt l 10) lanes) e in
-    both_parts (lane_entries memory name item lane) (flat_map (lane_entries memory name item) lanes) (lane_key name lane ∷ []) (map (lane_key name) lanes)
-    (lane_part memory name item lane (ltb-true lane 10 both.0)) (lanes_part memory name item lanes both.1)
-
 values_part : (memory : Memory) (name : List ℕ) (item : Item) (values : Values) → are_small values ≡ true → Part (keys_of (values_entries memory name item values)) (values_keys name values)
 values_part memory name item (One i) e = fact_part name Module (fact_at memory item i)
-values_part memory name item (Lanes n) e = lanes_part memory name item (range_with_len 1 n) e
-
-unless_part : (absent : Bool) (entries : List Entry) (ks : List (List ℕ)) → Part (keys_of entries) ks → Part (keys_of (if absent then [] else entries)) ks
-unless_part true entries ks p = tt
-unless_part false entries ks p = p
+values_part memory name item (Lanes n) e =
+    each_part (lane_entries memory name item) (λ lane. lane_key name lane ∷ []) (λ lane. nat_lt lane 10) (λ lane small. lane_part memory name item lane (ltb-true lane 10 small)) (range_with_len 1 n) e
 
 row_part : (memory : Memory) (flat : Bool) (row : Row) → are_small row.values ≡ true → Part (keys_of (row_entries memory flat row)) (row_keys row)
 unfolding row_entries
@@ -154,52 +153,32 @@ rows_small rows = list_all (λ (row : Row). are_small row.values) rows
 abbrev tables_small : List (List Row) → Bool
 tables_small tables = list_all rows_small tables
 
-rows_part : (memory : Memory) (flat : Bool) (rows : List Row) → rows_small rows ≡ true → Part (keys_of (rows_entries memory flat rows)) (rows_keys rows)
-rows_part memory flat [] e = tt
-rows_part memory flat (row ∷ rows) e =
-    let both = and_parts (are_small row.values) (rows_small rows) e in
-    both_parts (row_entries memory flat row) (rows_entries memory flat rows) (row_keys row) (rows_keys rows) (row_part memory flat row both.0) (rows_part memory flat rows both.1)
-
 tables_part : (memory : Memory) (flat : Bool) (tables : List (List Row)) → tables_small tables ≡ true → Part (keys_of (tables_entries memory flat tables)) (tables_keys tables)
-tables_part memory flat [] e = tt
-tables_part memory flat (rows ∷ tables) e =
-    let both = and_parts (rows_small rows) (tables_small tables) e in
-    both_parts (rows_entries memory flat rows) (tables_entries memory flat tables) (rows_keys rows) (tables_keys tables) (rows_part memory flat rows both.0) (tables_part memory flat tables both.1)
+tables_part memory flat tables e =
+    each_part (rows_entries memory flat) rows_keys rows_small (each_part (row_entries memory flat) row_keys (λ row. are_small row.values) (row_part memory flat)) tables e
 
 -- ---- of each family
 
-unique : (tables : List (List Row)) → tables_small tables ≡ true → are_new (tables_keys tables) ≡ true → (memory : Memory) (flat : Bool) → HaveUniqueKeys (tables_entries memory flat tables)
-unique tables small new memory flat =
+abbrev are_unique : List (List Row) → Bool
+are_unique tables = tables_small tables && are_new (tables_keys tables)
+
+unique : (tables : List (List Row)) → are_unique tables ≡ true → (memory : Memory) (flat : Bool) → HaveUniqueKeys (tables_entries memory flat tables)
+unique tables passes memory flat =
+    let (small, new) = and_parts (tables_small tables) (are_new (tables_keys tables)) passes in
     AllPairs-from_IsDistinct bytes_decides (keys_of (tables_entries memory flat tables))
     (part_distinct (keys_of (tables_entries memory flat tables)) (tables_keys tables) (tables_part memory flat tables small) (distinct (tables_keys tables) new))
 
-cmis_new : are_new (tables_keys cmis.tables_of_rows) ≡ true
+cmis_unique : are_unique cmis.tables_of_rows ≡ true
 unfolding key_text cmis.identity_rows cmis.characteristics_rows cmis.controls_rows cmis.status_rows cmis.lanes_rows
-cmis_new = refl
+cmis_unique = refl
 
-qsfp_new : are_new (tables_keys qsfp.tables_of_rows) ≡ true
+qsfp_unique : are_unique qsfp.tables_of_rows ≡ true
 unfolding key_text qsfp.identity_rows qsfp.compliance_rows qsfp.options_rows qsfp.status_rows
-qsfp_new = refl
+qsfp_unique = refl
 
-sfp_new : are_new (tables_keys sfp.tables_of_rows) ≡ true
+sfp_unique : are_unique sfp.tables_of_rows ≡ true
 unfolding key_text sfp.identity_rows sfp.compliance_rows sfp.options_rows sfp.status_rows sfp.calibrated_rows
-sfp_new = refl
-
-cmis_small : tables_small cmis.tables_of_rows ≡ true
-unfolding cmis.identity_rows cmis.characteristics_rows cmis.controls_rows cmis.status_rows cmis.lanes_rows
-cmis_small = refl
-
-qsfp_small : tables_small qsfp.tables_of_rows ≡ true
-unfolding qsfp.identity_rows qsfp.compliance_rows qsfp.options_rows qsfp.status_rows
-qsfp_small = refl
-
-sfp_small : tables_small sfp.tables_of_rows ≡ true
-unfolding sfp.identity_rows sfp.compliance_rows sfp.options_rows sfp.status_rows sfp.calibrated_rows
-sfp_small = refl
+sfp_unique = refl
 
 pub details_have_unique_keys : DetailsHaveUniqueKeys
-details_have_unique_keys = record {
-  cmis = unique cmis.tables_of_rows cmis_small cmis_new;
-  qsfp = unique qsfp.tables_of_rows qsfp_small qsfp_new;
-  sfp = unique sfp.tables_of_rows sfp_small sfp_new;
-}
+details_have_unique_keys = record { cmis = unique cmis.tables_of_rows cmis_unique; qsfp = unique qsfp.tables_of_rows qsfp_unique; sfp = unique sfp.tables_of_rows sfp_unique }

@@ -6,7 +6,7 @@ ghost use Rattle.reports.specs.FetchedImages.{IsFetching};
 use crate::fault::ReportFault;
 use bus_model::Bus;
 use conversations::run;
-use module_reading::Halves;
+use module_reading::{Halves, Request};
 use paged_memory::Image;
 
 /// Reads over a bus the halves of a module that its reports speak of, whatever the bus refuses on the way.
@@ -14,7 +14,7 @@ pub fn fetch_image<B: Bus>(bus: &mut B) -> Result<Image, ReportFault>
     ensures { MakesHistory B.rules (B.seen bus.old) (B.seen bus.new) (λ history.
         IsFetching (IsFull (B.seen bus.new)) history result) }
 {
-    let mut reading = Halves::reading();
+    let mut reading = Halves::reading(Request::everything());
     match run(bus, &mut reading) {
         Ok(spent) => match spent.end {
             Some(()) => Ok(reading.conversation.conversation.image),

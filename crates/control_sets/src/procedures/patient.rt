@@ -4,15 +4,17 @@ ghost use Rattle.plan_certificate.specs.Plans.{IsAdmissible, Keeps};
 ghost use Rattle.control_sets.specs.ControlBytes.{control_bytes};
 ghost use Rattle.control_sets.specs.PlanLanes.{lanes_outside, plan_lanes};
 ghost use Rattle.control_sets.specs.declared.procedures.procedure.Work.TheVariants.{Activation, Provisioning};
-ghost use Rattle.control_sets.specs.PatientProcedures.{IsPatientChange, IsPatientWork, answer_in_time};
+ghost use Rattle.control_sets.specs.PatientProcedures.{IsPatientChange, IsPatientWork, answer_in_time, answer_watched, left_by};
 ghost use Rattle.conversations.specs.Carried.{MakesEvents};
 
 use crate::fault::ProvisionFault;
 use crate::plan_bytes::{bytes_of, lanes_of, lanes_outside};
 use crate::procedures::power::{Power, PowerChange};
-use crate::procedures::procedure::{TaskList, Work};
+use crate::procedures::procedure::{MAX_STEPS, TaskList, Work};
+use crate::procedures::watching::Watched;
 use applications::Advert;
-use conversations::{Patience, Spent, Timed, TimedBus, run};
+use conversations::{Patience, Spent, Timed, TimedBus, Within, run};
+use module_states::{ModuleState, state_of};
 use plan_certificate::Plan;
 
 /// Why a procedure on a real bus failed.
@@ -22,6 +24,10 @@ pub enum PatientFault<F> {
     Failed(ProvisionFault),
     /// It was out of patience.
     Overdue,
+    /// The module left ModuleReady meanwhile, as after a reset, and was in the state with this code.
+    Reset(u8),
+    /// The module was in ModuleFault meanwhile.
+    Faulty,
     /// The bus failed.
     Stopped(F),
 }
@@ -86,10 +92,38 @@ fn carry_out_on<B: TimedBus>(
 ) -> Result<u16, PatientFault<B::Fault>>
     ensures { MakesEvents B.makes B.passes bus.old (λ last events. IsPatientWork patience work (last ≡ bus.new) (λ fault. B.fails last fault bus.new) events result) }
 {
-    let mut procedure = TaskList::patient(work, patience);
+    let mut procedure = Within::new(TaskList::watchful(work, patience), MAX_WITH_LOOKS);
     match run(bus, &mut procedure) {
-        Ok(spent) => answer_in_time(spent),
+        Ok(spent) => answer_watched(spent.end),
         Err(fault) => Err(PatientFault::Stopped(fault)),
+    }
+}
+
+// Each of its own steps may come after a look.
+const MAX_WITH_LOOKS: u16 = 2 * MAX_STEPS + 1;
+
+fn answer_watched<F>(
+    end: Option<Watched<Spent<Timed<Option<ProvisionFault>>>>>,
+) -> Result<u16, PatientFault<F>>
+    ensures { result ≡ answer_watched end }
+{
+    match end {
+        Some(Watched::InOrder(spent)) => answer_in_time(spent),
+        Some(Watched::Left(fault)) => Err(left_by(fault)),
+        None => Err(PatientFault::Failed(ProvisionFault::GaveUp)),
+    }
+}
+
+// What is said of a module whose state shows this fault.
+fn left_by<F>(fault: ProvisionFault) -> PatientFault<F>
+    ensures { result ≡ left_by fault }
+{
+    match fault {
+        ProvisionFault::ModuleState(code) => match state_of(code) {
+            Ok(ModuleState::Fault) => PatientFault::Faulty,
+            _ => PatientFault::Reset(code),
+        },
+        fault => PatientFault::Failed(fault),
     }
 }
 

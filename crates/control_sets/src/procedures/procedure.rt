@@ -7,6 +7,7 @@ use crate::control_set::ControlSet;
 use crate::fault::ProvisionFault;
 use crate::procedures::judgement::ReplyJudgement;
 use crate::procedures::task::Task;
+use crate::procedures::watching::{Look, Watching};
 use bus_model::Reply;
 use conversations::{Conversation, NeedsPages, Next, OnPage, Patience, Pausing, Within};
 use field_tables::LaneSet;
@@ -81,11 +82,15 @@ pub type Procedure = Within<OnPage<TaskList>>;
 /// The same for a real bus: it pauses, ends if it does that for too long, and doubts the selection of a page after a refusal.
 pub type PatientProcedure = Within<Pausing<OnPage<TaskList>>>;
 
+/// The same, which also looks after each wait whether the module is still in ModuleReady.
+pub type WatchfulProcedure = Watching<PatientProcedure>;
+
 impl TaskList {
     ghost use Rattle.std.specs.Prelude.{None, false};
     ghost use Rattle.conversations.specs.Wanted.{IsReplyTo};
     ghost use Rattle.paged_memory.specs.declared.page_addressing.KnownPage.TheVariants.{Unknown};
     ghost use Rattle.control_sets.specs.Progress.{after_reply, hand, list_at, on_page_of, patient_of, procedure_of, wants};
+    ghost use Rattle.control_sets.specs.PatientProcedures.{watchful_of};
 
     /// Brings the work about, within as many steps as a procedure may make.
     pub fn of(work: Work) -> Procedure
@@ -100,6 +105,17 @@ impl TaskList {
     {
         let pausing = Pausing::new(TaskList::begun(work, true), patience);
         Within::new(pausing, MAX_STEPS)
+    }
+
+    /// The same, which looks at the module's state after each wait.
+    pub fn watchful(work: Work, patience: Patience) -> WatchfulProcedure
+        ensures { result ≡ watchful_of (patient_of (list_at work (0, None)) Unknown patience false 0 0) }
+    {
+        Watching {
+            conversation: TaskList::patient(work, patience),
+            watches: true,
+            look: Look::Seen,
+        }
     }
 
     fn begun(work: Work, doubts: bool) -> OnPage<TaskList>

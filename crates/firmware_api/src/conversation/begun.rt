@@ -11,14 +11,16 @@ use crate::patience::Patience;
 use arrayvec::ArrayVec;
 use control_sets::{MAX_STEPS, Power, PowerChange, TaskList, Work};
 use conversations::{InPieces, OnPage, Pausing, Within};
-use module_reading::Halves;
+use module_reading::{Halves, Request};
 use paged_memory::{Image, KnownPage};
 
 pub fn put_tasks(work: Work, patience: &Patience, conversation: &mut SavedConversation)
-    ensures { (halves : List HalfBytes) → IsSavedAt (Bringing work (doubts patience.now)) (given patience.now) [] conversation.new halves }
+    ensures { (halves : List HalfBytes) → IsSavedAt (Bringing work (doubts patience.now) (doubts patience.now)) (given patience.now) [] conversation.new halves }
 {
-    let mut procedure = TaskList::patient(work, patience.given());
-    procedure.conversation.conversation.doubts = patience.doubts();
+    let mut procedure = TaskList::watchful(work, patience.given());
+    let careful = patience.doubts();
+    procedure.conversation.conversation.conversation.doubts = careful;
+    procedure.watches = careful;
     numbers::put_tasks(&procedure, conversation);
 }
 
@@ -29,13 +31,19 @@ pub fn put_power(power: Power, patience: &Patience, conversation: &mut SavedConv
     numbers::put_power(&change, conversation);
 }
 
-/// Nothing was read; a piece has so many bytes.
-pub fn put_reading(piece: u8, patience: &Patience, conversation: &mut SavedConversation)
+/// Nothing was read of what is requested; a piece has so many bytes.
+pub fn put_reading(
+    request: Request,
+    piece: u8,
+    patience: &Patience,
+    conversation: &mut SavedConversation,
+)
     requires { 0 < piece }
-    ensures begun { (halves : List HalfBytes) → IsSavedAt (Fetching piece (doubts patience.now)) (given patience.now) [] conversation.new halves }
+    ensures begun { (halves : List HalfBytes) → IsSavedAt (Fetching request piece (doubts patience.now)) (given patience.now) [] conversation.new halves }
     ensures halves { conversation.new.halves ≡ 0 }
 {
     let halves = Halves {
+        request,
         image: Image::new(),
         settled: 0,
     };

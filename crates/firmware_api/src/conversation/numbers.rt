@@ -6,6 +6,7 @@ ghost use Rattle.conversations.specs.Events.{Events, made};
 ghost use Rattle.conversations.specs.Wanted.{IsReplyTo};
 ghost use Rattle.control_sets.specs.OutcomeAnswers.{most_steps};
 ghost use Rattle.control_sets.specs.SavedNumbers.{due_numbered, selected_numbered};
+ghost use Rattle.control_sets.specs.SavedPower.{can_stop};
 ghost use Rattle.firmware_api.specs.declared.half.HalfBytes.{HalfBytes};
 ghost use Rattle.firmware_api.specs.declared.kept.Kept.TheVariants as kinds;
 ghost use Rattle.firmware_api.specs.KeptConversations.{InHand, Patient, WasTold, after, next_of};
@@ -14,14 +15,15 @@ ghost use Rattle.firmware_api.specs.SavedConversations.{HasInFront, conversation
 
 use super::whole_half::half_by;
 use crate::half::{HalfBytes, all_have_places, image_of};
-use crate::kept::{Kept, PieceReading};
+use crate::kept::Kept;
 use arrayvec::ArrayVec;
 use bus_model::Reply;
 use control_sets::{
-    MAX_STEPS, PatientPower, PatientProcedure, PowerChange, SavedFault, SavedProcedure, TaskList,
+    Look, MAX_STEPS, PatientPower, PatientProcedure, PowerChange, ProvisionFault, SavedFault,
+    SavedProcedure, TaskList, WatchfulProcedure, Watching,
 };
 use conversations::{InPieces, OnPage, Pausing, Within};
-use module_reading::Halves;
+use module_reading::{Halves, PatientReading, Request};
 use paged_memory::{KnownPage, PAGE_LEN};
 
 /// What stands in each conversation, so that other memory is not taken for one: `DCC1`.
@@ -38,8 +40,8 @@ pub const MAX_READ: usize = 5;
 #[derive(Clone, Copy)]
 pub struct SavedConversation {
     pub magic: u32,
-    /// What a procedure is saved as. Of a reading, how many halves were read or left out, the steps, the selection, the page, and how
-    /// patient it is and was.
+    /// What a procedure is saved as. Of a reading, which halves are requested (in place of lanes), how many were read or left out, the
+    /// steps, the selection, the page, and how patient it is and was.
     pub saved: SavedProcedure,
     /// 1 if nothing is known of the page selection after a refusal, else 0.
     pub doubts: u8,
@@ -47,6 +49,12 @@ pub struct SavedConversation {
     pub taken: u8,
     /// The page of that selection, or 0.
     pub taken_page: u8,
+    /// 1 if a procedure looks at the module's state after each wait, else 0.
+    pub watches: u8,
+    /// 1 if it looks before its next operation, else 0.
+    pub look: u8,
+    /// What it was shown, if the module was in ModuleReady no more.
+    pub left: SavedFault,
     /// How many halves were read.
     pub halves: u8,
     /// How many bytes a piece has.
@@ -71,18 +79,43 @@ pub fn restore(saved: &SavedConversation, halves: &[HalfBytes; MAX_READ]) -> Opt
         return reading(saved, halves);
     }
     match TaskList::restore(&saved.saved) {
-        Some(procedure) => Some(tasks(saved, procedure)),
+        Some(procedure) => Some(tasks(saved, procedure, looked(saved)?)),
         None => power(saved),
     }
 }
 
-// The procedure, which doubts or doesn't.
-fn tasks(saved: &SavedConversation, procedure: PatientProcedure) -> Kept
-    ensures { result ≡ spec.tasks_in saved.now procedure }
+// The procedure, which doubts and looks at the module's state, or doesn't.
+fn tasks(saved: &SavedConversation, procedure: PatientProcedure, look: Look) -> Kept
+    ensures { result ≡ spec.tasks_in saved.now procedure look }
 {
     let mut procedure = procedure;
     procedure.conversation.conversation.doubts = saved.doubts == 1;
-    Kept::OfTasks(procedure)
+    Kept::OfTasks(Watching {
+        conversation: procedure,
+        watches: saved.watches == 1,
+        look,
+    })
+}
+
+fn looked(saved: &SavedConversation) -> Option<Look>
+    ensures { result ≡ spec.look_in saved.now }
+{
+    match (saved.look, saved.left.fault()?) {
+        (0, None) => Some(Look::Seen),
+        (1, None) => Some(Look::Due),
+        (0, Some(fault)) if is_of_state(fault) => Some(Look::Left(fault)),
+        _ => None,
+    }
+}
+
+// Whether the module's state can show the fault.
+fn is_of_state(fault: ProvisionFault) -> bool
+    ensures { result ≡ can_stop (Some fault) }
+{
+    matches!(
+        fault,
+        ProvisionFault::ModuleState(_) | ProvisionFault::Reserved(_)
+    )
 }
 
 fn power(saved: &SavedConversation) -> Option<Kept>
@@ -102,6 +135,9 @@ fn reading(saved: &SavedConversation, halves: &[HalfBytes; MAX_READ]) -> Option<
     }
     let on_page = OnPage {
         conversation: Halves {
+            request: Request {
+                halves: saved.saved.lanes,
+            },
             image: image_of(&halves[..usize::from(saved.halves)]),
             settled: saved.saved.met,
         },
@@ -137,6 +173,7 @@ fn is_sound(saved: &SavedConversation) -> bool
         && saved.doubts <= 1
         && saved.taken <= 1
         && (saved.taken == 1 || saved.taken_page == 0)
+        && saved.watches <= 1
 }
 
 fn is_reading(saved: &SavedConversation, halves: &[HalfBytes; MAX_READ]) -> bool
@@ -165,12 +202,13 @@ fn selected(saved: &SavedProcedure) -> Option<KnownPage>
 // ---- to numbers
 
 /// Those of provisioning or activation.
-pub fn put_tasks(procedure: &PatientProcedure, saved: &mut SavedConversation)
-    ensures { (events : Events) (halves : List HalfBytes) → WasTold events (kinds.OfTasks procedure.now) → procedure.now.limit ≡ most_steps →
+pub fn put_tasks(procedure: &WatchfulProcedure, saved: &mut SavedConversation)
+    ensures { (events : Events) (halves : List HalfBytes) → WasTold events (kinds.OfTasks procedure.now) → procedure.now.conversation.limit ≡ most_steps →
         conversation_in saved.new halves ≡ Some (kinds.OfTasks procedure.now) }
 {
-    let doubts = procedure.conversation.conversation.doubts;
-    *saved = procedure_numbers(TaskList::save(procedure), doubts);
+    let doubts = procedure.conversation.conversation.conversation.doubts;
+    let numbers = TaskList::save(&procedure.conversation);
+    *saved = procedure_numbers(numbers, doubts, procedure.watches, procedure.look);
 }
 
 /// Those of a change of power.
@@ -178,11 +216,16 @@ pub fn put_power(change: &PatientPower, saved: &mut SavedConversation)
     ensures { (events : Events) (halves : List HalfBytes) → WasTold events (kinds.OfPower change.now) → change.now.limit ≡ most_steps →
         conversation_in saved.new halves ≡ Some (kinds.OfPower change.now) }
 {
-    *saved = procedure_numbers(PowerChange::save(change), false);
+    *saved = procedure_numbers(PowerChange::save(change), false, false, Look::Seen);
 }
 
-fn procedure_numbers(saved: SavedProcedure, doubts: bool) -> SavedConversation
-    ensures { result ≡ spec.procedure_numbers saved doubts }
+fn procedure_numbers(
+    saved: SavedProcedure,
+    doubts: bool,
+    watches: bool,
+    look: Look,
+) -> SavedConversation
+    ensures { result ≡ spec.procedure_numbers saved doubts watches look }
 {
     SavedConversation {
         magic: CONVERSATION,
@@ -190,6 +233,9 @@ fn procedure_numbers(saved: SavedProcedure, doubts: bool) -> SavedConversation
         doubts: number_of(doubts),
         taken: 0,
         taken_page: 0,
+        watches: number_of(watches),
+        look: number_of(matches!(look, Look::Due)),
+        left: SavedFault::of(fault_of(look)),
         halves: 0,
         piece: 0,
         read: 0,
@@ -197,8 +243,17 @@ fn procedure_numbers(saved: SavedProcedure, doubts: bool) -> SavedConversation
     }
 }
 
+fn fault_of(look: Look) -> Option<ProvisionFault>
+    ensures { result ≡ spec.fault_of_look look }
+{
+    match look {
+        Look::Left(fault) => Some(fault),
+        Look::Seen | Look::Due => None,
+    }
+}
+
 /// Those of a reading of which so many halves were read.
-pub fn put_reading(read: &PieceReading, count: u8, saved: &mut SavedConversation)
+pub fn put_reading(read: &PatientReading, count: u8, saved: &mut SavedConversation)
     requires { spec.HasNumbers read.now count }
     ensures same { (halves : List HalfBytes) → spec.HasRead read.now (take count halves) → conversation_in saved.new halves ≡ Some (kinds.OfReading read.now) }
     ensures halves { saved.new.halves ≡ count }
@@ -209,13 +264,16 @@ pub fn put_reading(read: &PieceReading, count: u8, saved: &mut SavedConversation
     saved.doubts = number_of(on_page.doubts);
     saved.taken = number_of(on_page.taken.is_some());
     saved.taken_page = on_page.taken.unwrap_or(0);
+    saved.watches = 0;
+    saved.look = 0;
+    saved.left = SavedFault::of(None);
     saved.halves = count;
     saved.piece = read.conversation.conversation.piece;
     saved.read = read.conversation.conversation.part.len() as u8;
     put_part(&read.conversation.conversation.part, &mut saved.part);
 }
 
-fn numbers_of_reading(read: &PieceReading) -> SavedProcedure
+fn numbers_of_reading(read: &PatientReading) -> SavedProcedure
     ensures { spec.AreOfReading result read.now }
 {
     let pausing = &read.conversation;
@@ -225,7 +283,7 @@ fn numbers_of_reading(read: &PieceReading) -> SavedProcedure
         met: on_page.conversation.settled,
         steps: read.steps,
         work: WORK_OF_READING,
-        lanes: 0,
+        lanes: on_page.conversation.request.halves,
         control: [0; 8],
         selection,
         page,
@@ -252,6 +310,9 @@ pub fn put_paused(saved: &mut SavedConversation)
 {
     saved.saved.idle = saved.saved.idle.saturating_add(saved.saved.pause);
     saved.saved.due = 0;
+    if saved.watches == 1 && matches!(saved.left.fault(), Some(None)) {
+        saved.look = 1;
+    }
 }
 
 fn number_of(yes: bool) -> u8

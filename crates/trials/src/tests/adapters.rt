@@ -1,15 +1,16 @@
 // Conversations that pause, and that fetch halves in pieces, driven by hand.
-use super::modules::{image, module};
+use super::modules::{FOURS, image, module};
 use super::plans::{FOUR_PAIRS, bus_of, plan_of};
 use applications::Advert;
 use arrayvec::ArrayVec;
 use bus_model::{Bus, Dev, Device, ScriptBus};
 use control_sets::{PatientFault, Power, PowerChange, activate_on, change_power_on, provision_on};
 use conversations::{Conversation, InPieces, Next, Patience, Timed, run};
-use module_reading::{Halves, Reading};
+use module_reading::{Halves, Reading, Request};
 use paged_memory::{Key, Window};
 use plan_certificate::{Plan, admissible};
 use sample_modules::with;
+use sim_module::SimModule;
 use std::alloc::Global;
 use std::test::Fail;
 
@@ -92,11 +93,28 @@ fn pauses_change_no_answer(rt: HostRuntime) -> Result<(), Fail> {
     Ok(())
 }
 
-// The reading of the image in a window, and how many transactions it made.
-fn read(alloc: Global, piece: u8) -> Result<(Reading, usize), Fail> {
+// The module goes to low power while it is provisioned, refuses once, and shows that after the pause.
+#[test]
+fn a_module_that_leaves_ready_is_named(rt: HostRuntime) -> Result<(), Fail> {
+    let (advert, plan) = (Advert::of(&image()?)?, plan_of(&FOUR_PAIRS)?);
+    let none = Plan {
+        paths: ArrayVec::new(),
+    };
+    let follows_pin = with(image()?, Key::lower(Dev::A0), &[(26, 0x40)])?;
+    let module = SimModule::new(&follows_pin, FOURS)?;
+    let script = b"ok 5\nlpmode 1\ntick 50\nnack 1\n";
+    let mut bus = bus_of(rt.alloc(), module, script, 5000)?;
+    assert!(rt; admissible(&advert, &plan));
+    let told = provision_on(&mut bus, &advert, &plan, &none, LASTING);
+    assert!(rt; matches!(told, Err(PatientFault::Reset(1))));
+    Ok(())
+}
+
+// The reading of so much of the image in a window, and how many transactions it made.
+fn read(alloc: Global, request: Request, piece: u8) -> Result<(Reading, usize), Fail> {
     let mut bus = bus_of(alloc, Window::<16>::of(&image()?)?, b"nack 1\n", 500)?;
     let mut pieces = InPieces {
-        conversation: Halves::reading(),
+        conversation: Halves::reading(request),
         piece,
         part: ArrayVec::new(),
     };
@@ -108,16 +126,39 @@ fn read(alloc: Global, piece: u8) -> Result<(Reading, usize), Fail> {
 #[test]
 fn pieces_give_the_same_image(rt: HostRuntime) -> Result<(), Fail> {
     for (piece, steps) in [(128, 14), (50, 24), (32, 29)] {
-        let (reading, made) = read(rt.alloc(), piece)?;
+        let (reading, made) = read(rt.alloc(), Request::everything(), piece)?;
         assert_eq!(rt; made, steps);
         let mut bus = bus_of(rt.alloc(), Window::<16>::of(&image()?)?, b"", 500)?;
-        let mut whole = Halves::reading();
+        let mut whole = Halves::reading(Request::everything());
         let spent = run(&mut bus, &mut whole)?;
         assert_eq!(rt; spent.steps, 13);
         assert!(rt; spent.end.is_some());
         let image = reading.conversation.conversation.image.write(rt.alloc())?;
         let other = whole.conversation.conversation.image.write(rt.alloc())?;
         assert_eq!(rt; image, other);
+    }
+    Ok(())
+}
+
+// The lower half, one half more, or two; each transaction of a page's selection counts, and the one that is refused. Bits for modules of
+// other families request nothing.
+#[test]
+fn what_is_requested_is_read_alone(rt: HostRuntime) -> Result<(), Fail> {
+    for (halves, steps, pages) in [
+        (0x00, 2, b"".as_slice()),
+        (0xF0, 2, b""),
+        (0x08, 5, b"\x11"),
+        (0x05, 8, b"\x00\x02"),
+    ] {
+        let (reading, made) = read(rt.alloc(), Request { halves }, 128)?;
+        assert_eq!(rt; made, steps);
+        let halves = &reading.conversation.conversation;
+        assert_eq!(rt; halves.settled, 1 + pages.len());
+        assert!(rt; halves.image.has(Key::lower(Dev::A0)));
+        for page in [0x00, 0x01, 0x02, 0x11] {
+            let read = halves.image.has(Key::upper(Dev::A0, 0, page));
+            assert_eq!(rt; read, pages.contains(&page));
+        }
     }
     Ok(())
 }

@@ -1,6 +1,6 @@
 use Rattle.std.proofs.Common.{◌≡◌}
-use Rattle.control_sets.proofs.OutcomeIsProvisioning.{ended_is_provisioning}
-use Rattle.control_sets.proofs.OutcomeIsActivation.{ended_is_activation}
+use Rattle.control_sets.proofs.OutcomeIsProvisioning.{ended_is_provisioning, unfinished_is_provisioning}
+use Rattle.control_sets.proofs.OutcomeIsActivation.{ended_is_activation, unfinished_is_activation}
 use Rattle.control_sets.proofs.PowerLaws.{driven_is}
 use Rattle.control_sets.proofs.PowerTold.{power_begun, power_told}
 use Rattle.control_sets.proofs.Turns.{begun_at, follows, told_step}
@@ -29,3 +29,9 @@ returns-clause-power_told c history old new op reply same takes at = power_told 
 
 pub returns-clause-power : goal.returns-clause-power
 returns-clause-power c change made room history spent at asks = driven_is change (made ≡ room) history spent at asks
+
+pub returns-clause-unfinished_provisioning : goal.returns-clause-unfinished_provisioning
+returns-clause-unfinished_provisioning c doubts control lanes history eight at = unfinished_is_provisioning doubts control lanes eight history at
+
+pub returns-clause-unfinished_activation : goal.returns-clause-unfinished_activation
+returns-clause-unfinished_activation c doubts control lanes history eight at = unfinished_is_activation doubts control lanes eight history at

@@ -1,4 +1,4 @@
-use Rattle.std.proofs.Common.{◌≡◌, ◌<◌, ◌≤◌, ◌∙◌, ℕ, Bool, true, false, cond, List, length, Option, Some, None, MatchOption, sym, subst, ap, arith, le-ltb, lt-ltb}
+use Rattle.std.proofs.Common.{◌≡◌, ◌<◌, ◌≤◌, ◌∙◌, ℕ, Bool, true, false, cond, List, length, Some, None, MatchOption, sym, subst, ap, arith, le-ltb, lt-ltb}
 use Rattle.applications.specs.Advertised.{Advertised}
 use Rattle.applications.specs.declared.conventions.Conventions.{Conventions}
 use Rattle.applications.specs.Weights.{TableWeights}

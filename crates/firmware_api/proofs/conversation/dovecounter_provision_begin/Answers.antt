@@ -7,5 +7,5 @@ use Rattle.firmware_api.proofs.conversation.dovecounter_provision_begin.Goals as
 
 pub returns : goal.returns
 returns c halves =
-    subst (λ lanes. IsSavedAt (Bringing (Provisioning c.args.control.now lanes) (doubts c.args.patience.now)) (given c.args.patience.now) [] c.put_tasks.new.conversation halves) c.from-lanes.ensures
+    subst (λ lanes. IsSavedAt (Bringing (Provisioning c.args.control.now lanes) (doubts c.args.patience.now) (doubts c.args.patience.now)) (given c.args.patience.now) [] c.put_tasks.new.conversation halves) c.from-lanes.ensures
     (c.put_tasks.ensures halves)

@@ -1,7 +1,5 @@
 use Rattle.std.proofs.Common.{◌≡◌, ◌∷◌, Option, Some, ap, sym, subst, ◌∙◌}
-use Rattle.bus_model.specs.declared.operation.Op.{Op}
 use Rattle.bus_model.specs.declared.operation.Reply.{Reply}
-use Rattle.conversations.specs.declared.next.Next.TheVariants.{Do}
 use Rattle.conversations.specs.Events.{made}
 use Rattle.firmware_api.specs.declared.conversation.numbers.SavedConversation.{SavedConversation}
 use Rattle.firmware_api.specs.declared.kept.Kept.{Kept}

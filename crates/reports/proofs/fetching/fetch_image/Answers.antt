@@ -2,30 +2,37 @@ use Rattle.std.proofs.Common.{◌≡◌, ◌<◌, ℕ, Bool, false, length, ap, 
 use Rattle.control_sets.specs.OutcomeAnswers.{most_steps}
 use Rattle.conversations.specs.Events.{steps_of}
 use Rattle.conversations.proofs.BusRuns.{ran_to_end, ran_to_full}
-use Rattle.module_reading.specs.ImageReading.{Reading}
-use Rattle.module_reading.proofs.FetchTold.{left_going, left_undone, left_whole, reads, trusting}
+use Rattle.module_reading.specs.ImageReading.{Reading, begun_reading}
+use Rattle.module_reading.specs.declared.request.Request.{Request}
+use Rattle.module_reading.specs.Regions.{everything}
+use Rattle.module_reading.specs.ReadImages.{IsGivenUp, IsImageOf, IsReading, IsUnfinished}
+use Rattle.module_reading.proofs.FetchTold.{left_going, left_undone, left_whole, reads}
 use Rattle.reports.proofs.fetching.fetch_image.Goals as goal
 
 abbrev SameTopic : Reading → Reading → Type 0
-SameTopic old new = ◌≡◌ {A = ℕ × (Bool × Unit {0})} (new.limit, (new.conversation.doubts, tt)) (old.limit, (old.conversation.doubts, tt))
+SameTopic old new = ◌≡◌ {A = ℕ × (Bool × Request)} (new.limit, (new.conversation.doubts, new.conversation.conversation.request)) (old.limit, (old.conversation.doubts, old.conversation.conversation.request))
 
-limit_is : (old new : Reading) → SameTopic old new → old.limit ≡ most_steps → new.limit ≡ most_steps
-limit_is old new same is = ap (λ (t : ℕ × (Bool × Unit {0})). t.0) same ∙ is
+module _ (old new : Reading) (begun : old ≡ begun_reading everything) (same : SameTopic old new) where
+  limit_is : new.limit ≡ most_steps
+  limit_is = ap (λ (t : ℕ × (Bool × Request)). t.0) same ∙ ap (λ (r : Reading). r.limit) begun
 
-trusts_is : (old new : Reading) → SameTopic old new → old.conversation.doubts ≡ false → new.conversation.doubts ≡ false
-trusts_is old new same is = ap (λ (t : ℕ × (Bool × Unit {0})). t.1.0) same ∙ is
+  -- it doesn't doubt, and reads everything
+  by_all : (P : Bool → Request → Type 0) → P new.conversation.doubts new.conversation.conversation.request → P false everything
+  by_all P has = subst (P false) (ap (λ (t : ℕ × (Bool × Request)). t.1.1) same ∙ ap (λ (r : Reading). r.conversation.conversation.request) begun)
+      (subst (λ (doubts : Bool). P doubts new.conversation.conversation.request) (ap (λ (t : ℕ × (Bool × Request)). t.1.0) same ∙ ap (λ (r : Reading). r.conversation.doubts) begun) has)
 
 pub returns-in-Some : goal.returns-in-Some
 returns-in-Some g c =
     let (last, events, happens, (told, left, carried)) = c.in-Ok.ensures.made in
     let reading = c.run.new.within in
-    let limit = limit_is c.reading-reading.result reading c.in-Ok.ensures.topic (ap (λ (r : Reading). r.limit) c.reading-reading.ensures) in
-    let told_own = trusting events reading (trusts_is c.reading-reading.result reading c.in-Ok.ensures.topic (ap (λ (r : Reading). r.conversation.doubts) c.reading-reading.ensures)) told.0.1 in (
+    let begun = c.reading-reading.ensures ∙ ap begun_reading c.everything.ensures in
+    let limit = limit_is c.reading-reading.result reading begun c.in-Ok.ensures.topic in
+    let trusting = by_all c.reading-reading.result reading begun c.in-Ok.ensures.topic in (
       steps_of events,
       ran_to_end g.B.Bus.rules (λ bus. g.B.Bus.seen bus) c.args.bus.now last c.run.new.bus events happens carried.0,
       record {
-        reading = reads events reading told_own told.1 told.2 limit;
-        answered = left_whole events reading told_own told.1 told.2 limit c.in-Ok.spent tt left c.in-Some.is;
+        reading = trusting (λ (doubts : Bool) (request : Request). IsReading doubts request (steps_of events)) (reads events reading told.0.1 told.1 told.2 limit);
+        answered = trusting (λ (doubts : Bool) (request : Request). IsImageOf doubts request (steps_of events) reading.conversation.conversation.image) (left_whole events reading told.0.1 told.1 told.2 limit c.in-Ok.spent tt left c.in-Some.is);
       },
     )
 
@@ -33,13 +40,14 @@ pub returns-in-None : goal.returns-in-None
 returns-in-None g c =
     let (last, events, happens, (told, left, carried)) = c.in-Ok.ensures.made in
     let reading = c.run.new.within in
-    let limit = limit_is c.reading-reading.result reading c.in-Ok.ensures.topic (ap (λ (r : Reading). r.limit) c.reading-reading.ensures) in
-    let told_own = trusting events reading (trusts_is c.reading-reading.result reading c.in-Ok.ensures.topic (ap (λ (r : Reading). r.conversation.doubts) c.reading-reading.ensures)) told.0.1 in (
+    let begun = c.reading-reading.ensures ∙ ap begun_reading c.everything.ensures in
+    let limit = limit_is c.reading-reading.result reading begun c.in-Ok.ensures.topic in
+    let trusting = by_all c.reading-reading.result reading begun c.in-Ok.ensures.topic in (
       steps_of events,
       ran_to_end g.B.Bus.rules (λ bus. g.B.Bus.seen bus) c.args.bus.now last c.run.new.bus events happens carried.0,
       record {
-        reading = reads events reading told_own told.1 told.2 limit;
-        answered = left_undone events reading told_own told.1 told.2 limit c.in-Ok.spent left c.in-None.is;
+        reading = trusting (λ (doubts : Bool) (request : Request). IsReading doubts request (steps_of events)) (reads events reading told.0.1 told.1 told.2 limit);
+        answered = trusting (λ (doubts : Bool) (request : Request). IsGivenUp doubts request (steps_of events)) (left_undone events reading told.0.1 told.1 told.2 limit c.in-Ok.spent left c.in-None.is);
       },
     )
 
@@ -47,13 +55,14 @@ pub returns-in-Err : goal.returns-in-Err
 returns-in-Err g c =
     let (last, events, happens, (told, left, out)) = c.in-Err.ensures.made in
     let reading = c.run.new.within in
-    let limit = limit_is c.reading-reading.result reading c.in-Err.ensures.topic (ap (λ (r : Reading). r.limit) c.reading-reading.ensures) in
-    let told_own = trusting events reading (trusts_is c.reading-reading.result reading c.in-Err.ensures.topic (ap (λ (r : Reading). r.conversation.doubts) c.reading-reading.ensures)) told.0.1 in
+    let begun = c.reading-reading.ensures ∙ ap begun_reading c.everything.ensures in
+    let limit = limit_is c.reading-reading.result reading begun c.in-Err.ensures.topic in
+    let trusting = by_all c.reading-reading.result reading begun c.in-Err.ensures.topic in
     let fewer = subst (λ (n : ℕ). length (steps_of events) < n) (ap (λ (r : Reading). r.limit) c.reading-reading.ensures) out.fewer in (
       steps_of events,
       ran_to_full g.B.Bus.rules (λ bus. g.B.Bus.seen bus) c.args.bus.now last c.run.new.bus events c.in-Err.fault happens out.failed,
       record {
-        reading = reads events reading told_own told.1 told.2 limit;
-        answered = (out.failed.0, out.failed.1, fewer, left_going events reading told_own told.1 told.2 limit left.0 left.1);
+        reading = trusting (λ (doubts : Bool) (request : Request). IsReading doubts request (steps_of events)) (reads events reading told.0.1 told.1 told.2 limit);
+        answered = (out.failed.0, out.failed.1, fewer, trusting (λ (doubts : Bool) (request : Request). IsUnfinished doubts request (steps_of events)) (left_going events reading told.0.1 told.1 told.2 limit left.0 left.1));
       },
     )

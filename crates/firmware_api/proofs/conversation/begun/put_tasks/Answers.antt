@@ -9,6 +9,6 @@ use Rattle.firmware_api.proofs.conversation.begun.put_tasks.Goals as goal
 pub returns : goal.returns
 returns c halves =
     let saved = c.put_tasks.new.saved in
-    subst (λ (p : Patience). IsSavedAt (Bringing c.args.work (doubts c.args.patience.now)) p [] saved halves) c.given.ensures
-    (subst (λ (d : Bool). IsSavedAt (Bringing c.args.work d) c.given.result [] saved halves) c.doubts-procedure.ensures
-    (tasks_put c.args.work c.doubts-procedure.result c.given.result _ c.patient-procedure.result saved halves c.patient-procedure.ensures refl c.put_tasks.ensures))
+    subst (λ (p : Patience). IsSavedAt (Bringing c.args.work (doubts c.args.patience.now) (doubts c.args.patience.now)) p [] saved halves) c.given.ensures
+    (subst (λ (d : Bool). IsSavedAt (Bringing c.args.work d d) c.given.result [] saved halves) c.doubts-careful.ensures
+    (tasks_put c.args.work c.doubts-careful.result c.given.result _ c.watchful-procedure.result saved halves c.watchful-procedure.ensures refl c.put_tasks.ensures))

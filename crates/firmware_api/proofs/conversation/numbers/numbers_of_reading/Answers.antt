@@ -6,6 +6,7 @@ use Rattle.firmware_api.proofs.conversation.numbers.numbers_of_reading.Goals as 
 pub returns : goal.returns
 returns c = record {
   work = refl;
+  request = refl;
   met = refl;
   steps = refl;
   selected = c.numbers_of_selected-selection.ensures;

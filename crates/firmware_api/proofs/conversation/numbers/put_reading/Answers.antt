@@ -1,5 +1,5 @@
 use Rattle.std.proofs.Common.{refl, rules}
-use Rattle.firmware_api.proofs.SavedLaws.{Writes, reading_back}
+use Rattle.firmware_api.proofs.SavedLaws.{reading_back}
 use Rattle.firmware_api.proofs.conversation.numbers.put_reading.Goals as goal
 
 pub returns-clause-same : goal.returns-clause-same
@@ -14,4 +14,5 @@ returns-clause-same c halves has_read =
       piece = refl;
       part = search rules;
       short = search rules;
+      watches = refl;
     }) c.requires has_read
