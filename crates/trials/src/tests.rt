@@ -14,4 +14,5 @@ mod refusals;
 mod registers;
 mod samples;
 mod starts;
+mod updates;
 mod windows;

@@ -1,0 +1,4 @@
+pub mod Told
+pub mod Known
+pub mod More
+pub mod Delivered

@@ -1,0 +1,7 @@
+pub mod Messages
+pub mod Operations
+pub mod Phases
+pub mod Attempts
+pub mod AttemptEvents
+pub mod Deliveries
+pub mod Advertised

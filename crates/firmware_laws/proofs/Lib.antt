@@ -1,0 +1,15 @@
+pub mod PowerLoss
+pub mod Downloads
+pub mod KeptBanks
+pub mod WholeImage
+pub mod Once
+pub mod Samples
+pub mod Feasible
+pub mod Needed
+pub mod NeededBanks
+pub mod NeededContents
+pub mod NeededMemory
+pub mod Endures
+pub mod Heard
+pub mod AtTheBus
+pub mod Delivers

@@ -1,0 +1,9 @@
+pub mod Told
+pub mod Fewer
+pub mod Safe
+pub mod Above
+pub mod Ends
+pub mod Accepted
+pub mod OnBus
+pub mod Turns
+pub mod Over

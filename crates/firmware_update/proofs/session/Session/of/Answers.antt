@@ -1,0 +1,13 @@
+use Rattle.std.proofs.Common.{[], Option, refl, sym, subst, arith}
+use Rattle.command_block.specs.declared.delivery.Delivery.{Delivery}
+use Rattle.firmware_update.specs.Courses.{IsOnBus}
+use Rattle.firmware_update.proofs.OnBus.{begins}
+use Rattle.firmware_update.proofs.session.Session.of.Goals as goal
+
+pub returns-clause-begins : goal.returns-clause-begins
+returns-clause-begins c =
+    let file = c.args.file.now in
+    let update = c.of-update.result in
+    let durations = c.new-durations.result in
+    subst (λ (o : Option Delivery). IsOnBus file [] (record { update = update; durations = durations; delivery = o })) (sym c.delivery_at-delivery.ensures)
+    (begins file durations update [] [] refl c.of-update.ensures.begins c.new-durations.ensures (omega (arith, c.of-update.ensures.bound)))

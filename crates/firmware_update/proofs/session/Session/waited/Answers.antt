@@ -1,0 +1,31 @@
+use Rattle.std.proofs.Common.{Option, subst, sym, ◌∙◌}
+use Rattle.command_block.specs.declared.delivery.Delivery.{Delivery}
+use Rattle.conversations.specs.declared.event.Event.TheVariants.{Waited}
+use Rattle.firmware_update.specs.Turned.{HasRestedBy}
+use Rattle.firmware_update.proofs.OnBus.{delivery_waits, goes, room_on}
+use Rattle.firmware_update.proofs.Turns.{fewer_waited}
+use Rattle.firmware_update.proofs.session.Session.waited.Goals as goal
+
+pub go_on-requires-clause-room : goal.go_on-requires-clause-room
+go_on-requires-clause-room c outcome command ends asks =
+    room_on c.args.file.now c.requires.begun.0 c.args.self.now c.in-Some.delivery outcome command c.requires.begun.1 (sym c.take.ensures.value ∙ c.in-Some.is) asks
+
+pub returns-in-Some-clause-rests : goal.returns-in-Some-clause-rests
+returns-in-Some-clause-rests c =
+    let is = sym c.take.ensures.value ∙ c.in-Some.is in
+    subst (λ (o : Option Delivery). HasRestedBy c.args.file.now c.args.self.now o c.go_on.new.self) (sym is)
+    (c.waited.new.self, record { terms = c.waited.ensures.topic; told = c.waited.ensures.told; once = c.waited.ensures.once }, c.go_on.ensures)
+
+pub returns-in-Some-clause-told : goal.returns-in-Some-clause-told
+returns-in-Some-clause-told c events time at asks =
+    let is = sym c.take.ensures.value ∙ c.in-Some.is in
+    let waits = delivery_waits c.args.file.now c.args.self.now c.in-Some.delivery time is asks in
+    goes c.args.file.now (Waited time) events c.args.self.now c.go_on.new.self c.in-Some.delivery c.waited.new.self is c.go_on.ensures at
+    (λ own told. c.waited.ensures.told own time waits told) c.waited.ensures.topic
+
+pub returns-in-Some-clause-fewer : goal.returns-in-Some-clause-fewer
+returns-in-Some-clause-fewer c events time at asks =
+    let is = sym c.take.ensures.value ∙ c.in-Some.is in
+    let waits = delivery_waits c.args.file.now c.args.self.now c.in-Some.delivery time is asks in
+    fewer_waited c.args.file.now events time c.args.self.now c.go_on.new.self c.in-Some.delivery c.waited.new.self is c.go_on.ensures at asks
+    (λ own told. c.waited.ensures.told own time waits told) c.waited.ensures.once

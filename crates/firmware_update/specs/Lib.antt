@@ -1,0 +1,11 @@
+pub mod Blocks
+pub mod Exchanges
+pub mod Replies
+pub mod Payloads
+pub mod Safety
+pub mod Progress
+pub mod KnownStates
+pub mod Durations
+pub mod Courses
+pub mod Turned
+pub mod Runs

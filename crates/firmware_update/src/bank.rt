@@ -1,0 +1,6 @@
+/// Where a module keeps a firmware image.
+#[derive(Clone, Copy, Debug, PartialEq, Eq)]
+pub enum Bank {
+    A,
+    B,
+}
