@@ -1,0 +1,4 @@
+pub mod Halves
+pub mod Links
+pub mod Waits
+pub mod ManagedLaw

@@ -1,0 +1,10 @@
+use Rattle.std.proofs.Common.{arith}
+use Rattle.port_manager.specs.Flags.{since_at, last_since}
+use Rattle.port_manager.proofs.Places.{each_place}
+use Rattle.port_manager.proofs.flags.last_since.Goals as goal
+
+pub returns : goal.returns
+unfolding last_since
+returns g c =
+    let loop = c.loop-place in
+    each_place (since_at c.args.last.now c.args.last.now c.args.moment) loop.value-items g.row.N loop.invariant.len (λ k below. loop.invariant.each k (omega (arith, below, loop.invariant.len)))

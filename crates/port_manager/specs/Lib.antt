@@ -1,0 +1,17 @@
+pub mod Waits
+pub mod Flags
+pub mod Goals
+pub mod Decisions
+pub mod Patients
+pub mod Looks
+pub mod Jobs
+pub mod Turns
+pub mod Ports
+pub mod Stories
+pub mod Readings
+pub mod Standing
+pub mod Runs
+pub mod Stores
+pub mod Idle
+pub mod KeptFlags
+pub mod Progress

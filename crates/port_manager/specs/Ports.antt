@@ -1,0 +1,219 @@
+-- A port: what is to be done at a moment, and what becomes of it when a module is plugged or pulled. (this project's own)
+use Rattle.std.specs.Prelude.{◌≡◌, ◌*◌, ◌||◌, ℕ, max, min, nat_lt, Bool, true, false, Option, Some, None, if◌then◌else◌}
+use Rattle.bus_model.specs.declared.operation.Op.{Op}
+use Rattle.bus_model.specs.declared.operation.Reply.{Reply}
+use Rattle.port_manager.specs.declared.port.Outstanding.{Outstanding}
+use Rattle.port_manager.specs.declared.port.Outstanding.TheVariants.{Nothing, Awaited, Stale, Forsaken}
+use Rattle.port_manager.specs.declared.port.Port.{Port}
+use Rattle.port_manager.specs.declared.port.PortNext.{PortNext}
+use Rattle.port_manager.specs.declared.port.PortNext.TheVariants.{Do, Until, Busy, Idle}
+use Rattle.port_manager.specs.declared.port.Stage.{Stage}
+use Rattle.port_manager.specs.declared.port.Stage.TheVariants.{Absent, Left, Working}
+use Rattle.port_manager.specs.declared.port.Outcome.{Outcome}
+use Rattle.port_manager.specs.declared.port.Outcome.TheVariants as outcome
+use Rattle.port_manager.specs.declared.times.Times.{Times}
+use Rattle.port_manager.specs.declared.deciding.Wanted.{Wanted}
+use Rattle.port_manager.specs.declared.flags.FlagKeeper.{FlagKeeper}
+use Rattle.port_manager.specs.declared.turn.Note.{Note}
+use Rattle.port_manager.specs.declared.turn.Note.TheVariants as notes
+use Rattle.port_manager.specs.declared.turn.PortFault.{PortFault}
+use Rattle.port_manager.specs.declared.turn.PortFault.TheVariants as faults
+use Rattle.port_manager.specs.declared.flags.Flags.{Flags}
+use Rattle.port_manager.specs.Flags.{acknowledged, noted, unread}
+use Rattle.port_manager.specs.Turns.{IsTurn}
+use Rattle.port_manager.specs.declared.turn.Turn.{Turn}
+use Rattle.port_manager.specs.declared.turn.Turn.TheVariants as turn
+use Rattle.port_manager.specs.declared.job.Job.{Job}
+use Rattle.port_manager.specs.Waits.{later}
+use Rattle.port_manager.specs.Jobs.{IsReplyTo, asked, reading}
+
+-- nothing of a module but flags that were read
+abbrev pub absent : Times → Outstanding → Flags → Bool → Port
+absent times outstanding flags held =
+    record { times = times; stage = Absent; due = 0; back_off = times.first; outstanding = outstanding; vain = false; keeper = unread flags; held = held }
+
+abbrev pub forsaken : Outstanding → Outstanding
+forsaken Nothing = Nothing
+forsaken Awaited = Forsaken
+forsaken Stale = Forsaken
+forsaken Forsaken = Forsaken
+
+abbrev pub pulled : Port → Port
+pulled port = absent port.times (forsaken port.outstanding) port.keeper.flags port.held
+
+abbrev pub plugged : ℕ → Port → Port
+plugged now port = record (pulled port) { stage = Working (reading false); due = later now port.times.settle }
+
+-- a module that is there is read anew
+abbrev pub begun_in : Stage → Stage
+begun_in Absent = Absent
+begun_in (Left reason) = Working (reading false)
+begun_in (Working job) = Working (reading false)
+
+abbrev pub restarted : Port → Port
+restarted port = record port { stage = begun_in port.stage }
+
+-- what was asked for may have been made, so its reply is waited for
+abbrev pub reconsidered_by : Outstanding → Port → Port
+reconsidered_by Nothing port = restarted port
+reconsidered_by Forsaken port = restarted port
+reconsidered_by Awaited port = record port { outstanding = Stale }
+reconsidered_by Stale port = record port { outstanding = Stale }
+
+abbrev pub reconsidered : Port → Port
+reconsidered port = reconsidered_by port.outstanding (record port { vain = false })
+
+-- nothing is asked for, or the module is read anew
+abbrev pub holding : Bool → Port → Port
+holding held port = reconsidered (record port { held = held })
+
+-- flags up to this moment are known to somebody
+abbrev pub acknowledged_to : ℕ → Port → Port
+acknowledged_to moment port = record port { keeper = acknowledged port.keeper moment }
+
+abbrev pub next_of : Option Op → PortNext
+next_of None = Idle
+next_of (Some op) = Do op
+
+-- an operation is asked for from the moment on that is waited for
+abbrev pub next_in : Stage → ℕ → ℕ → PortNext
+next_in Absent due now = Idle
+next_in (Left reason) due now = Idle
+next_in (Working job) due now = if nat_lt now due then Until due else next_of (asked job)
+
+-- and while none is outstanding, unless the port is to hold still
+abbrev pub next_when : Outstanding → Port → ℕ → PortNext
+next_when Nothing port now = if port.held then Idle else next_in port.stage port.due now
+next_when Awaited port now = Busy
+next_when Stale port now = Busy
+next_when Forsaken port now = Busy
+
+abbrev pub next_at : Port → ℕ → PortNext
+next_at port now = next_when port.outstanding port now
+
+abbrev pub asking : Port → PortNext → Port
+asking port (Do op) = record port { outstanding = Awaited }
+asking port (Until moment) = port
+asking port Busy = port
+asking port Idle = port
+
+abbrev pub IfDo : PortNext → (Op → Type 0) → Type 0
+IfDo (Do op) P = P op
+IfDo (Until moment) P = Unit {0}
+IfDo Busy P = Unit {0}
+IfDo Idle P = Unit {0}
+
+abbrev pub IfWorking : Stage → (Job → Type 0) → Type 0
+IfWorking Absent P = Unit {0}
+IfWorking (Left reason) P = Unit {0}
+IfWorking (Working job) P = P job
+
+-- the operation whose reply is awaited
+abbrev pub asked_in : Stage → Option Op
+asked_in Absent = None
+asked_in (Left reason) = None
+asked_in (Working job) = asked job
+
+abbrev pub awaited : Port → Option Op
+awaited port = asked_in port.stage
+
+-- the reply is one that may come
+abbrev pub IsAwaitedBy : Outstanding → Port → Reply → Type 0
+IsAwaitedBy Nothing port reply = ⊥
+IsAwaitedBy Awaited port reply = IsReplyTo (awaited port) reply
+IsAwaitedBy Stale port reply = IsReplyTo (awaited port) reply
+IsAwaitedBy Forsaken port reply = Unit {0}
+
+abbrev pub IsAwaited : Port → Reply → Type 0
+IsAwaited port reply = IsAwaitedBy port.outstanding port reply
+
+-- ---- the reply to an operation
+
+-- a module was woken up, and is not ready
+abbrev pub is_vain : PortFault → Bool
+is_vain faults.Asleep = true
+is_vain (faults.Waking why) = true
+is_vain faults.Unread = false
+is_vain faults.Unseen = false
+is_vain (faults.Provisioning why) = false
+is_vain (faults.Activating why) = false
+is_vain faults.Changed = false
+
+-- a look is followed by a longer pause
+abbrev pub wait_of : Times → Note → ℕ
+wait_of times notes.Held = times.period
+wait_of times notes.CameUp = times.period
+wait_of times notes.Quiet = 0
+wait_of times notes.Identified = 0
+wait_of times notes.Woken = 0
+wait_of times notes.Provisioned = 0
+
+-- the next failure is the first one again once the module was looked at and was as wanted
+abbrev pub back_off_after : Port → Note → ℕ
+back_off_after port notes.Held = port.times.first
+back_off_after port notes.CameUp = port.back_off
+back_off_after port notes.Quiet = port.back_off
+back_off_after port notes.Identified = port.back_off
+back_off_after port notes.Woken = port.back_off
+back_off_after port notes.Provisioned = port.back_off
+
+abbrev pub waiting : Port → Note → ℕ → Port
+waiting port note now = record port { due = max port.due (later now (wait_of port.times note)); back_off = back_off_after port note }
+
+-- when it may be tried again
+abbrev pub again : Port → ℕ → ℕ
+again port now = max port.due (later now port.back_off)
+
+abbrev pub vain_after : Port → PortFault → Bool
+vain_after port why = port.vain || is_vain why
+
+abbrev pub turned : Port → Turn → ℕ → Port
+turned port (turn.On job note) now = waiting (record port { stage = Working job }) note now
+turned port (turn.Paused job time) now = record port { stage = Working job; due = max port.due (later now time) }
+turned port (turn.Failed why) now =
+    record port { stage = Working (reading (vain_after port why)); due = again port now; back_off = min (2 * port.back_off) port.times.most; vain = vain_after port why }
+turned port (turn.Left reason) now = record port { stage = Left reason }
+
+abbrev pub outcome_of : Port → Turn → ℕ → Outcome
+outcome_of port (turn.On job note) now = outcome.Went note
+outcome_of port (turn.Paused job time) now = outcome.Paused (max port.due (later now time))
+outcome_of port (turn.Failed why) now = outcome.Failed why (again port now)
+outcome_of port (turn.Left reason) now = outcome.Left reason
+
+-- the flags that the reply shows are kept
+abbrev pub noted_of : FlagKeeper → Option Op → Reply → ℕ → FlagKeeper
+noted_of keeper None reply now = keeper
+noted_of keeper (Some op) reply now = noted keeper op reply now
+
+abbrev pub noting : Port → Option Op → Reply → ℕ → Port
+noting port asked reply now = record port { keeper = noted_of port.keeper asked reply now }
+
+abbrev pub answered : Port → Port
+answered port = record port { outstanding = Nothing }
+
+abbrev pub IsDropped : Port → Outcome → Port → Type 0
+IsDropped port result later = (result ≡ outcome.Dropped) × (later ≡ answered port)
+
+-- the job goes on by the reply
+abbrev pub IsTurnedIn : Stage → Port → Reply → Wanted → ℕ → Outcome → Port → Type 0
+IsTurnedIn Absent port reply wanted now result later = IsDropped port result later
+IsTurnedIn (Left reason) port reply wanted now result later = IsDropped port result later
+IsTurnedIn (Working job) port reply wanted now result later =
+    (turn : Turn) × IsTurn wanted job reply turn × (result ≡ outcome_of port turn now) × (later ≡ turned (noting (answered port) (asked job) reply now) turn now)
+
+-- the module is read anew after the reply
+abbrev pub IsRestartedIn : Stage → Port → Reply → ℕ → Outcome → Port → Type 0
+IsRestartedIn Absent port reply now result later = IsDropped port result later
+IsRestartedIn (Left reason) port reply now result later = IsDropped port result later
+IsRestartedIn (Working job) port reply now result later =
+    (result ≡ outcome.Dropped) × (later ≡ record (noting (answered port) (asked job) reply now) { stage = Working (reading port.vain) })
+
+abbrev pub IsTakenBy : Outstanding → Port → Reply → Wanted → ℕ → Outcome → Port → Type 0
+IsTakenBy Nothing port reply wanted now result later = IsDropped port result later
+IsTakenBy Forsaken port reply wanted now result later = IsDropped port result later
+IsTakenBy Awaited port reply wanted now result later = IsTurnedIn port.stage port reply wanted now result later
+IsTakenBy Stale port reply wanted now result later = IsRestartedIn port.stage port reply now result later
+
+-- what becomes of the port by a reply that is taken at this moment, and what is answered
+abbrev pub IsTaken : Port → Reply → Wanted → ℕ → Outcome → Port → Type 0
+IsTaken port reply wanted now result later = IsTakenBy port.outstanding port reply wanted now result later

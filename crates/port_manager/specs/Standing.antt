@@ -1,0 +1,97 @@
+-- What holds of a port after any story. (this project's own)
+use Rattle.std.specs.Prelude.{◌≡◌, ◌≤◌, ℕ, Bool, true, false, [], ◌∷◌, ◌++◌}
+use Rattle.bus_model.specs.declared.operation.Op.{Op}
+use Rattle.conversations.specs.declared.on_page.OnPage.{OnPage}
+use Rattle.control_sets.specs.declared.procedures.power.Power.TheVariants.{Awake}
+use Rattle.paged_memory.specs.PageAddressing.{History}
+use Rattle.module_reading.specs.declared.halves.Halves.{Halves}
+use Rattle.port_manager.specs.declared.job.Job.{Job}
+use Rattle.port_manager.specs.declared.job.Job.TheVariants.{Reading, Waking, Provisioning, Activating, Watching}
+use Rattle.port_manager.specs.declared.port.Outstanding.{Outstanding}
+use Rattle.port_manager.specs.declared.port.Outstanding.TheVariants as outstanding
+use Rattle.port_manager.specs.declared.port.Port.{Port}
+use Rattle.port_manager.specs.Jobs.{activation_of, provisioning_of}
+use Rattle.port_manager.specs.Patients.{Patient}
+use Rattle.port_manager.specs.Ports.{IfWorking}
+use Rattle.port_manager.specs.Stories.{Story, acknowledge, again_in, ask, drop, held_in, hold, keeper_in, make, outstanding_in, plug, pull, reconsider, settled_in, steps_of, vain_in}
+use Rattle.port_manager.specs.Readings.{GivesActivation, GivesProvisioning, RestsIn, SinceRead, TookSteps, WakesIn}
+
+-- the job works for the goal of the last reading, or wakes up
+abbrev pub IsNamed : Story → Job → Type 0
+IsNamed story (Reading job woken) = Unit {0}
+IsNamed story (Waking job) = (job.conversation.conversation.power ≡ Awake) × WakesIn story
+IsNamed story (Provisioning job goal) = (job.conversation.conversation.conversation.work ≡ provisioning_of goal) × SinceRead (GivesProvisioning goal) story
+IsNamed story (Activating job goal) = (job.conversation.conversation.conversation.work ≡ activation_of goal) × SinceRead (GivesActivation goal) story
+IsNamed story (Watching job) = RestsIn story job.conversation.conversation.conversation.goal
+
+-- unless it is dropped with the next reply
+abbrev pub UnlessStale : Outstanding → Type 0 → Type 0
+UnlessStale outstanding.Nothing P = P
+UnlessStale outstanding.Awaited P = P
+UnlessStale outstanding.Stale P = Unit {0}
+UnlessStale outstanding.Forsaken P = P
+
+-- ---- what a port is
+
+-- the newest of the steps are those of the reading
+pub record IsReadingOf (history : History) (reading : Patient (OnPage Halves)) : Type 0 where
+  pub recent : History
+  pub earlier : History
+  pub all : history ≡ recent ++ earlier
+  pub took : TookSteps recent reading
+
+abbrev pub IsFounded : History → Job → Type 0
+IsFounded history (Reading job woken) = IsReadingOf history job
+IsFounded history (Waking job) = Unit {0}
+IsFounded history (Provisioning job goal) = Unit {0}
+IsFounded history (Activating job goal) = Unit {0}
+IsFounded history (Watching job) = Unit {0}
+
+-- it doesn't wake a module up, now or after a reading
+abbrev pub IsTame : Job → Type 0
+IsTame (Reading job woken) = woken ≡ true
+IsTame (Waking job) = ⊥
+IsTame (Provisioning job goal) = Unit {0}
+IsTame (Activating job goal) = Unit {0}
+IsTame (Watching job) = Unit {0}
+
+abbrev pub IsWatching : Job → Type 0
+IsWatching (Reading job woken) = ⊥
+IsWatching (Waking job) = ⊥
+IsWatching (Provisioning job goal) = ⊥
+IsWatching (Activating job goal) = ⊥
+IsWatching (Watching job) = Unit {0}
+
+abbrev pub IfTrue : Bool → Type 0 → Type 0
+IfTrue true P = P
+IfTrue false P = Unit {0}
+
+-- an operation may be asked for if none is outstanding, and after each moment that is to be waited for
+pub record MayAsk (op : Op) (moment : ℕ) (before : Story) : Type 0 where
+  pub one : outstanding_in before ≡ outstanding.Nothing
+  pub waited : again_in before ≤ moment
+
+-- each operation that was asked for was one that may be
+abbrev pub IsLawful : Story → Type 0
+IsLawful [] = Unit {0}
+IsLawful (plug now ∷ before) = IsLawful before
+IsLawful (pull ∷ before) = IsLawful before
+IsLawful (reconsider ∷ before) = IsLawful before
+IsLawful (hold held ∷ before) = IsLawful before
+IsLawful (acknowledge past ∷ before) = IsLawful before
+IsLawful (ask op moment ∷ before) = MayAsk op moment before × IsLawful before
+IsLawful (make op reply wanted now result ∷ before) = IsLawful before
+IsLawful (drop ∷ before) = IsLawful before
+
+-- the port after this story
+pub record IsAt (story : Story) (port : Port) : Type 0 where
+  pub lawful : IsLawful story
+  pub outstanding : port.outstanding ≡ outstanding_in story
+  pub waits : again_in story ≤ port.due
+  pub held : port.held ≡ held_in story
+  pub founded : IfWorking port.stage (IsFounded (steps_of story))
+  pub vain : port.vain ≡ vain_in story
+  pub tame : IfTrue port.vain (IfWorking port.stage IsTame)
+  pub settled : IfTrue (settled_in story) (IfWorking port.stage IsWatching)
+  pub kept : port.keeper ≡ keeper_in story
+  pub named : UnlessStale port.outstanding (IfWorking port.stage (IsNamed story))

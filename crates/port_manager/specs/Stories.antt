@@ -1,0 +1,161 @@
+-- What happened to a port, the newest first. (this project's own)
+use Rattle.std.specs.Prelude.{◌||◌, ℕ, max, Bool, true, false, List, [], ◌∷◌}
+use Rattle.bus_model.specs.declared.operation.Op.{Op}
+use Rattle.bus_model.specs.declared.operation.Reply.{Reply}
+use Rattle.bus_model.specs.declared.operation.Step.{Step}
+use Rattle.paged_memory.specs.PageAddressing.{History}
+use Rattle.port_manager.specs.declared.deciding.Wanted.{Wanted}
+use Rattle.port_manager.specs.declared.flags.FlagKeeper.{FlagKeeper}
+use Rattle.port_manager.specs.declared.port.Outcome.{Outcome}
+use Rattle.port_manager.specs.declared.port.Outcome.TheVariants as outcome
+use Rattle.port_manager.specs.declared.port.Outstanding.{Outstanding}
+use Rattle.port_manager.specs.declared.port.Outstanding.TheVariants as outstanding
+use Rattle.port_manager.specs.declared.turn.Note.{Note}
+use Rattle.port_manager.specs.declared.turn.Note.TheVariants as notes
+use Rattle.port_manager.specs.Flags.{acknowledged, no_flags, noted, unread}
+use Rattle.port_manager.specs.Ports.{forsaken, is_vain}
+
+pub data Event : Type 0 where
+  -- a module was plugged at this moment
+  plug : ℕ → Event
+  pull : Event
+  -- other weights are wanted, or somebody asks
+  reconsider : Event
+  -- the port is to hold still, or not any longer
+  hold : Bool → Event
+  -- flags up to this moment are known to somebody
+  acknowledge : ℕ → Event
+  -- the operation was asked for at this moment
+  ask : Op → ℕ → Event
+  -- it had this reply, which was taken with these weights at this moment, and led to this
+  make : Op → Reply → Wanted → ℕ → Outcome → Event
+  -- a reply came to an operation from before
+  drop : Event
+
+abbrev pub Story : Type 0
+Story = List Event
+
+abbrev pub step_with : Op → Reply → Step
+step_with op reply = record { op = op; reply = reply }
+
+-- the steps of the module that is there, since it was plugged
+abbrev pub steps_of : Story → History
+steps_of [] = []
+steps_of (plug now ∷ before) = []
+steps_of (pull ∷ before) = []
+steps_of (reconsider ∷ before) = steps_of before
+steps_of (hold held ∷ before) = steps_of before
+steps_of (acknowledge past ∷ before) = steps_of before
+steps_of (ask op moment ∷ before) = steps_of before
+steps_of (make op reply wanted now result ∷ before) = step_with op reply ∷ steps_of before
+steps_of (drop ∷ before) = steps_of before
+
+abbrev pub staled : Outstanding → Outstanding
+staled outstanding.Nothing = outstanding.Nothing
+staled outstanding.Awaited = outstanding.Stale
+staled outstanding.Stale = outstanding.Stale
+staled outstanding.Forsaken = outstanding.Forsaken
+
+-- what is outstanding
+abbrev pub outstanding_in : Story → Outstanding
+outstanding_in [] = outstanding.Nothing
+outstanding_in (plug now ∷ before) = forsaken (outstanding_in before)
+outstanding_in (pull ∷ before) = forsaken (outstanding_in before)
+outstanding_in (reconsider ∷ before) = staled (outstanding_in before)
+outstanding_in (hold held ∷ before) = staled (outstanding_in before)
+outstanding_in (acknowledge past ∷ before) = outstanding_in before
+outstanding_in (ask op moment ∷ before) = outstanding.Awaited
+outstanding_in (make op reply wanted now result ∷ before) = outstanding.Nothing
+outstanding_in (drop ∷ before) = outstanding.Nothing
+
+-- nothing is to be made before a moment after an operation in vain, or a failure
+abbrev pub waits_after : Outcome → ℕ → ℕ
+waits_after outcome.Dropped before = before
+waits_after (outcome.Went note) before = before
+waits_after (outcome.Paused moment) before = max moment before
+waits_after (outcome.Failed fault moment) before = max moment before
+waits_after (outcome.Left reason) before = before
+
+-- the last of the moments that are to be waited for since the module was plugged
+abbrev pub again_in : Story → ℕ
+again_in [] = 0
+again_in (plug now ∷ before) = 0
+again_in (pull ∷ before) = 0
+again_in (reconsider ∷ before) = again_in before
+again_in (hold held ∷ before) = again_in before
+again_in (acknowledge past ∷ before) = again_in before
+again_in (ask op moment ∷ before) = again_in before
+again_in (make op reply wanted now result ∷ before) = waits_after result (again_in before)
+again_in (drop ∷ before) = again_in before
+
+-- the module was woken up and is not ready
+abbrev pub vain_by : Outcome → Bool → Bool
+vain_by outcome.Dropped before = before
+vain_by (outcome.Went note) before = before
+vain_by (outcome.Paused moment) before = before
+vain_by (outcome.Failed fault moment) before = before || is_vain fault
+vain_by (outcome.Left reason) before = before
+
+-- so it was since it was plugged and since somebody asked
+abbrev pub vain_in : Story → Bool
+vain_in [] = false
+vain_in (plug now ∷ before) = false
+vain_in (pull ∷ before) = false
+vain_in (reconsider ∷ before) = false
+vain_in (hold held ∷ before) = false
+vain_in (acknowledge past ∷ before) = vain_in before
+vain_in (ask op moment ∷ before) = vain_in before
+vain_in (make op reply wanted now result ∷ before) = vain_by result (vain_in before)
+vain_in (drop ∷ before) = vain_in before
+
+-- the module is as it is wanted
+abbrev pub settled_note : Note → Bool → Bool
+settled_note notes.CameUp before = true
+settled_note notes.Held before = true
+settled_note notes.Quiet before = before
+settled_note notes.Identified before = false
+settled_note notes.Woken before = false
+settled_note notes.Provisioned before = false
+
+abbrev pub settled_by : Outcome → Bool → Bool
+settled_by outcome.Dropped before = false
+settled_by (outcome.Went note) before = settled_note note before
+settled_by (outcome.Paused moment) before = before
+settled_by (outcome.Failed fault moment) before = false
+settled_by (outcome.Left reason) before = false
+
+-- so it was found to be, and nothing has changed since
+abbrev pub settled_in : Story → Bool
+settled_in [] = false
+settled_in (plug now ∷ before) = false
+settled_in (pull ∷ before) = false
+settled_in (reconsider ∷ before) = false
+settled_in (hold held ∷ before) = false
+settled_in (acknowledge past ∷ before) = settled_in before
+settled_in (ask op moment ∷ before) = settled_in before
+settled_in (make op reply wanted now result ∷ before) = settled_by result (settled_in before)
+settled_in (drop ∷ before) = settled_in before
+
+-- the flags that were read as raised and aren't acknowledged, of this module and of those before it
+abbrev pub keeper_in : Story → FlagKeeper
+keeper_in [] = unread no_flags
+keeper_in (plug now ∷ before) = unread (keeper_in before).flags
+keeper_in (pull ∷ before) = unread (keeper_in before).flags
+keeper_in (reconsider ∷ before) = keeper_in before
+keeper_in (hold held ∷ before) = keeper_in before
+keeper_in (acknowledge past ∷ before) = acknowledged (keeper_in before) past
+keeper_in (ask op moment ∷ before) = keeper_in before
+keeper_in (make op reply wanted now result ∷ before) = noted (keeper_in before) op reply now
+keeper_in (drop ∷ before) = keeper_in before
+
+-- it is to hold still
+abbrev pub held_in : Story → Bool
+held_in [] = false
+held_in (plug now ∷ before) = held_in before
+held_in (pull ∷ before) = held_in before
+held_in (reconsider ∷ before) = held_in before
+held_in (hold held ∷ before) = held
+held_in (acknowledge past ∷ before) = held_in before
+held_in (ask op moment ∷ before) = held_in before
+held_in (make op reply wanted now result ∷ before) = held_in before
+held_in (drop ∷ before) = held_in before

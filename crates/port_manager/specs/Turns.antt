@@ -1,0 +1,128 @@
+-- What the reply to the operation of a job leads to, exactly. (this project's own)
+use Rattle.std.specs.Prelude.{◌≡◌, ℕ, Bool, true, false, Option, Some, None}
+use Rattle.bus_model.specs.declared.operation.Reply.{Reply}
+use Rattle.conversations.specs.declared.next.Next.{Next}
+use Rattle.conversations.specs.declared.next.Next.TheVariants.{Do, Wait, End}
+use Rattle.conversations.specs.declared.on_page.OnPage.{OnPage}
+use Rattle.conversations.specs.declared.pausing.Patience.{Patience}
+use Rattle.conversations.specs.declared.pausing.Timed.{Timed}
+use Rattle.conversations.specs.declared.pausing.Timed.TheVariants.{InTime, Overdue as Late}
+use Rattle.conversations.specs.declared.within.Spent.{Spent}
+use Rattle.paged_memory.specs.Images.{Memory}
+use Rattle.control_sets.specs.declared.fault.ProvisionFault.{ProvisionFault}
+use Rattle.control_sets.specs.declared.fault.ProvisionFault.TheVariants.{GaveUp}
+use Rattle.control_sets.specs.Durations.{patience_for}
+use Rattle.control_sets.specs.PowerProgress.{PatientPower, change_after, power_wants}
+use Rattle.control_sets.specs.Progress.{PatientProcedure}
+use Rattle.port_manager.specs.declared.deciding.Decision.{Decision}
+use Rattle.port_manager.specs.declared.deciding.Decision.TheVariants.{Leave, Wake, Hold, Activate, Provision}
+use Rattle.port_manager.specs.declared.deciding.Goal.{Goal}
+use Rattle.port_manager.specs.declared.deciding.Wanted.{Wanted}
+use Rattle.port_manager.specs.declared.job.Job.{Job}
+use Rattle.port_manager.specs.declared.job.Job.TheVariants.{Reading, Waking, Provisioning, Activating, Watching}
+use Rattle.port_manager.specs.declared.look.Look.{Look}
+use Rattle.module_reading.specs.declared.halves.Halves.{Halves}
+use Rattle.port_manager.specs.declared.turn.Note.TheVariants as note
+use Rattle.port_manager.specs.declared.turn.PortFault.TheVariants as fault
+use Rattle.port_manager.specs.declared.turn.ProcedureFault.{ProcedureFault}
+use Rattle.port_manager.specs.declared.turn.ProcedureFault.TheVariants as why
+use Rattle.port_manager.specs.declared.turn.Turn.{Turn}
+use Rattle.port_manager.specs.declared.turn.Turn.TheVariants.{On, Paused, Failed, Left}
+use Rattle.port_manager.specs.Decisions.{IsDecision}
+use Rattle.port_manager.specs.Jobs.{activating, paged_halves, paged_look, look_after, look_wants, procedure_after, procedure_wants, provisioning, reading, reading_after, reading_wants, paged_tasks, waking, waking_after, waking_wants, watching}
+use Rattle.port_manager.specs.Patients.{Patient, after_on, pause_after, wants_on}
+
+-- ---- a job goes on
+
+-- after a pause, if the operation was in vain
+abbrev pub going : Option ℕ → Job → Turn
+going None job = On job note.Quiet
+going (Some time) job = Paused job time
+
+-- by what it wants next: it goes on, or has ended, which leads to something else
+abbrev pub GoesTo : {E : Type 0} → Next (Spent E) → Option ℕ → Job → (Option E → Turn → Type 0) → Turn → Type 0
+GoesTo (Do op) pause job Ended turn = turn ≡ going pause job
+GoesTo (Wait time) pause job Ended turn = turn ≡ going pause job
+GoesTo (End spent) pause job Ended turn = Ended spent.end turn
+
+-- ---- a job has ended
+
+-- a module that was woken up before is not woken up again
+abbrev pub woken_again : Bool → Patience → Turn
+woken_again true patience = Failed fault.Asleep
+woken_again false patience = On (waking patience) note.Identified
+
+abbrev pub decided : Bool → Patience → Decision → Turn
+decided woken patience (Leave reason) = Left reason
+decided woken patience Wake = woken_again woken patience
+decided woken patience (Hold goal) = On (watching goal patience) note.CameUp
+decided woken patience (Activate goal) = On (activating goal patience) note.Identified
+decided woken patience (Provision goal) = On (provisioning goal patience) note.Identified
+
+abbrev pub IsRead : Wanted → Bool → Memory → Option (Timed (Unit {0})) → Turn → Type 0
+IsRead wanted woken image (Some (InTime end)) turn = (decision : Decision) × IsDecision wanted image decision × (turn ≡ decided woken (patience_for image) decision)
+IsRead wanted woken image (Some Late) turn = turn ≡ Failed fault.Unread
+IsRead wanted woken image None turn = turn ≡ Failed fault.Unread
+
+-- the fault in which a procedure ended, if it did
+abbrev pub fault_in : Option (Timed (Option ProvisionFault)) → Option ProcedureFault
+fault_in None = Some (why.Failed GaveUp)
+fault_in (Some Late) = Some why.Overdue
+fault_in (Some (InTime None)) = None
+fault_in (Some (InTime (Some because))) = Some (why.Failed because)
+
+abbrev pub woken_up : Option ProcedureFault → Turn
+woken_up None = On (reading true) note.Woken
+woken_up (Some because) = Failed (fault.Waking because)
+
+abbrev pub provisioned : Goal → Patience → Option ProcedureFault → Turn
+provisioned goal patience None = On (activating goal patience) note.Provisioned
+provisioned goal patience (Some because) = Failed (fault.Provisioning because)
+
+abbrev pub activated : Goal → Patience → Option ProcedureFault → Turn
+activated goal patience None = On (watching goal patience) note.CameUp
+activated goal patience (Some because) = Failed (fault.Activating because)
+
+abbrev pub seen : Goal → Patience → Option (Timed Bool) → Turn
+seen goal patience None = Failed fault.Unseen
+seen goal patience (Some Late) = Failed fault.Unseen
+seen goal patience (Some (InTime true)) = On (watching goal patience) note.Held
+seen goal patience (Some (InTime false)) = Failed fault.Changed
+
+-- ---- each job
+
+abbrev pub IsReadingTurn : Wanted → Patient (OnPage Halves) → Bool → Reply → Turn → Type 0
+IsReadingTurn wanted job woken reply turn =
+    let later = reading_after job reply in
+    GoesTo (reading_wants later) (pause_after (wants_on paged_halves) (after_on paged_halves) job reply) (Reading later woken)
+    (λ end turn. IsRead wanted woken later.conversation.conversation.conversation.image end turn) turn
+
+abbrev pub IsWakingTurn : PatientPower → Reply → Turn → Type 0
+IsWakingTurn job reply turn =
+    let later = waking_after job reply in
+    GoesTo (waking_wants later) (pause_after power_wants change_after job reply) (Waking later) (λ end turn. turn ≡ woken_up (fault_in end)) turn
+
+abbrev pub IsProvisioningTurn : PatientProcedure → Goal → Reply → Turn → Type 0
+IsProvisioningTurn job goal reply turn =
+    let later = procedure_after job reply in
+    GoesTo (procedure_wants later) (pause_after (wants_on paged_tasks) (after_on paged_tasks) job reply) (Provisioning later goal)
+    (λ end turn. turn ≡ provisioned goal later.conversation.patience (fault_in end)) turn
+
+abbrev pub IsActivatingTurn : PatientProcedure → Goal → Reply → Turn → Type 0
+IsActivatingTurn job goal reply turn =
+    let later = procedure_after job reply in
+    GoesTo (procedure_wants later) (pause_after (wants_on paged_tasks) (after_on paged_tasks) job reply) (Activating later goal)
+    (λ end turn. turn ≡ activated goal later.conversation.patience (fault_in end)) turn
+
+abbrev pub IsWatchingTurn : Patient (OnPage Look) → Reply → Turn → Type 0
+IsWatchingTurn job reply turn =
+    let later = look_after job reply in
+    GoesTo (look_wants later) (pause_after (wants_on paged_look) (after_on paged_look) job reply) (Watching later)
+    (λ end turn. turn ≡ seen later.conversation.conversation.conversation.goal later.conversation.patience end) turn
+
+abbrev pub IsTurn : Wanted → Job → Reply → Turn → Type 0
+IsTurn wanted (Reading job woken) reply turn = IsReadingTurn wanted job woken reply turn
+IsTurn wanted (Waking job) reply turn = IsWakingTurn job reply turn
+IsTurn wanted (Provisioning job goal) reply turn = IsProvisioningTurn job goal reply turn
+IsTurn wanted (Activating job goal) reply turn = IsActivatingTurn job goal reply turn
+IsTurn wanted (Watching job) reply turn = IsWatchingTurn job reply turn

@@ -1,0 +1,209 @@
+// The flags that were read as raised. A fetch of latched flags clears them in the module, so it is kept here how often each one was
+// read, and when last, until that is acknowledged.
+ghost use Rattle.std.specs.Prelude.{◌≡◌, ◌≤◌, ◌<◌, length};
+ghost use Rattle.bus_model.specs.Operations.{Answers};
+ghost use Rattle.port_manager.specs.Flags as spec;
+
+use bus_model::{Dev, Op, Reply};
+use paged_memory::{KnownPage, PageAddressing};
+
+/// Each flag of a module, byte by byte as they stand in its memory, and in a byte from the lowest bit: how often it was read as raised
+/// since that was acknowledged, as far as 16 bits count, and the moment of the last time, or 0.
+#[derive(Clone, Copy, Drop)]
+pub struct Flags {
+    /// Bytes 8 to 11 of the lower memory.
+    pub module_counts: [u16; 32],
+    pub module_last: [u64; 32],
+    /// Bytes 134 to 152 of page 11h, which have a bit for each lane.
+    pub lane_counts: [u16; 152],
+    pub lane_last: [u64; 152],
+}
+
+/// Which flags were read as raised.
+#[derive(Clone, Copy, Drop)]
+pub struct FlagKeeper {
+    /// Which page was read to be selected, if nothing was stored since.
+    pub selected: KnownPage,
+    pub flags: Flags,
+}
+
+impl Flags {
+    /// None was raised.
+    pub fn none() -> Flags
+        ensures { result ≡ spec.no_flags }
+    {
+        Flags {
+            module_counts: [0; 32],
+            module_last: [0; 32],
+            lane_counts: [0; 152],
+            lane_last: [0; 152],
+        }
+    }
+
+    /// Without those that were last read as raised at this moment or before it.
+    fn since(&self, moment: u64) -> Flags
+        ensures { result ≡ spec.since self.now moment }
+    {
+        Flags {
+            module_counts: counts_since(&self.module_counts, &self.module_last, moment),
+            module_last: last_since(&self.module_last, moment),
+            lane_counts: counts_since(&self.lane_counts, &self.lane_last, moment),
+            lane_last: last_since(&self.lane_last, moment),
+        }
+    }
+}
+
+impl FlagKeeper {
+    /// An operation was made, and had this reply at this moment.
+    pub fn take(&mut self, op: &Op, reply: &Reply, now: u64)
+        requires { Answers op.now reply.now }
+        ensures { self.new ≡ spec.noted self.old op.now reply.now now }
+    {
+        match op {
+            Op::Store { .. } => self.selected = KnownPage::Unknown,
+            Op::Fetch {
+                dev: Dev::A0,
+                offset,
+                count,
+            } => {
+                if let Reply::Bytes(bytes) = reply {
+                    self.take_bytes(*offset, *count, bytes, now);
+                }
+            }
+            Op::Fetch { dev: Dev::A2, .. } => {}
+        }
+    }
+
+    /// Those that were last read as raised at this moment or before it are known.
+    pub fn acknowledge(&mut self, moment: u64)
+        ensures { self.new ≡ spec.acknowledged self.old moment }
+    {
+        self.flags = self.flags.since(moment);
+    }
+
+    fn take_bytes(&mut self, offset: u8, count: u8, bytes: &[u8], now: u64)
+        requires { length bytes.now ≡ count }
+        ensures { self.new ≡ spec.noted_bytes self.old offset count bytes.now now }
+    {
+        self.flags = with_module(&self.flags, offset, bytes, now);
+        if self.selected == KnownPage::Page(0x11) {
+            self.flags = with_lanes(&self.flags, offset, bytes, now);
+        }
+        if offset == 0 && count == 128 {
+            self.selected = shown_page(bytes);
+        } else if offset == 126 && count == 2 {
+            self.selected = KnownPage::of(PageAddressing::BankAndPage, bytes);
+        }
+    }
+}
+
+// The page that the lower memory shows as selected.
+fn shown_page(lower: &[u8]) -> KnownPage
+    requires { length lower.now ≡ 128 }
+    ensures { result ≡ spec.shown_page lower.now }
+{
+    KnownPage::of(PageAddressing::BankAndPage, &lower[126..128])
+}
+
+// With what bytes from this address on show of the lower memory.
+fn with_module(held: &Flags, offset: u8, bytes: &[u8], now: u64) -> Flags
+    ensures { result ≡ spec.with_module held.now offset bytes.now now }
+{
+    Flags {
+        module_counts: counted(&held.module_counts, offset, bytes, 8),
+        module_last: dated(&held.module_last, offset, bytes, 8, now),
+        lane_counts: held.lane_counts,
+        lane_last: held.lane_last,
+    }
+}
+
+// With what they show of page 11h, which is selected.
+fn with_lanes(held: &Flags, offset: u8, bytes: &[u8], now: u64) -> Flags
+    ensures { result ≡ spec.with_lanes held.now offset bytes.now now }
+{
+    Flags {
+        module_counts: held.module_counts,
+        module_last: held.module_last,
+        lane_counts: counted(&held.lane_counts, offset, bytes, 134),
+        lane_last: dated(&held.lane_last, offset, bytes, 134, now),
+    }
+}
+
+// How often each flag from an address on was raised, with what bytes from another address on show.
+fn counted<const N: usize>(held: &[u16; N], offset: u8, bytes: &[u8], first: u8) -> [u16; N]
+    requires { N ≤ 256 }
+    ensures { result ≡ spec.counted N held.now offset bytes.now first }
+{
+    let mut counts = [0; N];
+    for (place, count) in counts.iter_mut().enumerate() {
+        *count = one_more(held[place], is_raised(offset, bytes, first, place));
+    }
+    counts
+}
+
+fn one_more(held: u16, raised: bool) -> u16
+    ensures { result ≡ spec.one_more raised held }
+{
+    if raised { held.saturating_add(1) } else { held }
+}
+
+// When each was last raised.
+fn dated<const N: usize>(held: &[u64; N], offset: u8, bytes: &[u8], first: u8, now: u64) -> [u64; N]
+    requires { N ≤ 256 }
+    ensures { result ≡ spec.dated N held.now offset bytes.now first now }
+{
+    let mut last = [0; N];
+    for (place, moment) in last.iter_mut().enumerate() {
+        *moment = later_of(held[place], is_raised(offset, bytes, first, place), now);
+    }
+    last
+}
+
+fn later_of(held: u64, raised: bool, now: u64) -> u64
+    ensures { result ≡ spec.later_of raised held now }
+{
+    if raised { held.max(now) } else { held }
+}
+
+// Whether the bytes have the flag's byte, and its bit is 1 there.
+fn is_raised(offset: u8, bytes: &[u8], first: u8, place: usize) -> bool
+    requires { place < 256 }
+    ensures { result ≡ spec.is_raised offset bytes.now first place }
+{
+    let address = usize::from(first) + place / 8;
+    let start = usize::from(offset);
+    if start <= address && address - start < bytes.len() {
+        (bytes[address - start] >> (place % 8)) & 1 == 1
+    } else {
+        false
+    }
+}
+
+// The counts of those that were last raised after a moment.
+fn counts_since<const N: usize>(counts: &[u16; N], last: &[u64; N], moment: u64) -> [u16; N]
+    ensures { result ≡ spec.counts_since N counts.now last.now moment }
+{
+    let mut kept = [0; N];
+    for (place, count) in kept.iter_mut().enumerate() {
+        *count = if last[place] <= moment {
+            0
+        } else {
+            counts[place]
+        };
+    }
+    kept
+}
+
+fn last_since<const N: usize>(last: &[u64; N], moment: u64) -> [u64; N]
+    ensures { result ≡ spec.last_since N last.now moment }
+{
+    let mut kept = [0; N];
+    for (place, value) in kept.iter_mut().enumerate() {
+        *value = if last[place] <= moment {
+            0
+        } else {
+            last[place]
+        };
+    }
+    kept
+}

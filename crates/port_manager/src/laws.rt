@@ -1,0 +1,90 @@
+//! What holds of ports. Each function is a theorem: its contract says it, and its body is empty.
+ghost use Rattle.std.specs.Prelude.{◌≡◌, List, ℕ, false, true};
+ghost use Rattle.std.specs.FinSet as set;
+ghost use Rattle.field_tables.specs.LaneSets.{IsLane, lanes_in};
+ghost use Rattle.control_sets.specs.StoredBits.{Sets};
+ghost use Rattle.control_sets.specs.PlanLanes.{is_taken};
+ghost use Rattle.bus_model.specs.declared.operation.Op.{Op};
+ghost use Rattle.paged_memory.specs.Images.{Memory};
+ghost use Rattle.applications.specs.Advertised.{Advertised};
+ghost use Rattle.plan_certificate.specs.declared.path.Path.{Path};
+ghost use Rattle.port_manager.specs.declared.deciding.Decision.{Decision};
+ghost use Rattle.port_manager.specs.declared.deciding.Goal.{Goal};
+ghost use Rattle.port_manager.specs.declared.deciding.Wanted.{Wanted};
+ghost use Rattle.port_manager.specs.declared.port.Port.{Port};
+ghost use Rattle.port_manager.specs.declared.port.PortNext.TheVariants.{Do};
+ghost use Rattle.port_manager.specs.Decisions.{IsDecision};
+ghost use Rattle.port_manager.specs.Goals.{IsGoalBy, kept_of};
+ghost use Rattle.port_manager.specs.Idle.{LeavesWhatIsUp};
+ghost use Rattle.port_manager.specs.KeptFlags.{NoFlagIsLost};
+ghost use Rattle.port_manager.specs.Ports.{next_at};
+ghost use Rattle.port_manager.specs.Progress.{ComesUp, NeverStops};
+ghost use Rattle.port_manager.specs.Runs.{Reaches};
+ghost use Rattle.port_manager.specs.Stores.{IsStoreOf, MayMakeIn, StoresNothing, TakesPermitted};
+ghost use Rattle.port_manager.specs.Stories.{Story, held_in, settled_in};
+ghost use Rattle.port_manager.specs.Standing.{IsAt};
+
+/// What a port asks for, after any story, names its weights. It fetches, selects a page, or is a store of the first best plan of the
+/// image that the last reading gave since the module was plugged, by the weights that were given with its last reply. Or it wakes
+/// the module up, which the last reading showed to need no more power than it may have, and which was not woken up in vain since
+/// it was plugged or somebody asked.
+pub fn stores_name_their_weights()
+    ensures { (story : Story) (port : Port) (op : Op) (now : ℕ) → Reaches story port → next_at port now ≡ Do op → MayMakeIn story op }
+{}
+
+/// After any story, no operation takes a lane down, or applies it, that the last reading showed to be up, unless that is permitted by
+/// what was wanted with its last reply.
+pub fn no_lane_goes_down_unpermitted()
+    ensures { (story : Story) (port : Port) (op : Op) (now : ℕ) → Reaches story port → next_at port now ≡ Do op → TakesPermitted story op }
+{}
+
+/// After any story, a port that found its module to be as it is wanted stores nothing until something changes. So does one whose
+/// reading shows that all of the module's plan is up, as after a restart.
+pub fn what_is_up_is_left_alone()
+    ensures settled { (story : Story) (port : Port) (op : Op) (now : ℕ) → Reaches story port → settled_in story ≡ true → next_at port now ≡ Do op →
+        StoresNothing op }
+    ensures image { LeavesWhatIsUp }
+{}
+
+/// What the calls of a port give, one after the other, is a story of which all that is said of stories holds: one operation at a
+/// time, none before the moment that the pause after an operation in vain, or a failure, leads to, and flags as they were read and
+/// acknowledged.
+pub fn stories_are_lawful()
+    ensures { (story : Story) (port : Port) → Reaches story port → IsAt story port }
+{}
+
+/// After a module was plugged, unless something fails, it is left alone, pulled or wanted otherwise: once more operations were made
+/// than 61, and 3 for each that was followed by a pause, it is up as it is wanted.
+pub fn a_module_comes_up()
+    ensures { ComesUp }
+{}
+
+/// After any story, a port that is to hold still asks for nothing.
+pub fn a_held_port_asks_for_nothing()
+    ensures { (story : Story) (port : Port) (op : Op) (now : ℕ) → Reaches story port → held_in story ≡ true → ¬ (next_at port now ≡ Do op) }
+{}
+
+/// After any story, a port that works at a module, and isn't to hold still, asks for an operation as soon as none is outstanding and it
+/// may.
+pub fn a_port_never_stops()
+    ensures { NeverStops }
+{}
+
+/// Of an image and weights there is one decision, and `decide` gives it.
+pub fn one_decision()
+    ensures { (wanted : Wanted) (image : Memory) (one other : Decision) → IsDecision wanted image one → IsDecision wanted image other → one ≡ other }
+{}
+
+/// Each flag that a reply shows as raised is counted, and dated no earlier, until what was read at that moment is acknowledged,
+/// whatever comes between, also if the module is pulled.
+pub fn no_flag_is_lost()
+    ensures { NoFlagIsLost }
+{}
+
+/// No store of a goal has a bit of DPDeinit or ApplyDPInit of a lane that a kept path takes.
+pub fn kept_lanes_are_left()
+    ensures { (advert : Advertised) (wanted : Wanted) (page : List ℕ) (plan : List Path) (goal : Goal) (op : Op) (bits lane : ℕ) →
+        IsGoalBy advert wanted page plan goal → is_taken advert (kept_of advert page goal.control plan) lane ≡ true →
+        IsStoreOf goal op → Sets bits op → IsLane lane →
+        set.contains (lanes_in bits) lane ≡ false }
+{}

@@ -1,0 +1,23 @@
+//! The manager of one port of a machine: it keeps the module in the port as it is wanted, while modules are plugged, pulled, fail
+//! and restart. It is plain data without a bus and without a clock: it is given what happened and when, and answers what is to be
+//! made, or until when nothing is.
+#![tactic(auto)]
+
+mod deciding;
+mod flags;
+mod job;
+mod lanes;
+pub mod laws;
+mod look;
+mod patient;
+mod port;
+mod times;
+mod turn;
+
+pub use deciding::{Decision, Goal, LeftBecause, Wanted, decide};
+pub use flags::{FlagKeeper, Flags};
+pub use job::{Job, ReadingJob, WatchingJob};
+pub use look::{Look, LookStage};
+pub use port::{Outcome, Outstanding, Port, PortNext, Stage};
+pub use times::Times;
+pub use turn::{Note, PortFault, ProcedureFault, Turn};

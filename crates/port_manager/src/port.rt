@@ -1,0 +1,310 @@
+// A port over time: whether a module is there, what works at it, what is outstanding, and until when nothing is made.
+ghost use Rattle.std.specs.Prelude.{◌≡◌, false};
+ghost use Rattle.bus_model.specs.Operations.{IsWellShaped};
+ghost use Rattle.port_manager.specs.Jobs.{IsReplyTo, asked};
+ghost use Rattle.port_manager.specs.Flags.{no_flags};
+ghost use Rattle.port_manager.specs.Ports as spec;
+ghost use Rattle.port_manager.specs.Ports.{IfDo, IsAwaited, IsTaken};
+ghost use Rattle.port_manager.specs.declared.port.Outstanding.TheVariants as outstanding;
+
+use crate::deciding::{LeftBecause, Wanted};
+use crate::flags::{FlagKeeper, Flags};
+use crate::job::Job;
+use crate::times::{Times, doubled, later};
+use crate::turn::{Note, PortFault, Turn};
+use bus_model::{Op, Reply};
+use paged_memory::KnownPage;
+use std::mem;
+
+/// What is outstanding on the bus.
+#[derive(Clone, Copy, Debug, PartialEq, Eq)]
+pub enum Outstanding {
+    /// Nothing.
+    Nothing,
+    /// The reply to the operation that was asked for.
+    Awaited,
+    /// The same, but other weights are wanted since, so that its work is to be begun anew.
+    Stale,
+    /// The reply to one whose module was pulled since.
+    Forsaken,
+}
+
+/// What is in the port.
+#[derive(Drop)]
+pub enum Stage {
+    /// No module.
+    Absent,
+    /// A module that is left alone.
+    Left(LeftBecause),
+    /// A module at which this works.
+    Working(Job),
+}
+
+/// What is to be done now.
+#[derive(Drop)]
+pub enum PortNext {
+    /// This operation is to be made, and its reply to be taken.
+    Do(Op),
+    /// Nothing before this moment.
+    Until(u64),
+    /// Nothing before a reply was taken.
+    Busy,
+    /// Nothing before a module is plugged, other weights are wanted, or the port isn't to hold still any longer.
+    Idle,
+}
+
+/// What a reply led to.
+#[derive(Clone, Copy, Debug, PartialEq, Eq)]
+pub enum Outcome {
+    /// Nothing: no module in the port gave it, or what asked for it is dropped.
+    Dropped,
+    /// The job goes on, or the next one does.
+    Went(Note),
+    /// The operation was in vain, and the job goes on, not before this moment.
+    Paused(u64),
+    /// What was begun has failed, and is begun anew, not before this moment.
+    Failed(PortFault, u64),
+    /// The module is left alone.
+    Left(LeftBecause),
+}
+
+/// A port.
+#[derive(Drop)]
+pub struct Port {
+    pub times: Times,
+    pub stage: Stage,
+    /// No operation is made before this moment.
+    pub due: u64,
+    /// How long is waited after the next failure.
+    pub back_off: u32,
+    pub outstanding: Outstanding,
+    /// The module was woken up in vain, and is not to be again.
+    pub vain: bool,
+    /// The flags that were read.
+    pub keeper: FlagKeeper,
+    /// Somebody wants it to hold still.
+    pub held: bool,
+}
+
+impl Port {
+    /// An empty port.
+    pub fn new(times: Times) -> Port
+        ensures value { result ≡ spec.absent times outstanding.Nothing no_flags false }
+    {
+        empty(times, Outstanding::Nothing, Flags::none(), false)
+    }
+
+    /// The module was pulled: nothing of it is left but the flags that were read.
+    pub fn pull(&mut self)
+        ensures value { self.new ≡ spec.pulled self.old }
+    {
+        *self = empty(
+            self.times,
+            forsaken(self.outstanding),
+            self.keeper.flags,
+            self.held,
+        );
+    }
+
+    /// A module was plugged, which may need time to answer.
+    pub fn plug(&mut self, now: u64)
+        ensures value { self.new ≡ spec.plugged now self.old }
+    {
+        self.pull();
+        self.stage = Stage::Working(Job::reading(false));
+        self.due = later(now, self.times.settle);
+    }
+
+    /// Other weights are wanted, or somebody asks: a module that is there is read and judged anew, but not before the moment that is
+    /// waited for, nor before the reply that is outstanding.
+    pub fn reconsider(&mut self)
+        ensures value { self.new ≡ spec.reconsidered self.old }
+    {
+        self.vain = false;
+        match self.outstanding {
+            Outstanding::Awaited | Outstanding::Stale => self.outstanding = Outstanding::Stale,
+            Outstanding::Nothing | Outstanding::Forsaken => self.restart(),
+        }
+    }
+
+    /// The port is to hold still: nothing is asked for, whatever comes, once the reply that is outstanding was taken. Or it is not to
+    /// any longer, and its module is read and judged anew.
+    pub fn hold(&mut self, held: bool)
+        ensures { self.new ≡ spec.holding held self.old }
+    {
+        self.held = held;
+        self.reconsider();
+    }
+
+    fn restart(&mut self)
+        ensures { self.new ≡ spec.restarted self.old }
+    {
+        match self.stage {
+            Stage::Absent => {}
+            Stage::Left(_) | Stage::Working(_) => self.stage = Stage::Working(Job::reading(false)),
+        }
+    }
+
+    /// Somebody knows the flags that were last read as raised at this moment or before it, and they count no longer.
+    pub fn acknowledge(&mut self, moment: u64)
+        ensures { self.new ≡ spec.acknowledged_to moment self.old }
+    {
+        self.keeper.acknowledge(moment);
+    }
+
+    /// What is to be done now.
+    pub fn next(&mut self, now: u64) -> PortNext
+        ensures value { result ≡ spec.next_at self.old now }
+        ensures after { self.new ≡ spec.asking self.old result }
+        ensures shape { IfDo result IsWellShaped }
+    {
+        let next = self.wanted(now);
+        if matches!(next, PortNext::Do(_)) {
+            self.outstanding = Outstanding::Awaited;
+        }
+        next
+    }
+
+    fn wanted(&self, now: u64) -> PortNext
+        ensures value { result ≡ spec.next_at self.now now }
+        ensures shape { IfDo result IsWellShaped }
+    {
+        if self.outstanding != Outstanding::Nothing {
+            return PortNext::Busy;
+        }
+        match &self.stage {
+            Stage::Absent | Stage::Left(_) => PortNext::Idle,
+            Stage::Working(_) if self.held => PortNext::Idle,
+            Stage::Working(_) if now < self.due => PortNext::Until(self.due),
+            Stage::Working(job) => match job.op() {
+                Some(op) => PortNext::Do(op),
+                None => PortNext::Idle,
+            },
+        }
+    }
+
+    /// Takes the reply to the operation that was to be made, which came at this moment.
+    pub fn take(&mut self, reply: &Reply, wanted: &Wanted, now: u64) -> Outcome
+        requires reply { IsAwaited self.old reply.now }
+        ensures exact { IsTaken self.old reply.now wanted.now now result self.new }
+    {
+        let due = mem::replace(&mut self.outstanding, Outstanding::Nothing);
+        match (due, mem::replace(&mut self.stage, Stage::Absent)) {
+            (Outstanding::Awaited, Stage::Working(job)) => {
+                self.note(&job, reply, now);
+                self.turned(job.turn(reply, wanted), now)
+            }
+            (Outstanding::Stale, Stage::Working(job)) => {
+                self.note(&job, reply, now);
+                self.stage = Stage::Working(Job::reading(self.vain));
+                Outcome::Dropped
+            }
+            (_, stage) => {
+                self.stage = stage;
+                Outcome::Dropped
+            }
+        }
+    }
+
+    // What the reply shows of flags.
+    fn note(&mut self, job: &Job, reply: &Reply, now: u64)
+        requires { IsReplyTo (asked job.now) reply.now }
+        ensures { self.new ≡ spec.noting self.old (asked job.now) reply.now now }
+    {
+        if let Some(op) = job.op() {
+            self.keeper.take(&op, reply, now);
+        }
+    }
+
+    fn turned(&mut self, turn: Turn, now: u64) -> Outcome
+        ensures after { self.new ≡ spec.turned self.old turn now }
+        ensures result { result ≡ spec.outcome_of self.old turn now }
+    {
+        match turn {
+            Turn::On(job, note) => {
+                self.stage = Stage::Working(job);
+                self.wait_for(note, now);
+                Outcome::Went(note)
+            }
+            Turn::Paused(job, time) => {
+                let again = self.due.max(later(now, time));
+                self.stage = Stage::Working(job);
+                self.due = again;
+                Outcome::Paused(again)
+            }
+            Turn::Failed(fault) => {
+                let again = self.due.max(later(now, self.back_off));
+                self.vain = self.vain || is_vain(fault);
+                self.stage = Stage::Working(Job::reading(self.vain));
+                self.due = again;
+                self.back_off = doubled(self.back_off, self.times.most);
+                Outcome::Failed(fault, again)
+            }
+            Turn::Left(reason) => {
+                self.stage = Stage::Left(reason);
+                Outcome::Left(reason)
+            }
+        }
+    }
+
+    // A look is followed by a pause.
+    fn wait_for(&mut self, note: Note, now: u64)
+        ensures { self.new ≡ spec.waiting self.old note now }
+    {
+        if note == Note::Held {
+            self.back_off = self.times.first;
+        }
+        self.due = self.due.max(later(now, wait_of(self.times, note)));
+    }
+}
+
+fn wait_of(times: Times, note: Note) -> u32
+    ensures { result ≡ spec.wait_of times note }
+{
+    match note {
+        Note::Held | Note::CameUp => times.period,
+        Note::Quiet | Note::Identified | Note::Woken | Note::Provisioned => 0,
+    }
+}
+
+// The module was woken up, and is not ready.
+fn is_vain(fault: PortFault) -> bool
+    ensures { result ≡ spec.is_vain fault }
+{
+    match fault {
+        PortFault::Asleep | PortFault::Waking(_) => true,
+        PortFault::Unread
+        | PortFault::Provisioning(_)
+        | PortFault::Activating(_)
+        | PortFault::Unseen
+        | PortFault::Changed => { false }
+    }
+}
+
+fn empty(times: Times, outstanding: Outstanding, flags: Flags, held: bool) -> Port
+    ensures { result ≡ spec.absent times outstanding flags held }
+{
+    Port {
+        times,
+        stage: Stage::Absent,
+        due: 0,
+        back_off: times.first,
+        outstanding,
+        vain: false,
+        keeper: FlagKeeper {
+            selected: KnownPage::Unknown,
+            flags,
+        },
+        held,
+    }
+}
+
+// What is outstanding of a module that is no longer there.
+fn forsaken(outstanding: Outstanding) -> Outstanding
+    ensures { result ≡ spec.forsaken outstanding }
+{
+    match outstanding {
+        Outstanding::Nothing => Outstanding::Nothing,
+        Outstanding::Awaited | Outstanding::Stale | Outstanding::Forsaken => Outstanding::Forsaken,
+    }
+}
