@@ -12,7 +12,7 @@ use Rattle.command_line.specs.PartsRead.{Texts, parts_read, text_in}
 use Rattle.command_line.specs.PlanningInputs.{Advertises}
 use Rattle.command_line.specs.Runs.{Answer, IsAnswerTo, IsOwnAnswer}
 use Rattle.command_line.specs.declared.choice.commands.Choice.{Choice}
-use Rattle.command_line.specs.declared.choice.commands.Choice.TheVariants.{Report, Metrics, Plan, Draw, Check, Provision, Trace}
+use Rattle.command_line.specs.declared.choice.commands.Choice.TheVariants.{Report, Observables, Metrics, Plan, Draw, Check, Provision, Trace}
 use Rattle.command_line.specs.declared.choice.part.Part.{Part}
 use Rattle.command_line.specs.declared.fault.Fault.TheVariants as fault
 
@@ -28,6 +28,7 @@ own_answer parts IsMine input (Err f) within is own = (within, is, own)
 -- no command reads more parts than are cut
 pub few_parts : (choice : Choice) → length (parts_read choice) ≤ most_parts
 few_parts (Report report bus) = omega arith
+few_parts (Observables bus) = omega arith
 few_parts (Metrics bus all labels) = omega arith
 few_parts (Plan true conventions) = omega arith
 few_parts (Plan false conventions) = omega arith

@@ -7,7 +7,7 @@ use Rattle.clap.proofs.OnLiterals.{clap_on_literals}
 use Rattle.command_line.specs.Choice.{Entry, choice_with, commands, entry_named, faults_of, json_request, json_word, plain_choice, plain_request, program, request_of, request_with, takes_json}
 use Rattle.command_line.specs.declared.choice.commands.Choice.{Choice}
 use Rattle.command_line.specs.declared.choice.commands.CommandName.{CommandName}
-use Rattle.command_line.specs.declared.choice.commands.CommandName.TheVariants.{Report, Metrics, Plan, Draw, Check, Provision, Trace}
+use Rattle.command_line.specs.declared.choice.commands.CommandName.TheVariants.{Report, Observables, Metrics, Plan, Draw, Check, Provision, Trace}
 use Rattle.command_line.specs.declared.choice.commands.Request.{Request}
 use Rattle.command_line.specs.declared.choice.word_fault.WordFault.{WordFault}
 
@@ -48,6 +48,7 @@ chosen_alone first name entry met = ap (λ n. request_of (first ∷ n ∷ [])) (
 
 pub without_flags : (command : CommandName) → request_with command [] ≡ plainly command
 without_flags (Report report) = refl
+without_flags Observables = refl
 without_flags Metrics = refl
 without_flags Plan = refl
 without_flags Draw = refl
@@ -94,6 +95,7 @@ module _ (first name : Text) (entry : Entry) (met : entry_named name ≡ Some en
 
 pub plain_choices : (command : CommandName) → choice_with command [] ≡ Ok (plain_choice command)
 plain_choices (Report report) = refl
+plain_choices Observables = refl
 plain_choices Metrics = refl
 plain_choices Plan = refl
 plain_choices Draw = refl

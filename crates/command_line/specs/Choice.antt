@@ -9,7 +9,7 @@ use Rattle.clap.specs.Words.{fault_of, with_rule, with_subcommand, Kinds}
 use Rattle.clap.specs.Simple.{on_top}
 use Rattle.applications.specs.declared.conventions.Conventions.{Conventions}
 use Rattle.command_line.specs.declared.choice.commands.CommandName.{CommandName}
-use Rattle.command_line.specs.declared.choice.commands.CommandName.TheVariants.{Report, Metrics, Plan, Draw, Check, Provision, Trace}
+use Rattle.command_line.specs.declared.choice.commands.CommandName.TheVariants.{Report, Observables, Metrics, Plan, Draw, Check, Provision, Trace}
 use Rattle.command_line.specs.declared.choice.commands.ReportName.TheVariants.{Inventory, Apps, Monitors, Flags, Details}
 use Rattle.command_line.specs.declared.choice.commands.Choice.{Choice}
 use Rattle.command_line.specs.declared.choice.commands.Choice.TheVariants as choice
@@ -31,6 +31,7 @@ commands =
     ∷ record { name = codes "monitors"; command = Report Monitors; flags = switch bus ∷ switch json ∷ [] }
     ∷ record { name = codes "flags"; command = Report Flags; flags = switch bus ∷ switch json ∷ [] }
     ∷ record { name = codes "details"; command = Report Details; flags = switch bus ∷ switch json ∷ [] }
+    ∷ record { name = codes "observables"; command = Observables; flags = switch bus ∷ switch json ∷ [] }
     ∷ record { name = codes "metrics"; command = Metrics; flags = switch bus ∷ with_words label_flag ∷ with_word flags_flag ∷ [] }
     ∷ record { name = codes "plan"; command = Plan; flags = switch keep ∷ switch paired ∷ switch counts_by_id ∷ switch now ∷ switch json ∷ [] }
     ∷ record { name = codes "draw"; command = Draw; flags = switch svg ∷ switch keep ∷ switch paired ∷ switch counts_by_id ∷ switch now ∷ [] }
@@ -72,6 +73,7 @@ conventions_in rows = record { paired = is_given paired rows; counts_by_id = is_
 -- a command with its own flags, by its matches
 abbrev pub choice_with : CommandName → List Row → Result Choice WordFault
 choice_with (Report report) rows = Ok (choice.Report report (is_given bus rows))
+choice_with Observables rows = Ok (choice.Observables (is_given bus rows))
 choice_with Metrics rows = metrics_with rows
 choice_with Plan rows = Ok (choice.Plan (is_given keep rows) (conventions_in rows))
 choice_with Draw rows = Ok (choice.Draw (is_given svg rows) (is_given keep rows) (conventions_in rows))
@@ -94,6 +96,7 @@ as_it_stands = record { paired = false; counts_by_id = false; now = false }
 -- a command with none of its flags
 abbrev pub plain_choice : CommandName → Choice
 plain_choice (Report report) = choice.Report report false
+plain_choice Observables = choice.Observables false
 plain_choice Metrics = choice.Metrics false false []
 plain_choice Plan = choice.Plan false as_it_stands
 plain_choice Draw = choice.Draw false false as_it_stands

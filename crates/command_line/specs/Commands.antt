@@ -3,19 +3,21 @@ use Rattle.std.specs.Prelude.{ℕ, Bool, true, false, List}
 use Rattle.command_line.specs.CheckCommand.{IsCheckAnswer}
 use Rattle.command_line.specs.DrawCommand.{IsDrawAnswer}
 use Rattle.command_line.specs.MetricsCommand.{IsMetricsAnswer}
+use Rattle.command_line.specs.ObservablesCommand.{IsObservablesAnswer}
 use Rattle.command_line.specs.PartsRead.{Texts, parts_read}
 use Rattle.command_line.specs.PlanCommand.{IsPlanAnswer}
 use Rattle.command_line.specs.ProvisionCommand.{IsProcedureAnswer}
 use Rattle.command_line.specs.ReportCommands.{IsReportAnswer}
 use Rattle.command_line.specs.Runs.{Answer, IsAnswerTo}
 use Rattle.command_line.specs.declared.choice.commands.Choice.{Choice}
-use Rattle.command_line.specs.declared.choice.commands.Choice.TheVariants.{Report, Metrics, Plan, Draw, Check, Provision, Trace}
+use Rattle.command_line.specs.declared.choice.commands.Choice.TheVariants.{Report, Observables, Metrics, Plan, Draw, Check, Provision, Trace}
 use Rattle.command_line.specs.declared.choice.commands.Request.{Request}
 use Rattle.command_line.specs.declared.choice.part.Part.TheVariants.{Image, Weights, Kept, Certificate, Script}
 
 -- the answer to the texts of its parts, as JSON or not
 abbrev pub IsAnswerToTexts : Choice → Bool → Texts → Answer → Type 0
 IsAnswerToTexts (Report report bus) json texts = IsReportAnswer report bus json (texts Image)
+IsAnswerToTexts (Observables bus) json texts = IsObservablesAnswer bus json (texts Image)
 IsAnswerToTexts (Metrics bus all labels) json texts = IsMetricsAnswer bus all labels (texts Image)
 IsAnswerToTexts (Plan keep conventions) json texts = IsPlanAnswer json conventions (texts Image) (texts Weights) (texts Kept)
 IsAnswerToTexts (Draw svg keep conventions) json texts = IsDrawAnswer svg conventions (texts Image) (texts Weights) (texts Kept)

@@ -5,7 +5,7 @@ use Rattle.std.specs.List.{flat_map}
 use Rattle.std.specs.Option.{option_map_or}
 use Rattle.clap.specs.Words.{Text}
 use Rattle.command_line.specs.declared.choice.commands.CommandName.{CommandName}
-use Rattle.command_line.specs.declared.choice.commands.CommandName.TheVariants.{Report, Metrics, Plan, Draw, Check, Provision, Trace}
+use Rattle.command_line.specs.declared.choice.commands.CommandName.TheVariants.{Report, Observables, Metrics, Plan, Draw, Check, Provision, Trace}
 use Rattle.command_line.specs.declared.choice.commands.ReportName.TheVariants.{Inventory, Apps, Monitors, Flags, Details}
 use Rattle.command_line.specs.declared.choice.part.Part.{Part}
 use Rattle.command_line.specs.declared.choice.part.Part.TheVariants.{Image, Weights, Kept, Certificate, Script}
@@ -27,6 +27,7 @@ lines_told Script = codes "then, after a line '---', a script of the bus: lines 
 -- the parts that a command reads, with all of its flags
 abbrev pub parts_told : CommandName → List Part
 parts_told (Report report) = Image ∷ []
+parts_told Observables = Image ∷ []
 parts_told Metrics = Image ∷ []
 parts_told Plan = Image ∷ Weights ∷ Kept ∷ []
 parts_told Draw = Image ∷ Weights ∷ Kept ∷ []
@@ -60,6 +61,11 @@ examples (Report Details) =
     codes "details < examples/qsfp28_100g_sr4.txt"
     ∷ codes "details --bus < examples/osfp_800g_dr8.txt"
     ∷ codes "details --json < examples/sfp_10g_lr.txt"
+    ∷ []
+examples Observables =
+    codes "observables < examples/osfp_800g_vdm.txt"
+    ∷ codes "observables --bus < examples/qsfp28_100g_sr4.txt"
+    ∷ codes "observables --json < examples/osfp_800g_vdm.txt"
     ∷ []
 examples Metrics =
     codes "metrics < examples/osfp_800g_dr8.txt"

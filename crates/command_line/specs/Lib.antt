@@ -30,6 +30,7 @@ pub mod PartFaults
 pub mod OverBus
 pub mod ReportCommands
 pub mod MetricsCommand
+pub mod ObservablesCommand
 pub mod PlanningInputs
 pub mod GivenPlan
 pub mod PlanCommand

@@ -3,7 +3,7 @@ use Rattle.std.specs.Prelude.{ℕ, Bool, true, false, List, [], ◌∷◌, get_o
 use Rattle.std.specs.List.{position}
 use Rattle.std.specs.Option.{option_map_or}
 use Rattle.command_line.specs.declared.choice.commands.Choice.{Choice}
-use Rattle.command_line.specs.declared.choice.commands.Choice.TheVariants.{Report, Metrics, Plan, Draw, Check, Provision, Trace}
+use Rattle.command_line.specs.declared.choice.commands.Choice.TheVariants.{Report, Observables, Metrics, Plan, Draw, Check, Provision, Trace}
 use Rattle.command_line.specs.declared.choice.part.Part.{Part}
 use Rattle.command_line.specs.declared.choice.part.Part.TheVariants.{Image, Weights, Kept, Certificate, Script}
 
@@ -15,6 +15,7 @@ kept_if false rest = rest
 -- the parts in their order
 abbrev pub parts_read : Choice → List Part
 parts_read (Report report bus) = Image ∷ []
+parts_read (Observables bus) = Image ∷ []
 parts_read (Metrics bus all labels) = Image ∷ []
 parts_read (Plan keep conventions) = Image ∷ Weights ∷ kept_if keep []
 parts_read (Draw svg keep conventions) = Image ∷ Weights ∷ kept_if keep []

@@ -120,6 +120,9 @@ fn choice_with(
             report,
             bus: has_flag(given, "bus"),
         }),
+        CommandName::Observables => Ok(Choice::Observables {
+            bus: has_flag(given, "bus"),
+        }),
         CommandName::Metrics => metrics_with(alloc, given),
         CommandName::Plan => Ok(Choice::Plan {
             keep: has_flag(given, "keep"),

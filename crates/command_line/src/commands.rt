@@ -4,6 +4,7 @@ mod command;
 mod draw_command;
 mod inactive;
 mod metrics_command;
+mod observables_command;
 mod outcome;
 mod over_bus;
 mod plan_command;

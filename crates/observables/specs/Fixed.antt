@@ -3,13 +3,20 @@ use Rattle.std.specs.Prelude.{◌≡◌, ℕ, ◌/◌, ◌%◌, ◌<◌, ℤ, po
 use Rattle.std.specs.List.{AllByRecursion}
 use Rattle.std.specs.Fmt.{decimal}
 use Rattle.observables.specs.declared.fixed.Places.{Places}
-use Rattle.observables.specs.declared.fixed.Places.TheVariants.{Zero, One, Two, Eight}
+use Rattle.observables.specs.declared.fixed.Places.TheVariants.{Zero, One, Two, Three, Four, Six, Eight}
 use Rattle.observables.specs.Scientific.{number_from, pointed}
 
 -- `-` if the number is negative
 abbrev pub minus_of : ℤ → List ℕ
 minus_of (pos n) = []
 minus_of (negsuc n) = 45 ∷ []
+
+-- the last three digits of a number
+unfoldable pub three_digits : ℕ → List ℕ
+three_digits n = decimal (n / 100 % 10) ++ decimal (n / 10 % 10) ++ decimal (n % 10)
+
+abbrev pub six_digits : ℕ → List ℕ
+six_digits n = three_digits (n / 1000) ++ three_digits n
 
 -- the last four digits of a number
 unfoldable pub four_digits : ℕ → List ℕ
@@ -22,6 +29,9 @@ unfoldable pub size_text : Places → ℕ → List ℕ
 size_text Zero n = decimal n
 size_text One n = decimal (n / 10) ++ 46 ∷ decimal (n % 10)
 size_text Two n = decimal (n / 100) ++ 46 ∷ (decimal (n / 10 % 10) ++ decimal (n % 10))
+size_text Three n = decimal (n / 1000) ++ 46 ∷ three_digits n
+size_text Four n = decimal (n / 10000) ++ 46 ∷ four_digits n
+size_text Six n = decimal (n / 1000000) ++ 46 ∷ six_digits n
 size_text Eight n = decimal (n / 100000000) ++ 46 ∷ eight_digits n
 
 unfoldable pub fixed : ℤ → Places → List ℕ
@@ -31,6 +41,9 @@ abbrev pub count_of : Places → ℕ
 count_of Zero = 0
 count_of One = 1
 count_of Two = 2
+count_of Three = 3
+count_of Four = 4
+count_of Six = 6
 count_of Eight = 8
 
 -- The text writes so many units of its last place: a sign, a number, and digits after a point that go on with that number.

@@ -1,5 +1,5 @@
 -- Exact numbers as text, and that the text writes exactly the number. (This project's own)
-use Rattle.std.specs.Prelude.{◌≡◌, ◌≢◌, ℕ, ◌+◌, ◌*◌, ◌/◌, ◌%◌, ◌^◌, ◌<◌, ◌⊎◌, nat_lt, if◌then◌else◌, ℤ, pos, ◌+ℤ◌, List, [], ◌∷◌, ◌++◌, length, map}
+use Rattle.std.specs.Prelude.{◌≡◌, ◌≢◌, ℕ, ◌+◌, ◌*◌, ◌/◌, ◌%◌, ◌^◌, ◌<◌, ◌==◌, ◌⊎◌, nat_lt, if◌then◌else◌, ℤ, pos, ◌+ℤ◌, List, [], ◌∷◌, ◌++◌, length, map}
 use Rattle.std.specs.List.{AllByRecursion}
 use Rattle.std.specs.Fmt.{decimal, signed_decimal}
 use Rattle.observables.specs.declared.scientific.Scientific.{Scientific}
@@ -11,6 +11,19 @@ scientific digits exponent =
     else if nat_lt digits 100 then decimal (digits / 10) ++ (46 ∷ decimal (digits % 10)) ++ 101 ∷ signed_decimal (exponent +ℤ pos 1)
     else if nat_lt digits 1000 then decimal (digits / 100) ++ (46 ∷ decimal (digits / 10 % 10)) ++ decimal (digits % 10) ++ 101 ∷ signed_decimal (exponent +ℤ pos 2)
     else decimal (digits / 1000) ++ (46 ∷ decimal (digits / 100 % 10)) ++ decimal (digits / 10 % 10) ++ decimal (digits % 10) ++ 101 ∷ signed_decimal (exponent +ℤ pos 3)
+
+-- these digits without so many zeros at their end
+abbrev pub without_zeros : ℕ → ℕ → ℤ → Scientific
+without_zeros zeros mantissa exponent = record { digits = mantissa / 10 ^ zeros; exponent = exponent +ℤ pos zeros }
+
+-- without zeros at the end of up to four digits; 0 is 0 times 1
+abbrev pub shortest : ℕ → ℤ → Scientific
+shortest mantissa exponent =
+    if mantissa == 0 then record { digits = 0; exponent = pos 0 }
+    else if mantissa % 1000 == 0 then without_zeros 3 mantissa exponent
+    else if mantissa % 100 == 0 then without_zeros 2 mantissa exponent
+    else if mantissa % 10 == 0 then without_zeros 1 mantissa exponent
+    else without_zeros 0 mantissa exponent
 
 -- the same number, without zeros at the end of its digits
 pub record IsShortest (mantissa : ℕ) (exponent : ℤ) (shown : Scientific) : Type 0 where

@@ -1,6 +1,6 @@
 // Decimal fractions as text.
 ghost use Rattle.std.specs.Prelude.{◌≡◌, ◌<◌, Some};
-ghost use Rattle.observables.specs.Fixed.{eight_digits, fixed, four_digits, minus_of};
+ghost use Rattle.observables.specs.Fixed.{eight_digits, fixed, four_digits, minus_of, six_digits, three_digits};
 
 use std::fmt;
 
@@ -10,6 +10,9 @@ pub enum Places {
     Zero,
     One,
     Two,
+    Three,
+    Four,
+    Six,
     Eight,
 }
 
@@ -36,6 +39,18 @@ impl fmt::Display for Fixed {
             Places::Two => {
                 let (whole, first, last) = (size / 100, size / 10 % 10, size % 10);
                 write!(f, "{minus}{whole}.{first}{last}")
+            }
+            Places::Three => {
+                let (whole, rest) = (size / 1_000, ThreeDigits(size));
+                write!(f, "{minus}{whole}.{rest}")
+            }
+            Places::Four => {
+                let (whole, rest) = (size / 10_000, FourDigits(size));
+                write!(f, "{minus}{whole}.{rest}")
+            }
+            Places::Six => {
+                let (whole, rest) = (size / 1_000_000, SixDigits(size));
+                write!(f, "{minus}{whole}.{rest}")
             }
             Places::Eight => {
                 let (whole, rest) = (size / 100_000_000, EightDigits(size));
@@ -76,5 +91,32 @@ impl fmt::Display for FourDigits {
         let (first, second) = (self.0 / 1_000 % 10, self.0 / 100 % 10);
         let (third, last) = (self.0 / 10 % 10, self.0 % 10);
         write!(f, "{first}{second}{third}{last}")
+    }
+}
+
+// The last six digits of a number.
+#[derive(Clone, Copy)]
+struct SixDigits(u64);
+
+impl fmt::Display for SixDigits {
+    ghost output = { λ shown. Some (six_digits shown.0) };
+
+    fn fmt<W: fmt::Write>(&self, f: &mut fmt::Formatter<W>) -> fmt::Result {
+        let (high, low) = (ThreeDigits(self.0 / 1_000), ThreeDigits(self.0));
+        write!(f, "{high}{low}")
+    }
+}
+
+// The last three digits of a number.
+#[derive(Clone, Copy)]
+struct ThreeDigits(u64);
+
+impl fmt::Display for ThreeDigits {
+    ghost output = { λ shown. Some (three_digits shown.0) };
+
+    #[tactic(auto, unfolding(crate::specs::Fixed::three_digits))]
+    fn fmt<W: fmt::Write>(&self, f: &mut fmt::Formatter<W>) -> fmt::Result {
+        let (first, second, last) = (self.0 / 100 % 10, self.0 / 10 % 10, self.0 % 10);
+        write!(f, "{first}{second}{last}")
     }
 }

@@ -14,14 +14,15 @@ pub struct Scientific {
 
 impl Scientific {
     ghost use Rattle.std.specs.Prelude.{◌≡◌, ◌<◌, ◌≤ℤ◌, pos, neg_ℤ};
-    ghost use Rattle.observables.specs.Scientific.{IsShortest};
+    ghost use Rattle.observables.specs.Scientific.{IsShortest, shortest};
 
     /// The number `mantissa` times ten to the power `exponent`.
     pub fn of(mantissa: u16, exponent: i8) -> Scientific
         requires mantissa { mantissa < 2048 }
         requires low { neg_ℤ (pos 24) ≤ℤ exponent }
         requires high { exponent ≤ℤ pos 7 }
-        ensures { IsShortest mantissa exponent result }
+        ensures value { result ≡ shortest mantissa exponent }
+        ensures exact { IsShortest mantissa exponent result }
     {
         let (factor, zeros) = match mantissa {
             0 => return Scientific {

@@ -20,6 +20,7 @@ pub enum ReportName {
 #[derive(Clone, Copy)]
 pub enum CommandName {
     Report(ReportName),
+    Observables,
     Metrics,
     Plan,
     Draw,
@@ -34,6 +35,10 @@ pub enum Choice {
     Report {
         report: ReportName,
         /// Whether the module is to be read over a bus.
+        bus: bool,
+    },
+    Observables {
+        /// As for `Report`.
         bus: bool,
     },
     Metrics {
@@ -242,6 +247,7 @@ pub fn commands() -> &'static [CommandEntry]
         "monitors" Report(Monitors) [BUS JSON] "Print what the module measures";
         "flags" Report(Flags) [BUS JSON] "Print the states of the module and its lanes, and the flags that are raised";
         "details" Report(Details) [BUS JSON] "Print all that the module says of itself, with names";
+        "observables" Observables [BUS JSON] "Print all that the module measures, VDM too, each with its limits and flags";
         "metrics" Metrics [BUS LABEL FLAGS] "Print what 'inventory', 'monitors' and 'flags' say, as metrics for Prometheus";
         "plan" Plan [KEEP PAIRED COUNTS_BY_ID NOW JSON] "Print the plan that weighs most for an image and weights, with its certificate";
         "draw" Draw [SVG KEEP PAIRED COUNTS_BY_ID NOW] "Draw the plan, and say for each host lane what else could have been done there";

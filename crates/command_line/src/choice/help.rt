@@ -56,6 +56,7 @@ pub fn of_command(command: CommandName) -> &'static str
 {
     match command {
         CommandName::Report(report) => of_report(report),
+        CommandName::Observables => of_observables(),
         CommandName::Metrics => end!([image] []
             ["metrics < examples/osfp_800g_dr8.txt" "metrics --bus --label port=Ethernet0 < examples/qsfp28_100g_sr4.txt"
                 "metrics --flags all < examples/sfp_10g_lr_dim.txt"]),
@@ -99,4 +100,12 @@ fn of_report(report: ReportName) -> &'static str
             ["details < examples/qsfp28_100g_sr4.txt" "details --bus < examples/osfp_800g_dr8.txt"
                 "details --json < examples/sfp_10g_lr.txt"]),
     }
+}
+
+fn of_observables() -> &'static str
+    ensures { result.now ≡ help_of CommandName.Observables }
+{
+    end!([image] []
+        ["observables < examples/osfp_800g_vdm.txt" "observables --bus < examples/qsfp28_100g_sr4.txt"
+            "observables --json < examples/osfp_800g_vdm.txt"])
 }

@@ -22,7 +22,9 @@ impl Choice {
         ensures { result.now ≡ parts_read self.now }
     {
         match self {
-            Choice::Report { .. } | Choice::Metrics { .. } => &[Part::Image],
+            Choice::Report { .. } | Choice::Observables { .. } | Choice::Metrics { .. } => {
+                &[Part::Image]
+            }
             Choice::Plan { keep: false, .. } | Choice::Draw { keep: false, .. } => {
                 &[Part::Image, Part::Weights]
             }

@@ -11,6 +11,7 @@ ghost use Rattle.command_line.specs.FaultForms.{output_in};
 use super::check_command::check;
 use super::draw_command::draw;
 use super::metrics_command::print_metrics;
+use super::observables_command::print_observables;
 use super::plan_command::plan;
 use super::provision_command::provision;
 use super::report_commands::report;
@@ -133,6 +134,7 @@ fn answer_to(alloc: Global, request: &Request, texts: &Texts<'_>) -> Result<Comm
     let json = request.json;
     match &request.choice {
         Choice::Report { report: name, bus } => report(alloc, *name, *bus, json, image),
+        Choice::Observables { bus } => print_observables(alloc, *bus, json, image),
         Choice::Metrics { bus, all, labels } => print_metrics(alloc, *bus, *all, labels, image),
         Choice::Plan { conventions, .. } => plan(alloc, json, *conventions, image, weights, kept),
         Choice::Draw {

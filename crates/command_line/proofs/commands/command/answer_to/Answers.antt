@@ -3,6 +3,9 @@ use Rattle.command_line.proofs.commands.command.answer_to.Goals as goal
 pub returns-in-Report-clause-answer : goal.returns-in-Report-clause-answer
 returns-in-Report-clause-answer c = rw c.in-Report.is (rw c.of-image.ensures at c.report.ensures.answer)
 
+pub returns-in-Observables-clause-answer : goal.returns-in-Observables-clause-answer
+returns-in-Observables-clause-answer c = rw c.in-Observables.is (rw c.of-image.ensures at c.print_observables.ensures.answer)
+
 pub returns-in-Plan-clause-answer : goal.returns-in-Plan-clause-answer
 returns-in-Plan-clause-answer c = rw c.in-Plan.is (rw (c.of-image.ensures, c.of-weights.ensures, c.of-kept.ensures) at c.plan.ensures.answer)
 

@@ -1,0 +1,4 @@
+pub mod Floors
+pub mod ExactTexts
+pub mod JsonDepths
+pub mod WordNumbers

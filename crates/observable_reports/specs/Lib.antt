@@ -1,0 +1,6 @@
+pub mod AmountTexts
+pub mod Names
+pub mod ObservationText
+pub mod ObservationJson
+pub mod Answered
+pub mod WrittenAmounts

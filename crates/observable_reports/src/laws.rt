@@ -1,0 +1,14 @@
+//! What holds of the amounts that reports show. Each function is a theorem: its contract says it, and its body is empty.
+ghost use Rattle.observable_reports.specs.WrittenAmounts.{EachAmountIsWritten, EachWordIsANumber};
+
+/// The text of an amount writes exactly that number, or, if it has no end in decimal, that number rounded down to thousandths.
+#[tactic(auto, using(crate::proofs::ExactTexts::each_is_written))]
+pub fn each_amount_is_written()
+    ensures { EachAmountIsWritten }
+{}
+
+/// What a word amounts to is written as a number, and not as its parts.
+#[tactic(auto, using(crate::proofs::WordNumbers::each_is_a_number))]
+pub fn each_word_is_a_number()
+    ensures { EachWordIsANumber }
+{}
