@@ -1,9 +1,9 @@
 """Says what pluggable optical modules are and which flags they raise; plans, checks and provisions
 those of CMIS, and simulates them; by Dovecounter's library for C.
 
-docs/python.md has a first page. The package touches no bus by itself; only `Image.from_port` opens
-a file."""
-from .faults import Fault
+docs/python.md has a first page. The package touches no bus by itself; only `Image.from_port` and
+`Image.from_file` open files."""
+from .faults import Fault, LeftModuleReady
 from .image import LOWER, Image, Key, page
 from .planning import (
     DataPath,
@@ -21,6 +21,7 @@ from .procedures import (
     Provisioning,
     Reading,
     Reply,
+    Request,
     Sleeping,
     Wait,
     Waking,
@@ -67,6 +68,7 @@ __all__ = [
     "LaneCurrents",
     "LanePowers",
     "LaneValues",
+    "LeftModuleReady",
     "Levels",
     "Limits",
     "ModuleState",
@@ -79,6 +81,7 @@ __all__ = [
     "Provisioning",
     "Reading",
     "Reply",
+    "Request",
     "SimulatedModule",
     "Sleeping",
     "Support",

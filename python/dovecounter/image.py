@@ -3,11 +3,12 @@ from __future__ import annotations
 
 import os
 import re
+import warnings
 from ctypes import Array, byref, c_uint8
 from dataclasses import dataclass
-from typing import Callable, Dict, List, Mapping, Tuple, Union
+from typing import Callable, Dict, Iterable, List, Mapping, Tuple, Union
 
-from . import library
+from . import dumps, library
 from .faults import (
     CODES,
     Fault,
@@ -33,12 +34,7 @@ from .reports import (
     monitors_of,
 )
 
-HALF = 128  # bytes
-MOST_HALVES = 16
-
-_CMIS = (0x18, 0x19, 0x1B, *range(0x1E, 0x26))
-_SFF_8636 = (0x0C, 0x0D, 0x11)
-_SFF_8472 = (0x03,)
+HALF, MOST_HALVES = dumps.HALF, dumps.MOST_HALVES
 
 _HEADER, _END = b"module-image 1", b"end"
 _PAGE_LINE = re.compile(
@@ -84,6 +80,7 @@ class Key:
 
 
 LOWER = Key(0xA0)
+"""the lower half of 0xA0"""
 LOWER_A2 = Key(0xA2)
 
 
@@ -166,10 +163,40 @@ class Image:
         return "\n".join([_HEADER.decode(), *lines, _END.decode(), ""])
 
     @classmethod
+    def from_file(
+        cls,
+        name: Union[str, "os.PathLike[str]"],
+        name_of_a2: Union[str, "os.PathLike[str]", None] = None,
+    ) -> Image:
+        """The image of a dump in a file, in any form that tools/module-image reads, which its
+        contents tell (docs/formats.md, "Dumps"); of an SFP module the device A2h may be in a second
+        file. Warns of each half that is left out or absent. Raises ValueError if the file is no dump
+        of a module that is read, and OSError if it can't be read. For the file of a driver there is
+        `from_port`, which reads each half once."""
+        remarks: List[str] = []
+        dump = dumps.parsed(_contents(name))
+        halves = dumps.halves_of(dump, remarks.append)
+        lower = halves.get(str(LOWER))
+        if lower is None:
+            raise ValueError(
+                f"{os.fspath(name)} lacks the lower half of A0, which names the module"
+            )
+        if name_of_a2 is not None:
+            if lower[0] not in dumps.SFF_8472 or str(LOWER_A2) in halves:
+                raise ValueError(
+                    "a second file is for an SFP module of whose A2h the first has nothing"
+                )
+            halves[str(LOWER_A2)] = dumps.half_of_a2(dumps.parsed(_contents(name_of_a2)), lower)
+        image = cls(_by_key(dumps.image_halves(dump.form, halves, remarks.append)))
+        for remark in remarks:
+            warnings.warn(remark, stacklevel=2)
+        return image
+
+    @classmethod
     def from_dump(cls, dump: bytes) -> Image:
         """The image of the bytes of an eeprom file, which has a module's halves in a row, as the
         driver optoe and `ethtool -m PORT raw on` have them (docs/formats.md, "Dumps");
-        tools/module-image reads other forms too. Takes the halves of the module's family that are
+        `from_file` reads other forms too. Takes the halves of the module's family that are
         there. Raises ValueError if it is no dump of a module that is read, and TypeError for the
         name of a file."""
         if not isinstance(dump, (bytes, bytearray)):
@@ -179,14 +206,14 @@ class Image:
             raise ValueError(
                 f"a dump has whole halves of {HALF} bytes, and this one has {len(dump)} bytes"
             )
-        if dump[0] not in _CMIS + _SFF_8636 + _SFF_8472:
+        if not dumps.is_known(dump[0]):
             raise ValueError(
                 f"its first byte is 0x{dump[0]:02x}, the identifier of no module that is read"
             )
-        if len(dump) == 2 * HALF and dump[127] and not _is_flat(dump) and dump[0] not in _SFF_8472:
-            dump = dump[
-                :HALF
-            ]  # a page was selected, and nothing says that the second half is that one
+        is_sfp = dump[0] in dumps.SFF_8472
+        if len(dump) == 2 * HALF and dump[127] and not dumps.is_flat(dump) and not is_sfp:
+            # a page was selected, and nothing says that the second half is that one
+            dump = dump[:HALF]
         return cls(_halves_in_row(lambda offset, count: dump[offset : offset + count]))
 
     @classmethod
@@ -250,7 +277,7 @@ class Image:
         module of SFF-8472 the lower half of 0xA2. Raises a Fault of RP1, RP4, RP6 or SF3 to SF6."""
         found = library.Monitors()
         status = _monitors(*self.arguments(), byref(found))
-        is_qsfp = CODES.get(status) == "SF3" and self._halves[LOWER][0] in _SFF_8636
+        is_qsfp = CODES.get(status) == "SF3" and self._halves[LOWER][0] in dumps.SFF_8636
         self.take(status, _OF_QSFP_MONITORS if is_qsfp else _OF_MONITORS)
         return monitors_of(found)
 
@@ -300,37 +327,46 @@ def _has_right_sum(half: bytes) -> bool:
     return sum(half[: 222 - HALF]) % 256 == half[222 - HALF]
 
 
-def _is_flat(lower: bytes) -> bool:
-    """Whether the memory has page 00h alone."""
-    return bool(lower[2] & (0x80 if lower[0] in _CMIS else 0x04)) and lower[0] not in _SFF_8472
+def _contents(name: Union[str, "os.PathLike[str]"]) -> bytes:
+    """Of a file that may be a dump."""
+    with open(name, "rb") as file:
+        contents = file.read(dumps.MOST_BYTES + 1)
+    if len(contents) > dumps.MOST_BYTES:
+        raise ValueError(
+            f"{os.fspath(name)} is longer than {dumps.MOST_BYTES} bytes, and no dump is"
+        )
+    return contents
 
 
-def _places_in_row(lower: bytes) -> List[Tuple[Key, int]]:
-    """The halves that are read of such a module besides the lower one of 0xA0, and where they are
-    in its row."""
-    if lower[0] in _SFF_8472:
-        return [(LOWER_A2, 2 * HALF)]
-    pages = (
-        (0x00,)
-        if _is_flat(lower)
-        else (0x00, 0x03)
-        if lower[0] in _SFF_8636
-        else (0x00, 0x01, 0x02, 0x10, 0x11)
-    )
-    return [(page(number), HALF * (number + 1)) for number in pages]
+def _by_key(halves: Mapping[str, bytes]) -> Dict[Key, bytes]:
+    """Halves by their keys, of which each is given by the beginning of its line."""
+    return {_key_of(words): half for words, half in halves.items()}
+
+
+def _key_of(words: str) -> Key:
+    half, device, *place = words.split()
+    bank, number = (int(digits, 16) for digits in place or ("0", "0"))
+    return Key(0xA0 + int(device[1]), half == "upper", bank, number)
 
 
 def _halves_in_row(read: Callable[[int, int], bytes]) -> Dict[Key, bytes]:
     lower = read(0, HALF)
     if len(lower) < HALF:
         raise OSError(f"the lower half of 0xA0 has {HALF} bytes, and {len(lower)} were read")
-    halves = {LOWER: lower}
-    known = _CMIS + _SFF_8636 + _SFF_8472
-    for key, offset in _places_in_row(lower) if lower[0] in known else []:
-        try:
-            half = read(offset, HALF)
-        except OSError:
-            continue
-        if len(half) == HALF:
-            halves[key] = half
-    return halves
+    halves = {str(LOWER): lower}
+    places = {dumps.key_in_row(lower[0], number): HALF * number for number in range(1, 257)}
+
+    def take(keys: Iterable[str]) -> None:
+        for key in keys:
+            try:
+                half = read(places[key], HALF)
+            except OSError:
+                continue
+            if len(half) == HALF:
+                halves[key] = half
+
+    take(dumps.wanted(lower))
+    take(dumps.with_observables(halves))  # page 2Fh, which tells of the others
+    if str(page(0x2F)) in halves:
+        take(dumps.with_observables(halves)[1:])
+    return _by_key(halves)

@@ -1,5 +1,5 @@
 """Fixtures for tests of one's own, which pytest finds where the package is installed (docs/python.md,
-"In tests")."""
+"In your tests")."""
 from __future__ import annotations
 
 from typing import Callable, Iterable

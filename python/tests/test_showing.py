@@ -175,7 +175,14 @@ def test_a_bus_that_refuses(
         procedure = Provisioning(best)
         procedure.run(bus, lambda _: None)
         assert bus.module.active == best.control
-        assert len(bus.operations) == procedure.steps
+        # looks at the module's state that were answered are none of its operations
+        looks = {
+            number
+            for number, operation in enumerate(bus.operations, 1)
+            if number > 1 and operation == Operation(0xA0, 3, 1, None)
+        }
+        assert len(bus.operations) - len(looks - refused) == procedure.steps
+        assert len(looks & refused) == len(refused) // 2
         steps.append(procedure.steps or 0)
     assert steps[1] > steps[0] > 0
     bus = refusing_bus(simulated_module(DR4), {1}, cut=2)

@@ -1,0 +1,108 @@
+"""Images of dumps in files, against tools/module-image, which reads them by the same parsers."""
+from __future__ import annotations
+
+import pathlib
+import subprocess
+import sys
+import warnings
+from typing import List, Tuple
+
+import pytest
+
+from shared import IMAGES, ROOT, example
+from dovecounter import LOWER, Image, Key, page
+
+DUMPS = ROOT / "tests/lib/dumps"
+OF_TOOLS = sorted(file for file in DUMPS.iterdir() if file.name != "sfp_a2.i2cdump")
+LOWER_A2 = Key(0xA2)
+SFP = example("sfp_10g_lr.txt")
+
+
+def by_tool(*names: pathlib.Path) -> Tuple[int, str, List[str]]:
+    """Status, image and remarks of tools/module-image."""
+    tool = [sys.executable, str(ROOT / "tools/module-image"), *map(str, names)]
+    run = subprocess.run(tool, capture_output=True, text=True, check=False)
+    remarks = [line.split(": ", 1)[1] for line in run.stderr.splitlines()]
+    return (
+        run.returncode,
+        run.stdout,
+        [remark for remark in remarks if " is read as " not in remark],
+    )
+
+
+def by_package(*names: pathlib.Path) -> Tuple[int, str, List[str]]:
+    """The same of `Image.from_file`."""
+    with warnings.catch_warnings(record=True) as caught:
+        warnings.simplefilter("always")
+        try:
+            text = Image.from_file(*names).to_text()
+        except ValueError as error:
+            return 1, "", [f"{names[0]}: {error}"]
+    assert all(warning.filename == __file__ for warning in caught)
+    return 0, text, [str(warning.message) for warning in caught]
+
+
+@pytest.mark.parametrize("file", OF_TOOLS + IMAGES, ids=str)
+def test_a_file_is_read_as_by_the_tool(file: pathlib.Path, tmp_path: pathlib.Path) -> None:
+    copy = tmp_path / "dump"
+    copy.write_bytes(
+        file.read_bytes().partition(b"---\n")[0] if file in IMAGES else file.read_bytes()
+    )
+    names = [copy, DUMPS / "sfp_a2.i2cdump"] if file.name == "sfp.i2cdump" else [copy]
+    status, text, remarks = by_package(*names)
+    assert (status, text, remarks) == by_tool(*names)
+    assert status == 0 and Image.from_text(text).halves[LOWER]
+
+
+@pytest.mark.parametrize(
+    "contents", [b"", b"x\n", b"\xff" * 128, bytes(range(3, 131)) + b"1", b"module-image 1\nend\n"]
+)
+def test_a_file_that_is_no_dump_is_refused_as_by_the_tool(
+    contents: bytes, tmp_path: pathlib.Path
+) -> None:
+    file = tmp_path / "dump"
+    file.write_bytes(contents)
+    status, _, [why] = by_package(file)
+    assert (status, "", [why.partition(": ")[2]]) == (
+        1,
+        "",
+        [by_tool(file)[2][0].partition(": ")[2]],
+    )
+
+
+def test_a_dump_without_lower_a0_is_refused(tmp_path: pathlib.Path) -> None:
+    file = tmp_path / "page.txt"
+    file.write_text(SFP.without(LOWER).to_text())
+    with pytest.raises(ValueError, match="lacks the lower half of A0"):
+        Image.from_file(file)
+
+
+def test_a_second_file_is_for_an_sfp_module_without_a2h(tmp_path: pathlib.Path) -> None:
+    a0, a2, both, other = (tmp_path / name for name in ("a0", "a2", "both", "other"))
+    a0.write_bytes(SFP.halves[LOWER])
+    a2.write_bytes(SFP.halves[LOWER_A2])
+    both.write_text(SFP.to_text())
+    other.write_text(example("qsfp_dd_400g_dr4.txt").to_text())
+    with pytest.warns(UserWarning, match="taken for lower A0"):
+        assert Image.from_file(a0, a2) == SFP.without(page(0x00))
+    for first, second in ((both, a2), (other, a2)):
+        with pytest.raises(ValueError, match="a second file is for an SFP module"):
+            Image.from_file(first, second)
+    with pytest.raises(ValueError, match="the same bytes"):
+        Image.from_file(a0, a0)
+
+
+def test_what_is_absent_is_warned_of(tmp_path: pathlib.Path) -> None:
+    file = tmp_path / "image.txt"
+    file.write_text(SFP.without(LOWER_A2).to_text())
+    with pytest.warns(UserWarning, match="lower A2 is not there, and monitors, flags, details and"):
+        assert Image.from_file(file) == SFP.without(LOWER_A2)
+
+
+def test_a_file_too_long_or_that_can_t_be_read(tmp_path: pathlib.Path) -> None:
+    file = tmp_path / "long"
+    file.write_bytes(bytes((1 << 22) + 1))
+    with pytest.raises(ValueError, match="longer than 4194304 bytes"):
+        Image.from_file(file)
+    pytest.raises(OSError, Image.from_file, tmp_path / "none")
+    pytest.raises(IsADirectoryError, Image.from_file, tmp_path)
