@@ -226,7 +226,7 @@ def test_sentences_are_those_of_the_page() -> None:
     rows = dict(
         re.findall(
             r"^\| `(\w+)`[^|]* \| ([^|]*) \|",
-            (ROOT / "docs/faults.md").read_text().partition("## Sentences")[2],
+            (ROOT / "docs/tables/faults.md").read_text(),
             re.MULTILINE,
         )
     )
