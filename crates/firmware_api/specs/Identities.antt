@@ -12,12 +12,8 @@ use Rattle.field_tables.specs.Readings.{all_numbers, is_sum_right, number, text}
 use Rattle.module_decoding.specs.Amounts.{amount_at, length_in}
 use Rattle.module_decoding.specs.CmisPages.{absent_page, identity_pages, is_flat}
 use Rattle.module_decoding.specs.ModuleFamilies.{family_of}
-use Rattle.sff8636_map.specs.Identity as sff8636
 use Rattle.sff8636_map.specs.Refusals as sff8636_refusals
-use Rattle.sff8636_map.specs.declared.identity.Identity as qsfp
-use Rattle.sff8472_map.specs.Identity as sff8472
 use Rattle.sff8472_map.specs.Refusals as sff8472_refusals
-use Rattle.sff8472_map.specs.declared.identity.Identity as sfp
 use Rattle.firmware_api.specs.declared.identity.ModuleIdentity.{ModuleIdentity}
 use Rattle.firmware_api.specs.declared.identity.SharedFields.{SharedFields}
 use Rattle.firmware_api.specs.declared.status.Refusal.{Refusal}
@@ -26,29 +22,7 @@ use Rattle.firmware_api.specs.Plans.{refusal_before}
 use Rattle.firmware_api.specs.ReadModules.{family_number, lacks, number_of, unread_refusal}
 use Rattle.firmware_api.specs.ShownTexts.{shown_text}
 
-abbrev pub cmis_identity : Memory → ModuleIdentity
-cmis_identity memory = record {
-  max_power = amount_at memory fields.CMaxPower None 1;
-  length = length_in memory fields.CLengthBase fields.CLengthMultiplier;
-  family = family_number Cmis;
-  identifier = number memory fields.CIdentifier;
-  revision = number memory fields.CRevision;
-  flat = number_of (is_flat memory);
-  media_type = number memory fields.CMediaType;
-  power_class = number memory fields.CPowerClass + 1;
-  connector = number memory fields.CConnector;
-  technology = number memory fields.CTechnology;
-  sum_base = number_of (is_sum_right memory sums.CSum00);
-  sum_ext = 0;
-  oui = all_numbers memory fields.COui;
-  vendor = shown_text (text memory texts.CVendor);
-  part = shown_text (text memory texts.CPart);
-  part_revision = shown_text (text memory texts.CPartRevision);
-  serial = shown_text (text memory texts.CSerial);
-  date = shown_text (text memory texts.CDate);
-}
-
--- what modules of every family say, by the fields that have it, and zeros
+-- what modules of every family say, by the fields that have it; what only some say is 0
 abbrev pub shared_identity : Memory → Family → SharedFields → ModuleIdentity
 shared_identity memory family at = record {
   max_power = pos 0;
@@ -71,49 +45,54 @@ shared_identity memory family at = record {
   date = shown_text (text memory at.date);
 }
 
--- what only CMIS says is 0
-abbrev pub qsfp_identity : qsfp.Identity → ModuleIdentity
-qsfp_identity identity = record {
-  max_power = pos 0;
-  length = pos 0;
-  family = family_number Sff8636;
-  identifier = identity.identifier;
-  revision = 0;
-  flat = 0;
-  media_type = 0;
-  power_class = 0;
-  connector = identity.connector;
-  technology = 0;
-  sum_base = number_of identity.sum_base;
-  sum_ext = number_of identity.sum_ext;
-  oui = identity.oui;
-  vendor = shown_text identity.vendor.items;
-  part = shown_text identity.part.items;
-  part_revision = shown_text identity.part_revision.items;
-  serial = shown_text identity.serial.items;
-  date = shown_text identity.date.items;
+abbrev pub cmis_fields : SharedFields
+cmis_fields = record {
+  identifier = fields.CIdentifier;
+  connector = fields.CConnector;
+  oui = fields.COui;
+  sum_base = sums.CSum00;
+  vendor = texts.CVendor;
+  part = texts.CPart;
+  part_revision = texts.CPartRevision;
+  serial = texts.CSerial;
+  date = texts.CDate;
 }
 
-abbrev pub sfp_identity : sfp.Identity → ModuleIdentity
-sfp_identity identity = record {
-  max_power = pos 0;
-  length = pos 0;
-  family = family_number Sff8472;
-  identifier = identity.identifier;
-  revision = 0;
-  flat = 0;
-  media_type = 0;
-  power_class = 0;
-  connector = identity.connector;
-  technology = 0;
-  sum_base = number_of identity.sum_base;
-  sum_ext = number_of identity.sum_ext;
-  oui = identity.oui;
-  vendor = shown_text identity.vendor.items;
-  part = shown_text identity.part.items;
-  part_revision = shown_text identity.part_revision.items;
-  serial = shown_text identity.serial.items;
-  date = shown_text identity.date.items;
+abbrev pub qsfp_fields : SharedFields
+qsfp_fields = record {
+  identifier = fields.QIdentifier;
+  connector = fields.QConnector;
+  oui = fields.QOui;
+  sum_base = sums.QSumBase;
+  vendor = texts.QVendor;
+  part = texts.QPart;
+  part_revision = texts.QPartRevision;
+  serial = texts.QSerial;
+  date = texts.QDate;
+}
+
+abbrev pub sfp_fields : SharedFields
+sfp_fields = record {
+  identifier = fields.SIdentifier;
+  connector = fields.SConnector;
+  oui = fields.SOui;
+  sum_base = sums.SSumBase;
+  vendor = texts.SVendor;
+  part = texts.SPart;
+  part_revision = texts.SPartRevision;
+  serial = texts.SSerial;
+  date = texts.SDate;
+}
+
+abbrev pub cmis_identity : Memory → ModuleIdentity
+cmis_identity memory = record (shared_identity memory Cmis cmis_fields) {
+  max_power = amount_at memory fields.CMaxPower None 1;
+  length = length_in memory fields.CLengthBase fields.CLengthMultiplier;
+  revision = number memory fields.CRevision;
+  flat = number_of (is_flat memory);
+  media_type = number memory fields.CMediaType;
+  power_class = number memory fields.CPowerClass + 1;
+  technology = number memory fields.CTechnology;
 }
 
 abbrev pub refusal_of : Family → Memory → Option Refusal
@@ -123,8 +102,8 @@ refusal_of Sff8472 memory = option_map Sff (sff8472_refusals.module_fault memory
 
 abbrev pub identity_of : Family → Memory → ModuleIdentity
 identity_of Cmis memory = cmis_identity memory
-identity_of Sff8636 memory = qsfp_identity (sff8636.identity_of memory)
-identity_of Sff8472 memory = sfp_identity (sff8472.identity_of memory)
+identity_of Sff8636 memory = record (shared_identity memory Sff8636 qsfp_fields) { sum_ext = number_of (is_sum_right memory sums.QSumExt) }
+identity_of Sff8472 memory = record (shared_identity memory Sff8472 sfp_fields) { sum_ext = number_of (is_sum_right memory sums.SSumExt) }
 
 -- why C is not told what a module is
 unfoldable pub identity_refusal : Memory → Option Refusal

@@ -7,7 +7,6 @@ ghost use Rattle.firmware_api.specs.RaisedFlags.{flags_in, flags_refusal};
 ghost use Rattle.firmware_api.specs.Plans.{refusal_before};
 ghost use Rattle.firmware_api.specs.SimulatedModules.{half_refusal};
 ghost use Rattle.firmware_api.specs.Statuses.{done, status_by};
-ghost use Rattle.paged_memory.specs.declared.family.Family.TheVariants as families;
 
 use crate::half::{HalfBytes, half_status, image_of};
 use crate::read_module::family_number;
@@ -72,47 +71,29 @@ fn put_flags(image: &Image, flags: &mut ModuleFlags) -> u32
     ensures refused { result ≢ done → flags.new ≡ flags.old }
 {
     match family_of(image) {
-        Ok(Family::Cmis) => put_cmis(image, flags),
-        Ok(Family::Sff8636) => put_sff8636(image, flags),
-        Ok(Family::Sff8472) => put_sff8472(image, flags),
+        Ok(Family::Cmis) => match absent_flag_page(image) {
+            Some(_page) => PAGE_ABSENT,
+            None => {
+                put_cmis_flags(image, flags);
+                DONE
+            }
+        },
+        Ok(Family::Sff8636) => match sff8636_map::module_refusal(image) {
+            Some(fault) => sff_status(fault),
+            None => {
+                put_qsfp_flags(image, flags);
+                DONE
+            }
+        },
+        Ok(Family::Sff8472) => match sff8472_map::flags_refusal(image) {
+            Some(fault) => sff_status(fault),
+            None => {
+                put_sfp_flags(image, flags);
+                DONE
+            }
+        },
         Err(fault) => module_status(fault),
     }
-}
-
-fn put_cmis(image: &Image, flags: &mut ModuleFlags) -> u32
-    ensures status { result ≡ status_by (spec.refusal_of families.Cmis image.now) }
-    ensures done { result ≡ done → flags.new ≡ spec.flags_of families.Cmis image.now }
-    ensures refused { result ≢ done → flags.new ≡ flags.old }
-{
-    if absent_flag_page(image).is_some() {
-        return PAGE_ABSENT;
-    }
-    put_cmis_flags(image, flags);
-    DONE
-}
-
-fn put_sff8636(image: &Image, flags: &mut ModuleFlags) -> u32
-    ensures status { result ≡ status_by (spec.refusal_of families.Sff8636 image.now) }
-    ensures done { result ≡ done → flags.new ≡ spec.flags_of families.Sff8636 image.now }
-    ensures refused { result ≢ done → flags.new ≡ flags.old }
-{
-    if let Some(fault) = sff8636_map::module_refusal(image) {
-        return sff_status(fault);
-    }
-    put_qsfp_flags(image, flags);
-    DONE
-}
-
-fn put_sff8472(image: &Image, flags: &mut ModuleFlags) -> u32
-    ensures status { result ≡ status_by (spec.refusal_of families.Sff8472 image.now) }
-    ensures done { result ≡ done → flags.new ≡ spec.flags_of families.Sff8472 image.now }
-    ensures refused { result ≢ done → flags.new ≡ flags.old }
-{
-    if let Some(fault) = sff8472_map::flags_refusal(image) {
-        return sff_status(fault);
-    }
-    put_sfp_flags(image, flags);
-    DONE
 }
 
 const NO_LEVELS: LevelFlags = LevelFlags {
@@ -220,35 +201,13 @@ fn put_sfp_flags(image: &Image, flags: &mut ModuleFlags)
     flags.lanes = 1;
     flags.tx_fault = lane_bit(image, Field::STxFault, 1, 1);
     flags.rx_los = lane_bit(image, Field::SRxLos, 1, 1);
-    put_past_pairs(
-        image,
-        Field::SAlarms,
-        Field::SWarnings,
-        1,
-        &mut flags.temperature,
-    );
-    put_past_pairs(image, Field::SAlarms, Field::SWarnings, 3, &mut flags.vcc);
-    put_past_pairs(
-        image,
-        Field::SAlarms,
-        Field::SWarnings,
-        7,
-        &mut flags.tx_power,
-    );
-    put_past_pairs(
-        image,
-        Field::SAlarms,
-        Field::SWarnings,
-        5,
-        &mut flags.tx_bias,
-    );
-    put_past_pairs(
-        image,
-        Field::SRxAlarms,
-        Field::SRxWarnings,
-        1,
-        &mut flags.rx_power,
-    );
+    let pairs = (Field::SAlarms, Field::SWarnings);
+    let rx_pairs = (Field::SRxAlarms, Field::SRxWarnings);
+    put_past_pairs(image, pairs, 1, &mut flags.temperature);
+    put_past_pairs(image, pairs, 3, &mut flags.vcc);
+    put_past_pairs(image, pairs, 7, &mut flags.tx_power);
+    put_past_pairs(image, pairs, 5, &mut flags.tx_bias);
+    put_past_pairs(image, rx_pairs, 1, &mut flags.rx_power);
 }
 
 // Puts those of the module itself: four flags of a field from the first on.
@@ -265,14 +224,15 @@ fn put_past_limits(image: &Image, field: Field, first: u8, levels: &mut LevelFla
 }
 
 // Puts those of the module, or of its one lane: two flags of a field of alarms and of one of warnings.
-fn put_past_pairs(image: &Image, alarms: Field, warnings: Field, first: u8, levels: &mut LevelFlags)
-    requires alarms { IsTrue (is_of_bytes (row_of alarms)) }
-    requires warnings { IsTrue (is_of_bytes (row_of warnings)) }
+fn put_past_pairs(image: &Image, pairs: (Field, Field), first: u8, levels: &mut LevelFlags)
+    requires alarms { IsTrue (is_of_bytes (row_of pairs.0)) }
+    requires warnings { IsTrue (is_of_bytes (row_of pairs.1)) }
     requires first { 1 ≤ first }
-    requires last_alarm { first + 1 ≤ (row_of alarms).count }
-    requires last_warning { first + 1 ≤ (row_of warnings).count }
-    ensures { levels.new ≡ spec.past_pairs image.now alarms warnings first }
+    requires last_alarm { first + 1 ≤ (row_of pairs.0).count }
+    requires last_warning { first + 1 ≤ (row_of pairs.1).count }
+    ensures { levels.new ≡ spec.past_pairs image.now pairs.0 pairs.1 first }
 {
+    let (alarms, warnings) = pairs;
     levels.high_alarm = lane_bit(image, alarms, first, 1);
     levels.low_alarm = lane_bit(image, alarms, first + 1, 1);
     levels.high_warning = lane_bit(image, warnings, first, 1);

@@ -7,7 +7,6 @@ ghost use Rattle.firmware_api.specs.Identities.{identity_in, identity_refusal, s
 ghost use Rattle.firmware_api.specs.Plans.{refusal_before};
 ghost use Rattle.firmware_api.specs.SimulatedModules.{half_refusal};
 ghost use Rattle.firmware_api.specs.Statuses.{done, status_by};
-ghost use Rattle.paged_memory.specs.declared.family.Family.TheVariants as families;
 
 use crate::half::{HalfBytes, half_status, image_of};
 use crate::read_module::{family_number, number_of};
@@ -79,21 +78,36 @@ fn put_identity(image: &Image, identity: &mut ModuleIdentity) -> u32
     ensures refused { result ≢ done → identity.new ≡ identity.old }
 {
     match family_of(image) {
-        Ok(Family::Cmis) => put_cmis(image, identity),
-        Ok(Family::Sff8636) => put_sff8636(image, identity),
-        Ok(Family::Sff8472) => put_sff8472(image, identity),
+        Ok(Family::Cmis) => match absent_identity_page(image) {
+            Some(_page) => PAGE_ABSENT,
+            None => {
+                put_cmis(image, identity);
+                DONE
+            }
+        },
+        Ok(Family::Sff8636) => match sff8636_map::identity_refusal(image) {
+            Some(fault) => sff_status(fault),
+            None => {
+                put_shared(image, Family::Sff8636, &QSFP, identity);
+                identity.sum_ext = number_of(is_sum_right(image, Sum::QSumExt));
+                DONE
+            }
+        },
+        Ok(Family::Sff8472) => match sff8472_map::module_refusal(image) {
+            Some(fault) => sff_status(fault),
+            None => {
+                put_shared(image, Family::Sff8472, &SFP, identity);
+                identity.sum_ext = number_of(is_sum_right(image, Sum::SSumExt));
+                DONE
+            }
+        },
         Err(fault) => module_status(fault),
     }
 }
 
-fn put_cmis(image: &Image, identity: &mut ModuleIdentity) -> u32
-    ensures status { result ≡ status_by (spec.refusal_of families.Cmis image.now) }
-    ensures done { result ≡ done → identity.new ≡ spec.identity_of families.Cmis image.now }
-    ensures refused { result ≢ done → identity.new ≡ identity.old }
+fn put_cmis(image: &Image, identity: &mut ModuleIdentity)
+    ensures { identity.new ≡ spec.cmis_identity image.now }
 {
-    if absent_identity_page(image).is_some() {
-        return PAGE_ABSENT;
-    }
     put_shared(image, Family::Cmis, &CMIS, identity);
     identity.max_power = amount_at(image, Field::CMaxPower, None, 1);
     identity.length = length_in(image, Field::CLengthBase, Field::CLengthMultiplier);
@@ -102,33 +116,6 @@ fn put_cmis(image: &Image, identity: &mut ModuleIdentity) -> u32
     identity.media_type = number(image, Field::CMediaType);
     identity.power_class = number(image, Field::CPowerClass) + 1;
     identity.technology = number(image, Field::CTechnology);
-    DONE
-}
-
-fn put_sff8636(image: &Image, identity: &mut ModuleIdentity) -> u32
-    ensures status { result ≡ status_by (spec.refusal_of families.Sff8636 image.now) }
-    ensures done { result ≡ done → identity.new ≡ spec.identity_of families.Sff8636 image.now }
-    ensures refused { result ≢ done → identity.new ≡ identity.old }
-{
-    if let Some(fault) = sff8636_map::identity_refusal(image) {
-        return sff_status(fault);
-    }
-    put_shared(image, Family::Sff8636, &QSFP, identity);
-    identity.sum_ext = number_of(is_sum_right(image, Sum::QSumExt));
-    DONE
-}
-
-fn put_sff8472(image: &Image, identity: &mut ModuleIdentity) -> u32
-    ensures status { result ≡ status_by (spec.refusal_of families.Sff8472 image.now) }
-    ensures done { result ≡ done → identity.new ≡ spec.identity_of families.Sff8472 image.now }
-    ensures refused { result ≢ done → identity.new ≡ identity.old }
-{
-    if let Some(fault) = sff8472_map::module_refusal(image) {
-        return sff_status(fault);
-    }
-    put_shared(image, Family::Sff8472, &SFP, identity);
-    identity.sum_ext = number_of(is_sum_right(image, Sum::SSumExt));
-    DONE
 }
 
 const CMIS: SharedFields = SharedFields {

@@ -6,7 +6,6 @@ ghost use Rattle.firmware_api.specs.Monitors.{monitors_in, monitors_refusal};
 ghost use Rattle.firmware_api.specs.Plans.{refusal_before};
 ghost use Rattle.firmware_api.specs.SimulatedModules.{half_refusal};
 ghost use Rattle.firmware_api.specs.Statuses.{done, status_by};
-ghost use Rattle.paged_memory.specs.declared.family.Family.TheVariants as families;
 
 use crate::half::{HalfBytes, half_status, image_of};
 use crate::measured_values::{
@@ -71,47 +70,29 @@ fn put_monitors(image: &Image, monitors: &mut ModuleMonitors) -> u32
     ensures refused { result ≢ done → monitors.new ≡ monitors.old }
 {
     match family_of(image) {
-        Ok(Family::Cmis) => put_cmis(image, monitors),
-        Ok(Family::Sff8636) => put_sff8636(image, monitors),
-        Ok(Family::Sff8472) => put_sff8472(image, monitors),
+        Ok(Family::Cmis) => match absent_monitor_page(image) {
+            Some(_page) => PAGE_ABSENT,
+            None => {
+                put_cmis_monitors(image, monitors);
+                DONE
+            }
+        },
+        Ok(Family::Sff8636) => match sff8636_map::measured_refusal(image) {
+            Some(fault) => sff_status(fault),
+            None => {
+                put_qsfp_monitors(image, monitors);
+                DONE
+            }
+        },
+        Ok(Family::Sff8472) => match sff8472_map::measured_refusal(image) {
+            Some(fault) => sff_status(fault),
+            None => {
+                put_sfp_monitors(image, monitors);
+                DONE
+            }
+        },
         Err(fault) => module_status(fault),
     }
-}
-
-fn put_cmis(image: &Image, monitors: &mut ModuleMonitors) -> u32
-    ensures status { result ≡ status_by (spec.refusal_of families.Cmis image.now) }
-    ensures done { result ≡ done → monitors.new ≡ spec.monitors_of families.Cmis image.now }
-    ensures refused { result ≢ done → monitors.new ≡ monitors.old }
-{
-    if absent_monitor_page(image).is_some() {
-        return PAGE_ABSENT;
-    }
-    put_cmis_monitors(image, monitors);
-    DONE
-}
-
-fn put_sff8636(image: &Image, monitors: &mut ModuleMonitors) -> u32
-    ensures status { result ≡ status_by (spec.refusal_of families.Sff8636 image.now) }
-    ensures done { result ≡ done → monitors.new ≡ spec.monitors_of families.Sff8636 image.now }
-    ensures refused { result ≢ done → monitors.new ≡ monitors.old }
-{
-    if let Some(fault) = sff8636_map::measured_refusal(image) {
-        return sff_status(fault);
-    }
-    put_qsfp_monitors(image, monitors);
-    DONE
-}
-
-fn put_sff8472(image: &Image, monitors: &mut ModuleMonitors) -> u32
-    ensures status { result ≡ status_by (spec.refusal_of families.Sff8472 image.now) }
-    ensures done { result ≡ done → monitors.new ≡ spec.monitors_of families.Sff8472 image.now }
-    ensures refused { result ≢ done → monitors.new ≡ monitors.old }
-{
-    if let Some(fault) = sff8472_map::measured_refusal(image) {
-        return sff_status(fault);
-    }
-    put_sfp_monitors(image, monitors);
-    DONE
 }
 
 // A module with flat memory tells nothing of its lanes, and has no limits.
