@@ -5,19 +5,7 @@ use Rattle.std.specs.FinSet as set
 use Rattle.std.specs.Int.{bit_at}
 use Rattle.field_tables.specs.LaneBytes.{at_bit, contains-lanes_in, contains-run_of}
 use Rattle.field_tables.specs.LaneSets.{IsLane, Lanes, byte_of, every_lane, lanes_in}
-
--- of eight lanes, each
-each_of_eight : (P : ℕ → Type 0) → P 1 → P 2 → P 3 → P 4 → P 5 → P 6 → P 7 → P 8 → (lane : ℕ) → IsLane lane → P lane
-each_of_eight P a b c d e f g h zero within = absurd (omega (arith, within.0))
-each_of_eight P a b c d e f g h (suc zero) within = a
-each_of_eight P a b c d e f g h (suc (suc zero)) within = b
-each_of_eight P a b c d e f g h (suc (suc (suc zero))) within = c
-each_of_eight P a b c d e f g h (suc (suc (suc (suc zero)))) within = d
-each_of_eight P a b c d e f g h (suc (suc (suc (suc (suc zero))))) within = e
-each_of_eight P a b c d e f g h (suc (suc (suc (suc (suc (suc zero)))))) within = f
-each_of_eight P a b c d e f g h (suc (suc (suc (suc (suc (suc (suc zero))))))) within = g
-each_of_eight P a b c d e f g h (suc (suc (suc (suc (suc (suc (suc (suc zero)))))))) within = h
-each_of_eight P a b c d e f g h (suc (suc (suc (suc (suc (suc (suc (suc (suc n))))))))) within = absurd (omega (arith, within.1))
+use Rattle.control_sets.proofs.EightLanes.{each_of_eight}
 
 -- 1 for a lane that is in the set
 abbrev bit_of : Lanes → ℕ → ℕ

@@ -32,7 +32,7 @@ use Rattle.control_sets.specs.declared.procedures.task.Task.TheVariants.{FindRea
 use Rattle.control_sets.specs.Judgements.{all_lanes_have, differing_lane, is_rejection, is_reserved_state, is_reserved_status, judged, judged_done, judged_states, judged_statuses, judgement, lowest_lane, met_if, met_in, met_unless, unless_rejected, unless_reserved}
 use Rattle.control_sets.specs.OutcomeAnswers.{most_steps}
 use Rattle.control_sets.specs.Pages.{History}
-use Rattle.control_sets.specs.Progress.{PatientProcedure, Standing, ToldPatient, doubting, judged_at, patient_of, standing, task_at, tasks_of, told_at}
+use Rattle.control_sets.specs.Progress.{PatientProcedure, Standing, ToldPatient, judged_at, patient_by, standing, task_at, tasks_of, told_at}
 use Rattle.control_sets.specs.SavedNumbers.{can_stand, due_numbered, fault_in, is_found, number_of_due, restored, saved_fault, selected_numbered, work_numbered}
 use Rattle.control_sets.specs.Tasks.{operation}
 
@@ -44,12 +44,12 @@ pub due_back : (due : Bool) → due_numbered (number_of_due due) ≡ Some due
 due_back false = refl
 due_back true = refl
 
-pub saved_back : (saved : SavedProcedure) (work : Work) (selected : KnownPage) (fault : Option ProvisionFault) (due : Bool) →
+pub saved_back : (saved : SavedProcedure) (doubts : Bool) (work : Work) (selected : KnownPage) (fault : Option ProvisionFault) (due : Bool) →
     work_numbered saved.work saved.control saved.lanes ≡ Some work → selected_numbered saved.selection saved.page ≡ Some selected → fault_in saved.fault ≡ Some fault → due_numbered saved.due ≡ Some due →
     (nat_le saved.steps most_steps && can_stand (tasks_of work) saved.met fault) ≡ true →
-    restored saved ≡ Some (patient_of (record { work = work; met = saved.met; fault = fault }) selected (record { pause = saved.pause; limit = saved.limit }) due saved.idle saved.steps)
+    restored saved doubts ≡ Some (patient_by doubts (record { work = work; met = saved.met; fault = fault }) selected (record { pause = saved.pause; limit = saved.limit }) due saved.idle saved.steps)
 unfolding restored
-saved_back saved work selected fault due has_work has_selected has_fault has_due can = rw (has_work, has_selected, has_fault, has_due, can) refl
+saved_back saved doubts work selected fault due has_work has_selected has_fault has_due can = rw (has_work, has_selected, has_fault, has_due, can) refl
 
 -- ---- a procedure that was told events can have come so far
 
@@ -143,10 +143,10 @@ module _ (procedure : PatientProcedure) (events : Events) (told : ToldPatient ev
       and_from _ _ (le-leb procedure.steps most_steps (subst (λ (n : ℕ). procedure.steps ≤ n) limit told.2))
       (subst (λ (s : Standing). can_stand (tasks_of list.work) s.0 s.1 ≡ true) at.stands (standing_can (tasks_of list.work) (steps_of inner)))
 
-  pub same : patient_of list procedure.conversation.conversation.selection procedure.conversation.patience procedure.conversation.due procedure.conversation.idle procedure.steps ≡ doubting procedure
+  pub same : patient_by procedure.conversation.conversation.doubts list procedure.conversation.conversation.selection procedure.conversation.patience procedure.conversation.due procedure.conversation.idle procedure.steps ≡ procedure
   same =
       let (own, adds, (knows, with_own)) = told.0 in
       let taken = none_taken procedure.conversation.conversation.taken (λ page e. (knows.1.1.was page e).0) in
       let pausing = procedure.conversation in
       let on = pausing.conversation in
-      λ i. record procedure { conversation = record pausing { conversation = record on { taken = sym taken i; doubts = true } }; limit = sym limit i }
+      λ i. record procedure { conversation = record pausing { conversation = record on { taken = sym taken i } }; limit = sym limit i }

@@ -20,9 +20,9 @@ pub power_back : (saved : SavedProcedure) (power : Power) (stage : PowerStage) (
 unfolding restored_power
 power_back saved power stage fault due has_power has_stage has_fault has_due can = rw (has_power, has_stage, has_fault, has_due, can) refl
 
-pub power_apart : (saved : SavedProcedure) → work_numbered saved.work saved.control saved.lanes ≡ None → restored saved ≡ None
+pub power_apart : (saved : SavedProcedure) (doubts : Bool) → work_numbered saved.work saved.control saved.lanes ≡ None → restored saved doubts ≡ None
 unfolding restored
-power_apart saved other = rw other refl
+power_apart saved doubts other = rw other refl
 
 -- a fault that ended it is of the module's state
 stops : (power : Power) (stage : PowerStage) (fault : Option ProvisionFault) (history : History) → HasComeTo power stage fault history → can_stop fault ≡ true

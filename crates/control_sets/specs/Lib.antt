@@ -27,4 +27,3 @@ pub mod Progress
 pub mod SavedNumbers
 pub mod SavedPower
 pub mod PatientProcedures
-pub mod Watching

@@ -4,22 +4,22 @@ use Rattle.std.specs.Prelude.{◌≡◌, ◌⊎◌, ◌+◌, ◌*◌, ◌<◌, �
 use Rattle.conversations.specs.declared.pausing.Patience.{Patience}
 use Rattle.conversations.specs.declared.pausing.Timed.{Timed}
 use Rattle.conversations.specs.declared.pausing.Timed.TheVariants.{InTime, Overdue}
+use Rattle.conversations.specs.declared.watching.Look.TheVariants.{Seen}
+use Rattle.conversations.specs.declared.watching.Watched.{Watched}
+use Rattle.conversations.specs.declared.watching.Watched.TheVariants as watched
+use Rattle.conversations.specs.declared.watching.Watching.{Watching}
 use Rattle.conversations.specs.declared.within.Spent.{Spent}
 use Rattle.conversations.specs.Budgets.{HasSpent}
 use Rattle.conversations.specs.Carried.{IsCarriedOut}
 use Rattle.conversations.specs.Events.{Events, steps_of}
 use Rattle.conversations.specs.Pauses.{EndsPausing, GoesOnPausing}
+use Rattle.conversations.specs.Watching.{EndsWatching, GoesOnWatching}
 use Rattle.control_sets.specs.declared.fault.ProvisionFault.{ProvisionFault}
-use Rattle.control_sets.specs.declared.fault.ProvisionFault.TheVariants.{Rejected, StagedDiffers, ActiveDiffers, GaveUp, Bus, ModuleState, Reserved}
+use Rattle.control_sets.specs.declared.fault.ProvisionFault.TheVariants.{GaveUp, Reserved}
 use Rattle.control_sets.specs.declared.procedures.patient.PatientFault.{PatientFault}
 use Rattle.control_sets.specs.declared.procedures.patient.PatientFault.TheVariants as patient
 use Rattle.control_sets.specs.declared.procedures.power.Power.{Power}
 use Rattle.control_sets.specs.declared.procedures.procedure.Work.{Work}
-use Rattle.control_sets.specs.declared.procedures.watching.Look.TheVariants.{Seen}
-use Rattle.control_sets.specs.declared.procedures.watching.Watched.{Watched}
-use Rattle.control_sets.specs.declared.procedures.watching.Watched.TheVariants as watched
-use Rattle.control_sets.specs.declared.procedures.watching.Watching.{Watching}
-use Rattle.control_sets.specs.Watching.{EndsWatching, GoesOnWatching}
 use Rattle.module_states.specs.declared.state.ModuleState.{ModuleState as State}
 use Rattle.module_states.specs.declared.state.ModuleState.TheVariants as state
 use Rattle.module_states.specs.Codes.{state_at}
@@ -34,37 +34,26 @@ answer_in_time steps (Some (InTime None)) = Ok steps
 answer_in_time steps (Some (InTime (Some fault))) = Err (patient.Failed fault)
 answer_in_time steps (Some Overdue) = Err patient.Overdue
 
--- what is said of a module whose state shows this fault: a reset, a fault of its own, or the reserved code
+-- what is said of a module in another state than ModuleReady: a reset, a fault of its own, or the reserved code
 abbrev pub left_in : {F : Type 0} → ℕ → Option State → PatientFault F
 left_in code (Some state.Fault) = patient.Faulty
-left_in code (Some state.LowPwr) = patient.Reset code
-left_in code (Some state.PwrUp) = patient.Reset code
-left_in code (Some state.Ready) = patient.Reset code
-left_in code (Some state.PwrDn) = patient.Reset code
-left_in code None = patient.Reset code
+left_in code (Some state) = patient.Reset code
+left_in code None = patient.Failed (Reserved code)
 
-abbrev pub left_by : {F : Type 0} → ProvisionFault → PatientFault F
-left_by (ModuleState code) = left_in code (state_at code)
-left_by (Rejected lane status) = patient.Failed (Rejected lane status)
-left_by (StagedDiffers lane) = patient.Failed (StagedDiffers lane)
-left_by (ActiveDiffers lane) = patient.Failed (ActiveDiffers lane)
-left_by GaveUp = patient.Failed GaveUp
-left_by (Bus fault) = patient.Failed (Bus fault)
-left_by (Reserved code) = patient.Failed (Reserved code)
+abbrev pub left_by : {F : Type 0} → ℕ → PatientFault F
+left_by code = left_in code (state_at code)
 
 -- and by how it ended that looked at the module's state
 abbrev pub answer_watched : {F : Type 0} → Option (Watched (Spent (Timed (Option ProvisionFault)))) → Result ℕ (PatientFault F)
 answer_watched None = Err (patient.Failed GaveUp)
 answer_watched (Some (watched.InOrder spent)) = answer_in_time spent.steps spent.end
-answer_watched (Some (watched.Left fault)) = Err (left_by fault)
+answer_watched (Some (watched.Left code)) = Err (left_by code)
 
--- a conversation with pauses was carried out so, and this was answered
-abbrev pub IsAnswered : {F : Type 0} → Patience → (Events → Type 0) → (Events → Option ProvisionFault → Type 0) → Type 0 → (F → Type 0) → Events → Result ℕ (PatientFault F) → Type 0
-IsAnswered {F} patience Goes_on Ended same fails events answer =
-    ((spent : Spent (Timed (Option ProvisionFault))) × IsCarriedOut {F = F} most_steps (GoesOnPausing patience Goes_on) (EndsPausing patience Goes_on Ended) same fails events (Ok spent)
-    × (answer ≡ answer_in_time spent.steps spent.end))
-    ⊎ ((fault : F) × IsCarriedOut {E = Timed (Option ProvisionFault)} most_steps (GoesOnPausing patience Goes_on) (EndsPausing patience Goes_on Ended) same fails events (Err fault)
-    × (answer ≡ Err (patient.Stopped fault)))
+-- a conversation was carried out so, and this was answered, by how it ended
+abbrev pub IsAnswered : {E F : Type 0} → ℕ → (Events → Type 0) → (Events → E → Type 0) → (Spent E → Result ℕ (PatientFault F)) → Type 0 → (F → Type 0) → Events → Result ℕ (PatientFault F) → Type 0
+IsAnswered {E} {F} limit Goes_on Ended told same fails events answer =
+    ((spent : Spent E) × IsCarriedOut {F = F} limit Goes_on Ended same fails events (Ok spent) × (answer ≡ told spent))
+    ⊎ ((fault : F) × IsCarriedOut {E = E} limit Goes_on Ended same fails events (Err fault) × (answer ≡ Err (patient.Stopped fault)))
 
 -- each of its own steps may come after a look
 abbrev pub most_with_looks : ℕ
@@ -92,12 +81,10 @@ EndsWatched patience work events end = EndsWatching true (GoesOnPatiently patien
 
 -- provisioning and activation were carried out so, and this was answered
 abbrev pub IsPatientWork : {F : Type 0} → Patience → Work → Type 0 → (F → Type 0) → Events → Result ℕ (PatientFault F) → Type 0
-IsPatientWork {F} patience work same fails events answer =
-    ((spent : Spent (Watched (Spent (Timed (Option ProvisionFault))))) × IsCarriedOut {F = F} most_with_looks (GoesOnWatched patience work) (EndsWatched patience work) same fails events (Ok spent)
-    × (answer ≡ answer_watched spent.end))
-    ⊎ ((fault : F) × IsCarriedOut {E = Watched (Spent (Timed (Option ProvisionFault)))} most_with_looks (GoesOnWatched patience work) (EndsWatched patience work) same fails events (Err fault)
-    × (answer ≡ Err (patient.Stopped fault)))
+IsPatientWork patience work same fails events answer =
+    IsAnswered most_with_looks (GoesOnWatched patience work) (EndsWatched patience work) (λ spent. answer_watched spent.end) same fails events answer
 
 abbrev pub IsPatientChange : {F : Type 0} → Patience → Power → Type 0 → (F → Type 0) → Events → Result ℕ (PatientFault F) → Type 0
 IsPatientChange patience power same fails events answer =
-    IsAnswered patience (λ own. GoesOnAt power (steps_of own)) (λ own fault. IsEndedIn power fault (steps_of own)) same fails events answer
+    let Goes_on : Events → Type 0 = λ own. GoesOnAt power (steps_of own) in
+    IsAnswered most_steps (GoesOnPausing patience Goes_on) (EndsPausing patience Goes_on (λ own fault. IsEndedIn power fault (steps_of own))) (λ spent. answer_in_time spent.steps spent.end) same fails events answer

@@ -16,12 +16,10 @@ use Rattle.control_sets.specs.declared.procedures.judgement.ReplyJudgement.TheVa
 use Rattle.conversations.specs.declared.next.Next.{Next}
 use Rattle.conversations.specs.declared.next.Next.TheVariants.{Do, End}
 use Rattle.conversations.specs.declared.pausing.Patience.{Patience}
-use Rattle.conversations.specs.declared.pausing.Pausing.{Pausing}
 use Rattle.conversations.specs.declared.within.Spent.{Spent}
 use Rattle.conversations.specs.declared.within.Within.{Within}
 use Rattle.conversations.specs.Events.{Events, steps_of}
-use Rattle.conversations.specs.Pauses.{WithPauses}
-use Rattle.conversations.specs.Wanted.{op_of}
+use Rattle.conversations.specs.Patiently.{Patient, ToldPatiently}
 use Rattle.control_sets.specs.declared.procedures.power.Power.{Power}
 use Rattle.control_sets.specs.declared.procedures.power.Power.TheVariants.{Awake, Asleep}
 use Rattle.control_sets.specs.declared.procedures.power.PowerChange.{PowerChange}
@@ -142,18 +140,17 @@ pub record GoesOnAt (power : Power) (history : History) : Type 0 where
 
 -- for a real bus
 abbrev pub PatientPower : Type 0
-PatientPower = Within (Pausing PowerChange)
+PatientPower = Patient PowerChange
 
 abbrev pub patient_power : PowerChange → Patience → Bool → ℕ → ℕ → PatientPower
 patient_power change patience due idle steps = record { conversation = record { conversation = change; patience = patience; due = due; idle = idle }; steps = steps; limit = most_steps }
 
 -- it was told these events
+abbrev pub power_told : Events → PowerChange → Type 0
+power_told events change = HasComeTo change.power change.stage change.fault (steps_of events)
+
 abbrev pub ToldPower : Events → PatientPower → Type 0
-ToldPower events change =
-    WithPauses change.conversation.patience (λ own. HasComeTo change.conversation.conversation.power change.conversation.conversation.stage change.conversation.conversation.fault (steps_of own))
-    (op_of (power_wants change.conversation.conversation)) change.conversation.due change.conversation.idle events
-    × (length (steps_of events) ≡ change.steps)
-    × (change.steps ≤ change.limit)
+ToldPower events change = ToldPatiently power_wants power_told events change
 
 -- the change of power was told these steps
 pub record IsPowerAt (history : History) (change : Within PowerChange) : Type 0 where

@@ -9,13 +9,11 @@ use Rattle.conversations.specs.declared.next.Next.{Next}
 use Rattle.conversations.specs.declared.next.Next.TheVariants.{Do, Wait, End}
 use Rattle.conversations.specs.declared.on_page.OnPage.{OnPage}
 use Rattle.conversations.specs.declared.pausing.Patience.{Patience}
-use Rattle.conversations.specs.declared.pausing.Pausing.{Pausing}
 use Rattle.conversations.specs.declared.within.Spent.{Spent}
 use Rattle.conversations.specs.declared.within.Within.{Within}
 use Rattle.conversations.specs.Events.{Events, steps_of}
-use Rattle.conversations.specs.Pauses.{WithPauses}
+use Rattle.conversations.specs.Patiently.{Patient, ToldPatiently}
 use Rattle.conversations.specs.Selecting.{Knows, WithSelections, next_on, trusted}
-use Rattle.conversations.specs.Wanted.{op_of}
 use Rattle.paged_memory.specs.declared.page_addressing.PageAddressing.TheVariants.{BankAndPage}
 use Rattle.paged_memory.specs.declared.page_addressing.KnownPage.{KnownPage}
 use Rattle.control_sets.specs.declared.fault.ProvisionFault.{ProvisionFault}
@@ -116,11 +114,15 @@ pub record GoesOnList (tasks : List Task) (own : History) : Type 0 where
   pub task : Task
   pub some : hand_after tasks own ≡ Some task
 
--- a task list on confirmed pages, within the steps that a procedure may make
-abbrev pub Procedure : Type 0
-Procedure = Within (OnPage TaskList)
+-- a task list on confirmed pages
+abbrev pub OnTasks : Type 0
+OnTasks = OnPage TaskList
 
-abbrev pub on_page_of : TaskList → KnownPage → Bool → OnPage TaskList
+-- within the steps that a procedure may make
+abbrev pub Procedure : Type 0
+Procedure = Within OnTasks
+
+abbrev pub on_page_of : TaskList → KnownPage → Bool → OnTasks
 on_page_of list selection doubts = record { conversation = list; selection = selection; taken = None; doubts = doubts }
 
 abbrev pub procedure_of : TaskList → KnownPage → ℕ → Procedure
@@ -128,18 +130,15 @@ procedure_of list selection steps = record { conversation = on_page_of list sele
 
 -- for a real bus
 abbrev pub PatientProcedure : Type 0
-PatientProcedure = Within (Pausing (OnPage TaskList))
+PatientProcedure = Patient OnTasks
 
+abbrev pub patient_by : Bool → TaskList → KnownPage → Patience → Bool → ℕ → ℕ → PatientProcedure
+patient_by doubts list selection patience due idle steps =
+    record { conversation = record { conversation = on_page_of list selection doubts; patience = patience; due = due; idle = idle }; steps = steps; limit = most_steps }
+
+-- it doubts
 abbrev pub patient_of : TaskList → KnownPage → Patience → Bool → ℕ → ℕ → PatientProcedure
-patient_of list selection patience due idle steps =
-    record { conversation = record { conversation = on_page_of list selection true; patience = patience; due = due; idle = idle }; steps = steps; limit = most_steps }
-
--- the same one, which doubts the selection after a refusal
-abbrev pub doubting : PatientProcedure → PatientProcedure
-doubting procedure =
-    let pausing = procedure.conversation in
-    let on = pausing.conversation in
-    record procedure { conversation = record pausing { conversation = record on { doubts = true } } }
+patient_of list selection patience due idle steps = patient_by true list selection patience due idle steps
 
 -- its tasks' own events, with selections added
 abbrev pub WithOwn : Bool → Work → (Events → Type 0) → Events → Type 0
@@ -152,23 +151,22 @@ Ends doubts work events fault = WithOwn doubts work (λ own. EndsList (tasks_of 
 abbrev pub GoesOn : Bool → Work → Events → Type 0
 GoesOn doubts work events = WithOwn doubts work (λ own. GoesOnList (tasks_of work) (steps_of own)) events
 
+-- what is wanted on pages, and that these events were told there
+abbrev pub tasks_want : OnTasks → Next (Option ProvisionFault)
+tasks_want on = next_on BankAndPage on.selection (page_by (hand on.conversation)) (wants on.conversation)
+
+abbrev pub tasks_told : Events → OnTasks → Type 0
+tasks_told events on =
+    Knows false (Some BankAndPage) on.selection on.taken (trusted on.doubts (steps_of events))
+    × WithOwn on.doubts on.conversation.work (λ own. IsTold (steps_of own) on.conversation) events
+
 -- the procedure was told these events
 abbrev pub ToldProcedure : Events → Procedure → Type 0
 ToldProcedure events procedure =
-    (Knows false (Some BankAndPage) procedure.conversation.selection procedure.conversation.taken (trusted procedure.conversation.doubts (steps_of events))
-    × WithOwn procedure.conversation.doubts procedure.conversation.conversation.work (λ own. IsTold (steps_of own) procedure.conversation.conversation) events)
-    × (length (steps_of events) ≡ procedure.steps)
-    × (procedure.steps ≤ procedure.limit)
+    tasks_told events procedure.conversation × (length (steps_of events) ≡ procedure.steps) × (procedure.steps ≤ procedure.limit)
 
 abbrev pub ToldPatient : Events → PatientProcedure → Type 0
-ToldPatient events procedure =
-    WithPauses procedure.conversation.patience (λ own.
-    Knows false (Some BankAndPage) procedure.conversation.conversation.selection procedure.conversation.conversation.taken (trusted procedure.conversation.conversation.doubts (steps_of own))
-    × WithOwn procedure.conversation.conversation.doubts procedure.conversation.conversation.conversation.work (λ own. IsTold (steps_of own) procedure.conversation.conversation.conversation) own)
-    (op_of (next_on BankAndPage procedure.conversation.conversation.selection (page_by (hand procedure.conversation.conversation.conversation)) (wants procedure.conversation.conversation.conversation)))
-    procedure.conversation.due procedure.conversation.idle events
-    × (length (steps_of events) ≡ procedure.steps)
-    × (procedure.steps ≤ procedure.limit)
+ToldPatient events procedure = ToldPatiently tasks_want tasks_told events procedure
 
 -- the procedure is one of these tasks, and was told these steps, the newest first, between pauses or none
 pub record IsAt (tasks : List Task) (history : History) (procedure : Procedure) : Type 0 where

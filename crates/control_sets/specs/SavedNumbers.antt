@@ -15,7 +15,7 @@ use Rattle.control_sets.specs.declared.procedures.procedure.Work.{Work}
 use Rattle.control_sets.specs.declared.procedures.procedure.Work.TheVariants.{Provisioning, Activation}
 use Rattle.control_sets.specs.declared.procedures.task.Task.{Task}
 use Rattle.control_sets.specs.OutcomeAnswers.{most_steps}
-use Rattle.control_sets.specs.Progress.{PatientProcedure, patient_of, tasks_of}
+use Rattle.control_sets.specs.Progress.{PatientProcedure, patient_by, tasks_of}
 
 -- 1 for provisioning, 2 for activation
 abbrev pub work_numbered : ℕ → List ℕ → ℕ → Option Work
@@ -101,14 +101,14 @@ abbrev pub can_stand : List Task → ℕ → Option ProvisionFault → Bool
 can_stand tasks met None = nat_le met (length tasks)
 can_stand tasks met (Some fault) = nat_lt met (length tasks) && is_found fault
 
-abbrev pub numbered : SavedProcedure → Option Work → Option KnownPage → Option (Option ProvisionFault) → Option Bool → Option PatientProcedure
-numbered saved (Some work) (Some selected) (Some fault) (Some due) =
+abbrev pub numbered : SavedProcedure → Bool → Option Work → Option KnownPage → Option (Option ProvisionFault) → Option Bool → Option PatientProcedure
+numbered saved doubts (Some work) (Some selected) (Some fault) (Some due) =
     if nat_le saved.steps most_steps && can_stand (tasks_of work) saved.met fault
-    then Some (patient_of (record { work = work; met = saved.met; fault = fault }) selected (record { pause = saved.pause; limit = saved.limit }) due saved.idle saved.steps)
+    then Some (patient_by doubts (record { work = work; met = saved.met; fault = fault }) selected (record { pause = saved.pause; limit = saved.limit }) due saved.idle saved.steps)
     else None
-numbered saved work selected fault due = None
+numbered saved doubts work selected fault due = None
 
--- the procedure that has these numbers; none if they are those of none
-unfoldable pub restored : SavedProcedure → Option PatientProcedure
-restored saved =
-    numbered saved (work_numbered saved.work saved.control saved.lanes) (selected_numbered saved.selection saved.page) (fault_in saved.fault) (due_numbered saved.due)
+-- the procedure that has these numbers, and doubts or doesn't; none if they are those of none
+unfoldable pub restored : SavedProcedure → Bool → Option PatientProcedure
+restored saved doubts =
+    numbered saved doubts (work_numbered saved.work saved.control saved.lanes) (selected_numbered saved.selection saved.page) (fault_in saved.fault) (due_numbered saved.due)

@@ -54,17 +54,12 @@ ghost use Rattle.conversations.specs.Pauses.{AddsPauses, AreMade, AreSpaced, End
 ghost use Rattle.conversations.specs.Selecting.{ConfirmsStores};
 ghost use Rattle.paged_memory.specs.declared.page_addressing.PageAddressing.TheVariants.{BankAndPage};
 ghost use Rattle.paged_memory.specs.Images.{Memory};
-ghost use Rattle.conversations.specs.declared.next.Next.TheVariants.{Do};
-ghost use Rattle.control_sets.specs.declared.procedures.judgement.ReplyJudgement.TheVariants.{Fails};
-ghost use Rattle.control_sets.specs.declared.procedures.task.Task.TheVariants.{FindReady};
-ghost use Rattle.control_sets.specs.declared.procedures.watching.Look.{Look};
-ghost use Rattle.control_sets.specs.declared.procedures.watching.Look.TheVariants.{Due, Left};
-ghost use Rattle.control_sets.specs.declared.procedures.watching.Watched.{Watched};
-ghost use Rattle.control_sets.specs.declared.procedures.watching.Watched.TheVariants as watched;
-ghost use Rattle.control_sets.specs.declared.procedures.watching.Watching.{Watching};
-ghost use Rattle.control_sets.specs.Judgements.{judgement};
+ghost use Rattle.conversations.specs.declared.watching.Look.{Look};
+ghost use Rattle.conversations.specs.declared.watching.Look.TheVariants.{Left};
+ghost use Rattle.conversations.specs.declared.watching.Watched.{Watched};
+ghost use Rattle.conversations.specs.declared.watching.Watched.TheVariants as watched;
 ghost use Rattle.control_sets.specs.PatientProcedures.{EndsPatiently, EndsWatched};
-ghost use Rattle.control_sets.specs.Watching.{AddsLooks, EachLooks, ShowsLeft, after_watching, is_look, next_watching};
+ghost use Rattle.conversations.specs.Watching.{AddsLooks, EachLooks};
 
 use crate::procedures::{PowerChange, Procedure};
 use conversations::{Conversation, Within};
@@ -332,28 +327,15 @@ pub fn procedures_pause()
         EndsPausing patience (λ own. GoesOnAt power (steps_of own)) (λ own fault. IsEndedIn power fault (steps_of own)) events end → AreSpaced patience.pause events }
 {}
 
-/// A conversation that looks at the module's state makes no transaction after a wait before it was shown in ModuleReady. Where it ends since
-/// the module left that state, the newest transaction shows the other one; and where a look shows another one, it ends.
-pub fn looks_follow_waits()
-    ensures looks { (own events : Events) (look : Look) (wanted : Option Op) → AddsLooks true own events look wanted → EachLooks events }
-    ensures left { (watches : Bool) (own events : Events) (fault : ProvisionFault) (wanted : Option Op) →
-        AddsLooks watches own events (Left fault) wanted → ShowsLeft fault events }
-    ensures ends { (watching : Watching (Unit {0})) (op : Op) (reply : Reply) (fault : ProvisionFault) → watching.look ≡ Due → is_look op ≡ false →
-        judgement FindReady reply ≡ Fails fault →
-        next_watching {E = Unit {0}} (after_watching {E = Unit {0}} (λ c. Do op) (λ c r. c) watching reply).look (Do op) ≡ End (watched.Left fault) }
-    ensures spaced { (watches : Bool) (pause : ℕ) (own events : Events) (look : Look) (wanted : Option Op) →
-        AddsLooks watches own events look wanted → AreSpaced pause own → AreSpaced pause events }
-{}
-
 /// Provisioning and activation on a real bus that look at the module's state: what they do besides is what they may do without looks,
 /// where refused looks stand for refusals; also where the module left ModuleReady.
 pub fn watchful_procedures_have_their_outcomes()
     ensures ended { (patience : Patience) (work : Work) (events : Events) (spent : Spent (Timed (Option ProvisionFault))) →
         EndsWatched patience work events (watched.InOrder spent) →
         (own : Events) × (look : Look) × AddsLooks true own events look None × EndsPatiently patience work own spent }
-    ensures left { (patience : Patience) (work : Work) (events : Events) (fault : ProvisionFault) →
-        EndsWatched patience work events (watched.Left fault) →
-        (own : Events) × (op : Op) × AddsLooks true own events (Left fault) (Some op) × IsUnfinishedBy true (tasks_of work) (steps_of own) }
+    ensures left { (patience : Patience) (work : Work) (events : Events) (code : ℕ) →
+        EndsWatched patience work events (watched.Left code) →
+        (own : Events) × (op : Op) × AddsLooks true own events (Left code) (Some op) × IsUnfinishedBy true (tasks_of work) (steps_of own) }
     ensures spaced { (patience : Patience) (work : Work) (events : Events) (end : Watched (Spent (Timed (Option ProvisionFault)))) →
         EndsWatched patience work events end → AreSpaced patience.pause events × EachLooks events }
 {}

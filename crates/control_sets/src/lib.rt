@@ -18,8 +18,8 @@ pub use fault::{ControlFault, ProvisionFault};
 pub use host_path::{HostPath, agree, control_at, paths_of};
 pub use plan_bytes::{bytes_of, lanes_of, lanes_outside};
 pub use procedures::{
-    Activated, Look, MAX_STEPS, PatientFault, PatientPower, PatientProcedure, Power, PowerChange,
-    PowerStage, Procedure, Provisioned, SavedFault, SavedProcedure, TaskList, Watched,
-    WatchfulProcedure, Watching, Work, activate, activate_on, answer_in_time, answer_of,
-    change_power, change_power_on, provision, provision_keeping, provision_on,
+    Activated, MAX_STEPS, PatientFault, PatientPower, PatientProcedure, Power, PowerChange,
+    PowerStage, Procedure, Provisioned, SavedFault, SavedProcedure, TaskList, WatchfulProcedure,
+    Work, activate, activate_on, answer_in_time, answer_of, change_power, change_power_on,
+    numbers_of_selected, provision, provision_keeping, provision_on,
 };

@@ -4,3 +4,5 @@ pub mod PausingLaws
 pub mod OnPageLaws
 pub mod InPiecesLaws
 pub mod DoubtLaws
+pub mod WatchingLaws
+pub mod PatientLaws

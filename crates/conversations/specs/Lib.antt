@@ -5,3 +5,5 @@ pub mod Carried
 pub mod Pauses
 pub mod Selecting
 pub mod Pieces
+pub mod Watching
+pub mod Patiently

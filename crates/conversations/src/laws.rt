@@ -1,5 +1,5 @@
 //! What holds of conversations, over all histories. Each function is a theorem: its contract says it, and its body is empty.
-ghost use Rattle.std.specs.Prelude.{◌≡◌, ◌↔◌, ◌<◌, ◌≤◌, ◌+◌, ◌-◌, ◌*◌, ◌^◌, ℕ, Bool, Option, true};
+ghost use Rattle.std.specs.Prelude.{◌≡◌, ◌↔◌, ◌<◌, ◌≤◌, ◌+◌, ◌-◌, ◌*◌, ◌^◌, ℕ, Bool, Option, Some, true, false};
 ghost use Rattle.bus_model.specs.declared.operation.Op.{Op};
 ghost use Rattle.paged_memory.specs.declared.page_addressing.PageAddressing.{PageAddressing};
 ghost use Rattle.conversations.specs.declared.next.Next.{Next};
@@ -9,6 +9,12 @@ ghost use Rattle.conversations.specs.declared.pausing.Timed.TheVariants.{Overdue
 ghost use Rattle.conversations.specs.Events.{Events, steps_of};
 ghost use Rattle.conversations.specs.Pauses.{AddsPauses, AreMade, AreSpaced, next_pausing, paused_for};
 ghost use Rattle.conversations.specs.Selecting.{AddsSelections, ConfirmsStores};
+ghost use Rattle.conversations.specs.Watching.{AddsLooks, EachLooks, ShowsLeft, after_watching, is_look, look_at, next_watching, shown};
+ghost use Rattle.conversations.specs.declared.watching.Look.{Look};
+ghost use Rattle.conversations.specs.declared.watching.Look.TheVariants.{Due, Left};
+ghost use Rattle.conversations.specs.declared.watching.Watched.TheVariants as watched;
+ghost use Rattle.conversations.specs.declared.watching.Watching.{Watching};
+ghost use Rattle.bus_model.specs.declared.operation.Reply.{Reply};
 
 /// Who doubts stores nothing after a refusal before the page that is needed was read back, but for the selection of that page.
 pub fn no_store_follows_a_refusal_unconfirmed()
@@ -37,4 +43,17 @@ pub fn fruitless_transactions_are_few()
     ensures { (patience : Patience) (own events : Events) (wanted : Option Op) (due : Bool) (idle : ℕ) →
         AddsPauses patience own events wanted due idle → AreMade own → patience.limit < 2 ^ 32 - 1 →
         paused_for patience.pause wanted (steps_of events) ≤ patience.limit + 2 * patience.pause }
+{}
+
+/// A conversation that looks at the module's state makes no transaction after a wait before it was shown in ModuleReady. Where it ends since
+/// the module left that state, the newest transaction shows the other one; and where a look shows another one, it ends.
+pub fn looks_follow_waits()
+    ensures looks { (own events : Events) (look : Look) (wanted : Option Op) → AddsLooks true own events look wanted → EachLooks events }
+    ensures left { (watches : Bool) (own events : Events) (code : ℕ) (wanted : Option Op) →
+        AddsLooks watches own events (Left code) wanted → ShowsLeft code events }
+    ensures ends { (watching : Watching (Unit {0})) (op : Op) (reply : Reply) (code : ℕ) → watching.look ≡ Due → is_look op ≡ false →
+        shown reply ≡ Some code → look_at code ≡ Left code →
+        next_watching {E = Unit {0}} (after_watching {E = Unit {0}} (λ c. Do op) (λ c r. c) watching reply).look (Do op) ≡ End (watched.Left code) }
+    ensures spaced { (watches : Bool) (pause : ℕ) (own events : Events) (look : Look) (wanted : Option Op) →
+        AddsLooks watches own events look wanted → AreSpaced pause own → AreSpaced pause events }
 {}

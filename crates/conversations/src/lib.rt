@@ -12,6 +12,7 @@ mod on_page;
 mod pausing;
 mod runner;
 mod timed_bus;
+mod watching;
 mod within;
 
 pub use conversation::{Conversation, try_take};
@@ -22,4 +23,5 @@ pub use on_page::{NeedsPages, OnPage};
 pub use pausing::{Patience, Pausing, Timed};
 pub use runner::run;
 pub use timed_bus::TimedBus;
+pub use watching::{Look, Watched, Watching};
 pub use within::{Spent, Within};

@@ -8,7 +8,8 @@ use Rattle.firmware_api.specs.declared.conversation.numbers.SavedConversation.{S
 use Rattle.firmware_api.specs.declared.half.HalfBytes.{HalfBytes}
 use Rattle.firmware_api.specs.declared.kept.Kept.{Kept}
 use Rattle.firmware_api.specs.declared.kept.Kept.TheVariants.{OfTasks, OfPower, OfReading}
-use Rattle.firmware_api.specs.KeptConversations.{InHand, Patient, Watchful, after, next_of, pieces_want, wants_patiently}
+use Rattle.conversations.specs.Patiently.{Patient, wants_patiently}
+use Rattle.firmware_api.specs.KeptConversations.{InHand, Watchful, after, next_of, pieces_want}
 use Rattle.firmware_api.specs.SavedConversations.{IsInFront, conversation_in}
 use Rattle.firmware_api.specs.WholeHalves.{HasFewHalves, IsHalfBy}
 use Rattle.firmware_api.proofs.FitLaws.{fits}

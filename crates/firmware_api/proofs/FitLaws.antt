@@ -3,8 +3,8 @@ use Rattle.std.proofs.Common.{◌≡◌, ◌≤◌, ◌==◌, ℕ, zero, suc, Bo
 use Rattle.std.specs.Prelude.{nat_le, not}
 use Rattle.std.specs.FinMap as map
 use Rattle.std.proofs.lemmas.Bool.{and_parts, leb-true, ltb-true}
+use Rattle.conversations.specs.declared.watching.Look.{Look}
 use Rattle.paged_memory.specs.declared.page_addressing.KnownPage.{KnownPage}
-use Rattle.control_sets.specs.declared.procedures.watching.Look.{Look}
 use Rattle.control_sets.specs.OutcomeAnswers.{most_steps}
 use Rattle.control_sets.specs.PowerProgress.{PatientPower}
 use Rattle.control_sets.specs.Progress.{PatientProcedure}
@@ -65,17 +65,17 @@ module _ (saved : SavedConversation) (halves : List HalfBytes) (kept : Kept) whe
   by_look procedure (Some look) limit found = subst (Fits saved halves) (same_some (tasks_in saved procedure look) kept found) limit
   by_look procedure None limit found = absurd cc
 
-  by_procedure : (tasks : Option PatientProcedure) (change : Option PatientPower) → restored saved.saved ≡ tasks → restored_power saved.saved ≡ change →
+  by_procedure : (tasks : Option PatientProcedure) (change : Option PatientPower) → restored saved.saved (saved.doubts == 1) ≡ tasks → restored_power saved.saved ≡ change →
       procedure_by saved tasks change ≡ Some kept → Fits saved halves kept
-  by_procedure (Some procedure) change is is_change found = by_look procedure (look_in saved) (tasks_say saved.saved procedure is).1 found
+  by_procedure (Some procedure) change is is_change found = by_look procedure (look_in saved) (tasks_say saved.saved (saved.doubts == 1) procedure is).1 found
   by_procedure None (Some change) is is_change found = subst (Fits saved halves) (same_some (OfPower change) kept found) (power_says saved.saved change is_change).1
   by_procedure None None is is_change found = absurd cc
 
   by_sound : (sound five : Bool) →
-      (if not sound then None else (if five then reading_in saved halves else procedure_by saved (restored saved.saved) (restored_power saved.saved))) ≡ Some kept → Fits saved halves kept
+      (if not sound then None else (if five then reading_in saved halves else procedure_by saved (restored saved.saved (saved.doubts == 1)) (restored_power saved.saved))) ≡ Some kept → Fits saved halves kept
   by_sound false five is = absurd cc
   by_sound true true is = by_reading (is_reading saved halves) (selected_numbered saved.saved.selection saved.saved.page) (due_numbered saved.saved.due) refl is
-  by_sound true false is = by_procedure (restored saved.saved) (restored_power saved.saved) refl refl is
+  by_sound true false is = by_procedure (restored saved.saved (saved.doubts == 1)) (restored_power saved.saved) refl refl is
 
   pub fits : conversation_in saved halves ≡ Some kept → Fits saved halves kept
   unfolding conversation_in

@@ -7,7 +7,6 @@ mod Padding
 mod HeldModules
 mod WholeHalfLaws
 mod PauseLaws
-mod RoomLaws
 mod FitLaws
 mod ReadingRoom
 mod AfterLaws
@@ -18,4 +17,3 @@ mod RefusalTexts
 mod ShortTexts
 mod DecodersRefuse
 mod WatchfulLaws
-mod LeftLaws

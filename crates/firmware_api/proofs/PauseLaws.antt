@@ -1,19 +1,19 @@
 -- A pause in a conversation, and its beginning.
-use Rattle.std.proofs.Common.{◌≡◌, ◌≢◌, ◌≤◌, ◌+◌, ℕ, Bool, true, false, List, ◌∷◌, Option, Some, None, refl, ap, sym, subst, inl, if◌then◌else◌, nat_lt}
-use Rattle.std.proofs.lemmas.Bool.{ltb-false}
+use Rattle.std.proofs.Common.{◌≡◌, ◌≢◌, ℕ, List, ◌∷◌, Option, Some, None, refl, ap, subst}
 use Rattle.bus_model.specs.declared.operation.Op.{Op}
 use Rattle.conversations.specs.declared.event.Event.TheVariants.{Waited}
 use Rattle.conversations.specs.declared.next.Next.{Next}
 use Rattle.conversations.specs.declared.next.Next.TheVariants.{Do, Wait, End}
 use Rattle.conversations.specs.declared.pausing.Timed.{Timed}
-use Rattle.conversations.specs.declared.pausing.Timed.TheVariants.{Overdue}
+use Rattle.conversations.specs.declared.watching.Watched.TheVariants.{InOrder}
 use Rattle.conversations.specs.declared.within.Spent.{Spent}
-use Rattle.conversations.specs.Budgets.{next_within}
 use Rattle.conversations.specs.Events.{Events}
-use Rattle.conversations.specs.Pauses.{AddsPauses, counted, next_pausing}
 use Rattle.conversations.specs.Pieces.{next_piece}
 use Rattle.conversations.specs.Selecting.{next_on}
 use Rattle.conversations.specs.Wanted.{IfEnd, op_of}
+use Rattle.conversations.specs.Watching.{AddsLooks}
+use Rattle.conversations.proofs.PatientLaws.{told_pause}
+use Rattle.conversations.proofs.WatchingLaws.{own_wait}
 use Rattle.paged_memory.specs.declared.page_addressing.KnownPage.{KnownPage}
 use Rattle.paged_memory.specs.declared.page_addressing.PageAddressing.{PageAddressing}
 use Rattle.paged_memory.specs.declared.page_addressing.PageAddressing.TheVariants.{BankAndPage}
@@ -21,16 +21,16 @@ use Rattle.control_sets.specs.declared.fault.ProvisionFault.{ProvisionFault}
 use Rattle.control_sets.specs.declared.procedures.power.PowerChange.{PowerChange}
 use Rattle.control_sets.specs.declared.procedures.task.Task.{Task}
 use Rattle.control_sets.specs.PowerProgress.{operation_at, power_wants}
-use Rattle.control_sets.specs.declared.procedures.watching.Watched.TheVariants.{InOrder}
 use Rattle.control_sets.specs.PowerProgress as power
-use Rattle.control_sets.specs.Watching.{AddsLooks}
-use Rattle.control_sets.proofs.WatchingLaws.{own_wait}
 use Rattle.control_sets.specs.Progress as tasks
 use Rattle.module_reading.specs.declared.region.Region.{Region}
 use Rattle.module_reading.specs.ImageReading as reading
 use Rattle.firmware_api.specs.declared.kept.Kept.{Kept}
 use Rattle.firmware_api.specs.declared.kept.Kept.TheVariants.{OfTasks, OfPower, OfReading}
-use Rattle.firmware_api.specs.KeptConversations.{Ending, InHand, OnTasks, Patient, Spending, ToldPatiently, WasTold, after_pause, as_ending, in_order, next_of, paused, pieces_want, power_told, pieces_told, tasks_told, tasks_want, wants_patiently}
+use Rattle.control_sets.specs.PowerProgress.{power_told}
+use Rattle.control_sets.specs.Progress.{OnTasks, tasks_told, tasks_want}
+use Rattle.conversations.specs.Patiently.{Patient, ToldPatiently, paused, wants_patiently}
+use Rattle.firmware_api.specs.KeptConversations.{Ending, InHand, Spending, WasTold, after_pause, as_ending, in_order, next_of, pieces_want, pieces_told}
 
 -- ---- none of them waits by itself
 
@@ -58,39 +58,6 @@ pieces_wait_not pieces time waits =
     pieces_wait pieces.piece pieces.part.items _ pieces.conversation.selection _ (reading.in_hand pieces.conversation.conversation) time waits
 
 -- ---- so a wait that is wanted is a pause that is due
-
-module _ {C E : Type 0} (wants : C → Next E) (told : Events → C → Type 0) (it : Patient C) (time : ℕ) where
-  abbrev inner : C
-  inner = it.conversation.conversation
-
-  no_budget : (few : Bool) (op : Op) → ◌≡◌ {A = Next (Spent (Timed E))} (if few then Do op else End (record { steps = it.steps; end = None })) (Wait time) → ⊥
-  no_budget true op waits = cc
-  no_budget false op waits = cc
-
-  by_patience : (beyond : Bool) → ◌≡◌ {A = Next (Spent (Timed E))} (next_within it.steps it.limit (if beyond then End Overdue else Wait it.conversation.patience.pause)) (Wait time) →
-      (beyond ≡ false) × (time ≡ it.conversation.patience.pause)
-  by_patience true waits = absurd cc
-  by_patience false waits = let same : ◌≡◌ {A = Next (Spent (Timed E))} (Wait it.conversation.patience.pause) (Wait time) = waits in (refl, cc)
-
-  due_by : (wanted : Next E) → ((t : ℕ) → wanted ≢ Wait t) → (due : Bool) → next_within it.steps it.limit (next_pausing due it.conversation.idle it.conversation.patience wanted) ≡ Wait time →
-      (op : Op) × (wanted ≡ Do op) × (due ≡ true) × (it.conversation.idle ≤ it.conversation.patience.limit) × (time ≡ it.conversation.patience.pause)
-  due_by (Wait other) never due waits = absurd (never other refl)
-  due_by (End end) never due waits = absurd cc
-  due_by (Do op) never false waits = absurd (no_budget (nat_lt it.steps it.limit) op waits)
-  due_by (Do op) never true waits =
-      let (within, same) = by_patience (nat_lt it.conversation.patience.limit it.conversation.idle) waits in
-      (op, refl, refl, ltb-false it.conversation.patience.limit it.conversation.idle within, same)
-
-  told_pause : ((t : ℕ) → wants inner ≢ Wait t) → wants_patiently wants it ≡ Wait time → (events : Events) → ToldPatiently wants told events it → ToldPatiently wants told (Waited time ∷ events) (paused it)
-  told_pause never waits events ((own, adds, told_own), counted_steps, few) =
-      let (op, wanted, due, patient, same) = due_by (wants inner) never it.conversation.due waits in
-      let patience = it.conversation.patience in
-      let adds_due : AddsPauses patience own events (op_of (wants inner)) true it.conversation.idle =
-      subst (λ (d : Bool). AddsPauses patience own events (op_of (wants inner)) d it.conversation.idle) due adds in
-      let is_op : op_of (wants inner) ≡ Some op = ap (λ (n : Next E). op_of n) wanted in
-      let after : AddsPauses patience own (Waited time ∷ events) (op_of (wants inner)) false (counted (it.conversation.idle + patience.pause)) =
-      inl (op, it.conversation.idle, is_op, adds_due, patient, same, refl, ap (λ (t : ℕ). counted (it.conversation.idle + t)) (sym same)) in
-      ((own, after, told_own), counted_steps, few)
 
 not_ending : (wanted : Next (Spent (Timed (Unit {0})))) (time : ℕ) → as_ending wanted ≡ Wait time → wanted ≡ Wait time
 not_ending (Wait other) time waits = let same : other ≡ time = cc in ap (λ (t : ℕ). Wait t) same

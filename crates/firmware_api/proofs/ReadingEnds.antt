@@ -6,6 +6,7 @@ use Rattle.conversations.specs.declared.next.Next.TheVariants.{Do, Wait, End}
 use Rattle.conversations.specs.declared.pausing.Patience.{Patience}
 use Rattle.conversations.specs.declared.pausing.Timed.{Timed}
 use Rattle.conversations.specs.declared.pausing.Timed.TheVariants.{InTime, Overdue}
+use Rattle.conversations.specs.declared.watching.Watched.TheVariants.{InOrder, Left}
 use Rattle.conversations.specs.declared.within.Spent.{Spent}
 use Rattle.conversations.specs.Budgets.{next_within}
 use Rattle.conversations.specs.Events.{Events, steps_of}
@@ -18,7 +19,6 @@ use Rattle.paged_memory.specs.Images.{Memory}
 use Rattle.paged_memory.specs.KnownPages.{wanted}
 use Rattle.paged_memory.specs.PageAddressing.{History}
 use Rattle.control_sets.specs.declared.fault.ProvisionFault.{ProvisionFault}
-use Rattle.control_sets.specs.declared.procedures.watching.Watched.TheVariants.{InOrder, Left}
 use Rattle.module_reading.specs.declared.halves.Halves.{Halves}
 use Rattle.module_reading.specs.declared.region.Region.{Region}
 use Rattle.module_reading.specs.declared.request.Request.{Request}
@@ -31,7 +31,8 @@ use Rattle.firmware_api.specs.declared.half.HalfBytes.{HalfBytes}
 use Rattle.firmware_api.specs.declared.kept.Kept.{Kept}
 use Rattle.firmware_api.specs.declared.kept.Kept.TheVariants.{OfTasks, OfPower, OfReading}
 use Rattle.firmware_api.specs.Halves.{memory_of}
-use Rattle.firmware_api.specs.KeptConversations.{Bringing, Ending, Fetching, Spending, Subject, Turning, WasTold, about, as_ending, needed, next_of, pieces_want, wants_patiently}
+use Rattle.conversations.specs.Patiently.{wants_patiently}
+use Rattle.firmware_api.specs.KeptConversations.{Bringing, Ending, Fetching, Spending, Subject, Turning, WasTold, about, as_ending, needed, next_of, pieces_want}
 use Rattle.firmware_api.specs.ReadEnds.{HasImage, HasReadModule}
 use Rattle.firmware_api.specs.SavedConversations as saving
 use Rattle.firmware_api.specs.SavedConversations.{IsSavedAt, conversation_in, halves_in}
@@ -48,7 +49,7 @@ abbrev end_in : Next Ending → Option (Timed (Option ProvisionFault))
 end_in (Do op) = None
 end_in (Wait time) = None
 end_in (End (InOrder spent)) = spent.end
-end_in (End (Left fault)) = None
+end_in (End (Left code)) = None
 
 module _ (steps limit idle : ℕ) (patience : Patience) (piece : ℕ) (part : List ℕ) (by : PageAddressing) (selected : KnownPage) (page : Option ℕ) (spent : Spending) where
   ends_by : (due : Bool) (found : Option Region) → as_ending (next_within steps limit (next_pausing due idle patience (next_piece piece part (next_on by selected page (reading.wants_by found))))) ≡ End (InOrder spent) →
@@ -104,19 +105,19 @@ module _ (saved : SavedConversation) (halves : List HalfBytes) (request : Reques
       (subst (λ (r : Request). HasReadModule on.doubts r events (memory_of (halves_in saved halves)) (InOrder spent)) same_request (subst (λ (image : Memory). HasReadModule on.doubts on.conversation.request events image (InOrder spent)) has.0 ended))
 
 -- a reading looks at no state
-never_left : (wanted : Next (Spent (Timed (Unit {0})))) (fault : ProvisionFault) → as_ending wanted ≡ End (Left fault) → ⊥
-never_left (Do op) fault ends = cc
-never_left (Wait time) fault ends = cc
-never_left (End spent) fault ends = cc
+never_left : (wanted : Next (Spent (Timed (Unit {0})))) (code : ℕ) → as_ending wanted ≡ End (Left code) → ⊥
+never_left (Do op) code ends = cc
+never_left (Wait time) code ends = cc
+never_left (End spent) code ends = cc
 
-left_by : (kept : Kept) (request : Request) (piece : ℕ) (doubts : Bool) (fault : ProvisionFault) → about kept ≡ Fetching request piece doubts → next_of kept ≡ End (Left fault) → ⊥
-left_by (OfTasks procedure) request piece doubts fault same ends = cc
-left_by (OfPower change) request piece doubts fault same ends = cc
-left_by (OfReading read) request piece doubts fault same ends = never_left (wants_patiently pieces_want read) fault ends
+left_by : (kept : Kept) (request : Request) (piece : ℕ) (doubts : Bool) (code : ℕ) → about kept ≡ Fetching request piece doubts → next_of kept ≡ End (Left code) → ⊥
+left_by (OfTasks procedure) request piece doubts code same ends = cc
+left_by (OfPower change) request piece doubts code same ends = cc
+left_by (OfReading read) request piece doubts code same ends = never_left (wants_patiently pieces_want read) code ends
 
 pub has_read : (saved : SavedConversation) (halves : List HalfBytes) (request : Request) (piece : ℕ) (doubts : Bool) (events : Events) (ending : Ending) (patience : Patience) →
     IsSavedAt (Fetching request piece doubts) patience events saved halves → saving.wanted saved halves ≡ Some (End ending) → HasReadModule doubts request events (memory_of (halves_in saved halves)) ending
 has_read saved halves request piece doubts events (InOrder spent) patience (kept, is, is_about, is_patience, told) ends =
     read_by saved halves request piece doubts events spent kept is is_about told (wanted_is saved halves kept (End (InOrder spent)) is ends)
-has_read saved halves request piece doubts events (Left fault) patience (kept, is, is_about, is_patience, told) ends =
-    left_by kept request piece doubts fault is_about (wanted_is saved halves kept (End (Left fault)) is ends)
+has_read saved halves request piece doubts events (Left code) patience (kept, is, is_about, is_patience, told) ends =
+    left_by kept request piece doubts code is_about (wanted_is saved halves kept (End (Left code)) is ends)

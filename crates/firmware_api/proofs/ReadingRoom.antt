@@ -15,15 +15,16 @@ use Rattle.conversations.specs.Pauses.{is_refused as refused}
 use Rattle.conversations.specs.Selecting.{next_on}
 use Rattle.conversations.specs.Wanted.{IsReplyTo, op_of}
 use Rattle.conversations.proofs.InPiecesLaws.{none_room}
+use Rattle.conversations.proofs.PatientLaws.{made}
 use Rattle.paged_memory.specs.declared.page_addressing.KnownPage.{KnownPage}
 use Rattle.paged_memory.specs.declared.page_addressing.PageAddressing.{PageAddressing}
 use Rattle.module_reading.specs.declared.region.Region.{Region}
 use Rattle.module_reading.specs.ImageReading.{in_hand, wants_by}
 use Rattle.firmware_api.specs.declared.half.HalfBytes.{HalfBytes}
 use Rattle.firmware_api.specs.Halves.{has_place, key_of, memory_of}
-use Rattle.firmware_api.specs.KeptConversations.{InHand, Patient, after_patiently, as_ending, halves_after, halves_of, halves_want, pieces_after, pieces_want, wants_patiently}
+use Rattle.conversations.specs.Patiently.{Patient, after_patiently, wants_patiently}
+use Rattle.firmware_api.specs.KeptConversations.{InHand, as_ending, halves_after, halves_of, halves_want, pieces_after, pieces_want}
 use Rattle.firmware_api.specs.SavedConversations.{HasHalf, HasInFront, HasNumbers, HasRead, IsInFront}
-use Rattle.firmware_api.proofs.RoomLaws.{made}
 use Rattle.firmware_api.proofs.WholeHalfLaws.{placed_by}
 
 -- ---- what the reply is one to

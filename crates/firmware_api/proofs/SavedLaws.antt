@@ -7,13 +7,14 @@ use Rattle.std.specs.List.{slice_index}
 use Rattle.std.specs.Option.{option_map}
 use Rattle.std.proofs.lemmas.Bool.{and_from, eqb-true, le-leb, lt-ltb}
 use Rattle.field_tables.specs.LaneSets.{lanes_in}
+use Rattle.conversations.specs.declared.watching.Look.{Look}
+use Rattle.conversations.specs.declared.watching.Look.TheVariants.{Seen, Due, Left}
 use Rattle.conversations.specs.Pauses.{counted}
+use Rattle.conversations.specs.Watching.{look_after_wait}
+use Rattle.module_states.specs.declared.state.ModuleState.{ModuleState as State}
+use Rattle.module_states.specs.Codes.{state_at}
 use Rattle.paged_memory.specs.declared.page_addressing.KnownPage.{KnownPage}
 use Rattle.control_sets.specs.declared.fault.ProvisionFault.{ProvisionFault}
-use Rattle.control_sets.specs.declared.fault.ProvisionFault.TheVariants.{Rejected, StagedDiffers, ActiveDiffers, GaveUp, Bus, ModuleState, Reserved}
-use Rattle.control_sets.specs.declared.procedures.watching.Look.{Look}
-use Rattle.control_sets.specs.declared.procedures.watching.Look.TheVariants.{Seen, Due, Left}
-use Rattle.control_sets.specs.Watching.{look_after_wait}
 use Rattle.control_sets.specs.declared.procedures.power.Power.{Power}
 use Rattle.control_sets.specs.declared.procedures.power.Power.TheVariants.{Awake, Asleep}
 use Rattle.control_sets.specs.declared.procedures.power.PowerStage.{PowerStage}
@@ -22,7 +23,7 @@ use Rattle.control_sets.specs.declared.procedures.procedure.Work.TheVariants.{Pr
 use Rattle.control_sets.specs.declared.procedures.procedure.saved.SavedProcedure.{SavedProcedure}
 use Rattle.control_sets.specs.OutcomeAnswers.{most_steps}
 use Rattle.control_sets.specs.PowerProgress.{PatientPower, patient_power}
-use Rattle.control_sets.specs.Progress.{PatientProcedure, doubting, patient_of, tasks_of}
+use Rattle.control_sets.specs.Progress.{PatientProcedure, patient_by, tasks_of}
 use Rattle.control_sets.specs.SavedNumbers.{can_stand, due_numbered, fault_in, numbered, restored, saved_fault, selected_numbered, work_numbered}
 use Rattle.control_sets.specs.SavedPower.{can_stop, change_of, has_no_more, power_numbered, restored_power, stage_numbered}
 use Rattle.firmware_api.specs.declared.conversation.numbers.SavedConversation.{SavedConversation}
@@ -30,8 +31,10 @@ use Rattle.firmware_api.specs.declared.half.HalfBytes.{HalfBytes}
 use Rattle.firmware_api.specs.declared.kept.Kept.{Kept}
 use Rattle.firmware_api.specs.declared.kept.Kept.TheVariants.{OfTasks, OfPower, OfReading}
 use Rattle.firmware_api.specs.Halves.{has_place, memory_of}
-use Rattle.firmware_api.specs.KeptConversations.{InHand, Patient, Watchful, after_pause, halves_of, paused}
-use Rattle.firmware_api.specs.SavedConversations.{AreOfReading, HasNumbers, HasRead, conversation_in, fault_of_look, is_reading, is_sound, look_by, look_in, number_of, number_of_look, paused_look, paused_numbers, paused_procedure, procedure_by, procedure_numbers, reading_by, reading_in, reading_with, tasks_in, work_of_reading}
+use Rattle.conversations.specs.Patiently.{Patient, paused}
+use Rattle.firmware_api.specs.KeptConversations.{InHand, Watchful, after_pause, halves_of}
+use Rattle.firmware_api.specs.ReadModules.{number_of}
+use Rattle.firmware_api.specs.SavedConversations.{AreOfReading, HasNumbers, HasRead, code_in, conversation_in, fault_of_look, is_reading, is_sound, fault_at, look_by, look_in, number_of_look, paused_look, paused_numbers, paused_procedure, procedure_by, procedure_numbers, reading_by, reading_in, reading_with, tasks_in, work_of_reading}
 
 pub same_some : {A : Type 0} (a b : A) → Some a ≡ Some b → a ≡ b
 same_some a b same = cc
@@ -81,27 +84,27 @@ other_power saved power is = not_reading saved.work 3 4 refl refl (chosen saved.
 
 -- ---- procedures of tasks
 
-module _ (saved : SavedProcedure) (procedure : PatientProcedure) where
+module _ (saved : SavedProcedure) (doubts : Bool) (procedure : PatientProcedure) where
   tasks_by : (work : Option Work) (selected : Option KnownPage) (fault : Option (Option ProvisionFault)) (due : Option Bool) →
-      work_numbered saved.work saved.control saved.lanes ≡ work → numbered saved work selected fault due ≡ Some procedure →
+      work_numbered saved.work saved.control saved.lanes ≡ work → numbered saved doubts work selected fault due ≡ Some procedure →
       ((saved.work == work_of_reading) ≡ false) × (procedure.limit ≡ most_steps)
   tasks_by (Some work) (Some selected) (Some fault) (Some due) is found = (other_work saved work is, go (nat_le saved.steps most_steps && can_stand (tasks_of work) saved.met fault) found)
     where
       made : PatientProcedure
-      made = patient_of (record { work = work; met = saved.met; fault = fault }) selected (record { pause = saved.pause; limit = saved.limit }) due saved.idle saved.steps
+      made = patient_by doubts (record { work = work; met = saved.met; fault = fault }) selected (record { pause = saved.pause; limit = saved.limit }) due saved.idle saved.steps
 
       go : (can : Bool) → (if can then Some made else None) ≡ Some procedure → procedure.limit ≡ most_steps
       go true found = ap (λ (p : PatientProcedure). p.limit) (sym (same_some made procedure found))
       go false found = absurd cc
   tasks_by _ _ _ _ is found = absurd cc
 
-  pub tasks_say : restored saved ≡ Some procedure → ((saved.work == work_of_reading) ≡ false) × (procedure.limit ≡ most_steps)
+  pub tasks_say : restored saved doubts ≡ Some procedure → ((saved.work == work_of_reading) ≡ false) × (procedure.limit ≡ most_steps)
   unfolding restored
   tasks_say found =
       tasks_by (work_numbered saved.work saved.control saved.lanes) (selected_numbered saved.selection saved.page) (fault_in saved.fault) (due_numbered saved.due) refl found
 
 found_tasks : (saved : SavedConversation) (halves : List HalfBytes) (procedure : PatientProcedure) → is_sound saved ≡ true → (saved.saved.work == work_of_reading) ≡ false →
-    restored saved.saved ≡ Some procedure → (look : Look) → look_in saved ≡ Some look → conversation_in saved halves ≡ Some (tasks_in saved procedure look)
+    restored saved.saved (saved.doubts == 1) ≡ Some procedure → (look : Look) → look_in saved ≡ Some look → conversation_in saved halves ≡ Some (tasks_in saved procedure look)
 unfolding conversation_in
 found_tasks saved halves procedure sound other is look looks = rw (sound, other, is, looks) refl
 
@@ -111,27 +114,25 @@ sound_procedure saved true false look = refl
 sound_procedure saved false true look = refl
 sound_procedure saved false false look = refl
 
-doubts_back : (saved : SavedProcedure) (it : Watchful) →
-    tasks_in (procedure_numbers saved it.conversation.conversation.conversation.doubts it.watches it.look) (doubting it.conversation) it.look ≡ OfTasks it
-doubts_back saved it = rw (yes_back it.conversation.conversation.conversation.doubts, yes_back it.watches) refl
+watches_back : (saved : SavedProcedure) (it : Watchful) →
+    tasks_in (procedure_numbers saved it.conversation.conversation.conversation.doubts it.watches it.look) it.conversation it.look ≡ OfTasks it
+watches_back saved it = rw (yes_back it.watches) refl
 
-look_back : (look : Look) → can_stop (fault_of_look look) ≡ true → look_by (number_of_look look) (fault_in (saved_fault (fault_of_look look))) ≡ Some look
-look_back Seen can = refl
-look_back Due can = refl
-look_back (Left (ModuleState code)) can = refl
-look_back (Left (Reserved code)) can = refl
-look_back (Left (Rejected lane status)) can = absurd cc
-look_back (Left (StagedDiffers lane)) can = absurd cc
-look_back (Left (ActiveDiffers lane)) can = absurd cc
-look_back (Left GaveUp) can = absurd cc
-look_back (Left (Bus fault)) can = absurd cc
+look_back : (look : Look) → look_by (number_of_look look) (fault_in (saved_fault (fault_of_look look))) ≡ Some look
+look_back Seen = refl
+look_back Due = refl
+look_back (Left code) = by (state_at code) refl where
+  by : (found : Option State) → state_at code ≡ found → look_by 0 (fault_in (saved_fault (Some (fault_at code found)))) ≡ Some (Left code)
+  by (Some state) is = ap (λ (s : Option State). option_map Left (if is_some s then Some code else None)) is
+  by None is = ap (λ (s : Option State). option_map Left (if is_some s then None else Some code)) is
 
-pub tasks_back : (it : Watchful) (saved : SavedProcedure) (halves : List HalfBytes) → can_stop (fault_of_look it.look) ≡ true → restored saved ≡ Some (doubting it.conversation) →
+pub tasks_back : (it : Watchful) (saved : SavedProcedure) (halves : List HalfBytes) → restored saved it.conversation.conversation.conversation.doubts ≡ Some it.conversation →
     conversation_in (procedure_numbers saved it.conversation.conversation.conversation.doubts it.watches it.look) halves ≡ Some (OfTasks it)
-tasks_back it saved halves can is =
+tasks_back it saved halves is =
     let doubts = it.conversation.conversation.conversation.doubts in
-    found_tasks (procedure_numbers saved doubts it.watches it.look) halves (doubting it.conversation) (sound_procedure saved doubts it.watches it.look) (tasks_say saved (doubting it.conversation) is).0 is it.look (look_back it.look can)
-    ∙ ap (λ (kept : Kept). Some kept) (doubts_back saved it)
+    found_tasks (procedure_numbers saved doubts it.watches it.look) halves it.conversation (sound_procedure saved doubts it.watches it.look) (tasks_say saved doubts it.conversation is).0
+    (ap (λ (d : Bool). restored saved d) (yes_back doubts) ∙ is) it.look (look_back it.look)
+    ∙ ap (λ (kept : Kept). Some kept) (watches_back saved it)
 
 -- ---- changes of power
 
@@ -153,13 +154,13 @@ module _ (saved : SavedProcedure) (change : PatientPower) where
   power_says found = change_by (power_numbered saved.work) (stage_numbered saved.met (slice_index saved.control 0)) (fault_in saved.fault) (due_numbered saved.due) refl found
 
 found_power : (saved : SavedConversation) (halves : List HalfBytes) (change : PatientPower) → is_sound saved ≡ true → (saved.saved.work == work_of_reading) ≡ false →
-    restored saved.saved ≡ None → restored_power saved.saved ≡ Some change → conversation_in saved halves ≡ Some (OfPower change)
+    restored saved.saved (saved.doubts == 1) ≡ None → restored_power saved.saved ≡ Some change → conversation_in saved halves ≡ Some (OfPower change)
 unfolding conversation_in
 found_power saved halves change sound other none is = rw (sound, other, none, is) refl
 
-pub power_back : (change : PatientPower) (saved : SavedProcedure) (halves : List HalfBytes) → restored saved ≡ None → restored_power saved ≡ Some change →
+pub power_back : (change : PatientPower) (saved : SavedProcedure) (halves : List HalfBytes) → ((doubts : Bool) → restored saved doubts ≡ None) → restored_power saved ≡ Some change →
     conversation_in (procedure_numbers saved false false Seen) halves ≡ Some (OfPower change)
-power_back change saved halves none is = found_power (procedure_numbers saved false false Seen) halves change refl (power_says saved change is).0 none is
+power_back change saved halves none is = found_power (procedure_numbers saved false false Seen) halves change refl (power_says saved change is).0 (none false) is
 
 -- ---- readings
 
@@ -245,22 +246,22 @@ module _ (new : SavedConversation) (read : Patient InHand) (count : ℕ) (halves
 -- ---- after a pause
 
 module _ (saved : SavedProcedure) where
-  tasks_pause : (procedure : PatientProcedure) (work : Option Work) (selected : Option KnownPage) (fault : Option (Option ProvisionFault)) (due : Option Bool) →
-      numbered saved work selected fault due ≡ Some procedure → numbered (paused_procedure saved) work selected fault (Some false) ≡ Some (paused procedure)
-  tasks_pause procedure (Some work) (Some selected) (Some fault) (Some due) found = go (nat_le saved.steps most_steps && can_stand (tasks_of work) saved.met fault) found
+  tasks_pause : (doubts : Bool) (procedure : PatientProcedure) (work : Option Work) (selected : Option KnownPage) (fault : Option (Option ProvisionFault)) (due : Option Bool) →
+      numbered saved doubts work selected fault due ≡ Some procedure → numbered (paused_procedure saved) doubts work selected fault (Some false) ≡ Some (paused procedure)
+  tasks_pause doubts procedure (Some work) (Some selected) (Some fault) (Some due) found = go (nat_le saved.steps most_steps && can_stand (tasks_of work) saved.met fault) found
     where
       made : Bool → ℕ → PatientProcedure
-      made due idle = patient_of (record { work = work; met = saved.met; fault = fault }) selected (record { pause = saved.pause; limit = saved.limit }) due idle saved.steps
+      made due idle = patient_by doubts (record { work = work; met = saved.met; fault = fault }) selected (record { pause = saved.pause; limit = saved.limit }) due idle saved.steps
 
       go : (can : Bool) → (if can then Some (made due saved.idle) else None) ≡ Some procedure → (if can then Some (made false (counted (saved.idle + saved.pause))) else None) ≡ Some (paused procedure)
       go true found = ap (λ (p : PatientProcedure). Some (paused p)) (same_some (made due saved.idle) procedure found)
       go false found = absurd cc
-  tasks_pause procedure _ _ _ _ found = absurd cc
+  tasks_pause doubts procedure _ _ _ _ found = absurd cc
 
-  restored_pause : (procedure : PatientProcedure) → restored saved ≡ Some procedure → restored (paused_procedure saved) ≡ Some (paused procedure)
+  restored_pause : (doubts : Bool) (procedure : PatientProcedure) → restored saved doubts ≡ Some procedure → restored (paused_procedure saved) doubts ≡ Some (paused procedure)
   unfolding restored
-  restored_pause procedure found =
-      tasks_pause procedure (work_numbered saved.work saved.control saved.lanes) (selected_numbered saved.selection saved.page) (fault_in saved.fault) (due_numbered saved.due) found
+  restored_pause doubts procedure found =
+      tasks_pause doubts procedure (work_numbered saved.work saved.control saved.lanes) (selected_numbered saved.selection saved.page) (fault_in saved.fault) (due_numbered saved.due) found
 
   power_pause : (change : PatientPower) (power : Option Power) (stage : Option PowerStage) (fault : Option (Option ProvisionFault)) (due : Option Bool) →
       change_of saved power stage fault due ≡ Some change → change_of (paused_procedure saved) power stage fault (Some false) ≡ Some (paused change)
@@ -287,14 +288,14 @@ module _ (saved : SavedProcedure) where
     by (inr four) = ap (λ (n : ℕ). work_numbered n saved.control saved.lanes) four
   no_tasks None change stage fault due is found = absurd cc
 
-  none_numbered : (work : Option Work) (selected : Option KnownPage) (fault : Option (Option ProvisionFault)) (due : Option Bool) → work ≡ None → numbered (paused_procedure saved) work selected fault due ≡ None
-  none_numbered None selected fault due none = refl
-  none_numbered (Some work) selected fault due none = absurd cc
+  none_numbered : (doubts : Bool) (work : Option Work) (selected : Option KnownPage) (fault : Option (Option ProvisionFault)) (due : Option Bool) → work ≡ None → numbered (paused_procedure saved) doubts work selected fault due ≡ None
+  none_numbered doubts None selected fault due none = refl
+  none_numbered doubts (Some work) selected fault due none = absurd cc
 
-  power_apart : (change : PatientPower) → restored_power saved ≡ Some change → restored (paused_procedure saved) ≡ None
+  power_apart : (doubts : Bool) (change : PatientPower) → restored_power saved ≡ Some change → restored (paused_procedure saved) doubts ≡ None
   unfolding restored restored_power
-  power_apart change found =
-      none_numbered (work_numbered saved.work saved.control saved.lanes) (selected_numbered saved.selection saved.page) (fault_in saved.fault) (Some false)
+  power_apart doubts change found =
+      none_numbered doubts (work_numbered saved.work saved.control saved.lanes) (selected_numbered saved.selection saved.page) (fault_in saved.fault) (Some false)
       (no_tasks (power_numbered saved.work) change (stage_numbered saved.met (slice_index saved.control 0)) (fault_in saved.fault) (due_numbered saved.due) refl found)
 
 module _ (saved : SavedConversation) (halves : List HalfBytes) where
@@ -313,14 +314,16 @@ module _ (saved : SavedConversation) (halves : List HalfBytes) where
   by_numbers false false true number look is zeros ones = rw (zeros, ones) (ap (λ (l : Look). Some (look_after_wait false l)) (same_some Due look is))
   by_numbers false false false number look is zeros ones = absurd cc
 
-  left_by_number : (watches holds : Bool) (fault : ProvisionFault) (look : Look) → (if holds then Some (Left fault) else None) ≡ Some look → (if holds then Some (Left fault) else None) ≡ Some (look_after_wait watches look)
-  left_by_number watches true fault look is = ap (λ (l : Look). Some (look_after_wait watches l)) (same_some (Left fault) look is)
-  left_by_number watches false fault look is = absurd cc
+  left_by_number : (watches zero : Bool) (code : Option ℕ) (look : Look) → (if zero then option_map Left code else None) ≡ Some look →
+      (if zero then option_map Left code else None) ≡ Some (look_after_wait watches look)
+  left_by_number watches true (Some code) look is = ap (λ (l : Look). Some (look_after_wait watches l)) (same_some (Left code) look is)
+  left_by_number watches true None look is = absurd cc
+  left_by_number watches false code look is = absurd cc
 
   look_pause : (watches : Bool) (number : ℕ) (fault : Option (Option ProvisionFault)) (look : Look) → look_by number fault ≡ Some look → look_by (paused_look watches number fault) fault ≡ Some (look_after_wait watches look)
   look_pause watches number None look is = absurd cc
   look_pause watches number (Some None) look is = by_numbers watches (number == 0) (number == 1) number look is refl refl
-  look_pause watches number (Some (Some fault)) look is = left_by_number watches (number == 0 && can_stop (Some fault)) fault look is
+  look_pause watches number (Some (Some fault)) look is = left_by_number watches (number == 0) (code_in fault) look is
 
   looked_pause : (procedure : PatientProcedure) (kept : Kept) (look : Option Look) → look_in saved ≡ look → option_map (tasks_in saved procedure) look ≡ Some kept →
       option_map (tasks_in (paused_numbers saved) (paused procedure)) (look_in (paused_numbers saved)) ≡ Some (after_pause kept)
@@ -329,24 +332,24 @@ module _ (saved : SavedConversation) (halves : List HalfBytes) where
       ap (λ (l : Option Look). option_map (tasks_in (paused_numbers saved) (paused procedure)) l) (look_pause (saved.watches == 1) saved.look (fault_in saved.left) look is)
       ∙ ap (λ (k : Kept). Some (after_pause k)) (same_some (tasks_in saved procedure look) kept found)
 
-  paused_procedure_by : (tasks : Option PatientProcedure) (change : Option PatientPower) (kept : Kept) → restored saved.saved ≡ tasks → restored_power saved.saved ≡ change →
+  paused_procedure_by : (tasks : Option PatientProcedure) (change : Option PatientPower) (kept : Kept) → restored saved.saved (saved.doubts == 1) ≡ tasks → restored_power saved.saved ≡ change →
       procedure_by saved tasks change ≡ Some kept →
-      procedure_by (paused_numbers saved) (restored (paused_procedure saved.saved)) (restored_power (paused_procedure saved.saved)) ≡ Some (after_pause kept)
+      procedure_by (paused_numbers saved) (restored (paused_procedure saved.saved) (saved.doubts == 1)) (restored_power (paused_procedure saved.saved)) ≡ Some (after_pause kept)
   paused_procedure_by (Some procedure) change kept has_tasks has_change is =
-      ap (λ (t : Option PatientProcedure). procedure_by (paused_numbers saved) t (restored_power (paused_procedure saved.saved))) (restored_pause saved.saved procedure has_tasks)
+      ap (λ (t : Option PatientProcedure). procedure_by (paused_numbers saved) t (restored_power (paused_procedure saved.saved))) (restored_pause saved.saved (saved.doubts == 1) procedure has_tasks)
       ∙ looked_pause procedure kept (look_in saved) refl is
   paused_procedure_by None (Some change) kept has_tasks has_change is =
-      ap (λ (t : Option PatientProcedure). procedure_by (paused_numbers saved) t (restored_power (paused_procedure saved.saved))) (power_apart saved.saved change has_change)
+      ap (λ (t : Option PatientProcedure). procedure_by (paused_numbers saved) t (restored_power (paused_procedure saved.saved))) (power_apart saved.saved (saved.doubts == 1) change has_change)
       ∙ ap (λ (p : Option PatientPower). option_map OfPower p) (restored_power_pause saved.saved change has_change)
       ∙ ap (λ (k : Kept). Some (after_pause k)) (same_some (OfPower change) kept is)
   paused_procedure_by None None kept has_tasks has_change is = absurd cc
 
   paused_by : (sound five : Bool) (kept : Kept) →
-      (if not sound then None else (if five then reading_in saved halves else procedure_by saved (restored saved.saved) (restored_power saved.saved))) ≡ Some kept →
-      (if not sound then None else (if five then reading_in (paused_numbers saved) halves else procedure_by (paused_numbers saved) (restored (paused_procedure saved.saved)) (restored_power (paused_procedure saved.saved)))) ≡ Some (after_pause kept)
+      (if not sound then None else (if five then reading_in saved halves else procedure_by saved (restored saved.saved (saved.doubts == 1)) (restored_power saved.saved))) ≡ Some kept →
+      (if not sound then None else (if five then reading_in (paused_numbers saved) halves else procedure_by (paused_numbers saved) (restored (paused_procedure saved.saved) (saved.doubts == 1)) (restored_power (paused_procedure saved.saved)))) ≡ Some (after_pause kept)
   paused_by false five kept is = absurd cc
   paused_by true true kept is = paused_reading (is_reading saved halves) (selected_numbered saved.saved.selection saved.saved.page) (due_numbered saved.saved.due) kept is
-  paused_by true false kept is = paused_procedure_by (restored saved.saved) (restored_power saved.saved) kept refl refl is
+  paused_by true false kept is = paused_procedure_by (restored saved.saved (saved.doubts == 1)) (restored_power saved.saved) kept refl refl is
 
   pub paused_back : (kept : Kept) → conversation_in saved halves ≡ Some kept → conversation_in (paused_numbers saved) halves ≡ Some (after_pause kept)
   unfolding conversation_in

@@ -1,6 +1,6 @@
 -- The conversations that C keeps: procedures of tasks, changes of power, and readings. What each wants, what a reply or a pause makes
 -- of it, which events it was told, and how it ends. (docs/firmware.md, "Conversations"; this project's own)
-use Rattle.std.specs.Prelude.{◌≡◌, ◌≤◌, ◌<◌, ◌+◌, ℕ, length, false, true, Bool, Option, Some, None}
+use Rattle.std.specs.Prelude.{◌≡◌, ℕ, false, true, Bool, Option, Some, None}
 use Rattle.std.specs.Option.{option_map}
 use Rattle.bus_model.specs.declared.operation.Reply.{Reply}
 use Rattle.conversations.specs.declared.in_pieces.InPieces.{InPieces}
@@ -8,113 +8,52 @@ use Rattle.conversations.specs.declared.next.Next.{Next}
 use Rattle.conversations.specs.declared.next.Next.TheVariants.{Do, Wait, End}
 use Rattle.conversations.specs.declared.on_page.OnPage.{OnPage}
 use Rattle.conversations.specs.declared.pausing.Patience.{Patience}
-use Rattle.conversations.specs.declared.pausing.Pausing.{Pausing}
 use Rattle.conversations.specs.declared.pausing.Timed.{Timed}
 use Rattle.conversations.specs.declared.pausing.Timed.TheVariants.{InTime, Overdue}
+use Rattle.conversations.specs.declared.watching.Watched.{Watched}
+use Rattle.conversations.specs.declared.watching.Watched.TheVariants.{InOrder}
+use Rattle.conversations.specs.declared.watching.Watching.{Watching}
 use Rattle.conversations.specs.declared.within.Spent.{Spent}
-use Rattle.conversations.specs.declared.within.Within.{Within}
-use Rattle.conversations.specs.Budgets.{HasSpent, next_within}
 use Rattle.conversations.specs.Events.{Events, steps_of}
-use Rattle.conversations.specs.Pauses.{EndsPausing, GoesOnPausing, WithPauses, after_pausing, counted, next_pausing}
+use Rattle.conversations.specs.Patiently.{EndsPatiently, GoesOnPatiently, Patient, ToldPatiently, after_patiently, paused, wants_patiently}
 use Rattle.conversations.specs.Pieces.{InHalves, InHalvesSoFar, IsInPieces, after_piece, next_piece}
 use Rattle.conversations.specs.Selecting.{Knows, WithSelections, chosen, next_on, on_after, trusted}
 use Rattle.conversations.specs.Wanted.{op_of}
+use Rattle.conversations.specs.Watching.{EndsWatching, WithLooks, after_watching, look_after_wait, next_watching}
 use Rattle.paged_memory.specs.declared.page_addressing.PageAddressing.TheVariants.{BankAndPage}
 use Rattle.control_sets.specs.declared.fault.ProvisionFault.{ProvisionFault}
 use Rattle.control_sets.specs.declared.procedures.power.Power.{Power}
-use Rattle.control_sets.specs.declared.procedures.power.PowerChange.{PowerChange}
-use Rattle.control_sets.specs.declared.procedures.procedure.TaskList.{TaskList}
 use Rattle.control_sets.specs.declared.procedures.procedure.Work.{Work}
-use Rattle.control_sets.specs.declared.procedures.watching.Watched.{Watched}
-use Rattle.control_sets.specs.declared.procedures.watching.Watched.TheVariants.{InOrder}
-use Rattle.control_sets.specs.declared.procedures.watching.Watching.{Watching}
-use Rattle.control_sets.specs.PowerProgress.{GoesOnAt, HasComeTo, IsEndedIn, change_after, power_wants}
+use Rattle.control_sets.specs.PowerProgress.{GoesOnAt, IsEndedIn, PatientPower, ToldPower, change_after, power_wants}
 use Rattle.control_sets.specs.Progress as tasks
-use Rattle.control_sets.specs.Watching.{EndsWatching, WithLooks, after_watching, look_after_wait, next_watching}
 use Rattle.module_reading.specs.declared.halves.Halves.{Halves}
 use Rattle.module_reading.specs.declared.request.Request.{Request}
 use Rattle.module_reading.specs.ImageReading as reading
 use Rattle.firmware_api.specs.declared.kept.Kept.{Kept}
 use Rattle.firmware_api.specs.declared.kept.Kept.TheVariants.{OfTasks, OfPower, OfReading}
 
--- ---- any conversation with pauses, of so many operations at most
-
-abbrev pub Patient : Type 0 → Type 0
-Patient C = Within (Pausing C)
-
-abbrev pub wants_patiently : {C E : Type 0} → (C → Next E) → Patient C → Next (Spent (Timed E))
-wants_patiently wants it =
-    let pausing = it.conversation in
-    next_within it.steps it.limit (next_pausing pausing.due pausing.idle pausing.patience (wants pausing.conversation))
-
-abbrev pub after_patiently : {C E : Type 0} → (C → Next E) → (C → Reply → C) → Patient C → Reply → Patient C
-after_patiently wants after it reply = record { conversation = after_pausing wants after it.conversation reply; steps = it.steps + 1; limit = it.limit }
-
--- the pause that was due is over
-abbrev pub paused : {C : Type 0} → Patient C → Patient C
-paused it =
-    let pausing = it.conversation in
-    record {
-      conversation = record { conversation = pausing.conversation; patience = pausing.patience; due = false; idle = counted (pausing.idle + pausing.patience.pause) };
-      steps = it.steps;
-      limit = it.limit;
-    }
-
--- it was told these events, the newest first
-abbrev pub ToldPatiently : {C E : Type 0} → (C → Next E) → (Events → C → Type 0) → Events → Patient C → Type 0
-ToldPatiently wants told events it =
-    let pausing = it.conversation in
-    WithPauses pausing.patience (λ own. told own pausing.conversation) (op_of (wants pausing.conversation)) pausing.due pausing.idle events
-    × (length (steps_of events) ≡ it.steps) × (it.steps ≤ it.limit)
-
--- it ended so after these events: as it may, out of patience, or after as many operations as may be
-abbrev pub EndsPatiently : {C E : Type 0} → (Events → Type 0) → (Events → E → Type 0) → Patient C → Events → Spent (Timed E) → Type 0
-EndsPatiently goes_on ends it events spent =
-    HasSpent it.limit (GoesOnPausing it.conversation.patience goes_on) (EndsPausing it.conversation.patience goes_on ends) events spent
-
 -- ---- tasks on confirmed pages
 
-abbrev pub OnTasks : Type 0
-OnTasks = OnPage TaskList
-
-abbrev pub tasks_want : OnTasks → Next (Option ProvisionFault)
-tasks_want on = next_on BankAndPage on.selection (tasks.page_by (tasks.hand on.conversation)) (tasks.wants on.conversation)
-
-abbrev pub tasks_after : OnTasks → Reply → OnTasks
+abbrev pub tasks_after : tasks.OnTasks → Reply → tasks.OnTasks
 tasks_after on reply = on_after tasks.after_reply (λ list number. list) false BankAndPage (tasks.page_by (tasks.hand on.conversation)) on reply
-
--- the tasks' own events, with selections added
-abbrev pub OfTheTasks : OnTasks → (Events → Type 0) → Events → Type 0
-OfTheTasks on P events =
-    WithSelections on.doubts false (λ own. Some BankAndPage) (λ own. tasks.needed_after (tasks.tasks_of on.conversation.work) (steps_of own)) P events
-
-abbrev pub tasks_told : Events → OnTasks → Type 0
-tasks_told events on =
-    Knows false (Some BankAndPage) on.selection on.taken (trusted on.doubts (steps_of events))
-    × OfTheTasks on (λ own. tasks.IsTold (steps_of own) on.conversation) events
 
 -- ---- and with looks at the module's state
 
 abbrev pub Watchful : Type 0
-Watchful = Watching (Patient OnTasks)
+Watchful = Watching tasks.PatientProcedure
 
 abbrev pub watchful_want : Watchful → Next (Watched (Spent (Timed (Option ProvisionFault))))
-watchful_want it = next_watching it.look (wants_patiently tasks_want it.conversation)
+watchful_want it = next_watching it.look (wants_patiently tasks.tasks_want it.conversation)
 
 abbrev pub watchful_after : Watchful → Reply → Watchful
-watchful_after it reply = after_watching (wants_patiently tasks_want) (after_patiently tasks_want tasks_after) it reply
+watchful_after it reply = after_watching (wants_patiently tasks.tasks_want) (after_patiently tasks.tasks_want tasks_after) it reply
 
 abbrev pub watchful_paused : Watchful → Watchful
 watchful_paused it = record { conversation = paused it.conversation; watches = it.watches; look = look_after_wait it.watches it.look }
 
 abbrev pub watchful_told : Events → Watchful → Type 0
 watchful_told events it =
-    WithLooks it.watches it.look (op_of (wants_patiently tasks_want it.conversation)) (λ own. ToldPatiently tasks_want tasks_told own it.conversation) events
-
--- ---- a change of power
-
-abbrev pub power_told : Events → PowerChange → Type 0
-power_told events change = HasComeTo change.power change.stage change.fault (steps_of events)
+    WithLooks it.watches it.look (op_of (wants_patiently tasks.tasks_want it.conversation)) (λ own. tasks.ToldPatient own it.conversation) events
 
 -- ---- halves on confirmed pages, in pieces
 
@@ -199,23 +138,20 @@ after_pause (OfReading read) = OfReading (paused read)
 
 abbrev pub WasTold : Events → Kept → Type 0
 WasTold events (OfTasks procedure) = watchful_told events procedure
-WasTold events (OfPower change) = ToldPatiently power_wants power_told events change
+WasTold events (OfPower change) = ToldPower events change
 WasTold events (OfReading read) = ToldPatiently pieces_want pieces_told events read
 
-abbrev pub TasksGoOn : Patient OnTasks → Events → Type 0
+abbrev pub TasksGoOn : tasks.PatientProcedure → Events → Type 0
 TasksGoOn procedure events =
     let on = procedure.conversation.conversation in
-    let list = tasks.tasks_of on.conversation.work in
-    GoesOnPausing procedure.conversation.patience (OfTheTasks on (λ own. tasks.GoesOnList list (steps_of own))) events × (length (steps_of events) < procedure.limit)
+    GoesOnPatiently (tasks.GoesOn on.doubts on.conversation.work) procedure events
 
-abbrev pub TasksEnd : Patient OnTasks → Events → Spending → Type 0
+abbrev pub TasksEnd : tasks.PatientProcedure → Events → Spending → Type 0
 TasksEnd procedure events spent =
     let on = procedure.conversation.conversation in
-    let list = tasks.tasks_of on.conversation.work in
-    EndsPatiently (OfTheTasks on (λ own. tasks.GoesOnList list (steps_of own))) (λ events fault. OfTheTasks on (λ own. tasks.EndsList list (steps_of own) fault) events)
-    procedure events spent
+    EndsPatiently (tasks.GoesOn on.doubts on.conversation.work) (tasks.Ends on.doubts on.conversation.work) procedure events spent
 
-abbrev pub PowerEnds : Patient PowerChange → Events → Spending → Type 0
+abbrev pub PowerEnds : PatientPower → Events → Spending → Type 0
 PowerEnds change events spent =
     let power = change.conversation.conversation.power in
     EndsPatiently (λ own. GoesOnAt power (steps_of own)) (λ own fault. IsEndedIn power fault (steps_of own)) change events spent

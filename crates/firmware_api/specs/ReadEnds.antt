@@ -6,7 +6,7 @@ use Rattle.conversations.specs.declared.pausing.Timed.TheVariants.{InTime, Overd
 use Rattle.conversations.specs.Events.{Events, steps_of}
 use Rattle.conversations.specs.Pieces.{InHalvesSoFar}
 use Rattle.control_sets.specs.declared.fault.ProvisionFault.{ProvisionFault}
-use Rattle.control_sets.specs.declared.procedures.watching.Watched.TheVariants.{InOrder, Left}
+use Rattle.conversations.specs.declared.watching.Watched.TheVariants.{InOrder, Left}
 use Rattle.module_reading.specs.declared.request.Request.{Request}
 use Rattle.module_reading.specs.ReadImages.{IsImageOf, IsReading, IsUnfinished}
 use Rattle.paged_memory.specs.Images.{Memory}
@@ -24,4 +24,4 @@ abbrev pub HasReadModule : Bool → Request → Events → Memory → Ending →
 HasReadModule doubts request events image (InOrder spent) =
     (own : Events) × (steps_of own ≡ steps_of events)
     × InHalvesSoFar (λ joined. IsReading doubts request (steps_of joined) × HasImage spent.end doubts request (steps_of joined) image) own
-HasReadModule doubts request events image (Left fault) = ⊥
+HasReadModule doubts request events image (Left code) = ⊥

@@ -1,6 +1,6 @@
 -- Conversations as the numbers that C keeps: which numbers are one's, and of which; what C is told of it, and what becomes of it.
 -- (docs/firmware.md, "The numbers of a conversation"; this project's own)
-use Rattle.std.specs.Prelude.{◌≡◌, ◌⊎◌, ◌==◌, ◌&&◌, ◌||◌, ◌≤◌, ◌<◌, ◌+◌, ◌*◌, ◌/◌, nat_le, nat_lt, ℕ, Bool, false, not, IsTrue, List, ◌∷◌, length, take, replicate, Option, Some, None, if◌then◌else◌}
+use Rattle.std.specs.Prelude.{◌≡◌, ◌⊎◌, ◌==◌, ◌&&◌, ◌||◌, ◌≤◌, ◌<◌, ◌+◌, ◌*◌, ◌/◌, nat_le, nat_lt, ℕ, Bool, false, not, IsTrue, is_some, List, ◌∷◌, length, take, replicate, Option, Some, None, if◌then◌else◌}
 use Rattle.std.specs.FinMap as map
 use Rattle.std.specs.List.{list_all}
 use Rattle.std.specs.Option.{option_map}
@@ -12,23 +12,24 @@ use Rattle.conversations.specs.declared.next.Next.TheVariants as next
 use Rattle.conversations.specs.declared.pausing.Patience.{Patience}
 use Rattle.conversations.specs.declared.pausing.Timed.{Timed}
 use Rattle.conversations.specs.declared.pausing.Timed.TheVariants.{InTime, Overdue}
+use Rattle.conversations.specs.declared.watching.Look.{Look}
+use Rattle.conversations.specs.declared.watching.Look.TheVariants.{Seen, Due, Left}
+use Rattle.conversations.specs.declared.watching.Watched.TheVariants.{InOrder}
+use Rattle.conversations.specs.declared.watching.Watched.TheVariants as watched
 use Rattle.conversations.specs.Events.{Events}
+use Rattle.conversations.specs.Patiently.{Patient}
 use Rattle.conversations.specs.Pauses.{counted}
 use Rattle.paged_memory.specs.declared.key.Key.{Key}
 use Rattle.paged_memory.specs.declared.page_addressing.KnownPage.{KnownPage}
 use Rattle.control_sets.specs.declared.fault.ProvisionFault.{ProvisionFault}
-use Rattle.control_sets.specs.declared.fault.ProvisionFault.TheVariants.{Rejected, StagedDiffers, ActiveDiffers, GaveUp, Bus, ModuleState, Reserved}
+use Rattle.control_sets.specs.declared.fault.ProvisionFault.TheVariants.{GaveUp, ModuleState, Reserved}
 use Rattle.control_sets.specs.declared.procedures.procedure.saved.SavedProcedure.{SavedProcedure}
 use Rattle.control_sets.specs.declared.procedures.saved_fault.SavedFault.{SavedFault}
-use Rattle.control_sets.specs.declared.procedures.watching.Look.{Look}
-use Rattle.control_sets.specs.declared.procedures.watching.Look.TheVariants.{Seen, Due, Left}
-use Rattle.control_sets.specs.declared.procedures.watching.Watched.TheVariants.{InOrder}
-use Rattle.control_sets.specs.declared.procedures.watching.Watched.TheVariants as watched
 use Rattle.control_sets.specs.OutcomeAnswers.{most_steps}
 use Rattle.control_sets.specs.PowerProgress.{PatientPower}
 use Rattle.control_sets.specs.Progress.{PatientProcedure}
 use Rattle.control_sets.specs.SavedNumbers.{due_numbered, fault_in, numbers, restored, saved_fault, selected_numbered}
-use Rattle.control_sets.specs.SavedPower.{can_stop, restored_power}
+use Rattle.control_sets.specs.SavedPower.{restored_power}
 use Rattle.module_states.specs.declared.state.ModuleState.{ModuleState as State}
 use Rattle.module_states.specs.declared.state.ModuleState.TheVariants as state
 use Rattle.module_states.specs.Codes.{state_at}
@@ -43,8 +44,9 @@ use Rattle.firmware_api.specs.declared.status.Refusal.{Refusal}
 use Rattle.firmware_api.specs.declared.status.Refusal.TheVariants.{NoConversation, NoReply, NotEnded, TooFewBytes}
 use Rattle.firmware_api.specs.declared.status.Refusal.TheVariants as refusals
 use Rattle.firmware_api.specs.Halves.{has_place, key_of, memory_of}
-use Rattle.firmware_api.specs.KeptConversations.{Ending, InHand, Patient, Subject, WasTold, about, after, halves_of, next_of, patience_of}
+use Rattle.firmware_api.specs.KeptConversations.{Ending, InHand, Subject, WasTold, about, after, halves_of, next_of, patience_of}
 use Rattle.firmware_api.specs.Operations.{operation_of, waited, waiting}
+use Rattle.firmware_api.specs.ReadModules.{number_of}
 use Rattle.firmware_api.specs.Statuses.{done, status_of}
 
 -- ---- the numbers
@@ -65,34 +67,24 @@ is_sound saved =
 abbrev pub taken_in : SavedConversation → Option ℕ
 taken_in saved = if saved.taken == 1 then Some saved.taken_page else None
 
--- whether a look is due, or has shown a fault: 1 if it is due, and the fault, which is one of the module's state
+-- the code of the module's state that shows the fault, if one does
+abbrev pub code_in : ProvisionFault → Option ℕ
+code_in (ModuleState code) = if is_some (state_at code) then Some code else None
+code_in (Reserved code) = if is_some (state_at code) then None else Some code
+code_in fault = None
+
+-- whether a look is due, or has shown another state: 1 if it is due, and the state's fault
 abbrev pub look_by : ℕ → Option (Option ProvisionFault) → Option Look
 look_by number None = None
 look_by number (Some None) = if number == 0 then Some Seen else (if number == 1 then Some Due else None)
-look_by number (Some (Some fault)) = if number == 0 && can_stop (Some fault) then Some (Left fault) else None
+look_by number (Some (Some fault)) = if number == 0 then option_map Left (code_in fault) else None
 
 abbrev pub look_in : SavedConversation → Option Look
 look_in saved = look_by saved.look (fault_in saved.left)
 
--- the procedure, which doubts or doesn't
-abbrev pub doubting_by : Bool → PatientProcedure → PatientProcedure
-doubting_by doubts procedure =
-    let pausing = procedure.conversation in
-    let on = pausing.conversation in
-    record {
-      conversation = record {
-        conversation = record { conversation = on.conversation; selection = on.selection; taken = on.taken; doubts = doubts };
-        patience = pausing.patience;
-        due = pausing.due;
-        idle = pausing.idle;
-      };
-      steps = procedure.steps;
-      limit = procedure.limit;
-    }
-
--- and which looks at the module's state or doesn't
+-- the procedure, which looks at the module's state or doesn't
 abbrev pub tasks_in : SavedConversation → PatientProcedure → Look → Kept
-tasks_in saved procedure look = OfTasks (record { conversation = doubting_by (saved.doubts == 1) procedure; watches = saved.watches == 1; look = look })
+tasks_in saved procedure look = OfTasks (record { conversation = procedure; watches = saved.watches == 1; look = look })
 
 abbrev pub patience_in : SavedProcedure → Patience
 patience_in saved = record { pause = saved.pause; limit = saved.limit }
@@ -150,7 +142,7 @@ unfoldable pub conversation_in : SavedConversation → List HalfBytes → Option
 conversation_in saved halves =
     if not (is_sound saved) then None
     else (if saved.saved.work == work_of_reading then reading_in saved halves
-    else procedure_by saved (restored saved.saved) (restored_power saved.saved))
+    else procedure_by saved (restored saved.saved (saved.doubts == 1)) (restored_power saved.saved))
 
 -- ---- what C is told of it
 
@@ -185,31 +177,14 @@ overdue = numbers 8 0 0
 abbrev pub ended_with : ℕ → SavedFault → SavedEnd
 ended_with steps fault = record { steps = steps; fault = fault }
 
--- the module was reset: it is in this other state
-abbrev pub reset : ℕ → SavedFault
-reset code = numbers 9 code 0
-
--- it is in ModuleFault
-abbrev pub faulty : ℕ → SavedFault
-faulty code = numbers 10 code 0
-
+-- of a module in another state than ModuleReady: it is in ModuleFault, or was reset; or it shows a reserved code
 abbrev pub left_in : ℕ → Option State → SavedFault
-left_in code (Some state.Fault) = faulty code
-left_in code (Some state.LowPwr) = reset code
-left_in code (Some state.PwrUp) = reset code
-left_in code (Some state.Ready) = reset code
-left_in code (Some state.PwrDn) = reset code
-left_in code None = reset code
+left_in code (Some state.Fault) = numbers 10 code 0
+left_in code (Some state) = numbers 9 code 0
+left_in code None = saved_fault (Some (Reserved code))
 
--- a look showed this
-abbrev pub left_by : ProvisionFault → SavedFault
-left_by (ModuleState code) = left_in code (state_at code)
-left_by (Rejected lane status) = saved_fault (Some (Rejected lane status))
-left_by (StagedDiffers lane) = saved_fault (Some (StagedDiffers lane))
-left_by (ActiveDiffers lane) = saved_fault (Some (ActiveDiffers lane))
-left_by GaveUp = saved_fault (Some GaveUp)
-left_by (Bus fault) = saved_fault (Some (Bus fault))
-left_by (Reserved code) = saved_fault (Some (Reserved code))
+abbrev pub left_by : ℕ → SavedFault
+left_by code = left_in code (state_at code)
 
 abbrev pub ended_by : ℕ → Option (Timed (Option ProvisionFault)) → SavedEnd
 ended_by steps None = ended_with 0 (saved_fault (Some GaveUp))
@@ -219,7 +194,7 @@ ended_by steps (Some (InTime (Some fault))) = ended_with 0 (saved_fault (Some fa
 
 abbrev pub end_of : Ending → SavedEnd
 end_of (InOrder spent) = ended_by spent.steps spent.end
-end_of (watched.Left fault) = ended_with 0 (left_by fault)
+end_of (watched.Left code) = ended_with 0 (left_by code)
 
 abbrev pub IsEndTold : ℕ → SavedEnd → Option (Next Ending) → Type 0
 IsEndTold status ended None = status ≡ status_of NoConversation
@@ -263,18 +238,20 @@ HasHalf (Some half) halves later = Puts halves (key_of half) half.bytes later ×
 
 -- ---- the numbers of a conversation
 
-abbrev pub number_of : Bool → ℕ
-number_of bit = if bit then 1 else 0
-
 abbrev pub number_of_look : Look → ℕ
 number_of_look Seen = 0
 number_of_look Due = 1
-number_of_look (Left fault) = 0
+number_of_look (Left code) = 0
+
+-- the fault that the code shows
+abbrev pub fault_at : ℕ → Option State → ProvisionFault
+fault_at code (Some state) = ModuleState code
+fault_at code None = Reserved code
 
 abbrev pub fault_of_look : Look → Option ProvisionFault
 fault_of_look Seen = None
 fault_of_look Due = None
-fault_of_look (Left fault) = Some fault
+fault_of_look (Left code) = Some (fault_at code (state_at code))
 
 -- the numbers of a procedure, which doubts or doesn't, and looks at the module's state or doesn't
 abbrev pub procedure_numbers : SavedProcedure → Bool → Bool → Look → SavedConversation
@@ -293,21 +270,9 @@ procedure_numbers saved doubts watches look = record {
   part = replicate 128 0;
 }
 
+-- the pause that was due is over
 abbrev pub paused_procedure : SavedProcedure → SavedProcedure
-paused_procedure saved = record {
-  met = saved.met;
-  steps = saved.steps;
-  work = saved.work;
-  lanes = saved.lanes;
-  control = saved.control;
-  selection = saved.selection;
-  page = saved.page;
-  fault = saved.fault;
-  due = 0;
-  idle = counted (saved.idle + saved.pause);
-  pause = saved.pause;
-  limit = saved.limit;
-}
+paused_procedure saved = record saved { due = 0; idle = counted (saved.idle + saved.pause) }
 
 -- if it looks, a look is due then, unless one has shown a fault
 abbrev pub paused_look : Bool → ℕ → Option (Option ProvisionFault) → ℕ
@@ -316,28 +281,7 @@ paused_look watches number (Some None) = if watches then 1 else number
 paused_look watches number (Some (Some fault)) = number
 
 abbrev pub paused_numbers : SavedConversation → SavedConversation
-paused_numbers saved = record {
-  magic = saved.magic;
-  saved = paused_procedure saved.saved;
-  doubts = saved.doubts;
-  taken = saved.taken;
-  taken_page = saved.taken_page;
-  watches = saved.watches;
-  look = paused_look (saved.watches == 1) saved.look (fault_in saved.left);
-  left = saved.left;
-  halves = saved.halves;
-  piece = saved.piece;
-  read = saved.read;
-  part = saved.part;
-}
-
--- nothing was made
-abbrev pub begun_patiently : {C : Type 0} → C → Patience → Patient C
-begun_patiently conversation patience = record {
-  conversation = record { conversation = conversation; patience = patience; due = false; idle = 0 };
-  steps = 0;
-  limit = most_steps;
-}
+paused_numbers saved = record saved { saved = paused_procedure saved.saved; look = paused_look (saved.watches == 1) saved.look (fault_in saved.left) }
 
 -- it may make as many steps as each, and has settled no more halves than are read, nor than steps were made
 abbrev pub HasRoom : {C : Type 0} → Patient C → ℕ → ℕ → Type 0

@@ -13,7 +13,8 @@ ghost use Rattle.module_reading.specs.Regions.{everything};
 ghost use Rattle.firmware_api.specs.declared.half.HalfBytes.{HalfBytes};
 ghost use Rattle.firmware_api.specs.declared.kept.Kept.{Kept};
 ghost use Rattle.firmware_api.specs.declared.kept.Kept.TheVariants as kinds;
-ghost use Rattle.firmware_api.specs.KeptConversations.{Bringing, Ending, EndsSo, Fetching, InHand, Patient, Subject, Turning, WasTold, after, after_pause};
+ghost use Rattle.conversations.specs.Patiently.{Patient};
+ghost use Rattle.firmware_api.specs.KeptConversations.{Bringing, Ending, EndsSo, Fetching, InHand, Subject, Turning, WasTold, after, after_pause};
 ghost use Rattle.firmware_api.specs.Halves.{memory_of};
 ghost use Rattle.firmware_api.specs.Operations.{reply_of, waited};
 ghost use Rattle.firmware_api.specs.Patiences.{doubts, given};
@@ -32,8 +33,8 @@ use crate::operation::{Operation, reply_of};
 use crate::patience::Patience;
 use crate::status::{DONE, ENDED, NO_CONVERSATION, NO_REPLY, NOT_ENDED, TOO_FEW_BYTES};
 use bus_model::{Op, Reply};
-use control_sets::{ControlSet, Power, ProvisionFault, SavedFault, Watched, Work};
-use conversations::{Next, Spent, Timed, can_have};
+use control_sets::{ControlSet, Power, ProvisionFault, SavedFault, Work};
+use conversations::{Next, Spent, Timed, Watched, can_have};
 use field_tables::LaneSet;
 use module_reading::Request;
 use module_states::{ModuleState, state_of};
@@ -263,20 +264,18 @@ fn end_of(ending: Ending) -> SavedEnd
 {
     match ending {
         Watched::InOrder(spent) => ended_by(spent),
-        Watched::Left(fault) => without_success(left_by(fault)),
+        Watched::Left(code) => without_success(left_by(code)),
     }
 }
 
-// What is said of a module whose state shows this fault.
-fn left_by(fault: ProvisionFault) -> SavedFault
-    ensures { result ≡ left_by fault }
+// What is said of a module whose state has this code, and isn't ModuleReady.
+fn left_by(code: u8) -> SavedFault
+    ensures { result ≡ left_by code }
 {
-    match fault {
-        ProvisionFault::ModuleState(code) => match state_of(code) {
-            Ok(ModuleState::Fault) => of_state(FAULTY, code),
-            _ => of_state(RESET, code),
-        },
-        fault => SavedFault::of(Some(fault)),
+    match state_of(code) {
+        Ok(ModuleState::Fault) => of_state(FAULTY, code),
+        Ok(_) => of_state(RESET, code),
+        Err(_) => SavedFault::of(Some(ProvisionFault::Reserved(code))),
     }
 }
 

@@ -6,8 +6,8 @@ ghost use Rattle.conversations.specs.Wanted.{IfEnd, IsReplyTo};
 ghost use Rattle.firmware_api.specs.KeptConversations.{EndsSo, WasTold, after, as_ending, in_order, next_of, no_fault};
 
 use bus_model::Reply;
-use control_sets::{PatientPower, ProvisionFault, Watched, WatchfulProcedure};
-use conversations::{Conversation, Next, Spent, Timed};
+use control_sets::{PatientPower, ProvisionFault, WatchfulProcedure};
+use conversations::{Conversation, Next, Spent, Timed, Watched};
 use module_reading::PatientReading;
 
 /// How a conversation ended.

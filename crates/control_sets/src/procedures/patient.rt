@@ -11,9 +11,8 @@ use crate::fault::ProvisionFault;
 use crate::plan_bytes::{bytes_of, lanes_of, lanes_outside};
 use crate::procedures::power::{Power, PowerChange};
 use crate::procedures::procedure::{MAX_STEPS, TaskList, Work};
-use crate::procedures::watching::Watched;
 use applications::Advert;
-use conversations::{Patience, Spent, Timed, TimedBus, Within, run};
+use conversations::{Patience, Spent, Timed, TimedBus, Watched, Within, run};
 use module_states::{ModuleState, state_of};
 use plan_certificate::Plan;
 
@@ -109,21 +108,19 @@ fn answer_watched<F>(
 {
     match end {
         Some(Watched::InOrder(spent)) => answer_in_time(spent),
-        Some(Watched::Left(fault)) => Err(left_by(fault)),
+        Some(Watched::Left(code)) => Err(left_by(code)),
         None => Err(PatientFault::Failed(ProvisionFault::GaveUp)),
     }
 }
 
-// What is said of a module whose state shows this fault.
-fn left_by<F>(fault: ProvisionFault) -> PatientFault<F>
-    ensures { result ≡ left_by fault }
+// What is said of a module whose state has this code, and isn't ModuleReady.
+fn left_by<F>(code: u8) -> PatientFault<F>
+    ensures { result ≡ left_by code }
 {
-    match fault {
-        ProvisionFault::ModuleState(code) => match state_of(code) {
-            Ok(ModuleState::Fault) => PatientFault::Faulty,
-            _ => PatientFault::Reset(code),
-        },
-        fault => PatientFault::Failed(fault),
+    match state_of(code) {
+        Ok(ModuleState::Fault) => PatientFault::Faulty,
+        Ok(_) => PatientFault::Reset(code),
+        Err(_) => PatientFault::Failed(ProvisionFault::Reserved(code)),
     }
 }
 

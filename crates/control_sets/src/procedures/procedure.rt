@@ -7,12 +7,11 @@ use crate::control_set::ControlSet;
 use crate::fault::ProvisionFault;
 use crate::procedures::judgement::ReplyJudgement;
 use crate::procedures::task::Task;
-use crate::procedures::watching::{Look, Watching};
 use bus_model::Reply;
-use conversations::{Conversation, NeedsPages, Next, OnPage, Patience, Pausing, Within};
+use conversations::{Conversation, NeedsPages, Next, OnPage, Patience, Pausing, Watching, Within};
 use field_tables::LaneSet;
 use paged_memory::{KnownPage, PageAddressing};
-pub use saved::{SavedProcedure, number_of_due};
+pub use saved::{SavedProcedure, number_of_due, numbers_of_selected};
 
 /// How many steps a procedure makes at most.
 pub const MAX_STEPS: u16 = 4096;
@@ -111,11 +110,7 @@ impl TaskList {
     pub fn watchful(work: Work, patience: Patience) -> WatchfulProcedure
         ensures { result ≡ watchful_of (patient_of (list_at work (0, None)) Unknown patience false 0 0) }
     {
-        Watching {
-            conversation: TaskList::patient(work, patience),
-            watches: true,
-            look: Look::Seen,
-        }
+        Watching::new(TaskList::patient(work, patience), true)
     }
 
     fn begun(work: Work, doubts: bool) -> OnPage<TaskList>

@@ -5,26 +5,27 @@ ghost use Rattle.conversations.specs.declared.next.Next.TheVariants.{Do};
 ghost use Rattle.conversations.specs.Events.{Events, made};
 ghost use Rattle.conversations.specs.Wanted.{IsReplyTo};
 ghost use Rattle.control_sets.specs.OutcomeAnswers.{most_steps};
-ghost use Rattle.control_sets.specs.SavedNumbers.{due_numbered, selected_numbered};
-ghost use Rattle.control_sets.specs.SavedPower.{can_stop};
 ghost use Rattle.firmware_api.specs.declared.half.HalfBytes.{HalfBytes};
 ghost use Rattle.firmware_api.specs.declared.kept.Kept.TheVariants as kinds;
-ghost use Rattle.firmware_api.specs.KeptConversations.{InHand, Patient, WasTold, after, next_of};
+ghost use Rattle.conversations.specs.Patiently.{Patient};
+ghost use Rattle.firmware_api.specs.KeptConversations.{InHand, WasTold, after, next_of};
 ghost use Rattle.firmware_api.specs.SavedConversations as spec;
 ghost use Rattle.firmware_api.specs.SavedConversations.{HasInFront, conversation_in, halves_in};
 
 use super::whole_half::half_by;
 use crate::half::{HalfBytes, all_have_places, image_of};
 use crate::kept::Kept;
+use crate::read_module::number_of;
 use arrayvec::ArrayVec;
 use bus_model::Reply;
 use control_sets::{
-    Look, MAX_STEPS, PatientPower, PatientProcedure, PowerChange, ProvisionFault, SavedFault,
-    SavedProcedure, TaskList, WatchfulProcedure, Watching,
+    MAX_STEPS, PatientPower, PatientProcedure, PowerChange, ProvisionFault, SavedFault,
+    SavedProcedure, TaskList, WatchfulProcedure, numbers_of_selected,
 };
-use conversations::{InPieces, OnPage, Pausing, Within};
+use conversations::{InPieces, Look, OnPage, Pausing, Watching, Within};
 use module_reading::{Halves, PatientReading, Request};
-use paged_memory::{KnownPage, PAGE_LEN};
+use module_states::state_of;
+use paged_memory::PAGE_LEN;
 
 /// What stands in each conversation, so that other memory is not taken for one: `DCC1`.
 const CONVERSATION: u32 = 0x4443_4331;
@@ -78,18 +79,16 @@ pub fn restore(saved: &SavedConversation, halves: &[HalfBytes; MAX_READ]) -> Opt
     if saved.saved.work == WORK_OF_READING {
         return reading(saved, halves);
     }
-    match TaskList::restore(&saved.saved) {
+    match TaskList::restore(&saved.saved, saved.doubts == 1) {
         Some(procedure) => Some(tasks(saved, procedure, looked(saved)?)),
         None => power(saved),
     }
 }
 
-// The procedure, which doubts and looks at the module's state, or doesn't.
+// The procedure, which looks at the module's state or doesn't.
 fn tasks(saved: &SavedConversation, procedure: PatientProcedure, look: Look) -> Kept
     ensures { result ≡ spec.tasks_in saved.now procedure look }
 {
-    let mut procedure = procedure;
-    procedure.conversation.conversation.doubts = saved.doubts == 1;
     Kept::OfTasks(Watching {
         conversation: procedure,
         watches: saved.watches == 1,
@@ -103,19 +102,20 @@ fn looked(saved: &SavedConversation) -> Option<Look>
     match (saved.look, saved.left.fault()?) {
         (0, None) => Some(Look::Seen),
         (1, None) => Some(Look::Due),
-        (0, Some(fault)) if is_of_state(fault) => Some(Look::Left(fault)),
+        (0, Some(fault)) => Some(Look::Left(code_in(fault)?)),
         _ => None,
     }
 }
 
-// Whether the module's state can show the fault.
-fn is_of_state(fault: ProvisionFault) -> bool
-    ensures { result ≡ can_stop (Some fault) }
+// The code of the module's state that shows the fault, if one does.
+fn code_in(fault: ProvisionFault) -> Option<u8>
+    ensures { result ≡ spec.code_in fault }
 {
-    matches!(
-        fault,
-        ProvisionFault::ModuleState(_) | ProvisionFault::Reserved(_)
-    )
+    match fault {
+        ProvisionFault::ModuleState(code) if state_of(code).is_ok() => Some(code),
+        ProvisionFault::Reserved(code) if state_of(code).is_err() => Some(code),
+        _ => None,
+    }
 }
 
 fn power(saved: &SavedConversation) -> Option<Kept>
@@ -141,7 +141,7 @@ fn reading(saved: &SavedConversation, halves: &[HalfBytes; MAX_READ]) -> Option<
             image: image_of(&halves[..usize::from(saved.halves)]),
             settled: saved.saved.met,
         },
-        selection: selected(&saved.saved)?,
+        selection: saved.saved.selected()?,
         taken: if saved.taken == 1 {
             Some(saved.taken_page)
         } else {
@@ -186,17 +186,6 @@ fn is_reading(saved: &SavedConversation, halves: &[HalfBytes; MAX_READ]) -> bool
         && 0 < saved.piece
         && saved.read < 128
         && all_have_places(&halves[..usize::from(saved.halves)])
-}
-
-fn selected(saved: &SavedProcedure) -> Option<KnownPage>
-    ensures { result ≡ selected_numbered saved.now.selection saved.now.page }
-{
-    match (saved.selection, saved.page) {
-        (0, 0) => Some(KnownPage::Unknown),
-        (1, 0) => Some(KnownPage::Open),
-        (2, page) => Some(KnownPage::Page(page)),
-        _ => None,
-    }
 }
 
 // ---- to numbers
@@ -247,7 +236,10 @@ fn fault_of(look: Look) -> Option<ProvisionFault>
     ensures { result ≡ spec.fault_of_look look }
 {
     match look {
-        Look::Left(fault) => Some(fault),
+        Look::Left(code) => Some(match state_of(code) {
+            Ok(_) => ProvisionFault::ModuleState(code),
+            Err(_) => ProvisionFault::Reserved(code),
+        }),
         Look::Seen | Look::Due => None,
     }
 }
@@ -312,22 +304,6 @@ pub fn put_paused(saved: &mut SavedConversation)
     saved.saved.due = 0;
     if saved.watches == 1 && matches!(saved.left.fault(), Some(None)) {
         saved.look = 1;
-    }
-}
-
-fn number_of(yes: bool) -> u8
-    ensures { result ≡ spec.number_of yes }
-{
-    if yes { 1 } else { 0 }
-}
-
-fn numbers_of_selected(selected: KnownPage) -> (u8, u8)
-    ensures { selected_numbered result.0 result.1 ≡ Some selected }
-{
-    match selected {
-        KnownPage::Unknown => (0, 0),
-        KnownPage::Open => (1, 0),
-        KnownPage::Page(page) => (2, page),
     }
 }
 

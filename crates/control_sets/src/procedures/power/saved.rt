@@ -1,4 +1,4 @@
-ghost use Rattle.std.specs.Prelude.{◌≡◌, ℕ, List, None, Some};
+ghost use Rattle.std.specs.Prelude.{◌≡◌, ℕ, Bool, List, None, Some};
 ghost use Rattle.control_sets.specs.OutcomeAnswers.{most_steps};
 ghost use Rattle.control_sets.specs.SavedNumbers.{restored, work_numbered};
 ghost use Rattle.control_sets.specs.SavedPower as spec;
@@ -17,7 +17,7 @@ impl PowerChange {
     pub fn save(within: &PatientPower) -> SavedProcedure
         ensures numbers { result ≡ saved_power within.now }
         ensures same { (events : Events) → ToldPower events within.now → within.now.limit ≡ most_steps → restored_power result ≡ Some within.now }
-        ensures apart { restored result ≡ None }
+        ensures apart { (doubts : Bool) → restored result doubts ≡ None }
     {
         let pausing = &within.conversation;
         let change = pausing.conversation;

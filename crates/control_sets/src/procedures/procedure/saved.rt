@@ -1,7 +1,7 @@
 ghost use Rattle.std.specs.Prelude.{◌≡◌, Some, length};
 ghost use Rattle.conversations.specs.Events.{Events};
 ghost use Rattle.control_sets.specs.OutcomeAnswers.{most_steps};
-ghost use Rattle.control_sets.specs.Progress.{ToldPatient, doubting, tasks_of};
+ghost use Rattle.control_sets.specs.Progress.{ToldPatient, tasks_of};
 ghost use Rattle.control_sets.specs.SavedNumbers as spec;
 ghost use Rattle.control_sets.specs.SavedNumbers.{can_stand, due_numbered, is_found, page_read_back, restored, saved_fault, selected_numbered, work_numbered};
 
@@ -54,7 +54,8 @@ impl SavedProcedure {
         }
     }
 
-    fn selected(&self) -> Option<KnownPage>
+    /// What is known of the page selection; `None` if the numbers don't say.
+    pub fn selected(&self) -> Option<KnownPage>
         ensures { result ≡ selected_numbered self.now.selection self.now.page }
     {
         match (self.selection, self.page) {
@@ -86,10 +87,10 @@ impl SavedProcedure {
 }
 
 impl TaskList {
-    /// The numbers of a procedure on a real bus, which give it again, but for whether it doubts: restored, it does.
+    /// The numbers of a procedure on a real bus, which give it again, with whether it doubts.
     pub fn save(procedure: &PatientProcedure) -> SavedProcedure
         ensures same { (events : Events) → ToldPatient events procedure.now → procedure.now.limit ≡ most_steps →
-            restored result ≡ Some (doubting procedure.now) }
+            restored result procedure.now.conversation.conversation.doubts ≡ Some procedure.now }
         ensures page { result.page ≡ page_read_back procedure.now.conversation.conversation.selection }
         ensures fault { result.fault ≡ saved_fault procedure.now.conversation.conversation.conversation.fault }
     {
@@ -113,10 +114,10 @@ impl TaskList {
         }
     }
 
-    /// The procedure that has these numbers, if one has.
+    /// The procedure that has these numbers, if one has, and doubts or doesn't.
     #[tactic(auto, unfolding(crate::specs::SavedNumbers::restored))]
-    pub fn restore(saved: &SavedProcedure) -> Option<PatientProcedure>
-        ensures { result ≡ restored saved.now }
+    pub fn restore(saved: &SavedProcedure, doubts: bool) -> Option<PatientProcedure>
+        ensures { result ≡ restored saved.now doubts }
     {
         let list = TaskList {
             work: saved.work()?,
@@ -133,7 +134,7 @@ impl TaskList {
                 conversation: list,
                 selection,
                 taken: None,
-                doubts: true,
+                doubts,
             },
             patience: saved.patience(),
             due,
@@ -190,7 +191,8 @@ pub fn number_of_due(due: bool) -> u8
     if due { 1 } else { 0 }
 }
 
-fn numbers_of_selected(selected: KnownPage) -> (u8, u8)
+/// How what is known of the page selection is saved, and the page.
+pub fn numbers_of_selected(selected: KnownPage) -> (u8, u8)
     ensures same { selected_numbered result.0 result.1 ≡ Some selected }
     ensures page { result.1 ≡ page_read_back selected }
 {

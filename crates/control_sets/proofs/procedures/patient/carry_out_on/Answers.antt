@@ -6,10 +6,10 @@ use Rattle.conversations.specs.Budgets.{HasSpent}
 use Rattle.conversations.specs.Carried.{IsCarriedOut}
 use Rattle.conversations.specs.Events.{Events, steps_of}
 use Rattle.conversations.specs.Pauses.{EndsPausing, GoesOnPausing}
+use Rattle.conversations.specs.Watching.{EndsWatching, GoesOnWatching}
 use Rattle.control_sets.specs.declared.fault.ProvisionFault.{ProvisionFault}
 use Rattle.control_sets.specs.PatientProcedures.{WatchfulProcedure}
 use Rattle.control_sets.specs.Progress.{Ends, GoesOn, PatientProcedure}
-use Rattle.control_sets.specs.Watching.{EndsWatching, GoesOnWatching}
 use Rattle.control_sets.proofs.procedures.patient.carry_out_on.Goals as goal
 
 abbrev Goes : PatientProcedure → Events → Type 0

@@ -3,7 +3,6 @@ use Rattle.firmware_api.specs.declared.conversation.numbers.SavedConversation.{S
 use Rattle.firmware_api.specs.declared.kept.Kept.TheVariants.{OfTasks}
 use Rattle.firmware_api.specs.SavedConversations.{conversation_in}
 use Rattle.firmware_api.proofs.SavedLaws.{tasks_back}
-use Rattle.firmware_api.proofs.LeftLaws.{left_stops}
 use Rattle.firmware_api.proofs.conversation.numbers.put_tasks.Goals as goal
 
 pub returns : goal.returns
@@ -11,4 +10,4 @@ returns c events halves told limit =
     let procedure = c.args.procedure.now in
     subst (λ (saved : SavedConversation). conversation_in saved halves ≡ Some (OfTasks procedure)) (sym c.procedure_numbers.ensures)
     (let (own, adds, told_own) = told in
-    tasks_back procedure c.save-numbers.result halves (left_stops procedure.watches own events procedure.look _ adds) (c.save-numbers.ensures.same own told_own limit))
+    tasks_back procedure c.save-numbers.result halves (c.save-numbers.ensures.same own told_own limit))

@@ -2,7 +2,8 @@ use Rattle.std.proofs.Common.{◌≡◌, subst}
 use Rattle.conversations.specs.declared.next.Next.TheVariants.{Do}
 use Rattle.control_sets.specs.PowerProgress.{power_wants}
 use Rattle.firmware_api.specs.declared.kept.Kept.{Kept}
-use Rattle.firmware_api.specs.KeptConversations.{WasTold, next_of, pieces_want, wants_patiently}
+use Rattle.conversations.specs.Patiently.{wants_patiently}
+use Rattle.firmware_api.specs.KeptConversations.{WasTold, next_of, pieces_want}
 use Rattle.firmware_api.proofs.PauseLaws.{same_do, same_order}
 use Rattle.firmware_api.proofs.kept.Kept.take.Goals as goal
 

@@ -14,4 +14,4 @@ returns-clause-same c events told limit =
     ∙ ap (λ (p : PatientPower). Some p) (same_power within events told limit)
 
 pub returns-clause-apart : goal.returns-clause-apart
-returns-clause-apart c = power_apart _ (c.number_of_power.ensures.apart _ _)
+returns-clause-apart c doubts = power_apart _ doubts (c.number_of_power.ensures.apart _ _)

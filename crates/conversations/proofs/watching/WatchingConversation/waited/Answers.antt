@@ -3,9 +3,9 @@ use Rattle.bus_model.specs.declared.operation.Op.{Op}
 use Rattle.conversations.specs.declared.event.Event.TheVariants.{Waited}
 use Rattle.conversations.specs.declared.next.Next.{Next}
 use Rattle.conversations.specs.Wanted.{op_of}
-use Rattle.control_sets.specs.Watching.{AddsLooks}
-use Rattle.control_sets.proofs.WatchingLaws.{own_wait}
-use Rattle.control_sets.proofs.procedures.watching.WatchingConversation.waited.Goals as goal
+use Rattle.conversations.specs.Watching.{AddsLooks}
+use Rattle.conversations.proofs.WatchingLaws.{own_wait}
+use Rattle.conversations.proofs.watching.WatchingConversation.waited.Goals as goal
 
 pub returns-clause-told : goal.returns-clause-told
 returns-clause-told g c events time asks (own, adds, told) =

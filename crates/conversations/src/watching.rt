@@ -1,12 +1,13 @@
 ghost use Rattle.std.specs.Prelude.{◌≡◌};
-ghost use Rattle.control_sets.specs.Watching.{is_look, look_after_wait};
+ghost use Rattle.bus_model.specs.Operations.{Answers};
+ghost use Rattle.conversations.specs.Watching.{is_look, look_after_wait, look_at, read_state, shown};
 
-use crate::fault::ProvisionFault;
-use crate::procedures::judgement::ReplyJudgement;
-use crate::procedures::task::Task;
+use crate::conversation::Conversation;
+use crate::next::Next;
+use crate::pausing::is_same_fetch;
 use bus_model::{Op, Reply};
-use conversations::{Conversation, Next};
-use field_tables::{Register, register};
+use field_tables::{Field, Register, number_in_byte, register};
+use module_states::{ModuleState, state_of};
 
 /// Whether a conversation is to look at the module's state.
 #[derive(Clone, Copy, Debug, PartialEq, Eq, Drop)]
@@ -15,8 +16,8 @@ pub enum Look {
     Seen,
     /// Before its next operation.
     Due,
-    /// It did, and the module isn't in ModuleReady any more.
-    Left(ProvisionFault),
+    /// It did, and the module isn't in ModuleReady any more: its state has this code, or none has.
+    Left(u8),
 }
 
 /// How a conversation ended that looks at the module's state.
@@ -24,8 +25,8 @@ pub enum Look {
 pub enum Watched<E> {
     /// It ended so.
     InOrder(E),
-    /// The module wasn't in ModuleReady any more: it was in another state, or showed a reserved code.
-    Left(ProvisionFault),
+    /// The module wasn't in ModuleReady any more: it showed this code.
+    Left(u8),
 }
 
 /// A conversation with a module in ModuleReady. After each wait, and before its next operation, it looks whether the module still is, and
@@ -38,12 +39,28 @@ pub struct Watching<C> {
     pub look: Look,
 }
 
+impl<C> Watching<C> {
+    ghost use Rattle.std.specs.Prelude.{◌≡◌};
+    ghost use Rattle.conversations.specs.declared.watching.Look.TheVariants.{Seen};
+
+    /// Nothing was made.
+    pub fn new(conversation: C, watches: bool) -> Watching<C>
+        ensures { result ≡ record { conversation = conversation; watches = watches; look = Seen } }
+    {
+        Watching {
+            conversation,
+            watches,
+            look: Look::Seen,
+        }
+    }
+}
+
 impl<C: Conversation> Conversation for Watching<C>
 where
     C::End: Drop,
 {
     ghost use Rattle.conversations.specs.Wanted.{op_of};
-    ghost use Rattle.control_sets.specs.Watching.{EndsWatching, GoesOnWatching, WithLooks, after_watching, next_watching};
+    ghost use Rattle.conversations.specs.Watching.{EndsWatching, GoesOnWatching, WithLooks, after_watching, next_watching};
 
     type Topic = (bool, C::Topic);
 
@@ -64,8 +81,8 @@ where
     fn next(&self) -> Next<Watched<C::End>> {
         match self.conversation.next() {
             Next::Do(op) => match self.look {
-                Look::Left(fault) => Next::End(Watched::Left(fault)),
-                Look::Due if !is_look(&op) => Next::Do(Task::FindReady.op()),
+                Look::Left(code) => Next::End(Watched::Left(code)),
+                Look::Due if !is_look(&op) => Next::Do(read_state()),
                 Look::Due | Look::Seen => Next::Do(op),
             },
             Next::Wait(time) => Next::Wait(time),
@@ -102,10 +119,7 @@ where
     ghost use Rattle.conversations.specs.declared.next.Next.TheVariants.{Do};
     ghost use Rattle.conversations.specs.Events.{Events, made};
     ghost use Rattle.conversations.specs.Wanted.{IsReplyTo, op_of};
-    ghost use Rattle.control_sets.specs.declared.procedures.task.Task.TheVariants.{FindReady};
-    ghost use Rattle.control_sets.specs.Judgements.{judgement};
-    ghost use Rattle.control_sets.specs.OutcomeOperations.{read_module_state};
-    ghost use Rattle.control_sets.specs.Watching.{WithLooks, is_looking, looked, next_watching};
+    ghost use Rattle.conversations.specs.Watching.{WithLooks, is_looking, looked, next_watching, read_state, shown};
 
     fn is_looking(&self) -> bool
         ensures { result ≡ is_looking self.now.look (C.wants self.now.conversation) }
@@ -118,33 +132,58 @@ where
 
     fn take_look(&mut self, reply: &Reply)
         requires looks { is_looking self.old.look (C.wants self.old.conversation) ≡ true }
-        requires reply { Answers read_module_state reply.now }
-        ensures after { self.new ≡ looked (λ c r. C.after c r) self.old (judgement FindReady reply.now) }
+        requires reply { Answers read_state reply.now }
+        ensures after { self.new ≡ looked (λ c r. C.after c r) self.old (shown reply.now) }
         ensures topic { C.topic self.new.conversation ≡ C.topic self.old.conversation }
         ensures told { (events : Events) → WithLooks self.old.watches self.old.look (op_of (C.wants self.old.conversation)) (λ own. C.told own self.old.conversation) events →
-            WithLooks self.new.watches self.new.look (op_of (C.wants self.new.conversation)) (λ own. C.told own self.new.conversation) (made read_module_state reply.now ∷ events) }
+            WithLooks self.new.watches self.new.look (op_of (C.wants self.new.conversation)) (λ own. C.told own self.new.conversation) (made read_state reply.now ∷ events) }
     {
-        match Task::FindReady.judge(reply) {
-            ReplyJudgement::Met => self.look = Look::Seen,
-            ReplyJudgement::NotYet => {
+        match shown(reply) {
+            Some(code) => self.look = look_at(code),
+            None => {
                 self.conversation.take(&Reply::Refused);
                 self.look = Look::Seen;
             }
-            ReplyJudgement::Fails(fault) => self.look = Look::Left(fault),
         }
     }
 }
 
-// Whether the operation reads the module's state itself.
+// Reads the module's state.
+fn read_state() -> Op
+    ensures { result ≡ read_state }
+{
+    let span = register(Register::CGlobalStatus);
+    Op::Fetch {
+        dev: span.dev,
+        offset: span.first,
+        count: span.count(),
+    }
+}
+
+// Whether the operation does.
 fn is_look(op: &Op) -> bool
     ensures { result ≡ is_look op.now }
 {
-    let span = register(Register::CGlobalStatus);
-    match op {
-        Op::Fetch { dev, offset, count } => {
-            *dev == span.dev && *offset == span.first && *count == span.count()
-        }
-        Op::Store { .. } => false,
+    is_same_fetch(&read_state(), op)
+}
+
+// The code of the state that the reply to a look shows.
+fn shown(reply: &Reply) -> Option<u8>
+    requires { Answers read_state reply.now }
+    ensures { result ≡ shown reply.now }
+{
+    match reply {
+        Reply::Bytes(bytes) => Some(number_in_byte(Field::CModuleState, bytes[0])),
+        Reply::Done | Reply::Refused => None,
+    }
+}
+
+fn look_at(code: u8) -> Look
+    ensures { result ≡ look_at code }
+{
+    match state_of(code) {
+        Ok(ModuleState::Ready) => Look::Seen,
+        _ => Look::Left(code),
     }
 }
 

@@ -3,9 +3,9 @@ use Rattle.bus_model.specs.declared.operation.Op.{Op}
 use Rattle.conversations.specs.declared.next.Next.{Next}
 use Rattle.conversations.specs.Events.{made}
 use Rattle.conversations.specs.Wanted.{op_of}
-use Rattle.control_sets.specs.Watching.{AddsLooks, WithLooks}
-use Rattle.control_sets.proofs.WatchingLaws.{looking_op, own_op}
-use Rattle.control_sets.proofs.procedures.watching.WatchingConversation.take.Goals as goal
+use Rattle.conversations.specs.Watching.{AddsLooks, WithLooks}
+use Rattle.conversations.proofs.WatchingLaws.{looking_op, own_op}
+use Rattle.conversations.proofs.watching.WatchingConversation.take.Goals as goal
 
 pub returns-then-is_looking-clause-told : goal.returns-then-is_looking-clause-told
 returns-then-is_looking-clause-told g c events op asks with_looks =
