@@ -1,49 +1,25 @@
--- What the steps of a reading can't be, by their operations, and what one more leaves as it was.
-use Rattle.std.proofs.Common.{◌≡◌, ◌<◌, ℕ, ◌==◌, Bool, true, false, List, [], ◌∷◌, Option, Some, None, refl, sym, ap, subst, ◌∙◌, inl, inr, if◌then◌else◌, eq-eqb, arith}
-use Rattle.std.specs.Prelude.{MatchOption}
-use Rattle.std.specs.FinMap as map
-use Rattle.std.specs.List.{AllByRecursion}
+-- What the steps of a reading can't be, by their operations, and what they tell of the selection.
+use Rattle.std.proofs.Common.{◌≡◌, ℕ, ◌==◌, Bool, true, false, not, [], ◌∷◌, get_or, Option, Some, None, refl, sym, ap, subst, ◌∙◌, inl, inr, if◌then◌else◌, eqb-true}
+use Rattle.std.proofs.lemmas.Bool.{cases_Bool, true≢false}
 use Rattle.bus_model.specs.declared.device.Dev.{Dev}
 use Rattle.bus_model.specs.declared.device.Dev.TheVariants.{A0, A2}
 use Rattle.bus_model.specs.declared.operation.Op.{Op}
 use Rattle.bus_model.specs.declared.operation.Op.TheVariants.{Fetch, Store}
 use Rattle.bus_model.specs.declared.operation.Step.{Step}
-use Rattle.control_sets.specs.OutcomeSteps.{Gives}
+use Rattle.bus_model.specs.SameOperation.{same_op}
 use Rattle.conversations.specs.Pauses.{is_refused}
-use Rattle.conversations.specs.Selecting.{IsFetch, WasTaken, since_refusal, trusted}
+use Rattle.conversations.specs.Selecting.{IsFetch, since_refusal, trusted}
 use Rattle.paged_memory.specs.declared.page_addressing.PageAddressing.{PageAddressing}
 use Rattle.paged_memory.specs.declared.page_addressing.PageAddressing.TheVariants.{BankAndPage, PageAlone}
 use Rattle.paged_memory.specs.declared.page_addressing.KnownPage.{KnownPage}
-use Rattle.paged_memory.specs.Images.{Memory}
-use Rattle.paged_memory.specs.KnownPages.{IsApart, Tells}
-use Rattle.paged_memory.specs.PageAddressing.{History, read_selection, selection}
-use Rattle.paged_memory.proofs.KnownPageLaws.{one_page}
+use Rattle.paged_memory.specs.declared.page_addressing.KnownPage.TheVariants.{Unknown}
+use Rattle.paged_memory.specs.KnownPages.{IsApart, Tells, is_awaited, is_known, selected_after, selecting_first, wanted}
+use Rattle.paged_memory.specs.PageAddressing.{History, is_open, is_page_confirmed, read_selection, selection}
+use Rattle.paged_memory.proofs.KnownPageLaws.{after_work, one_page, reads_itself, step_of, tells_next, tells_nothing}
 use Rattle.module_reading.specs.declared.region.Region.{Region}
 use Rattle.module_reading.specs.declared.region.Region.TheVariants.{Lower, FirstPage, Page}
-use Rattle.module_reading.specs.Regions.{key_of, operation, addressing_of}
-use Rattle.module_reading.specs.ReadImages.{IsLeftOut, IsRead, IsSettled, IsShown, StoresNothing}
-use Rattle.module_reading.proofs.RegionLaws.{contradicts, is_other, not_true}
-
-abbrev count_of : Op → ℕ
-count_of (Fetch dev offset count) = count
-count_of (Store dev offset bytes) = 0
-
-abbrev offset_of : Op → ℕ
-offset_of (Fetch dev offset count) = offset
-offset_of (Store dev offset bytes) = offset
-
-abbrev device_of : Op → Dev
-device_of (Fetch dev offset count) = dev
-device_of (Store dev offset bytes) = dev
-
-abbrev last_of : List ℕ → ℕ
-last_of [] = 0
-last_of (byte ∷ []) = byte
-last_of (byte ∷ next ∷ bytes) = next
-
-abbrev stored_page : Op → ℕ
-stored_page (Fetch dev offset count) = 0
-stored_page (Store dev offset bytes) = last_of bytes.items
+use Rattle.module_reading.specs.Regions.{operation}
+use Rattle.module_reading.specs.ReadImages.{IsShown, StoresNothing}
 
 pub leaves_selection : (addressing : PageAddressing) (region : Region) → IsApart addressing (operation region)
 leaves_selection BankAndPage (Lower A0) = record { not_selecting = refl; not_reading_back = refl }
@@ -55,71 +31,37 @@ leaves_selection PageAlone (Lower A2) = record { not_selecting = refl; not_readi
 leaves_selection PageAlone FirstPage = record { not_selecting = refl; not_reading_back = refl }
 leaves_selection PageAlone (Page page) = record { not_selecting = refl; not_reading_back = refl }
 
-counts_128 : (region : Region) → count_of (operation region) ≡ 128
-counts_128 (Lower dev) = refl
-counts_128 FirstPage = refl
-counts_128 (Page page) = refl
-
-counts_few : (addressing : PageAddressing) → (0 < count_of (read_selection addressing)) × (count_of (read_selection addressing) < 3)
-counts_few BankAndPage = (omega arith, omega arith)
-counts_few PageAlone = (omega arith, omega arith)
-
-counts_none : (addressing : PageAddressing) (page : ℕ) → count_of (selection addressing page) ≡ 0
-counts_none BankAndPage page = refl
-counts_none PageAlone page = refl
-
 pub no_read_back : (addressing : PageAddressing) (region : Region) → operation region ≡ read_selection addressing → ⊥
 no_read_back addressing region e =
-    let few = counts_few addressing in
-    let same = ap count_of e in
-    omega (arith, few.1, same, counts_128 region)
-
-pub no_selection : (addressing : PageAddressing) (page : ℕ) (region : Region) → operation region ≡ selection addressing page → ⊥
-no_selection addressing page region e =
-    let same = ap count_of e in
-    omega (arith, same, counts_128 region, counts_none addressing page)
-
-pub read_back_alone : (addressing : PageAddressing) (page : ℕ) → read_selection addressing ≡ selection addressing page → ⊥
-read_back_alone addressing page e =
-    let few = counts_few addressing in
-    let same = ap count_of e in
-    omega (arith, few.0, same, counts_none addressing page)
-
-pub same_page : (addressing : PageAddressing) (page other : ℕ) → selection addressing page ≡ selection addressing other → page ≡ other
-same_page BankAndPage page other e = ap stored_page e
-same_page PageAlone page other e = ap stored_page e
+    true≢false (sym (reads_itself addressing) ∙ ap (same_op (read_selection addressing)) (sym e) ∙ (leaves_selection addressing region).not_reading_back)
 
 pub reads_fetch : (region : Region) → IsFetch (operation region)
 reads_fetch (Lower dev) = tt
 reads_fetch FirstPage = tt
 reads_fetch (Page page) = tt
 
-pub read_back_fetches : (addressing : PageAddressing) → IsFetch (read_selection addressing)
-read_back_fetches BankAndPage = tt
-read_back_fetches PageAlone = tt
-
 pub selection_stores : (addressing : PageAddressing) (page : ℕ) → IsFetch (selection addressing page) → ⊥
 selection_stores BankAndPage page fetch = fetch
 selection_stores PageAlone page fetch = fetch
 
-abbrev lower_offset : ℕ
-lower_offset = 0
+abbrev stored_at : ℕ → Op → ℕ
+stored_at place (Fetch dev offset count) = 0
+stored_at place (Store dev offset bytes) = get_or bytes.items place 0
 
-abbrev upper_offset : ℕ
-upper_offset = 128
+pub same_page : (addressing : PageAddressing) (page other : ℕ) → selection addressing page ≡ selection addressing other → page ≡ other
+same_page BankAndPage page other e = ap (stored_at 1) e
+same_page PageAlone page other e = ap (stored_at 0) e
 
-offsets_differ : lower_offset ≡ upper_offset → ⊥
-offsets_differ e = omega (arith, e)
+abbrev device_of : Op → Dev
+device_of (Fetch dev offset count) = dev
+device_of (Store dev offset bytes) = dev
 
-devices_differ : A0 ≡ A2 → ⊥
-devices_differ e = cc
+-- a fetch of the lower half begins where none of an upper one does
+abbrev is_lower : Op → Bool
+is_lower (Fetch dev offset count) = offset == 0
+is_lower (Store dev offset bytes) = false
 
--- only the fetch of the lower half of A0 reads it
-pub other_reads : (region : Region) → is_other (Lower A0) region ≡ true → operation region ≡ Fetch A0 0 128 → ⊥
-other_reads (Lower A0) other e = cc
-other_reads (Lower A2) other e = devices_differ (sym (ap device_of e))
-other_reads FirstPage other e = offsets_differ (sym (ap offset_of e))
-other_reads (Page page) other e = offsets_differ (sym (ap offset_of e))
+-- ---- the steps that are trusted
 
 -- what holds of no steps holds of those of them that are trusted
 pub trusts_none : (P : History → Type 0) (doubts : Bool) → P [] → P (trusted doubts [])
@@ -134,127 +76,66 @@ trusts_next P true step before none next = by (is_refused step.reply) where
   by true = none
   by false = next
 
-module _ (doubts : Bool) where
-  -- no step can read two halves
-  pub not_both : (addressing : PageAddressing) (selected : KnownPage) (history : History) (hand region : Region) → Tells addressing selected (trusted doubts history) → is_other hand region ≡ true →
-      operation hand ≡ operation region → IsShown doubts addressing hand history → IsShown doubts addressing region history → ⊥
-  not_both addressing selected history (Lower A0) (Lower A0) told other e shown there = cc
-  not_both addressing selected history (Lower A0) (Lower A2) told other e shown there = devices_differ (ap device_of e)
-  not_both addressing selected history (Lower A2) (Lower A0) told other e shown there = devices_differ (sym (ap device_of e))
-  not_both addressing selected history (Lower A2) (Lower A2) told other e shown there = cc
-  not_both addressing selected history (Lower dev) FirstPage told other e shown there = offsets_differ (ap offset_of e)
-  not_both addressing selected history (Lower dev) (Page page) told other e shown there = offsets_differ (ap offset_of e)
-  not_both addressing selected history FirstPage (Lower dev) told other e shown there = offsets_differ (sym (ap offset_of e))
-  not_both addressing selected history FirstPage FirstPage told other e shown there = cc
-  not_both addressing selected history FirstPage (Page page) told other e shown there = cc
-  not_both addressing selected history (Page page) (Lower dev) told other e shown there = offsets_differ (sym (ap offset_of e))
-  not_both addressing selected history (Page page) FirstPage told other e shown there = cc
-  not_both addressing selected history (Page page) (Page page') told other e shown there = contradicts shown (one_page addressing selected (trusted doubts history) told page' page other there)
+module _ (doubts : Bool) (addressing : PageAddressing) where
+  -- what is known of the selection, by the steps: nothing, as long as nothing is stored
+  pub record IsKnown (history : History) : Type 0 where
+    pub known : KnownPage
+    pub tells : Tells addressing known (trusted doubts history)
+    pub quiet : StoresNothing history → known ≡ Unknown
 
-  -- ---- what one step more leaves as it was
+  pub knows_nothing : IsKnown []
+  knows_nothing = record { known = Unknown; tells = trusts_none (Tells addressing Unknown) doubts (tells_nothing addressing); quiet = λ stores. refl }
 
-  pub more_left_out : (addressing : PageAddressing) (region : Region) (history : History) (step : Step) → IsLeftOut doubts addressing region history → IsLeftOut doubts addressing region (step ∷ history)
-  more_left_out addressing (Lower dev) history step out = out
-  more_left_out addressing FirstPage history step out = out
-  more_left_out addressing (Page page) history step out = (out.0, inr out.1)
+  module _ (history : History) (is : IsKnown history) (step : Step) where
+    abbrev KnownBy : History → Type 0
+    KnownBy steps = (known : KnownPage) × Tells addressing known steps × (StoresNothing (step ∷ history) → known ≡ Unknown)
 
-  more_settled : (addressing : PageAddressing) (region : Region) (history : History) (step : Step) (half : Option (List ℕ)) →
-      MatchOption half (IsLeftOut doubts addressing region history) (λ bytes. IsRead doubts addressing region bytes history) →
-      MatchOption half (IsLeftOut doubts addressing region (step ∷ history)) (λ bytes. IsRead doubts addressing region bytes (step ∷ history))
-  more_settled addressing region history step None settled = more_left_out addressing region history step settled
-  more_settled addressing region history step (Some bytes) settled = inr settled
+    knows_next : (op : Op) (needed : Option ℕ) → IsApart addressing op → step.op ≡ wanted addressing is.known needed op → (StoresNothing (step ∷ history) → selected_after addressing is.known step ≡ Unknown) → IsKnown (step ∷ history)
+    knows_next op needed apart wants quiet =
+        let (known, tells, still) = trusts_next KnownBy doubts step history (Unknown, tells_nothing addressing, λ stores. refl)
+        (selected_after addressing is.known step, tells_next addressing is.known op (trusted doubts history) apart is.tells needed step wants, quiet) in
+        record { known = known; tells = tells; quiet = still }
 
-  -- a half that was settled stays so, where the image has the same of it
-  pub stays_settled : (region : Region) (history : History) (step : Step) (image image' : Memory) → map.get image' (key_of region) ≡ map.get image (key_of region) → addressing_of image' ≡ addressing_of image →
-      IsSettled doubts history image region → IsSettled doubts (step ∷ history) image' region
-  stays_settled region history step image image' same addressing settled =
-      subst (λ (p : PageAddressing). MatchOption (map.get image' (key_of region)) (IsLeftOut doubts p region (step ∷ history)) (λ bytes. IsRead doubts p region bytes (step ∷ history))) (sym addressing)
-      (subst (λ (half : Option (List ℕ)). MatchOption half (IsLeftOut doubts (addressing_of image) region (step ∷ history)) (λ bytes. IsRead doubts (addressing_of image) region bytes (step ∷ history))) (sym same)
-      (more_settled (addressing_of image) region history step (map.get image (key_of region)) settled))
+    -- the selection is read back
+    pub knows_read_back : is_open addressing (trusted doubts history) ≡ true → step.op ≡ read_selection addressing → IsKnown (step ∷ history)
+    knows_read_back awaited reads =
+        let waits : is_awaited is.known ≡ true = sym is.tells.awaited ∙ awaited in
+        knows_next (operation FirstPage) None (leaves_selection addressing FirstPage) (reads ∙ sym (ap (λ (b : Bool). if b then read_selection addressing else operation FirstPage) waits))
+        (λ stores. absurd (true≢false (sym waits ∙ ap is_awaited (is.quiet stores.1))))
 
-  -- nothing was done yet to select a half
-  abbrev pub IsUnselected : PageAddressing → Region → History → Type 0
-  IsUnselected addressing (Lower dev) history = Unit {0}
-  IsUnselected addressing FirstPage history = StoresNothing history
-  IsUnselected addressing (Page page) history = WasTaken addressing page (trusted doubts history) → ⊥
+    -- a page is selected
+    pub knows_selection : (page : ℕ) → is_open addressing (trusted doubts history) ≡ false → is_page_confirmed addressing page (trusted doubts history) ≡ false → step.op ≡ selection addressing page → IsKnown (step ∷ history)
+    knows_selection page closed unconfirmed selects =
+        let shut : is_awaited is.known ≡ false = sym is.tells.awaited ∙ closed in
+        let unknown : is_known is.known page ≡ false = sym (is.tells.known page) ∙ unconfirmed in
+        knows_next (operation FirstPage) (Some page) (leaves_selection addressing FirstPage)
+        (selects ∙ sym (λ i. if shut i then read_selection addressing else selecting_first addressing (operation FirstPage) (if unknown i then None else Some page)))
+        (λ stores. absurd (selection_stores addressing page (subst IsFetch selects stores.0)))
 
-  -- nor was it read or left out
-  pub record IsUntouched (addressing : PageAddressing) (history : History) (region : Region) : Type 0 where
-    pub unread : (bytes : List ℕ) → IsRead doubts addressing region bytes history → ⊥
-    pub there : IsLeftOut doubts addressing region history → ⊥
-    pub unselected : IsUnselected addressing region history
+    -- a half is fetched
+    pub knows_fetch : (region : Region) → is_open addressing (trusted doubts history) ≡ false → step.op ≡ operation region → IsKnown (step ∷ history)
+    knows_fetch region closed own =
+        knows_next (operation region) None (leaves_selection addressing region) (own ∙ sym (ap (λ (b : Bool). if b then read_selection addressing else operation region) (sym is.tells.awaited ∙ closed)))
+        (λ stores. ap (selected_after addressing is.known) (λ i. step_of (own i) step.reply) ∙ after_work addressing is.known (operation region) step.reply (leaves_selection addressing region) ∙ is.quiet stores.1)
 
-  abbrev pub SelectsNot : PageAddressing → Region → Op → Type 0
-  SelectsNot addressing (Lower dev) op = Unit {0}
-  SelectsNot addressing FirstPage op = IsFetch op
-  SelectsNot addressing (Page page) op = op ≡ selection addressing page → ⊥
+  module _ (history : History) (is : IsKnown history) where
+    one_shown : (page other : ℕ) → IsShown doubts addressing (Page page) history → IsShown doubts addressing (Page other) history → page ≡ other
+    one_shown page other shown there = elim (cases_Bool (other == page)) [
+      | inl same ↦ sym (eqb-true other page same)
+      | inr differs ↦ absurd (true≢false (sym there ∙ one_page addressing is.known (trusted doubts history) is.tells page other (ap not differs) shown))
+    ]
 
-  -- the step after these is for another half
-  pub record IsForOther (addressing : PageAddressing) (history : History) (step : Step) (region : Region) : Type 0 where
-    pub reads_not : (bytes : List ℕ) → Gives (operation region) bytes step → IsShown doubts addressing region history → ⊥
-    pub selects_not : SelectsNot addressing region step.op
+    none_shown : (page : ℕ) → StoresNothing history → IsShown doubts addressing (Page page) history → ⊥
+    none_shown page stores shown = true≢false (sym shown ∙ is.tells.known page ∙ ap (λ (known : KnownPage). is_known known page) (is.quiet stores))
 
-  not_now : (addressing : PageAddressing) (page : ℕ) (history : History) (step : Step) → (WasTaken addressing page (trusted doubts history) → ⊥) → (step.op ≡ selection addressing page → ⊥) → WasTaken addressing page (trusted doubts (step ∷ history)) → ⊥
-  not_now addressing page history step unselected other = trusts_next (λ (h : History). WasTaken addressing page h → ⊥) doubts step history (λ none. none) next where
-    next : WasTaken addressing page (step ∷ trusted doubts history) → ⊥
-    next (inl accepted) = other accepted.0
-    next (inr earlier) = unselected earlier.1
-
-  still_unselected : (addressing : PageAddressing) (region : Region) (history : History) (step : Step) → IsUnselected addressing region history → SelectsNot addressing region step.op → IsUnselected addressing region (step ∷ history)
-  still_unselected addressing (Lower dev) history step unselected other = tt
-  still_unselected addressing FirstPage history step unselected other = (other, unselected)
-  still_unselected addressing (Page page) history step unselected other = not_now addressing page history step unselected other
-
-  still_there : (addressing : PageAddressing) (region : Region) (history : History) (step : Step) → (IsLeftOut doubts addressing region history → ⊥) → IsUnselected addressing region history → IsLeftOut doubts addressing region (step ∷ history) → ⊥
-  still_there addressing (Lower dev) history step there unselected out = out
-  still_there addressing FirstPage history step there unselected out = out
-  still_there addressing (Page page) history step there unselected (above, inl now) = unselected now.1
-  still_there addressing (Page page) history step there unselected (above, inr earlier) = there (above, earlier)
-
-  pub unread_yet : (addressing : PageAddressing) (region : Region) (history : History) (step : Step) → ((bytes : List ℕ) → IsRead doubts addressing region bytes history → ⊥) →
-      ((bytes : List ℕ) → Gives (operation region) bytes step → IsShown doubts addressing region history → ⊥) → (bytes : List ℕ) → IsRead doubts addressing region bytes (step ∷ history) → ⊥
-  unread_yet addressing region history step unread other bytes (inl now) = other bytes now.0 now.1
-  unread_yet addressing region history step unread other bytes (inr earlier) = unread bytes earlier
-
-  pub still_untouched : (addressing : PageAddressing) (region : Region) (history : History) (step : Step) → IsUntouched addressing history region → IsForOther addressing history step region → IsUntouched addressing (step ∷ history) region
-  still_untouched addressing region history step untouched other = record {
-    unread = unread_yet addressing region history step untouched.unread other.reads_not;
-    there = still_there addressing region history step untouched.there untouched.unselected;
-    unselected = still_unselected addressing region history step untouched.unselected other.selects_not;
-  }
-
-  -- ---- the three kinds of steps
-
-  fetches_other : (addressing : PageAddressing) (region : Region) (op : Op) → IsFetch op → ((page : ℕ) → op ≡ selection addressing page → ⊥) → SelectsNot addressing region op
-  fetches_other addressing (Lower dev) op fetch none = tt
-  fetches_other addressing FirstPage op fetch none = fetch
-  fetches_other addressing (Page page) op fetch none = none page
-
-  pub read_back_is_for_other : (addressing : PageAddressing) (history : History) (step : Step) (region : Region) → step.op ≡ read_selection addressing → IsForOther addressing history step region
-  read_back_is_for_other addressing history step region e = record {
-    reads_not = λ bytes gives shown. no_read_back addressing region (sym gives.0 ∙ e);
-    selects_not = fetches_other addressing region step.op (subst IsFetch (sym e) (read_back_fetches addressing)) (λ page same. read_back_alone addressing page (sym e ∙ same));
-  }
-
-  selects_other : (addressing : PageAddressing) (page : ℕ) (region : Region) (op : Op) → is_other (Page page) region ≡ true → op ≡ selection addressing page → SelectsNot addressing region op
-  selects_other addressing page (Lower dev) op other e = tt
-  selects_other addressing page FirstPage op other e = cc
-  selects_other addressing page (Page page') op other e = λ same. contradicts (eq-eqb page page' (same_page addressing page page' (sym e ∙ same))) (not_true (page == page') other)
-
-  pub selection_is_for_other : (addressing : PageAddressing) (history : History) (step : Step) (page : ℕ) (region : Region) → is_other (Page page) region ≡ true → step.op ≡ selection addressing page → IsForOther addressing history step region
-  selection_is_for_other addressing history step page region other e = record {
-    reads_not = λ bytes gives shown. no_selection addressing page region (sym gives.0 ∙ e);
-    selects_not = selects_other addressing page region step.op other e;
-  }
-
-  pub fetch_is_for_other : (addressing : PageAddressing) (selected : KnownPage) (history : History) (step : Step) (hand region : Region) → Tells addressing selected (trusted doubts history) → is_other hand region ≡ true →
-      IsShown doubts addressing hand history → step.op ≡ operation hand → IsForOther addressing history step region
-  fetch_is_for_other addressing selected history step hand region told other shown e = record {
-    reads_not = λ bytes gives there. not_both addressing selected history hand region told other (sym e ∙ gives.0) shown there;
-    selects_not = fetches_other addressing region step.op (subst IsFetch (sym e) (reads_fetch hand)) (λ page same. no_selection addressing page hand (sym e ∙ same));
-  }
-
-  -- a half that each of its steps is not for
-  pub each_for_other : (addressing : PageAddressing) (history : History) (step : Step) (regions : List Region) → AllByRecursion (IsUntouched addressing history) regions → AllByRecursion (IsForOther addressing history step) regions → AllByRecursion (IsUntouched addressing (step ∷ history)) regions
-  each_for_other addressing history step [] untouched other = tt
-  each_for_other addressing history step (region ∷ regions) untouched other = (still_untouched addressing region history step untouched.0 other.0, each_for_other addressing history step regions untouched.1 other.1)
+    -- no step can read two halves
+    pub same_half : (hand region : Region) → operation hand ≡ operation region → IsShown doubts addressing hand history → IsShown doubts addressing region history → hand ≡ region
+    same_half (Lower dev) (Lower other) e shown there = ap (λ (d : Dev). Lower d) (ap device_of e)
+    same_half (Lower dev) FirstPage e shown there = absurd (true≢false (ap is_lower e))
+    same_half (Lower dev) (Page page) e shown there = absurd (true≢false (ap is_lower e))
+    same_half FirstPage (Lower dev) e shown there = absurd (true≢false (sym (ap is_lower e)))
+    same_half FirstPage FirstPage e shown there = refl
+    same_half FirstPage (Page page) e shown there = absurd (none_shown page shown there)
+    same_half (Page page) (Lower dev) e shown there = absurd (true≢false (sym (ap is_lower e)))
+    same_half (Page page) FirstPage e shown there = absurd (none_shown page there shown)
+    same_half (Page page) (Page other) e shown there = ap (λ (n : ℕ). Page n) (one_shown page other shown there)

@@ -1,396 +1,278 @@
 -- What one step more makes of the reading of a module.
-use Rattle.std.proofs.Common.{◌≡◌, ◌<◌, ◌≤◌, ◌+◌, ◌⊎◌, ℕ, ◌==◌, ◌&&◌, not, Bool, true, false, List, [], ◌∷◌, ◌++◌, length, drop, Option, Some, None, refl, sym, ap, subst, ◌∙◌, inl, inr, if◌then◌else◌, cond, arith}
-use Rattle.std.specs.Prelude.{IsTrue, MatchOption, is_some}
+use Rattle.std.proofs.Common.{◌≡◌, ◌<◌, ◌≤◌, ◌+◌, ◌⊎◌, ℕ, zero, suc, ◌&&◌, ◌||◌, not, nat_lt, Bool, true, false, List, [], ◌∷◌, Option, Some, None, refl, sym, ap, subst, ◌∙◌, inl, inr, arith, ltb-true, ltb-false}
+use Rattle.std.specs.Prelude.{IsTrue, is_some}
 use Rattle.std.specs.FinMap as map
-use Rattle.std.specs.List.{AllByRecursion, list_all, slice_get}
-use Rattle.std.specs.Ordering.{eq_by_cmp}
-use Rattle.std.specs.Cmp.{eq_by_cmp_equiv}
-use Rattle.std.proofs.lemmas.Bool.{and_from, and_parts, cases_Bool, eqb-true, false_from_ne_true}
-use Rattle.std.proofs.lemmas.List.{append_assoc, length-append}
+use Rattle.std.specs.List.{slice_get}
+use Rattle.std.proofs.lemmas.Bool.{and_from, and_parts, cases_Bool, true≢false}
+use Rattle.std.proofs.lemmas.Option.{same_Some, slice_get_within}
 use Rattle.arrayvec.specs.ArrayVec.{ArrayVec}
-use Rattle.bus_model.specs.declared.device.Dev.TheVariants.{A0}
 use Rattle.bus_model.specs.declared.operation.Op.{Op}
-use Rattle.bus_model.specs.declared.operation.Op.TheVariants.{Fetch}
 use Rattle.bus_model.specs.declared.operation.Reply.{Reply}
 use Rattle.bus_model.specs.declared.operation.Reply.TheVariants.{Bytes, Done, Refused}
 use Rattle.bus_model.specs.declared.operation.Step.{Step}
 use Rattle.bus_model.specs.Operations.{Answers}
 use Rattle.bus_model.specs.SameOperation.{same_op}
-use Rattle.conversations.specs.Selecting.{IsFetch, IsSelecting, LacksNone, ShowsNone, is_on, trusted}
 use Rattle.control_sets.specs.OutcomeSteps.{Gives}
+use Rattle.conversations.specs.Selecting.{IsFetch, IsSelecting, LacksNone, ShowsNone, WasTaken, is_on, trusted}
+use Rattle.conversations.proofs.OnPageLaws.{read_is_fetch}
 use Rattle.paged_memory.specs.declared.key.Key.{Key}
 use Rattle.paged_memory.specs.declared.page_addressing.PageAddressing.{PageAddressing}
-use Rattle.paged_memory.specs.declared.page_addressing.KnownPage.{KnownPage}
-use Rattle.paged_memory.specs.declared.page_addressing.KnownPage.TheVariants.{Unknown}
-use Rattle.paged_memory.specs.Images.{Memory, most_pages}
-use Rattle.paged_memory.specs.KeyOrder.{key_cmp}
-use Rattle.paged_memory.specs.Keys.{lower_key}
-use Rattle.paged_memory.specs.KnownPages.{Tells, is_awaited, missing_page, selected_after, selecting_first, wanted}
-use Rattle.paged_memory.specs.PageAddressing.{History, is_open, is_page, is_page_confirmed, read_selection, reads_back, selection}
-use Rattle.paged_memory.proofs.KeyLaws.{keys_total}
-use Rattle.paged_memory.proofs.KnownPageLaws.{reads_itself, selects_alone, step_of, tells_next, tells_nothing}
+use Rattle.paged_memory.specs.Images.{Memory}
+use Rattle.paged_memory.specs.KnownPages.{IsApart}
+use Rattle.paged_memory.specs.PageAddressing.{History, is_open, is_page, is_page_confirmed, is_read, may_select, read_selection, reads_back, selection}
+use Rattle.paged_memory.proofs.KnownPageLaws.{reads_alone, reads_itself, selects_alone}
 use Rattle.module_reading.specs.declared.halves.Halves.{Halves}
 use Rattle.module_reading.specs.declared.region.Region.{Region}
 use Rattle.module_reading.specs.declared.region.Region.TheVariants.{Lower, FirstPage, Page}
-use Rattle.module_reading.specs.Regions.{key_of, operation, page_of, addressing_of, regions_of}
+use Rattle.module_reading.specs.Regions.{key_of, operation, page_of, regions_of}
 use Rattle.module_reading.specs.ImageReading as reader
-use Rattle.module_reading.specs.ImageReading.{put_in}
-use Rattle.module_reading.specs.ReadImages.{IsKeyAmong, IsLeftOut, IsRead, IsSettled, IsShown}
+use Rattle.module_reading.specs.ReadImages.{IsLeftOut, IsRead, IsShown, StoresNothing}
 use Rattle.module_reading.proofs.KeptHalves as kept
-use Rattle.module_reading.proofs.RegionLaws.{at_most_five, all_other, all_others, contradicts, is_other, keys_are, other_keys, same_asked, same_keys, same_paging, same_regions}
-use Rattle.module_reading.proofs.FetchSteps.{reads_fetch, IsForOther, IsUntouched, each_for_other, fetch_is_for_other, leaves_selection, no_read_back, no_selection, other_reads, read_back_fetches, read_back_is_for_other, selection_is_for_other, stays_settled, trusts_next, unread_yet}
-use Rattle.module_reading.proofs.FetchUnderWay.{Awaits, HasSettled, IsAt, IsInHand, IsUnderWay, Known, working_is_unfinished}
+use Rattle.module_reading.proofs.RegionLaws.{at_most_five, first_is, none_paged, other_keys, same_regions}
+use Rattle.module_reading.proofs.HalvesLaws.{keeps_lower}
+use Rattle.module_reading.proofs.FetchSteps.{IsKnown, knows_fetch, knows_read_back, knows_selection, leaves_selection, no_read_back, reads_fetch, same_half, same_page, selection_stores, trusts_next}
+use Rattle.module_reading.proofs.FetchUnderWay.{Fits, IsAmong, IsAt, Settles, all_of, not_before, unfinished}
 
--- ---- the lists of halves
+abbrev given_by : Reply → List ℕ
+given_by (Bytes bytes) = bytes.items
+given_by Done = []
+given_by Refused = []
 
-pick : (test : Region → Bool) (earlier : List Region) (hand : Region) (later : List Region) → list_all test (earlier ++ hand ∷ later) ≡ true → test hand ≡ true
-pick test [] hand later e = (and_parts _ _ e).0
-pick test (region ∷ earlier) hand later e = pick test earlier hand later (and_parts _ _ e).1
+-- a half was answered with page 00h in its place
+page_is : (region : Region) (page : ℕ) → page_of region ≡ Some page → region ≡ Page page
+page_is (Lower dev) page e = absurd cc
+page_is FirstPage page e = absurd cc
+page_is (Page other) page e = ap (λ (n : ℕ). Page n) (same_Some other page e)
 
-of_earlier : (earlier : List Region) (hand : Region) (later : List Region) → all_other (earlier ++ hand ∷ later) ≡ true → AllByRecursion (λ region. is_other region hand ≡ true) earlier
-of_earlier [] hand later e = tt
-of_earlier (region ∷ earlier) hand later e =
-    let parts = and_parts _ _ e in
-    ((and_parts _ _ (pick (λ other. is_other region other && is_other other region) earlier hand later parts.0)).0, of_earlier earlier hand later parts.1)
+not_given : (bytes : List ℕ) → Refused ≡ Bytes (record { items = bytes }) → ⊥
+not_given bytes e = cc
 
-each_later : (hand : Region) (later : List Region) → list_all (λ other. is_other hand other && is_other other hand) later ≡ true → AllByRecursion (λ region. is_other hand region ≡ true) later
-each_later hand [] e = tt
-each_later hand (region ∷ later) e = let parts = and_parts _ _ e in ((and_parts _ _ parts.0).0, each_later hand later parts.1)
+no_done : (region : Region) → Answers (operation region) Done → ⊥
+no_done (Lower dev) none = none
+no_done FirstPage none = none
+no_done (Page page) none = none
 
-pub of_later : (earlier : List Region) (hand : Region) (later : List Region) → all_other (earlier ++ hand ∷ later) ≡ true → AllByRecursion (λ region. is_other hand region ≡ true) later
-of_later [] hand later e = each_later hand later (and_parts _ _ e).0
-of_later (region ∷ earlier) hand later e = of_later earlier hand later (and_parts _ _ e).1
+module _ (doubts : Bool) (addressing : PageAddressing) (halves : Halves) (fits : Fits doubts addressing halves) (history : History) (at : IsAt doubts addressing halves history)
+    (hand : Region) (is : reader.in_hand halves ≡ Some hand) where
+  abbrev IsBefore : Region → Type 0
+  IsBefore region = IsAmong (all_of halves) halves.settled region
 
-map_all : {P Q : Region → Type 0} (regions : List Region) → ((region : Region) → P region → Q region) → AllByRecursion P regions → AllByRecursion Q regions
-map_all [] f all = tt
-map_all (region ∷ regions) f all = (f region all.0, map_all regions f all.1)
+  -- the half in hand comes after those before it
+  before_or_hand : (region : Region) → IsAmong (all_of halves) (halves.settled + 1) region → IsBefore region ⊎ (hand ≡ region)
+  before_or_hand region (n, few, there) = elim (cases_Bool (nat_lt n halves.settled)) [
+    | inl less ↦ inl (n, ltb-true n halves.settled less, there)
+    | inr not_less ↦
+        let more = ltb-false n halves.settled not_less in
+        let same : halves.settled ≡ n = omega (arith, few, more) in
+        inr (same_Some hand region (sym is ∙ ap (slice_get (all_of halves)) same ∙ there))
+  ]
 
-both_all : {P Q R : Region → Type 0} (regions : List Region) → ((region : Region) → P region → Q region → R region) → AllByRecursion P regions → AllByRecursion Q regions → AllByRecursion R regions
-both_all [] f p q = tt
-both_all (region ∷ regions) f p q = (f region p.0 q.0, both_all regions f p.1 q.1)
+  module _ (step : Step) where
+    -- what holds of a half stays so
+    still_out : (region : Region) → IsLeftOut doubts addressing region history → IsLeftOut doubts addressing region (step ∷ history)
+    still_out (Lower dev) out = out
+    still_out FirstPage out = out
+    still_out (Page page) out = (out.0, inr out.1)
 
-append_all : (P : Region → Type 0) (regions : List Region) (last : Region) → AllByRecursion P regions → P last → AllByRecursion P (regions ++ last ∷ [])
-append_all P [] last all this = (this, tt)
-append_all P (region ∷ regions) last all this = (all.0, append_all P regions last all.1 this)
+    still : (region : Region) (half : Option (List ℕ)) → Settles doubts addressing addressing history region half → Settles doubts addressing addressing (step ∷ history) region half
+    still region None out = still_out region out
+    still region (Some bytes) read = inr read
 
-among_more : (regions : List Region) (last : Region) (key : Key) → IsKeyAmong regions key → IsKeyAmong (regions ++ last ∷ []) key
-among_more [] last key none = absurd none
-among_more (region ∷ regions) last key (inl this) = inl this
-among_more (region ∷ regions) last key (inr later) = inr (among_more regions last key later)
+    -- page 00h was read back in place of a page that was selected, or it was left out before
+    out_by : (P : Region → Type 0) → ((page : ℕ) → 0 < page → IsTrue (reads_back addressing 0 step) → WasTaken addressing page (trusted doubts history) → P (Page page)) → ((region : Region) → IsBefore region → P region) →
+        (region : Region) → IsLeftOut doubts addressing region (step ∷ history) → P region
+    out_by P now before (Lower dev) out = absurd out
+    out_by P now before FirstPage out = absurd out
+    out_by P now before (Page page) (above, inl shows) = now page above shows.0 shows.1
+    out_by P now before (Page page) (above, inr earlier) = before (Page page) (at.out (Page page) (above, earlier))
 
-among_last : (regions : List Region) (last : Region) (key : Key) → key ≡ key_of last → IsKeyAmong (regions ++ last ∷ []) key
-among_last [] last key e = inl e
-among_last (region ∷ regions) last key e = inr (among_last regions last key e)
+    read_by : (T : Type 0) (region : Region) (bytes : List ℕ) → (Gives (operation region) bytes step → IsShown doubts addressing region history → T) → (IsRead doubts addressing region bytes history → T) → IsRead doubts addressing region bytes (step ∷ history) → T
+    read_by T region bytes now before (inl reads) = now reads.0 reads.1
+    read_by T region bytes now before (inr earlier) = before earlier
 
-not_among : (regions : List Region) (hand : Region) → AllByRecursion (λ region. is_other region hand ≡ true) regions → IsKeyAmong regions (key_of hand) → ⊥
-not_among [] hand others none = none
-not_among (region ∷ regions) hand others (inl same) = same_keys region hand others.0 (sym same)
-not_among (region ∷ regions) hand others (inr later) = not_among regions hand others.1 later
-
-pub at_place : (earlier : List Region) (hand : Region) (later : List Region) → slice_get (earlier ++ hand ∷ later) (length earlier) ≡ Some hand
-at_place [] hand later = refl
-at_place (region ∷ earlier) hand later = at_place earlier hand later
-
--- ---- a half is settled
-
-module _ (doubts : Bool) where
-  in_hand_from : (addressing : PageAddressing) (history : History) (region : Region) → IsUntouched doubts addressing history region → IsInHand doubts addressing history region
-  in_hand_from addressing history region untouched = record { unread = untouched.unread; there = untouched.there; awaits = by region untouched } where
-    by : (region : Region) → IsUntouched doubts addressing history region → Awaits history region
-    by (Lower dev) untouched = tt
-    by FirstPage untouched = untouched.unselected
-    by (Page page) untouched = tt
-
-  -- then the next one is in hand, if there is one
-  pub goes_on : (earlier later : List Region) (halves : Halves) (history : History) → HasSettled doubts earlier later halves history → AllByRecursion (IsUntouched doubts (addressing_of halves.image) history) later → IsAt doubts halves history
-  goes_on earlier [] halves history has untouched = inr (inr (earlier, has))
-  goes_on earlier (hand ∷ later) halves history has untouched = inr (inl (
-    earlier,
-    hand,
-    later,
-    record { has = has; in_hand = in_hand_from (addressing_of halves.image) history hand untouched.0; untouched = untouched.1 },
-  ))
-
-  module _ (earlier : List Region) (hand : Region) (later : List Region) (halves : Halves) (history : History) (way : IsUnderWay doubts earlier hand later halves history) where
-    abbrev addressing : PageAddressing
-    addressing = addressing_of halves.image
-
-    abbrev known : KnownPage
-    known = way.has.told.0
-
-    tells : Tells addressing known (trusted doubts history)
-    tells = way.has.told.1
-
-    others : all_other (earlier ++ hand ∷ later) ≡ true
-    others = subst (λ regions. all_other regions ≡ true) way.has.regions (all_others halves.request halves.image)
-
-    earlier_others : AllByRecursion (λ region. is_other region hand ≡ true) earlier
-    earlier_others = of_earlier earlier hand later others
-
-    later_others : AllByRecursion (λ region. is_other hand region ≡ true) later
-    later_others = of_later earlier hand later others
-
-    not_lower : is_other (Lower A0) hand ≡ true
-    not_lower = (subst (AllByRecursion (λ region. is_other region hand ≡ true)) way.has.lower_first earlier_others).0
-
-    -- a step that leaves the image as it was
-    stays : (step : Step) → Known addressing (trusted doubts (step ∷ history)) → ((bytes : List ℕ) → Gives (Fetch A0 0 128) bytes step → ⊥) → HasSettled doubts earlier (hand ∷ later) halves (step ∷ history)
-    stays step told reads_not = record {
-      regions = way.has.regions;
-      lower_first = way.has.lower_first;
-      place = way.has.place;
-      room = way.has.room;
-      told = told;
-      brief = (working_is_unfinished doubts earlier hand later halves history way, way.has.brief);
-      settled = map_all earlier (λ region settled. stays_settled doubts region history step halves.image halves.image refl refl settled) way.has.settled;
-      only = way.has.only;
-      lower = λ bytes read. way.has.lower bytes (lower_before bytes read);
-    } where
-      lower_before : (bytes : List ℕ) → IsRead doubts addressing (Lower A0) bytes (step ∷ history) → IsRead doubts addressing (Lower A0) bytes history
-      lower_before bytes (inl now) = absurd (reads_not bytes now.0)
-      lower_before bytes (inr earlier) = earlier
-
-    -- a step that settles the half in hand
-    moves : (image : Memory) (step : Step) →
-        map.get image (lower_key A0) ≡ map.get halves.image (lower_key A0) →
-        AllByRecursion (λ region. map.get image (key_of region) ≡ map.get halves.image (key_of region)) earlier →
-        IsSettled doubts (step ∷ history) image hand →
-        ((key : Key) → IsTrue (map.contains_key image key) → IsTrue (map.contains_key halves.image key) ⊎ (key ≡ key_of hand)) →
-        map.len image ≤ map.len halves.image + 1 →
-        Known addressing (trusted doubts (step ∷ history)) → ((bytes : List ℕ) → Gives (Fetch A0 0 128) bytes step → ⊥) →
-        HasSettled doubts (earlier ++ hand ∷ []) later (record { request = halves.request; image = image; settled = halves.settled + 1 }) (step ∷ history)
-    moves image step same kept this only room told reads_not =
-        let asks = same_asked image halves.image same in
-        let same_way = same_paging image halves.image asks in
-        record {
-          regions = same_regions halves.request image halves.image asks ∙ way.has.regions ∙ sym (append_assoc earlier (hand ∷ []) later);
-          lower_first = subst (λ (regions : List Region). (regions ++ hand ∷ []) ≡ Lower A0 ∷ drop 1 (regions ++ hand ∷ [])) (sym way.has.lower_first) refl;
-          place = omega (arith, way.has.place, length-append earlier (hand ∷ []));
-          room = omega (arith, way.has.room, room, length-append earlier (hand ∷ []));
-          told = subst (λ (p : PageAddressing). Known p (trusted doubts (step ∷ history))) (sym same_way) told;
-          brief = (working_is_unfinished doubts earlier hand later halves history way, way.has.brief);
-          settled = append_all (IsSettled doubts (step ∷ history) image) earlier hand (both_all earlier (λ region kept settled. stays_settled doubts region history step halves.image image kept same_way settled) kept way.has.settled) this;
-          only = λ key there. among key (only key there);
-          lower = λ bytes read. same ∙ way.has.lower bytes (lower_before bytes read);
-        } where
-          lower_before : (bytes : List ℕ) → IsRead doubts (addressing_of image) (Lower A0) bytes (step ∷ history) → IsRead doubts addressing (Lower A0) bytes history
-          lower_before bytes (inl now) = absurd (reads_not bytes now.0)
-          lower_before bytes (inr earlier) = earlier
-
-          among : (key : Key) → IsTrue (map.contains_key halves.image key) ⊎ (key ≡ key_of hand) → IsKeyAmong (earlier ++ hand ∷ []) key
-          among key (inl before) = among_more earlier hand key (way.has.only key before)
-          among key (inr this) = among_last earlier hand key this
-
-    -- ---- the selection is read back
-
-    read_reads_not : (step : Step) → step.op ≡ read_selection addressing → (bytes : List ℕ) → Gives (Fetch A0 0 128) bytes step → ⊥
-    read_reads_not step reads bytes gives = no_read_back addressing (Lower A0) (sym gives.0 ∙ reads)
-
-    -- what is known after the step that is wanted
-    next_known : (step : Step) → step.op ≡ wanted addressing known (page_of hand) (operation hand) → Known addressing (trusted doubts (step ∷ history))
-    next_known step is =
-        trusts_next (Known addressing) doubts step history (Unknown, tells_nothing addressing)
-        (selected_after addressing known step, tells_next addressing known (operation hand) (trusted doubts history) (leaves_selection addressing hand) tells (page_of hand) step is)
-
-    abbrev wanted_by : Bool → Option ℕ → Op
-    wanted_by awaited missing = if awaited then read_selection addressing else selecting_first addressing (operation hand) missing
-
-    read_known : (step : Step) → is_open addressing (trusted doubts history) ≡ true → step.op ≡ read_selection addressing → Known addressing (trusted doubts (step ∷ history))
-    read_known step awaited reads =
-        next_known step (reads ∙ sym (ap (λ (b : Bool). wanted_by b (missing_page known (page_of hand))) (sym tells.awaited ∙ awaited)))
-
-    read_untouched : (step : Step) → step.op ≡ read_selection addressing → AllByRecursion (IsUntouched doubts addressing (step ∷ history)) later
-    read_untouched step reads = each_for_other doubts addressing history step later way.untouched (each later) where
-      each : (regions : List Region) → AllByRecursion (IsForOther doubts addressing history step) regions
-      each [] = tt
-      each (region ∷ regions) = (read_back_is_for_other doubts addressing history step region reads, each regions)
-
-    fetch_awaits : (region : Region) (step : Step) → IsFetch step.op → Awaits history region → Awaits (step ∷ history) region
-    fetch_awaits (Lower dev) step fetch awaits = tt
-    fetch_awaits FirstPage step fetch awaits = (fetch, awaits)
-    fetch_awaits (Page page) step fetch awaits = tt
-
-    -- page 00h in the place of the page would have been told
-    shown_there : (region : Region) (step : Step) → is_open addressing (trusted doubts history) ≡ true → step.op ≡ read_selection addressing → LacksNone true addressing (page_of region) step (trusted doubts history) → (IsLeftOut doubts addressing region history → ⊥) → IsLeftOut doubts addressing region (step ∷ history) → ⊥
-    shown_there (Lower dev) step awaited reads none there out = out
-    shown_there FirstPage step awaited reads none there out = out
-    shown_there (Page page) step awaited reads none there (above, inl now) =
-        none refl page refl (record { awaited = awaited; reads = reads; shows = (and_parts _ _ now.0).1; other = above; taken = now.1 })
-    shown_there (Page page) step awaited reads none there (above, inr earlier) = there (above, earlier)
-
-    reads_back_on : (step : Step) → is_open addressing (trusted doubts history) ≡ true → step.op ≡ read_selection addressing → LacksNone true addressing (page_of hand) step (trusted doubts history) → IsAt doubts halves (step ∷ history)
-    reads_back_on step awaited reads none =
-        let fetch = subst IsFetch (sym reads) (read_back_fetches addressing) in
-        inr (inl (
-          earlier,
-          hand,
-          later,
-          record {
-            has = stays step (read_known step awaited reads) (read_reads_not step reads);
-            in_hand = record {
-              unread = unread_yet doubts addressing hand history step way.in_hand.unread (λ bytes gives shown. no_read_back addressing hand (sym gives.0 ∙ reads));
-              there = shown_there hand step awaited reads none way.in_hand.there;
-              awaits = fetch_awaits hand step fetch way.in_hand.awaits;
-            };
-            untouched = read_untouched step reads;
-          },
-        ))
-
-    not_held : (half : Option (List ℕ)) → map.get halves.image (key_of hand) ≡ half → half ≡ None
-    not_held None e = refl
-    not_held (Some bytes) e = absurd (not_among earlier hand earlier_others (way.has.only (key_of hand) (ap is_some e)))
-
-    all_same : (regions : List Region) → AllByRecursion (λ region. map.get halves.image (key_of region) ≡ map.get halves.image (key_of region)) regions
-    all_same [] = tt
-    all_same (region ∷ regions) = (refl, all_same regions)
-
-    page_is : (region : Region) (page : ℕ) → page_of region ≡ Some page → region ≡ Page page
-    page_is (Lower dev) page e = absurd cc
-    page_is FirstPage page e = absurd cc
-    page_is (Page other) page e = let same : other ≡ page = cc in ap (λ (n : ℕ). Page n) same
-
-    -- page 00h was read back in the place of the page that was selected
-    left_out : (page : ℕ) (step : Step) → page_of hand ≡ Some page → ShowsNone addressing page step (trusted doubts history) → IsAt doubts (record { request = halves.request; image = halves.image; settled = halves.settled + 1 }) (step ∷ history)
-    left_out page step needs shows =
-        let zeros : reads_back addressing 0 step ≡ true = and_from _ _ (ap (same_op (read_selection addressing)) shows.reads ∙ reads_itself addressing) shows.shows in
-        let out : IsLeftOut doubts addressing hand (step ∷ history) = subst (λ (region : Region). IsLeftOut doubts addressing region (step ∷ history)) (sym (page_is hand page needs)) (shows.other, inl (zeros, shows.taken)) in
-        let Settled : Option (List ℕ) → Type 0 = λ half. MatchOption half (IsLeftOut doubts addressing hand (step ∷ history)) (λ bytes. IsRead doubts addressing hand bytes (step ∷ history)) in
-        let this = subst Settled (sym (not_held (map.get halves.image (key_of hand)) refl)) out in
-        goes_on (earlier ++ hand ∷ []) later (record { request = halves.request; image = halves.image; settled = halves.settled + 1 }) (step ∷ history)
-        (moves halves.image step refl (all_same earlier) this (λ key there. inl there) (omega arith) (read_known step shows.awaited shows.reads) (read_reads_not step shows.reads))
-        (read_untouched step shows.reads)
-
-    -- ---- a page is selected
-
-    still_there : (region : Region) (step : Step) → reads_back addressing 0 step ≡ false → (IsLeftOut doubts addressing region history → ⊥) → IsLeftOut doubts addressing region (step ∷ history) → ⊥
-    still_there (Lower dev) step e there out = out
-    still_there FirstPage step e there out = out
-    still_there (Page page) step e there (above, inl now) = contradicts now.0 e
-    still_there (Page page) step e there (above, inr earlier) = there (above, earlier)
-
-    each_other : (page : ℕ) (step : Step) → step.op ≡ selection addressing page → (regions : List Region) → AllByRecursion (λ region. is_other (Page page) region ≡ true) regions → AllByRecursion (IsForOther doubts addressing history step) regions
-    each_other page step e [] apart = tt
-    each_other page step e (region ∷ regions) apart = (selection_is_for_other doubts addressing history step page region apart.0 e, each_other page step e regions apart.1)
-
-    unknown_is : (page : ℕ) → is_page_confirmed addressing page (trusted doubts history) ≡ false → missing_page known (Some page) ≡ Some page
-    unknown_is page unconfirmed = ap (λ (b : Bool). if b then None else Some page) (sym (tells.known page) ∙ unconfirmed)
-
-    closed_is : is_open addressing (trusted doubts history) ≡ false → is_awaited known ≡ false
-    closed_is closed = sym tells.awaited ∙ closed
-
-    selects : (page : ℕ) (step : Step) → page_of hand ≡ Some page → is_open addressing (trusted doubts history) ≡ false → is_page_confirmed addressing page (trusted doubts history) ≡ false → step.op ≡ selection addressing page → IsAt doubts halves (step ∷ history)
-    selects page step needs closed unconfirmed chosen =
-        let is = page_is hand page needs in
-        let missing : missing_page known (page_of hand) ≡ Some page = ap (missing_page known) needs ∙ unknown_is page unconfirmed in
-        let selects : wanted addressing known (page_of hand) (operation hand) ≡ selection addressing page = λ i. wanted_by (closed_is closed i) (missing i) in
-        let told = next_known step (chosen ∙ sym selects) in
-        let no_zeros : reads_back addressing 0 step ≡ false = ap (λ (o : Op). same_op (read_selection addressing) o && is_page addressing 0 step.reply) chosen ∙ (λ i. selects_alone addressing page i && is_page addressing 0 step.reply) in
-        inr (inl (
-          earlier,
-          hand,
-          later,
-          record {
-            has = stays step told (λ bytes gives. no_selection addressing page (Lower A0) (sym gives.0 ∙ chosen));
-            in_hand = record {
-              unread = unread_yet doubts addressing hand history step way.in_hand.unread (λ bytes gives shown. no_selection addressing page hand (sym gives.0 ∙ chosen));
-              there = still_there hand step no_zeros way.in_hand.there;
-              awaits = subst (Awaits (step ∷ history)) (sym is) tt;
-            };
-            untouched = each_for_other doubts addressing history step later way.untouched
-                (each_other page step chosen later (subst (λ (region : Region). AllByRecursion (λ other. is_other region other ≡ true) later) is later_others));
-          },
-        ))
-
-    -- ---- the half itself is fetched
-
-    own_known : (step : Step) → step.op ≡ operation hand → is_open addressing (trusted doubts history) ≡ false → is_on addressing (page_of hand) (trusted doubts history) ≡ true → Known addressing (trusted doubts (step ∷ history))
-    own_known step own closed on =
-        let fetches : wanted addressing known (page_of hand) (operation hand) ≡ operation hand = λ i. wanted_by (closed_is closed i) (none_missing (page_of hand) on i) in
-        next_known step (own ∙ sym fetches)
+    -- what was selected, after a step that selects nothing
+    fetch_taken : IsFetch step.op → (P : ℕ → Type 0) → ((page : ℕ) → IsAmong (all_of halves) (halves.settled + 1) (Page page) → P page) → (page : ℕ) → WasTaken addressing page (trusted doubts (step ∷ history)) → P page
+    fetch_taken fetch P more =
+        trusts_next (λ (steps : History). (page : ℕ) → WasTaken addressing page steps → P page) doubts step history (λ page none. absurd none) next
       where
-        none_missing : (page : Option ℕ) → is_on addressing page (trusted doubts history) ≡ true → missing_page known page ≡ None
-        none_missing None on = refl
-        none_missing (Some page) on = ap (λ (b : Bool). if b then None else Some page) (sym (tells.known page) ∙ on)
+        next : (page : ℕ) → WasTaken addressing page (step ∷ trusted doubts history) → P page
+        next page (inl now) = absurd (selection_stores addressing page (subst IsFetch now.0 fetch))
+        next page (inr earlier) = more page (at.taken page earlier.1)
 
-    shown : (region : Region) → is_on addressing (page_of region) (trusted doubts history) ≡ true → Awaits history region → IsShown doubts addressing region history
-    shown (Lower dev) on awaits = tt
-    shown FirstPage on awaits = awaits
-    shown (Page page) on awaits = on
+    fetch_stored : IsFetch step.op → (P : ℕ → Type 0) → ((page : ℕ) → IsAmong (all_of halves) (halves.settled + 1) (Page page) → P page) → StoresNothing (step ∷ history) ⊎ ((page : ℕ) × P page)
+    fetch_stored fetch P more = elim at.stored [
+      | inl none ↦ inl (fetch, none)
+      | inr some ↦ (let (page, among) = some in inr (page, more page among))
+    ]
 
-    own_reads_not : (step : Step) → step.op ≡ operation hand → (bytes : List ℕ) → Gives (Fetch A0 0 128) bytes step → ⊥
-    own_reads_not step own bytes gives = other_reads hand not_lower (sym own ∙ gives.0)
+    -- ---- a step that leaves the image as it was
 
-    own_untouched : (step : Step) → step.op ≡ operation hand → IsShown doubts addressing hand history → AllByRecursion (IsUntouched doubts addressing (step ∷ history)) later
-    own_untouched step own there = each_for_other doubts addressing history step later way.untouched (each later later_others) where
-      each : (regions : List Region) → AllByRecursion (λ region. is_other hand region ≡ true) regions → AllByRecursion (IsForOther doubts addressing history step) regions
-      each [] apart = tt
-      each (region ∷ regions) apart = (fetch_is_for_other doubts addressing known history step hand region tells apart.0 there own, each regions apart.1)
+    abbrev IsInList : ℕ → Type 0
+    IsInList page = IsAmong (all_of halves) (halves.settled + 1) (Page page)
 
-    fetch_refused : is_open addressing (trusted doubts history) ≡ false → is_on addressing (page_of hand) (trusted doubts history) ≡ true → IsAt doubts halves (step_of (operation hand) Refused ∷ history)
-    fetch_refused closed on =
-        let step = step_of (operation hand) Refused in
-        let no_zeros : reads_back addressing 0 step ≡ false = λ i. (leaves_selection addressing hand).not_reading_back i && is_page addressing 0 Refused in
-        inr (inl (
-          earlier,
-          hand,
-          later,
-          record {
-            has = stays step (own_known step refl closed on) (own_reads_not step refl);
-            in_hand = record {
-              unread = unread_yet doubts addressing hand history step way.in_hand.unread (λ bytes gives there. (let reply = gives.1 in cc));
-              there = still_there hand step no_zeros way.in_hand.there;
-              awaits = fetch_awaits hand step (reads_fetch hand) way.in_hand.awaits;
-            };
-            untouched = own_untouched step refl (shown hand on way.in_hand.awaits);
-          },
+    stays : ((region : Region) → step.op ≡ operation region → step.reply ≡ Refused) → ((page : ℕ) → 0 < page → IsTrue (reads_back addressing 0 step) → WasTaken addressing page (trusted doubts history) → IsBefore (Page page)) →
+        ((page : ℕ) → WasTaken addressing page (trusted doubts (step ∷ history)) → IsInList page) → (StoresNothing (step ∷ history) ⊎ ((page : ℕ) × IsInList page)) → IsKnown doubts addressing (step ∷ history) → IsAt doubts addressing halves (step ∷ history)
+    stays refused shows taken stored known = record {
+      room = at.room;
+      brief = (unfinished doubts addressing halves fits history at hand is, at.brief);
+      settled = λ region among. still region (map.get halves.image (key_of region)) (at.settled region among);
+      only = at.only;
+      read = λ region bytes. read_by (IsBefore region × (map.get halves.image (key_of region) ≡ Some bytes)) region bytes (λ gives there. absurd (not_given bytes (sym (refused region gives.0) ∙ gives.1))) (at.read region bytes);
+      out = out_by IsBefore shows (λ region before. before);
+      taken = taken;
+      stored = stored;
+      known = known;
+      awaits = λ awaited. (hand, is);
+    }
+
+    reads_back_on : is_open addressing (trusted doubts history) ≡ true → step.op ≡ read_selection addressing → LacksNone true addressing (page_of hand) step (trusted doubts history) → IsAt doubts addressing halves (step ∷ history)
+    reads_back_on awaited reads none =
+        let fetch = subst IsFetch (sym reads) (read_is_fetch addressing) in
+        stays (λ region own. absurd (no_read_back addressing region (sym own ∙ reads))) before (fetch_taken fetch IsInList (λ page in_list. in_list)) (fetch_stored fetch IsInList (λ page in_list. in_list))
+        (knows_read_back doubts addressing history at.known step awaited reads)
+      where
+        before : (page : ℕ) → 0 < page → IsTrue (reads_back addressing 0 step) → WasTaken addressing page (trusted doubts history) → IsBefore (Page page)
+        before page above zeros taken = elim (before_or_hand (Page page) (at.taken page taken)) [
+          | inl earlier ↦ earlier
+          | inr same ↦ absurd (none refl page (ap page_of same) (record { awaited = awaited; reads = reads; shows = (and_parts _ _ zeros).1; other = above; taken = taken }))
+        ]
+
+    not_shown : same_op (read_selection addressing) step.op ≡ false → (page : ℕ) → 0 < page → IsTrue (reads_back addressing 0 step) → WasTaken addressing page (trusted doubts history) → IsBefore (Page page)
+    not_shown other page above zeros taken = absurd (true≢false (sym (and_parts _ _ zeros).0 ∙ other))
+
+    selects : (page : ℕ) → page_of hand ≡ Some page → is_open addressing (trusted doubts history) ≡ false → is_page_confirmed addressing page (trusted doubts history) ≡ false → step.op ≡ selection addressing page → IsAt doubts addressing halves (step ∷ history)
+    selects page needs closed unconfirmed chosen =
+        stays (λ region own. absurd (selection_stores addressing page (subst IsFetch (sym own ∙ chosen) (reads_fetch region)))) (not_shown (ap (same_op (read_selection addressing)) chosen ∙ selects_alone addressing page))
+        (trusts_next (λ (steps : History). (other : ℕ) → WasTaken addressing other steps → IsInList other) doubts step history (λ other none. absurd none) taken) (inr (page, here page refl))
+        (knows_selection doubts addressing history at.known step page closed unconfirmed chosen)
+      where
+        here : (other : ℕ) → page ≡ other → IsInList other
+        here other same = (halves.settled, omega arith, is ∙ ap (λ (region : Region). Some region) (page_is hand page needs) ∙ ap (λ (n : ℕ). Some (Page n)) same)
+
+        taken : (other : ℕ) → WasTaken addressing other (step ∷ trusted doubts history) → IsInList other
+        taken other (inl now) = here other (same_page addressing page other (sym chosen ∙ now.0))
+        taken other (inr earlier) = absurd (selection_stores addressing page (subst IsFetch chosen earlier.0))
+
+    fetch_refused : step.op ≡ operation hand → step.reply ≡ Refused → is_open addressing (trusted doubts history) ≡ false → IsAt doubts addressing halves (step ∷ history)
+    fetch_refused own refused closed =
+        let fetch = subst IsFetch (sym own) (reads_fetch hand) in
+        stays (λ region same. refused) (not_shown (ap (same_op (read_selection addressing)) own ∙ (leaves_selection addressing hand).not_reading_back)) (fetch_taken fetch IsInList (λ page in_list. in_list)) (fetch_stored fetch IsInList (λ page in_list. in_list))
+        (knows_fetch doubts addressing history at.known step hand closed own)
+
+    -- ---- a step that settles the half in hand
+
+    module _ (image : Memory) (same : (n : ℕ) → n ≤ halves.settled → slice_get (regions_of halves.request image) n ≡ slice_get (all_of halves) n) where
+      abbrev IsIn : ℕ → Region → Type 0
+      IsIn count region = IsAmong (regions_of halves.request image) count region
+
+      carry : (count more : ℕ) (region : Region) → count ≤ halves.settled + 1 → count ≤ more → IsAmong (all_of halves) count region → IsIn more region
+      carry count more region few fewer (n, less, there) = (n, omega (arith, less, fewer), same n (omega (arith, less, few)) ∙ there)
+
+      back : (region : Region) → IsIn (halves.settled + 1) region → IsAmong (all_of halves) (halves.settled + 1) region
+      back region (n, few, there) = (n, few, sym (same n (omega (arith, few))) ∙ there)
+
+      from_before : (region : Region) → IsBefore region → IsIn (halves.settled + 1) region
+      from_before region before = carry halves.settled (halves.settled + 1) region (omega arith) (omega arith) before
+
+      settles : ((region : Region) → IsBefore region → map.get image (key_of region) ≡ map.get halves.image (key_of region)) → Settles doubts addressing addressing (step ∷ history) hand (map.get image (key_of hand)) →
+          ((key : Key) → IsTrue (map.contains_key image key) → IsTrue (map.contains_key halves.image key) ⊎ (key ≡ key_of hand)) → map.len image ≤ map.len halves.image + 1 →
+          ((region : Region) (bytes : List ℕ) → Gives (operation region) bytes step → IsShown doubts addressing region history → (hand ≡ region) × (map.get image (key_of region) ≡ Some bytes)) →
+          IsFetch step.op → IsKnown doubts addressing (step ∷ history) → is_open addressing (trusted doubts (step ∷ history)) ≡ false →
+          IsAt doubts addressing (record { request = halves.request; image = image; settled = halves.settled + 1 }) (step ∷ history)
+      settles keeps this only few read fetch known closed = record {
+        room = omega (arith, at.room, few);
+        brief = (unfinished doubts addressing halves fits history at hand is, at.brief);
+        settled = λ region among. elim (before_or_hand region (back region among)) [
+          | inl before ↦ subst (Settles doubts addressing addressing (step ∷ history) region) (sym (keeps region before)) (still region (map.get halves.image (key_of region)) (at.settled region before))
+          | inr now ↦ subst (λ (r : Region). Settles doubts addressing addressing (step ∷ history) r (map.get image (key_of r))) now this
+        ];
+        only = λ key there. elim (only key there) [
+          | inl before ↦ (let (region, among, e) = at.only key before in (region, from_before region among, e))
+          | inr now ↦ (hand, here, now)
+        ];
+        read = λ region bytes. read_by (IsIn (halves.settled + 1) region × (map.get image (key_of region) ≡ Some bytes)) region bytes
+            (λ gives there. (let (e, held) = read region bytes gives there in (subst (IsIn (halves.settled + 1)) e here, held)))
+            (λ earlier. (let (before, held) = at.read region bytes earlier in (from_before region before, keeps region before ∙ held)));
+        out = out_by (IsIn (halves.settled + 1)) (λ page above zeros taken. carry (halves.settled + 1) (halves.settled + 1) (Page page) (omega arith) (omega arith) (at.taken page taken)) from_before;
+        taken = fetch_taken fetch (λ page. IsIn (halves.settled + 1 + 1) (Page page)) (λ page. further (Page page));
+        stored = fetch_stored fetch (λ page. IsIn (halves.settled + 1 + 1) (Page page)) (λ page. further (Page page));
+        known = known;
+        awaits = λ awaited. absurd (true≢false (sym awaited ∙ closed));
+      } where
+        here : IsIn (halves.settled + 1) hand
+        here = (halves.settled, omega arith, same halves.settled (omega arith) ∙ is)
+
+        further : (region : Region) → IsAmong (all_of halves) (halves.settled + 1) region → IsIn (halves.settled + 1 + 1) region
+        further region among = carry (halves.settled + 1) (halves.settled + 1 + 1) region (omega arith) (omega arith) among
+
+    -- flat memory shows its first page as long as nothing is stored
+    shown : (region : Region) → hand ≡ region → is_on addressing (page_of region) (trusted doubts history) ≡ true → IsShown doubts addressing region history
+    shown (Lower dev) same on = tt
+    shown (Page page) same on = on
+    shown FirstPage same on = elim at.stored [
+      | inl none ↦ none
+      | inr some ↦ absurd (let (page, among) = some in beside page (before_or_hand (Page page) among))
+    ] where
+      beside : (page : ℕ) → IsBefore (Page page) ⊎ (hand ≡ Page page) → ⊥
+      beside page (inl (n, few, there)) = none_paged halves.request halves.image n halves.settled (Page page) hand few there is page refl same
+      beside page (inr other) = let never = sym same ∙ other in cc
+
+    fetch_answered : (bytes : ArrayVec ℕ) → step.op ≡ operation hand → step.reply ≡ Bytes bytes → is_open addressing (trusted doubts history) ≡ false → is_on addressing (page_of hand) (trusted doubts history) ≡ true →
+        IsAt doubts addressing (reader.keeping halves hand bytes.items) (step ∷ history)
+    fetch_answered bytes own answered closed on =
+        settles image same (λ region before. kept.puts_other halves.image (key_of hand) bytes.items (key_of region) (other_keys halves.request halves.image before.0 halves.settled region hand before.1 before.2 is))
+        (subst (Settles doubts addressing addressing (step ∷ history) hand) (sym own_held) (inl ((own, answered), there)))
+        (kept.puts_only halves.image (key_of hand) bytes.items) (kept.puts_few halves.image (key_of hand) bytes.items)
+        (λ region other gives shows. (
+        let e = same_half doubts addressing history at.known hand region (sym own ∙ gives.0) there shows in
+        (e, ap (λ (r : Region). map.get image (key_of r)) (sym e) ∙ own_held ∙ ap (λ (reply : Reply). Some (given_by reply)) (sym answered ∙ gives.1))
         ))
+        (subst IsFetch (sym own) (reads_fetch hand)) (knows_fetch doubts addressing history at.known step hand closed own)
+        (trusts_next (λ (steps : History). is_open addressing steps ≡ false) doubts step history refl (ap (λ (op : Op). may_select addressing op || (same_op (read_selection addressing) op && not (is_read step.reply))) own
+        ∙ (λ i. apart.not_selecting i || (apart.not_reading_back i && not (is_read step.reply)))))
+      where
+        image : Memory
+        image = reader.put_in halves.image (key_of hand) bytes.items
 
-    abbrev kept_image : List ℕ → Memory
-    kept_image bytes = map.insert halves.image (key_of hand) bytes
+        there : IsShown doubts addressing hand history
+        there = shown hand refl on
 
-    gets_other : (bytes : List ℕ) (region : Region) → is_other region hand ≡ true → map.get (kept_image bytes) (key_of region) ≡ map.get halves.image (key_of region)
-    gets_other bytes region other = kept.gets_other halves.image (key_of hand) bytes (key_of region) (other_keys region hand other)
+        apart : IsApart addressing (operation hand)
+        apart = leaves_selection addressing hand
 
-    -- there is room for it
-    has_room : map.len halves.image < most_pages
-    has_room =
-        let five = at_most_five halves.request halves.image in
-        let all : length (regions_of halves.request halves.image) ≡ length (earlier ++ hand ∷ later) = ap (λ (regions : List Region). length regions) way.has.regions in
-        omega (arith, way.has.room, five, all, length-append earlier (hand ∷ later))
+        own_held : map.get image (key_of hand) ≡ Some bytes.items
+        own_held = kept.puts_own halves.image (key_of hand) bytes.items (let within = slice_get_within (regions_of halves.request halves.image) halves.settled hand is in omega (arith, at.room, within, at_most_five halves.request halves.image))
 
-    fetch_answered : is_open addressing (trusted doubts history) ≡ false → is_on addressing (page_of hand) (trusted doubts history) ≡ true → (bytes : ArrayVec ℕ) → IsAt doubts (record { request = halves.request; image = kept_image bytes.items; settled = halves.settled + 1 }) (step_of (operation hand) (Bytes bytes) ∷ history)
-    fetch_answered closed on bytes =
-        let step = step_of (operation hand) (Bytes bytes) in
-        let there = shown hand on way.in_hand.awaits in
-        let image = kept_image bytes.items in
-        let same = gets_other bytes.items (Lower A0) not_lower in
-        let same_way : addressing ≡ addressing_of image = sym (same_paging image halves.image (same_asked image halves.image same)) in
-        let read : IsRead doubts addressing hand bytes.items (step ∷ history) = inl ((refl, refl), there) in
-        let Settled : PageAddressing → Option (List ℕ) → Type 0 = λ p half. MatchOption half (IsLeftOut doubts p hand (step ∷ history)) (λ bytes. IsRead doubts p hand bytes (step ∷ history)) in
-        let this = subst (λ (half : Option (List ℕ)). Settled (addressing_of image) half) (sym (kept.gets_own halves.image (key_of hand) bytes.items)) (subst (λ (p : PageAddressing). Settled p (Some bytes.items)) same_way read) in
-        goes_on (earlier ++ hand ∷ []) later (record { request = halves.request; image = image; settled = halves.settled + 1 }) (step ∷ history)
-        (moves image step same (map_all earlier (gets_other bytes.items) earlier_others) this (kept.holds_only halves.image (key_of hand) bytes.items) (kept.few_more halves.image (key_of hand) bytes.items) (own_known step refl closed on) (own_reads_not step refl))
-        (subst (λ (p : PageAddressing). AllByRecursion (IsUntouched doubts p (step ∷ history)) later) same_way (own_untouched step refl there))
+        same : (n : ℕ) → n ≤ halves.settled → slice_get (regions_of halves.request image) n ≡ slice_get (all_of halves) n
+        same zero few = first_is halves.request image ∙ sym (first_is halves.request halves.image)
+        same (suc n) few = ap (λ (regions : List Region). slice_get regions (suc n)) (same_regions image halves.image (keeps_lower halves hand bytes.items (omega (arith, few)) is) halves.request)
 
-    no_done : (region : Region) → Answers (operation region) Done → ⊥
-    no_done (Lower dev) none = none
-    no_done FirstPage none = none
-    no_done (Page page) none = none
+    pub fetched : (reply : Reply) → step.reply ≡ reply → step.op ≡ operation hand → Answers (operation hand) reply → is_open addressing (trusted doubts history) ≡ false → is_on addressing (page_of hand) (trusted doubts history) ≡ true →
+        IsAt doubts addressing (reader.after_fetch (Some hand) halves reply) (step ∷ history)
+    fetched (Bytes bytes) e own answers closed on = fetch_answered bytes own e closed on
+    fetched Done e own answers closed on = absurd (no_done hand answers)
+    fetched Refused e own answers closed on = fetch_refused own e closed
 
-    fetched : is_open addressing (trusted doubts history) ≡ false → is_on addressing (page_of hand) (trusted doubts history) ≡ true → (reply : Reply) → Answers (operation hand) reply → IsAt doubts (reader.after_fetch (Some hand) halves reply) (step_of (operation hand) reply ∷ history)
-    fetched closed on (Bytes bytes) answers = subst (λ (image : Memory). IsAt doubts (record { request = halves.request; image = image; settled = halves.settled + 1 }) (step_of (operation hand) (Bytes bytes) ∷ history)) (kept.put_is halves.image (key_of hand) bytes.items has_room) (fetch_answered closed on bytes)
-    fetched closed on Done answers = absurd (no_done hand answers)
-    fetched closed on Refused answers = fetch_refused closed on
+    pub selected : IsSelecting addressing (page_of hand) step.op (trusted doubts history) → LacksNone true addressing (page_of hand) step (trusted doubts history) → IsAt doubts addressing halves (step ∷ history)
+    selected (inl (awaited, reads)) none = reads_back_on awaited reads none
+    selected (inr (closed, (page, needs, unconfirmed, chosen))) none = selects page needs closed unconfirmed chosen
 
-    -- ---- whichever comes
+    pub left_out : (page : ℕ) → page_of hand ≡ Some page → ShowsNone addressing page step (trusted doubts history) → IsAt doubts addressing (record { request = halves.request; image = halves.image; settled = halves.settled + 1 }) (step ∷ history)
+    left_out page needs shows =
+        settles halves.image (λ n few. refl) (λ region before. refl) (subst (Settles doubts addressing addressing (step ∷ history) hand) (sym (not_held (map.get halves.image (key_of hand)) refl)) out) (λ key there. inl there) (omega arith)
+        (λ region bytes gives there. absurd (no_read_back addressing region (sym gives.0 ∙ shows.reads))) (subst IsFetch (sym shows.reads) (read_is_fetch addressing)) (knows_read_back doubts addressing history at.known step shows.awaited shows.reads)
+        (trusts_next (λ (steps : History). is_open addressing steps ≡ false) doubts step history refl (ap (λ (op : Op). may_select addressing op || (same_op (read_selection addressing) op && not (is_read step.reply))) shows.reads
+        ∙ (λ i. reads_alone addressing i || (reads_itself addressing i && not (is_read step.reply))) ∙ ap not (answered step.reply shows.shows)))
+      where
+        out : IsLeftOut doubts addressing hand (step ∷ history)
+        out = subst (λ (region : Region). IsLeftOut doubts addressing region (step ∷ history)) (sym (page_is hand page needs))
+            (shows.other, inl (and_from _ _ (ap (same_op (read_selection addressing)) shows.reads ∙ reads_itself addressing) shows.shows, shows.taken))
 
-    pub selecting_turn : (step : Step) → IsSelecting addressing (page_of hand) step.op (trusted doubts history) → LacksNone true addressing (page_of hand) step (trusted doubts history) → IsAt doubts halves (step ∷ history)
-    selecting_turn step (inl (awaited, reads)) none = reads_back_on step awaited reads none
-    selecting_turn step (inr (closed, (page, needs, unconfirmed, chosen))) none = selects page step needs closed unconfirmed chosen
+        not_held : (half : Option (List ℕ)) → map.get halves.image (key_of hand) ≡ half → half ≡ None
+        not_held None e = refl
+        not_held (Some bytes) e = absurd (let (region, before, same) = at.only (key_of hand) (ap is_some e) in not_before doubts addressing halves fits history at hand is region before (sym same))
 
-    pub own_turn : (step : Step) → step.op ≡ operation hand → Answers step.op step.reply → is_open addressing (trusted doubts history) ≡ false → is_on addressing (page_of hand) (trusted doubts history) ≡ true → IsAt doubts (reader.after_fetch (Some hand) halves step.reply) (step ∷ history)
-    own_turn step own answers closed on =
-        subst (λ (s : Step). IsAt doubts (reader.after_fetch (Some hand) halves step.reply) (s ∷ history)) (λ i. step_of (sym own i) step.reply) (fetched closed on step.reply (subst (λ (o : Op). Answers o step.reply) own answers))
-
-    pub lacking_turn : (page : ℕ) (step : Step) → page_of hand ≡ Some page → ShowsNone addressing page step (trusted doubts history) → IsAt doubts (record { request = halves.request; image = halves.image; settled = halves.settled + 1 }) (step ∷ history)
-    lacking_turn page step needs shows = left_out page step needs shows
+        answered : (reply : Reply) → is_page addressing 0 reply ≡ true → is_read reply ≡ true
+        answered (Bytes bytes) e = refl
+        answered Done e = absurd cc
+        answered Refused e = absurd cc

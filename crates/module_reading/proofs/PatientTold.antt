@@ -1,7 +1,6 @@
 -- A reading with pauses and in pieces: what it was told is what a reading of whole halves was told.
-use Rattle.std.proofs.Common.{◌≡◌, ◌≤◌, ◌+◌, ℕ, true, List, [], ◌∷◌, length, Option, sym, ap, subst, inl, inr, arith}
+use Rattle.std.proofs.Common.{◌≡◌, ◌≤◌, ℕ, true, List, [], ◌∷◌, length, Option, sym, ap, subst, inl, inr, arith}
 use Rattle.bus_model.specs.declared.operation.Op.{Op}
-use Rattle.bus_model.specs.declared.operation.Step.{Step}
 use Rattle.conversations.specs.declared.event.Event.TheVariants.{Asked, Lacked, Made, Waited}
 use Rattle.conversations.specs.declared.next.Next.{Next}
 use Rattle.conversations.specs.declared.on_page.OnPage.{OnPage}

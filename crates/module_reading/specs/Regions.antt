@@ -1,7 +1,7 @@
 -- The halves of a module that are read over a bus: the lower one of A0, and those that are requested of the ones that its fields stand
 -- in. (docs/bus.md, "Reading an image"; OIF-CMIS-05.0, "Management Memory Map"; SFF-8636, "Memory Map"; SFF-8472, "Memory Organization"
 -- and "Diagnostic Monitoring Type")
-use Rattle.std.specs.Prelude.{ℕ, ◌==◌, ◌&&◌, not, nat_lt, Bool, false, List, [], ◌∷◌, ◌++◌, Option, Some, None, if◌then◌else◌}
+use Rattle.std.specs.Prelude.{ℕ, ◌==◌, ◌&&◌, not, Bool, List, [], ◌∷◌, ◌++◌, Option, Some, None, if◌then◌else◌}
 use Rattle.std.specs.Int.{bit_at}
 use Rattle.bus_model.specs.declared.device.Dev.TheVariants.{A0, A2}
 use Rattle.bus_model.specs.declared.operation.Op.{Op}
@@ -35,12 +35,6 @@ abbrev pub key_of : Region → Key
 key_of (Lower dev) = lower_key dev
 key_of FirstPage = upper_key A0 0 0
 key_of (Page page) = upper_key A0 0 page
-
--- a selected page other than 00h
-abbrev pub may_lack : Region → Bool
-may_lack (Lower dev) = false
-may_lack FirstPage = false
-may_lack (Page page) = nat_lt 0 page
 
 -- all families have the identifier in the same byte
 abbrev pub identifier : Memory → ℕ

@@ -27,7 +27,7 @@ impl Default for Region {
 }
 
 impl Region {
-    ghost use Rattle.module_reading.specs.Regions.{key_of, may_lack, operation, page_of};
+    ghost use Rattle.module_reading.specs.Regions.{key_of, operation, page_of};
 
     /// The fetch that reads it.
     pub fn op(self) -> Op
@@ -64,12 +64,5 @@ impl Region {
             Region::FirstPage => Key::upper(Dev::A0, 0, 0),
             Region::Page(page) => Key::upper(Dev::A0, 0, page),
         }
-    }
-
-    /// Whether a module that has been asked for it may show page 00h in its place.
-    pub fn may_lack(self) -> bool
-        ensures { result ≡ may_lack self }
-    {
-        matches!(self, Region::Page(1..))
     }
 }
