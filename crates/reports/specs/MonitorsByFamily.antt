@@ -6,18 +6,20 @@ use Rattle.paged_memory.specs.declared.family.Family.TheVariants.{Cmis, Sff8636,
 use Rattle.paged_memory.specs.Images.{Memory}
 use Rattle.module_decoding.specs.CmisPages.{absent_page, monitor_pages}
 use Rattle.module_decoding.specs.ModuleFamilies.{family_of}
+use Rattle.sff8636_map.specs.Refusals as sff8636_refusals
+use Rattle.sff8472_map.specs.Refusals as sff8472_refusals
 use Rattle.reports.specs.CmisMonitors as cmis
 use Rattle.reports.specs.SffMonitors as sff
 use Rattle.reports.specs.declared.fault.ReportFault.{ReportFault}
 use Rattle.report_entries.specs.Entries.{Entry}
 use Rattle.report_entries.specs.EntryText.{entries_lines}
-use Rattle.reports.specs.Families.{lacks, module_fault}
+use Rattle.reports.specs.Families.{lacks, module_fault, of_sff}
 
 -- why there is no such report of a module of this family
 abbrev pub fault_in : Family → Memory → Option ReportFault
 fault_in Cmis memory = lacks (absent_page (monitor_pages memory) memory)
-fault_in Sff8636 memory = sff.sff8636_fault memory
-fault_in Sff8472 memory = sff.sff8472_fault memory
+fault_in Sff8636 memory = of_sff (sff8636_refusals.measured_fault memory)
+fault_in Sff8472 memory = of_sff (sff8472_refusals.measured_fault memory)
 
 abbrev pub entries_in : Family → Memory → List Entry
 entries_in Cmis memory = cmis.monitors_entries memory

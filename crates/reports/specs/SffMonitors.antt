@@ -1,21 +1,14 @@
 -- What a module of SFF-8636 or SFF-8472 measures. (docs/formats.md, "monitors"; SFF-8636, "Free Side Device Monitors",
 -- "Channel Monitors" and their thresholds; SFF-8472, "Real Time Diagnostic and Control Registers" and "Alarm and Warning
 -- Thresholds")
-use Rattle.std.specs.Prelude.{false, List, [], ◌∷◌, Option, None, codes}
+use Rattle.std.specs.Prelude.{false, List, [], ◌∷◌, None, codes}
 use Rattle.paged_memory.specs.Images.{Memory}
 use Rattle.field_tables.specs.declared.field.Field.TheVariants as fields
 use Rattle.field_tables.specs.declared.field.Field.TheVariants.{QFlatMemory}
 use Rattle.field_tables.specs.declared.field.Sum.TheVariants as sums
 use Rattle.field_tables.specs.Readings.{bit}
-use Rattle.sff8636_map.specs.Refusals as qsfp_refusals
-use Rattle.sff8472_map.specs.Refusals as sfp_refusals
-use Rattle.reports.specs.declared.fault.ReportFault.{ReportFault}
 use Rattle.report_entries.specs.Entries.{Entry}
-use Rattle.reports.specs.Families.{of_sff}
 use Rattle.report_entries.specs.Rows.{Row, Amount, Lanes, Limits, Right, always, if_paged, rows_entries}
-
-abbrev pub sff8636_fault : Memory → Option ReportFault
-sff8636_fault memory = of_sff (qsfp_refusals.measured_fault memory)
 
 unfoldable pub qsfp_rows : List Row
 qsfp_rows =
@@ -33,9 +26,6 @@ qsfp_rows =
 
 unfoldable pub sff8636_entries : Memory → List Entry
 sff8636_entries memory = rows_entries memory (bit memory QFlatMemory) qsfp_rows
-
-abbrev pub sff8472_fault : Memory → Option ReportFault
-sff8472_fault memory = of_sff (sfp_refusals.measured_fault memory)
 
 unfoldable pub sfp_rows : List Row
 sfp_rows =

@@ -1,27 +1,22 @@
 //! What the program reports of a module, as text and as JSON.
 #![tactic(auto)]
 
-mod by_family;
 mod cmis_apps;
-mod cmis_flags;
-mod cmis_inventory;
-mod cmis_monitors;
 mod detail_report;
 mod family;
 mod fault;
 mod fetching;
+mod flag_report;
+mod inventory_report;
 pub mod laws;
-mod sff_flags;
-mod sff_inventory;
-mod sff_monitors;
+mod monitor_report;
 mod tables;
 
-pub use by_family::{
-    flags, flags_entries, flags_json, flags_told, inventory, inventory_entries, inventory_json,
-    monitors, monitors_entries, monitors_json,
-};
 pub use cmis_apps::{apps, apps_json};
 pub use detail_report::{details, details_json};
 pub use fault::ReportFault;
 pub use fetching::fetch_image;
+pub use flag_report::{flags, flags_entries, flags_json, flags_told};
+pub use inventory_report::{inventory, inventory_entries, inventory_json};
+pub use monitor_report::{monitors, monitors_entries, monitors_json};
 pub use tables::{cmis_inventory_lines, qsfp_inventory_lines, sfp_inventory_lines};
