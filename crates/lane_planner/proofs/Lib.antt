@@ -4,9 +4,11 @@ pub mod KeptLanes
 mod FreeLanes
 pub mod GainLaws
 mod Places
-mod JoinedNumbers
+mod CellNumbers
+mod MarkBits
 pub mod DecisionEnds
 pub mod ReachedStates
+mod FirstBoundary
 mod Marking
 mod MarkingEnds
 mod MoreMoves

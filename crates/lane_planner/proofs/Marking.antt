@@ -52,6 +52,9 @@ none_marked marks = record {
   only = λ other marked. inl marked;
 }
 
+pub unmarked : (marks : List Bool) (place : ℕ) → get_or marks place false ≡ false → IsMarked marks place → ⊥
+unmarked marks place none marked = let wrong : true ≡ false = sym marked ∙ none in cc
+
 -- one place further, where its state isn't marked
 pub marks_past : (advert : Advertised) (weights : PathWeights) (kept : List Path) (place : ℕ) (marks : List Bool) → AreMarks advert weights kept place marks → (IsMarked marks place → ⊥) → AreMarks advert weights kept (place + 1) marks
 marks_past advert weights kept place marks are not = record {

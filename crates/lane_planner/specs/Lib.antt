@@ -2,5 +2,6 @@ pub mod Buffers
 pub mod CertifiedPlans
 pub mod FirstBest
 pub mod Gains
+pub mod MarkBits
 pub mod Marks
 pub mod Tables

@@ -1,6 +1,6 @@
 -- The planner's table of gains, by the places of states, and the plan that it reads off. (docs/planning.md, "The planner";
 -- this project's own)
-use Rattle.std.specs.Prelude.{◌≡◌, ℕ, Bool, ◌+◌, ◌-◌, ◌*◌, ◌/◌, ◌%◌, ◌<◌, ◌≤◌, ◌==◌, ◌&&◌, ◌||◌, ◌⊎◌, nat_lt, false, List, [], ◌∷◌, ◌++◌, Option, All, AllPairs, Contains, filter, find, length, map, replicate, slice_index, slice_index_or}
+use Rattle.std.specs.Prelude.{◌≡◌, ℕ, Bool, ◌+◌, ◌-◌, ◌*◌, ◌/◌, ◌%◌, ◌<◌, ◌≤◌, ◌==◌, ◌&&◌, ◌||◌, ◌⊎◌, nat_lt, nat_le, if◌then◌else◌, false, List, [], ◌∷◌, ◌++◌, Option, All, AllPairs, Contains, filter, find, length, map, slice_index, slice_index_or}
 use Rattle.std.specs.List.{range_with_len}
 use Rattle.applications.specs.Advertised.{Advertised}
 use Rattle.applications.specs.AppWeights.{PathWeights}
@@ -21,20 +21,22 @@ use Rattle.lane_planner.specs.Gains.{IsGain}
 use Rattle.lane_planner.specs.Marks.{IsMarked}
 use Rattle.plan_certificate.specs.Limits.{most_states}
 
--- the numbers whose lower 32 bits and higher bits are these
-abbrev pub joined : List ℕ → List ℕ → List ℕ
-joined [] highs = []
-joined (low ∷ lows) [] = []
-joined (low ∷ lows) (high ∷ highs) = (low + 4294967296 * high) ∷ joined lows highs
+-- the start and the states past the first boundary have a cell, but for those at the last one
+abbrev pub has_cell : ℕ → Bool
+has_cell place = place == 0 || nat_le 256 place && nat_lt place 2048
 
--- and 0 for each of the 256 states at the last boundary
-abbrev pub numbers_of : List ℕ → List ℕ → List ℕ
-numbers_of lows highs = joined lows highs ++ replicate 256 0
+-- the number whose lower 32 bits and higher bits stand in the cell of a place; 0 for the others
+abbrev pub number_at : List ℕ → List ℕ → ℕ → ℕ
+number_at lows highs place =
+    if has_cell place then slice_index lows (place - 255) + 4294967296 * slice_index highs (place - 255) else 0
 
--- those parts are there for each of the states before it
+unfoldable pub numbers_of : List ℕ → List ℕ → List ℕ
+numbers_of lows highs = map (number_at lows highs) (range_with_len 0 most_states)
+
+-- there are as many cells for both
 pub record AreParts (lows highs : List ℕ) : Type 0 where
-  pub low : length lows ≡ 2048
-  pub high : length highs ≡ 2048
+  pub low : length lows ≡ 1793
+  pub high : length highs ≡ 1793
 
 -- a number for each state; each lane that is still to be decided adds at most four weights of 32 bits
 pub record IsTable (table : List ℕ) : Type 0 where

@@ -5,6 +5,7 @@ ghost use Rattle.plan_certificate.specs.Moves.{LeadsOn, decisions_by};
 ghost use Rattle.lane_planner.specs.Marks.{MarksReached};
 ghost use Rattle.lane_planner.specs.Tables.{HasGains, IsMost, IsTable};
 
+use crate::marks::Marks;
 use crate::table::Table;
 use applications::{Advert, AppWeights};
 use plan_certificate::{FollowedMoves, HOST_LANES, Move, Path, STATES, State};
@@ -14,7 +15,7 @@ pub fn put_gains(
     advert: &Advert,
     weights: &AppWeights,
     kept: &[Path],
-    marks: &[bool],
+    marks: &Marks,
     table: &mut Table,
 )
     requires kept { AreAllowed advert.now kept.now }
@@ -27,7 +28,7 @@ pub fn put_gains(
         moves.list(advert, weights, kept, boundary);
         for used in (0..256usize).rev() {
             let place = 256 * usize::from(boundary) + used;
-            if marks[place] {
+            if marks.has(place) {
                 let state = State::at(place);
                 let free = moves.may_stay_free;
                 let gain = most(free, moves.moves.as_slice(), table, &state);

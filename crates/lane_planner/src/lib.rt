@@ -5,6 +5,7 @@ mod choices;
 mod first;
 mod gains;
 pub mod laws;
+mod marks;
 mod planner;
 mod problem;
 mod reached;
@@ -13,6 +14,7 @@ mod table;
 mod written;
 
 pub use first::first_best;
+pub use marks::Marks;
 pub use planner::{first_plan, plan, plan_keeping};
 pub use problem::Problem;
 pub use solution::Solution;

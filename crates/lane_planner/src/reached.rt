@@ -4,22 +4,23 @@ ghost use Rattle.plan_certificate.specs.Plans.{AreAllowed};
 ghost use Rattle.plan_certificate.specs.Moves.{LeadsOn, decisions_by};
 ghost use Rattle.lane_planner.specs.Marks.{MarksEnds, MarksReached};
 
+use crate::marks::Marks;
 use applications::{Advert, AppWeights};
 use plan_certificate::{FollowedMoves, HOST_LANES, Move, Path, STATES, State};
 
 /// Marks, by their places, the states that decisions from the start reach.
-pub fn reached(advert: &Advert, weights: &AppWeights, kept: &[Path], marks: &mut [bool; STATES])
+pub fn reached(advert: &Advert, weights: &AppWeights, kept: &[Path], marks: &mut Marks)
     requires kept { AreAllowed advert.now kept.now }
     requires blank { marks.old ≡ replicate STATES false }
     ensures { MarksReached advert.now weights.now kept.now marks.new }
 {
     let mut moves = FollowedMoves::none();
-    marks[0] = true;
+    marks.mark(0);
     for boundary in 0..HOST_LANES {
         moves.list(advert, weights, kept, boundary);
         for used in 0..256usize {
             let place = 256 * usize::from(boundary) + used;
-            if marks[place] {
+            if marks.has(place) {
                 let state = State::at(place);
                 let free = moves.may_stay_free;
                 mark_ends(marks, free, moves.moves.as_slice(), &state);
@@ -29,7 +30,7 @@ pub fn reached(advert: &Advert, weights: &AppWeights, kept: &[Path], marks: &mut
 }
 
 // Marks where the decisions from a state lead.
-fn mark_ends(marks: &mut [bool], may_stay_free: bool, moves: &[Move], state: &State)
+fn mark_ends(marks: &mut Marks, may_stay_free: bool, moves: &[Move], state: &State)
     requires all { length marks.old ≡ STATES }
     requires open { state.now.boundary < 8 }
     requires lead_on { All (LeadsOn state.now.boundary) moves.now }
@@ -37,14 +38,12 @@ fn mark_ends(marks: &mut [bool], may_stay_free: bool, moves: &[Move], state: &St
 {
     if may_stay_free {
         let free = state.free_decision().end;
-        let place = free.place();
-        marks[place] = true;
+        marks.mark(free.place());
     }
     for one in moves {
         if one.is_open(state) {
             let end = one.decision(state).end;
-            let place = end.place();
-            marks[place] = true;
+            marks.mark(end.place());
         }
     }
 }

@@ -1,10 +1,11 @@
-ghost use Rattle.std.specs.Prelude.{◌≡◌, ◌<◌, false, length, replicate};
+ghost use Rattle.std.specs.Prelude.{◌≡◌, ◌<◌, false, replicate};
 ghost use Rattle.plan_certificate.specs.Plans.{IsAdmissible};
 ghost use Rattle.lane_planner.specs.CertifiedPlans.{IsCertified, claim_of};
 ghost use Rattle.lane_planner.specs.Tables.{HasGains, IsReadOff, entry_at, marked_entries};
 
 use crate::choices::read_off;
 use crate::gains::put_gains;
+use crate::marks::Marks;
 use crate::problem::Problem;
 use crate::reached::reached;
 use crate::table::Table;
@@ -17,7 +18,7 @@ pub struct Solution {
     pub plan: Plan,
     pub gains: Table,
     /// Which states these are, by their places.
-    pub marks: [bool; STATES],
+    pub marks: Marks,
 }
 
 impl Solution {
@@ -31,7 +32,7 @@ impl Solution {
                 paths: ArrayVec::new(),
             },
             gains: Table::blank(),
-            marks: [false; STATES],
+            marks: Marks::blank(),
         }
     }
 
@@ -67,13 +68,12 @@ impl Solution {
 }
 
 // The entries of the marked states.
-fn entries_of(marks: &[bool], table: &Table) -> Entries<STATES>
-    requires { length marks.now ≡ STATES }
+fn entries_of(marks: &Marks, table: &Table) -> Entries<STATES>
     ensures { result ≡ marked_entries marks.now table.now STATES }
 {
     let mut entries = Entries::new();
     for place in 0..STATES {
-        if marks[place] {
+        if marks.has(place) {
             entries.push(entry_at(table, place));
         }
     }

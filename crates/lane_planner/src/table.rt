@@ -1,5 +1,5 @@
-ghost use Rattle.std.specs.Prelude.{◌≡◌, ◌≤◌, ◌<◌, replicate, slice_index, slice_set};
-ghost use Rattle.lane_planner.specs.Tables.{gain_at};
+ghost use Rattle.std.specs.Prelude.{◌≡◌, ◌-◌, ◌≤◌, ◌<◌, true, replicate, slice_index, slice_set};
+ghost use Rattle.lane_planner.specs.Tables.{gain_at, has_cell};
 
 use plan_certificate::{STATES, State};
 use std::marker::Model;
@@ -7,12 +7,16 @@ use std::marker::Model;
 /// How many states there are before the last boundary.
 const OPEN_STATES: usize = 2048;
 
-/// A number below 2 ^ 40 for each state, by their places: 0 for those at the last boundary, from which nothing can be gained. Of
-/// the others each takes five bytes and not eight, for firmware has little stack.
+/// How many of them have a cell: the start, and those past the first boundary.
+const CELLS: usize = 1793;
+
+/// A number below 2 ^ 40 for each state, by their places: 0 for those at the last boundary, from which nothing can be gained, and for
+/// those beside the start at the first one, which nothing reaches. Of the others each takes five bytes and not eight, for firmware has
+/// little stack.
 #[derive(Drop)]
 pub struct Table {
-    low: [u32; OPEN_STATES],
-    high: [u8; OPEN_STATES],
+    low: [u32; CELLS],
+    high: [u8; CELLS],
 }
 
 impl Model for Table {
@@ -32,8 +36,8 @@ impl Table {
         ensures { result ≡ replicate STATES 0 }
     {
         Table {
-            low: [0; OPEN_STATES],
-            high: [0; OPEN_STATES],
+            low: [0; CELLS],
+            high: [0; CELLS],
         }
     }
 
@@ -42,8 +46,9 @@ impl Table {
         ensures { result ≡ slice_index self.now place }
     {
         let (low, high) = (&self.low, &self.high);
-        if place < OPEN_STATES {
-            u64::from(low[place]) + 4294967296 * u64::from(high[place])
+        if has_cell(place) {
+            let cell = cell_of(place);
+            u64::from(low[cell]) + 4294967296 * u64::from(high[cell])
         } else {
             0
         }
@@ -58,11 +63,26 @@ impl Table {
     }
 
     pub(crate) fn put(&mut self, place: usize, number: u64)
-        requires place { place < OPEN_STATES }
+        requires place { has_cell place ≡ true }
         requires small { number < 1099511627776 }
         ensures { self.new ≡ slice_set self.old place number }
     {
-        self.low[place] = (number % 4294967296) as u32;
-        self.high[place] = (number / 4294967296) as u8;
+        let cell = cell_of(place);
+        self.low[cell] = (number % 4294967296) as u32;
+        self.high[cell] = (number / 4294967296) as u8;
     }
+}
+
+// Whether the state at a place has a cell.
+fn has_cell(place: usize) -> bool
+    ensures { result ≡ has_cell place }
+{
+    place == 0 || 256 <= place && place < OPEN_STATES
+}
+
+// Which one that is, if it has one.
+fn cell_of(place: usize) -> usize
+    ensures { result ≡ place - 255 }
+{
+    place.saturating_sub(255)
 }

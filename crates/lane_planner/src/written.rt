@@ -10,6 +10,7 @@ ghost use Rattle.lane_planner.specs.Buffers.{Puts, buffer_with};
 ghost use Rattle.lane_planner.specs.CertifiedPlans.{IsPlanText, IsReadBack, claim_text};
 ghost use Rattle.lane_planner.specs.Tables.{marked_entries};
 
+use crate::marks::Marks;
 use crate::problem::Problem;
 use crate::solution::{Solution, entry_at};
 use crate::table::Table;
@@ -112,8 +113,7 @@ fn put_at_front(buffer: &mut [u8], problem: &Problem, solution: &Solution) -> us
 }
 
 // Puts the lines of the marked states.
-fn put_entries(buffer: &mut [u8], len: &mut usize, marks: &[bool], table: &Table)
-    requires all { length marks.now ≡ STATES }
+fn put_entries(buffer: &mut [u8], len: &mut usize, marks: &Marks, table: &Table)
     requires few { len.old ≤ 314 }
     ensures put { Puts (text_of (map line_text (map (λ entry. StateLine entry) (marked_entries marks.now table.now STATES))))
         buffer.old len.old buffer.new len.new }
@@ -121,7 +121,7 @@ fn put_entries(buffer: &mut [u8], len: &mut usize, marks: &[bool], table: &Table
     ensures small { len.new ≤ len.old + 32 * STATES }
 {
     for place in 0..STATES {
-        if marks[place] {
+        if marks.has(place) {
             let line = entry_line(entry_at(table, place));
             put(buffer, len, line.as_slice());
         }

@@ -20,9 +20,9 @@ loop-one-init c =
     elim c.if-may_stay_free.branch [
       | then-may_stay_free w ↦
           let decision : Decision = free_decision state in
-          let place : w.place-place.result ≡ state_place decision.end = w.place-place.ensures ∙ ap (λ (s : Decision). state_place s.end) w.free_decision-free.ensures in
-          let one = one_marked [] decision w.place-place.result marks marks (none_marked marks) place (omega (arith, place, place_below decision.end (omega (arith, c.requires.open)), c.requires.all)) in
-          subst Marks (sym w.if-may_stay_free.true) (subst (MarksEnds (decision ∷ []) marks) (sym w.marks-is) one)
+          let place : w.place.result ≡ state_place decision.end = w.place.ensures ∙ ap (λ (s : Decision). state_place s.end) w.free_decision-free.ensures in
+          let one = one_marked [] decision w.place.result marks marks (none_marked marks) place (omega (arith, place, place_below decision.end (omega (arith, c.requires.open)), c.requires.all)) in
+          subst Marks (sym w.if-may_stay_free.true) (subst (MarksEnds (decision ∷ []) marks) (sym (w.marks-is ∙ w.mark.ensures)) one)
       | else-may_stay_free w ↦
           subst Marks (sym w.if-may_stay_free.false) (subst (MarksEnds [] marks) (sym w.marks-is) (none_marked marks))
     ]
@@ -41,11 +41,11 @@ loop-one-preserved c =
           let decision : Decision = move_decision state move in
           let unused : is_open state move ≡ true = sym c.is_open.ensures ∙ w.if-is_open.true in
           let more = one_decision_more free state moves index move c.loop-one-test.true c.one-item.is unused in
-          let place : w.place-place-then-is_open.result ≡ state_place decision.end = w.place-place-then-is_open.ensures ∙ ap (λ (s : Decision). state_place s.end) w.decision-end.ensures in
+          let place : w.place-then-is_open.result ≡ state_place decision.end = w.place-then-is_open.ensures ∙ ap (λ (s : Decision). state_place s.end) w.decision-end.ensures in
           let leads = subst (LeadsOn state.boundary) (sym c.one-item.is) (All-get_or (LeadsOn state.boundary) moves index move c.loop-one-test.true c.requires.lead_on) in
           let within = place_below decision.end leads.within in
-          let new = one_marked before decision w.place-place-then-is_open.result marks c.loop-one.marks c.loop-one.invariant place (omega (arith, place, within, c.loop-one.invariant.all, c.requires.all)) in
-          subst (MarksEnds (decisions_by free state (take (index + 1) moves)) marks) (sym w.marks-is) (subst (λ (decisions : List Decision). MarksEnds decisions marks (set c.loop-one.marks w.place-place-then-is_open.result true)) (sym more) new)
+          let new = one_marked before decision w.place-then-is_open.result marks c.loop-one.marks c.loop-one.invariant place (omega (arith, place, within, c.loop-one.invariant.all, c.requires.all)) in
+          subst (MarksEnds (decisions_by free state (take (index + 1) moves)) marks) (sym (w.marks-is ∙ w.mark-then-is_open.ensures)) (subst (λ (decisions : List Decision). MarksEnds decisions marks (set c.loop-one.marks w.place-then-is_open.result true)) (sym more) new)
       | else-is_open w ↦
           let shut : is_open state move ≡ false = sym c.is_open.ensures ∙ w.if-is_open.false in
           let more = no_decision_more free state moves index move c.loop-one-test.true c.one-item.is shut in

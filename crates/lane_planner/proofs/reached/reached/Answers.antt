@@ -8,13 +8,15 @@ use Rattle.plan_certificate.specs.Moves.{LeadsOn, moves_at, decisions_by}
 use Rattle.plan_certificate.proofs.HeaviestMoves.{heaviest_lead_on}
 use Rattle.plan_certificate.proofs.MoveDecisions.{listed_are_decisions}
 use Rattle.lane_planner.specs.Marks.{AreMarks, IsMarked, MarksEnds}
-use Rattle.lane_planner.proofs.Marking.{marks_more, marks_past}
+use Rattle.lane_planner.proofs.Marking.{marks_more, marks_past, unmarked}
 use Rattle.lane_planner.proofs.MarkingEnds.{ends_of_heaviest, marks_ended, marks_of_blank}
 use Rattle.lane_planner.proofs.reached.reached.Goals as goal
-use Rattle.lane_planner.proofs.reached.reached.Goals.{then-marks-place, else-marks-place}
+use Rattle.lane_planner.proofs.reached.reached.Goals.{then-has, else-has}
 
 pub loop-boundary-init : goal.loop-boundary-init
-loop-boundary-init c = subst (λ (blank : List Bool). AreMarks c.args.advert.now c.args.weights.now c.args.kept.now 0 (set blank 0 true)) (sym c.requires.blank) (marks_of_blank c.args.advert.now c.args.weights.now c.args.kept.now 2304 refl)
+loop-boundary-init c =
+    let Marks : List Bool → Type 0 = AreMarks c.args.advert.now c.args.weights.now c.args.kept.now 0 in
+    subst Marks (sym c.mark.ensures) (subst (λ (blank : List Bool). Marks (set blank 0 true)) (sym c.requires.blank) (marks_of_blank c.args.advert.now c.args.weights.now c.args.kept.now 2304 refl))
 
 pub mark_ends-requires-clause-lead_on : goal.mark_ends-requires-clause-lead_on
 mark_ends-requires-clause-lead_on c =
@@ -34,8 +36,8 @@ loop-used-preserved c =
     let read : 256 * c.from.result + c.loop-used.used ≡ place = omega (arith, c.from.ensures) in
     let next : place + 1 ≡ 256 * boundary + (c.loop-used.used + 1) = omega arith in
     let before = c.loop-used.marks in
-    subst (λ (n : ℕ). AreMarks advert weights kept n c.if-marks-place.marks) next (elim c.if-marks-place.branch [
-      | then-marks-place w ↦
+    subst (λ (n : ℕ). AreMarks advert weights kept n c.if-has.marks) next (elim c.if-has.branch [
+      | then-has w ↦
           let state : State = state_at place in
           let after = w.mark_ends.new.marks in
           let all = (moves_at c.args.advert.now c.args.weights.now c.args.kept.now (boundary + 1)) in
@@ -47,13 +49,11 @@ loop-used-preserved c =
           let of_heaviest = subst (λ (moves : List Move). MarksEnds (decisions_by free state moves) before after) w.as_slice.ensures.value at_state in
           let new = subst (λ (ss : List Decision). MarksEnds ss before after) decisions (ends_of_heaviest free state all c.list.new.self.moves.items before after are.heavy of_heaviest) in
           let below : place < 2304 = omega (arith, c.loop-boundary-test.true, c.loop-used-test.true) in
-          let marked : IsMarked before place = subst (IsMarked before) read w.if-marks-place.true in
+          let marked : IsMarked before place = subst (IsMarked before) read (sym c.has.ensures ∙ w.if-has.true) in
           subst (AreMarks advert weights kept (place + 1)) (sym w.marks-is) (marks_more advert weights kept place before after c.loop-used.invariant below marked new)
-      | else-marks-place w ↦
+      | else-has w ↦
           subst (AreMarks advert weights kept (place + 1)) (sym w.marks-is) (marks_past advert weights kept place before c.loop-used.invariant (λ marked.
-          let there = subst (IsMarked before) (sym read) marked in
-          let not = w.if-marks-place.false in
-          cc))
+          unmarked before (256 * c.from.result + c.loop-used.used) (sym c.has.ensures ∙ w.if-has.false) (subst (IsMarked before) (sym read) marked)))
     ])
 
 pub returns : goal.returns

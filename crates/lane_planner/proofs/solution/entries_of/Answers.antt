@@ -1,10 +1,9 @@
-use Rattle.std.proofs.Common.{◌≡◌, ◌+◌, ◌++◌, ◌∷◌, [], ℕ, List, false, get_or, sym, subst, ap, ◌∙◌, inl, inr, arith}
-use Rattle.std.proofs.lemmas.Bool.{cases_Bool}
+use Rattle.std.proofs.Common.{◌≡◌, ◌+◌, ◌++◌, ◌∷◌, [], ℕ, List, false, get_or, sym, subst, ap, ◌∙◌, arith}
 use Rattle.plan_certificate.specs.declared.certificate.Entry.{Entry}
 use Rattle.lane_planner.specs.Tables.{AreEntries, entry_at, marked_entries}
 use Rattle.lane_planner.proofs.MarkedEntries.{are_marked, no_entries, none_marked, not_marked, one_marked}
 use Rattle.lane_planner.proofs.solution.entries_of.Goals as goal
-use Rattle.lane_planner.proofs.solution.entries_of.Goals.{then-marks-place, else-marks-place}
+use Rattle.lane_planner.proofs.solution.entries_of.Goals.{then-has, else-has}
 
 pub loop-place-init : goal.loop-place-init
 loop-place-init c = record {
@@ -17,15 +16,12 @@ loop-place-preserved c =
     let marks = c.args.marks.now in
     let table = c.args.table.now in
     let place : ℕ = c.loop-place.place in
-    let same : c.if-marks-place.entries ≡ marked_entries marks table (place + 1) = elim c.if-marks-place.branch [
-      | then-marks-place w ↦
+    let same : c.if-has.entries ≡ marked_entries marks table (place + 1) = elim c.if-has.branch [
+      | then-has w ↦
           w.entries-is ∙ w.push.ensures ∙ ap (λ (entry : Entry). c.loop-place.entries ++ entry ∷ []) w.entry_at.ensures
-          ∙ ap (λ (entries : List Entry). entries ++ entry_at table place ∷ []) c.loop-place.invariant.same ∙ sym (one_marked marks table place w.if-marks-place.true)
-      | else-marks-place w ↦
-          let none : get_or marks place false ≡ false = elim (cases_Bool (get_or marks place false)) [
-            | inl marked ↦ absurd (let not = w.if-marks-place.false in cc)
-            | inr unmarked ↦ unmarked
-          ] in
+          ∙ ap (λ (entries : List Entry). entries ++ entry_at table place ∷ []) c.loop-place.invariant.same ∙ sym (one_marked marks table place (sym c.has.ensures ∙ w.if-has.true))
+      | else-has w ↦
+          let none : get_or marks place false ≡ false = sym c.has.ensures ∙ w.if-has.false in
           w.entries-is ∙ c.loop-place.invariant.same ∙ sym (not_marked marks table place none)
     ] in
     record {

@@ -1,5 +1,6 @@
-use Rattle.lane_planner.proofs.JoinedNumbers.{numbers_blank}
+use Rattle.std.proofs.Common.{refl}
+use Rattle.lane_planner.proofs.CellNumbers.{numbers_blank}
 use Rattle.lane_planner.proofs.table.Table.blank.Goals as goal
 
 pub returns : goal.returns
-returns c = numbers_blank
+returns c = numbers_blank 1793 2304 refl refl
