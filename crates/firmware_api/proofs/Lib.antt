@@ -14,6 +14,7 @@ mod BeginLaws
 mod AboutLaws
 mod ReadingEnds
 mod RefusalTexts
+mod ShortLines
 mod ShortTexts
 mod DecodersRefuse
 mod WatchfulLaws

@@ -1,8 +1,9 @@
 -- No text for C is longer than 256 bytes.
-use Rattle.std.proofs.Common.{ℕ, Bool, true, false, not, ◌==◌, List, [], ◌∷◌, length, Option, Some, None, refl, cond, find, nat_lt, if◌then◌else◌}
-use Rattle.std.specs.Prelude.{◌≢◌, IsTrue, option_and_then}
+use Rattle.std.proofs.Common.{ℕ, Bool, true, false, not, ◌==◌, List, [], ◌∷◌, length, Option, Some, None, refl, cond, find, nat_lt, if◌then◌else◌, ◌≤◌, sym, subst, ap, inl, inr}
+use Rattle.std.specs.Prelude.{◌≡◌, ◌≢◌, IfSome, IsTrue, option_and_then, option_map}
+use Rattle.std.specs.Borrow.{Bor}
 use Rattle.std.specs.List.{list_all}
-use Rattle.std.proofs.lemmas.Bool.{and_parts}
+use Rattle.std.proofs.lemmas.Bool.{and_parts, cases_lt, lt-ltb}
 use Rattle.notices.specs.Numbers.{Says, procedure_faults, reasons, said_of, statuses, text_by}
 use Rattle.notices.specs.Sentences.{sentences}
 use Rattle.firmware_api.specs.declared.status.Refusal.TheVariants.{TooSmall}
@@ -54,3 +55,24 @@ reasons_are_short = refl
 
 pub of_reasons : (number : ℕ) → text_refusal (text_by reasons number) 256 ≢ Some TooSmall
 of_reasons number = of_rows reasons reasons_are_short number
+
+-- ---- so the length of the text that was given is at most 256
+
+short_length : (text : List ℕ) → (if nat_lt 256 (length text) then Some TooSmall else None) ≢ Some TooSmall → length text ≤ 256
+short_length text has = elim (cases_lt 256 (length text)) [
+  | inl long ↦ absurd (has (ap (λ (b : Bool). if b then Some TooSmall else None) (lt-ltb 256 (length text) long)))
+  | inr short ↦ short
+]
+
+given : (text : Option (Bor (List ℕ))) (wanted : Option (List ℕ)) → option_map (λ (t : Bor (List ℕ)). t.now) text ≡ wanted → text_refusal wanted 256 ≢ Some TooSmall → IfSome text (λ t. length t.now ≤ 256)
+given None wanted is has = tt
+given (Some text) wanted is has = short_length text.now (subst (λ (t : Option (List ℕ)). text_refusal t 256 ≢ Some TooSmall) (sym is) has)
+
+pub given_of_statuses : (number : ℕ) (text : Option (Bor (List ℕ))) → option_map (λ (t : Bor (List ℕ)). t.now) text ≡ text_by statuses number → IfSome text (λ t. length t.now ≤ 256)
+given_of_statuses number text is = given text (text_by statuses number) is (of_statuses number)
+
+pub given_of_procedure_faults : (number : ℕ) (text : Option (Bor (List ℕ))) → option_map (λ (t : Bor (List ℕ)). t.now) text ≡ text_by procedure_faults number → IfSome text (λ t. length t.now ≤ 256)
+given_of_procedure_faults number text is = given text (text_by procedure_faults number) is (of_procedure_faults number)
+
+pub given_of_reasons : (number : ℕ) (text : Option (Bor (List ℕ))) → option_map (λ (t : Bor (List ℕ)). t.now) text ≡ text_by reasons number → IfSome text (λ t. length t.now ≤ 256)
+given_of_reasons number text is = given text (text_by reasons number) is (of_reasons number)

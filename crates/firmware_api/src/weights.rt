@@ -1,9 +1,10 @@
-ghost use Rattle.std.specs.Prelude.{◌≡◌, Result};
+ghost use Rattle.std.specs.Prelude.{◌≡◌, ◌≢◌, ◌≤◌, Result, length};
 ghost use Rattle.text_lines.specs.Lines.{lines_of};
 ghost use Rattle.applications.specs.declared.weights.lines.WeightLinesFault.{WeightLinesFault};
 ghost use Rattle.applications.specs.Weights.{TableWeights};
 ghost use Rattle.applications.specs.WeightLines.{IsAnswer};
 ghost use Rattle.firmware_api.specs.ReadWeights.{IsTold, line_of};
+ghost use Rattle.firmware_api.specs.Statuses.{done};
 
 use crate::status::{DONE, weights_status};
 use applications::{WeightLinesFault, read_weight_lines};
@@ -15,8 +16,9 @@ pub extern "C" fn dovecounter_weights(
     weights: &mut [u32; 256],
     line: &mut usize,
 ) -> u32
-    ensures { (read : Result TableWeights WeightLinesFault) × IsAnswer (lines_of text.now) read
+    ensures told { (read : Result TableWeights WeightLinesFault) × IsAnswer (lines_of text.now) read
         × IsTold read result weights.old weights.new line.old line.new }
+    ensures short { result ≢ done → line.new ≤ length text.now }
 {
     match read_weight_lines(text) {
         Ok(read) => {

@@ -23,6 +23,7 @@ put_for advert weights stay plan kept before after status len same put told = re
     text = put.text;
     is_text = subst (λ (paths : List Path). IsPlanText advert (path_weights advert weights stay) paths put.text) same put.is_text;
     counted = put.counted;
+    short = put.short;
     buffer = put.buffer;
   };
   told = told;
