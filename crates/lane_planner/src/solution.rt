@@ -1,6 +1,7 @@
 ghost use Rattle.std.specs.Prelude.{◌≡◌, ◌<◌, false, replicate};
 ghost use Rattle.plan_certificate.specs.Plans.{IsAdmissible};
 ghost use Rattle.lane_planner.specs.CertifiedPlans.{IsCertified, claim_of};
+ghost use Rattle.lane_planner.specs.Marks.{MarksReached};
 ghost use Rattle.lane_planner.specs.Tables.{HasGains, IsReadOff, entry_at, marked_entries};
 
 use crate::choices::read_off;
@@ -9,6 +10,7 @@ use crate::marks::Marks;
 use crate::problem::Problem;
 use crate::reached::reached;
 use crate::table::Table;
+use applications::{Advert, AppWeights};
 use arrayvec::ArrayVec;
 use plan_certificate::{Certificate, Entries, Entry, Plan, STATES};
 
@@ -46,7 +48,20 @@ impl Solution {
         ensures read_off { IsReadOff problem.now.advert.now problem.now.weights.now problem.now.kept.now self.new.gains self.new.plan }
         ensures certified { IsCertified problem.now.advert.now problem.now.weights.now problem.now.kept.now (claim_of problem.now self.new) }
     {
-        let (advert, weights, kept) = (problem.advert, problem.weights, problem.kept);
+        self.solve_for(problem.advert, problem.weights, problem.kept);
+    }
+
+    // The same, by the parts of the problem. Not inlined, and without the problem: where that is handed on, its parts would stand on the
+    // stack twice.
+    #[inline(never)]
+    fn solve_for(&mut self, advert: &Advert, weights: &AppWeights, kept: &Plan)
+        requires kept { IsAdmissible advert.now kept.now }
+        requires gains { self.old.gains ≡ replicate STATES 0 }
+        requires marks { self.old.marks ≡ replicate STATES false }
+        ensures marks { MarksReached advert.now weights.now kept.now self.new.marks }
+        ensures gains { HasGains advert.now weights.now kept.now 0 self.new.gains }
+        ensures read_off { IsReadOff advert.now weights.now kept.now self.new.gains self.new.plan }
+    {
         let kept = kept.paths.as_slice();
         reached(advert, weights, kept, &mut self.marks);
         put_gains(advert, weights, kept, &self.marks, &mut self.gains);
