@@ -37,6 +37,6 @@ pub use limits::{flags_of, limits_in_set};
 pub use observable::{Figure, Observable, Side, observable_of};
 pub use observation::{Observation, PLACES, Subject, next_observation, observation_at};
 pub use observations::all_observations;
-pub use pages::{absent_page, has_observables};
+pub use pages::{absent_page, advertised_pages, has_observables};
 pub use quantity::{Format, Quantity, QuantityRow, Scope, Unit, quantity_row};
 pub use scientific::Scientific;

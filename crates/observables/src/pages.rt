@@ -1,5 +1,5 @@
 // The pages that a reading of observables needs.
-ghost use Rattle.std.specs.Prelude.{◌≡◌, ◌<◌};
+ghost use Rattle.std.specs.Prelude.{◌≡◌, ◌<◌, ◌≤◌, length};
 ghost use Rattle.observables.specs.Pages as spec;
 
 use crate::words::{byte_in, page_of};
@@ -11,11 +11,14 @@ use paged_memory::{Image, Key};
 pub fn absent_page(image: &Image, bank: u8) -> Option<Key>
     ensures { result ≡ spec.absent_page image.now bank }
 {
-    first_absent(image, bank, pages(image, bank))
+    first_absent(image, bank, advertised_pages(image, bank))
 }
 
-fn pages(image: &Image, bank: u8) -> &'static [u8]
-    ensures { result.now ≡ spec.pages image.now bank }
+/// The pages of a bank that have observables, as byte 142 of page 01h and byte 128 of page 2Fh advertise them: page 2Fh alone if
+/// the image lacks it.
+pub fn advertised_pages(image: &Image, bank: u8) -> &'static [u8]
+    ensures value { result.now ≡ spec.pages image.now bank }
+    ensures few { length result.now ≤ 13 }
 {
     if !has_observables(image) {
         return &[];
