@@ -18,4 +18,5 @@ mod registers;
 mod samples;
 mod starts;
 mod updates;
+mod vdm_reading;
 mod windows;

@@ -1,0 +1,3 @@
+pub mod FrozenSteps
+pub mod VdmStages
+pub mod VdmAccounts
