@@ -2,8 +2,6 @@
 use Rattle.std.proofs.Common.{◌≡◌, ◌≤◌, ◌<◌, ℕ, ◌+◌, ◌-◌, ◌*◌, ◌==◌, Bool, true, false, List, [], ◌∷◌, length, refl, sym, ap, subst, ◌∙◌, if◌then◌else◌, nat_lt, Option, Some, None, eq-eqb, arith}
 use Rattle.std.specs.Option.{option_map_or}
 use Rattle.std.proofs.lemmas.Bool.{ltb-true}
-use Rattle.std.proofs.lemmas.Bool.Decides.{nat_tests}
-use Rattle.arrayvec.specs.ArrayVec.{ArrayVec}
 use Rattle.bus_model.specs.declared.operation.Op.{Op}
 use Rattle.bus_model.specs.declared.operation.Reply.{Reply}
 use Rattle.bus_model.specs.declared.operation.Reply.TheVariants.{Bytes, Done, Refused}
@@ -18,14 +16,13 @@ use Rattle.paged_memory.specs.Images.{Memory}
 use Rattle.paged_memory.specs.KnownPages.{is_awaited, is_known, selection_read}
 use Rattle.paged_memory.specs.PageAddressing.{History}
 use Rattle.paged_memory.proofs.KnownPageLaws.{step_of}
-use Rattle.vdm_reading.specs.declared.end.Release.TheVariants as release
 use Rattle.vdm_reading.specs.declared.end.Statistics.TheVariants as statistics
 use Rattle.vdm_reading.specs.declared.reading.VdmReading.{VdmReading}
 use Rattle.vdm_reading.specs.declared.reading.VdmStage.{VdmStage}
 use Rattle.vdm_reading.specs.declared.reading.VdmStage.TheVariants as stage
 use Rattle.vdm_reading.specs.FrozenSteps.{is_freeze_done, is_unfreeze_done}
 use Rattle.vdm_reading.specs.VdmAccounts.{IsTold}
-use Rattle.vdm_reading.specs.VdmStages.{accepted_at, after, after_read_back, after_selection, after_work, asked, begun, confirmed, enter, failed, frozen_by, fruitless, fruitless_by, kept, lost_at, may_be_frozen, most_transactions, next_by, page_at, read_at, refused_at, released_by, rested, wants, work_at}
+use Rattle.vdm_reading.specs.VdmStages.{accepted_at, after, after_read_back, after_selection, after_work, asked, begun, confirmed, enter, failed, frozen_by, fruitless, fruitless_by, kept, lost_at, may_be_frozen, most_transactions, next_by, page_at, read_at, refused_at, released_by, wants, work_at}
 use Rattle.vdm_reading.proofs.WantedTurns.{by_turn, holds_told}
 
 -- ---- how many transactions may still be made

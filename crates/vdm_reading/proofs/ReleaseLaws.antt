@@ -1,5 +1,5 @@
 -- Whether statistics may be frozen is what the steps say.
-use Rattle.std.proofs.Common.{◌≡◌, ℕ, ◌+◌, ◌%◌, ◌<◌, ◌&&◌, ◌||◌, Bool, true, false, not, List, [], ◌∷◌, refl, sym, ap, subst, ◌∙◌, if◌then◌else◌, nat_lt, arith}
+use Rattle.std.proofs.Common.{◌≡◌, ℕ, ◌+◌, ◌%◌, ◌<◌, ◌||◌, Bool, true, false, not, List, [], ◌∷◌, refl, sym, ap, subst, ◌∙◌, if◌then◌else◌, nat_lt, arith}
 use Rattle.std.proofs.lemmas.Bool.Decides.{nat_tests}
 use Rattle.arrayvec.specs.ArrayVec.{ArrayVec}
 use Rattle.bus_model.specs.declared.operation.Op.{Op}
@@ -8,7 +8,6 @@ use Rattle.bus_model.specs.declared.operation.Reply.TheVariants.{Bytes, Done, Re
 use Rattle.bus_model.specs.Operations.{Answers}
 use Rattle.conversations.specs.declared.next.Next.TheVariants.{Do}
 use Rattle.conversations.specs.Events.{Events, steps_of}
-use Rattle.conversations.specs.Pauses.{is_refused}
 use Rattle.observables.specs.Pages.{has_observables}
 use Rattle.paged_memory.specs.declared.page_addressing.PageAddressing.TheVariants.{BankAndPage}
 use Rattle.paged_memory.specs.declared.page_addressing.KnownPage.TheVariants as selected_page
@@ -25,8 +24,8 @@ use Rattle.vdm_reading.specs.declared.reading.VdmStage.TheVariants as stage
 use Rattle.vdm_reading.specs.FrozenSteps as steps
 use Rattle.vdm_reading.specs.FrozenSteps.{freezing, is_freeze_done, is_unfreeze_done, read_done, read_half, releasing, store_control}
 use Rattle.vdm_reading.specs.VdmAccounts.{IsTold}
-use Rattle.vdm_reading.specs.VdmStages.{accepted_at, after, after_read_back, after_selection, after_work, asked, begun, confirmed, enter, failed, frozen_by, fruitless, fruitless_by, kept, lost_at, may_be_frozen, next_by, page_at, read_at, refused_at, released_by, rested, wants, work_at}
-use Rattle.vdm_reading.proofs.Told.{IsSame, failed_same, fruitless_same, next_same}
+use Rattle.vdm_reading.specs.VdmStages.{accepted_at, after, after_read_back, after_selection, after_work, asked, confirmed, enter, failed, frozen_by, fruitless, fruitless_by, kept, lost_at, may_be_frozen, next_by, page_at, read_at, refused_at, released_by, wants, work_at}
+use Rattle.vdm_reading.proofs.Told.{failed_same, fruitless_same, next_same}
 use Rattle.vdm_reading.proofs.WantedTurns.{by_turn, holds_told}
 
 -- it knows what may be frozen; and while it waits for the end of a freeze, the release was accepted

@@ -1,10 +1,9 @@
 -- What was read belongs together where it is called frozen.
-use Rattle.std.proofs.Common.{◌≡◌, ◌≢◌, ◌⊎◌, ℕ, ◌==◌, ◌&&◌, Bool, true, false, List, [], ◌∷◌, Option, Some, None, refl, sym, ap, subst, ◌∙◌, inl, inr, if◌then◌else◌, cond, nat_lt, slice_index}
+use Rattle.std.proofs.Common.{◌≡◌, ◌≢◌, ◌⊎◌, ℕ, ◌==◌, ◌&&◌, Bool, true, false, List, [], ◌∷◌, Some, None, refl, sym, ap, subst, ◌∙◌, inl, inr, if◌then◌else◌, cond, nat_lt}
 use Rattle.std.specs.FinMap as map
 use Rattle.std.specs.declared.cmp.Ordering.{Ordering}
 use Rattle.std.specs.declared.cmp.Ordering.TheVariants.{Less, Equal, Greater}
 use Rattle.std.specs.Ordering.{eq_by_cmp, is_eq}
-use Rattle.std.proofs.lemmas.Bool.{cases_Bool}
 use Rattle.arrayvec.specs.ArrayVec.{ArrayVec}
 use Rattle.bus_model.specs.declared.operation.Op.{Op}
 use Rattle.bus_model.specs.declared.operation.Reply.{Reply}
@@ -30,7 +29,7 @@ use Rattle.vdm_reading.specs.declared.reading.VdmStage.{VdmStage}
 use Rattle.vdm_reading.specs.declared.reading.VdmStage.TheVariants as stage
 use Rattle.vdm_reading.specs.FrozenSteps.{AreFrozen, AreSet, IsPageRead, IsShown, WasRead, WasRequested, WereSet, freezing, is_control_store, is_freeze_done, is_unfreeze_done, read_done, read_half, releasing, store_control}
 use Rattle.vdm_reading.specs.VdmAccounts.{IsTold, is_frozen}
-use Rattle.vdm_reading.specs.VdmStages.{accepted_at, after, after_read_back, after_selection, after_work, asked, begun, confirmed, enter, failed, frozen_by, fruitless, fruitless_by, kept, key_of, lost_at, may_be_frozen, next_by, over, page_at, put_in, read_at, refused_at, released_by, rested, wants, work_at}
+use Rattle.vdm_reading.specs.VdmStages.{accepted_at, after, after_read_back, after_selection, after_work, asked, begun, confirmed, enter, failed, frozen_by, fruitless, fruitless_by, kept, key_of, lost_at, may_be_frozen, next_by, over, page_at, put_in, read_at, refused_at, released_by, wants, work_at}
 use Rattle.vdm_reading.proofs.ReleaseLaws.{asks_by}
 use Rattle.vdm_reading.proofs.ShownLaws.{Shown, is_shown, keeps_shown}
 use Rattle.vdm_reading.proofs.Told.{failed_same, fruitless_same, next_same}
@@ -341,7 +340,7 @@ were stage.Advertised frozen image history sets = set_were frozen image history 
 were stage.Groups frozen image history sets = set_were frozen image history (none_set frozen image history sets)
 were stage.Freeze frozen image history sets = set_were frozen image history (none_set frozen image history sets)
 were stage.Freezing frozen image history sets = set_were frozen image history (none_set frozen image history sets.0)
-were (stage.Page page) frozen image history sets = set_were frozen image history sets.1
+were (stage.Page number) frozen image history sets = set_were frozen image history sets.1
 were stage.Release frozen image history sets = sets
 were stage.Releasing frozen image history sets = sets
 were stage.Over frozen image history sets = sets

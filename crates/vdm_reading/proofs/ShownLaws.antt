@@ -1,10 +1,9 @@
 -- What a reading knows of the selection is what the steps say since the newest refusal.
-use Rattle.std.proofs.Common.{◌≡◌, ℕ, ◌||◌, Bool, true, false, List, [], ◌∷◌, refl, sym, ap, subst, ◌∙◌, if◌then◌else◌, nat_lt, slice_index}
+use Rattle.std.proofs.Common.{◌≡◌, ℕ, ◌||◌, Bool, true, false, ◌∷◌, refl, sym, ap, subst, ◌∙◌, if◌then◌else◌, nat_lt}
 use Rattle.arrayvec.specs.ArrayVec.{ArrayVec}
 use Rattle.bus_model.specs.declared.operation.Op.{Op}
 use Rattle.bus_model.specs.declared.operation.Reply.{Reply}
 use Rattle.bus_model.specs.declared.operation.Reply.TheVariants.{Bytes, Done, Refused}
-use Rattle.bus_model.specs.Operations.{Answers}
 use Rattle.conversations.specs.declared.next.Next.TheVariants.{Do}
 use Rattle.conversations.specs.Selecting.{since_refusal}
 use Rattle.observables.specs.Pages.{has_observables}
@@ -12,7 +11,7 @@ use Rattle.paged_memory.specs.declared.page_addressing.PageAddressing.TheVariant
 use Rattle.paged_memory.specs.declared.page_addressing.KnownPage.{KnownPage}
 use Rattle.paged_memory.specs.declared.page_addressing.KnownPage.TheVariants.{Unknown, Open, Page}
 use Rattle.paged_memory.specs.Images.{Memory}
-use Rattle.paged_memory.specs.KnownPages.{is_awaited, is_known, selection_read}
+use Rattle.paged_memory.specs.KnownPages.{is_known, selection_read}
 use Rattle.paged_memory.specs.PageAddressing.{History, is_page_confirmed, read_selection, selection}
 use Rattle.paged_memory.proofs.KnownPageLaws.{read_tells, step_of}
 use Rattle.vdm_reading.specs.declared.end.Statistics.TheVariants as statistics

@@ -1,5 +1,5 @@
 -- Nothing is stored but page selections and the freeze bit of the control byte.
-use Rattle.std.proofs.Common.{◌≡◌, ◌⊎◌, ℕ, Bool, true, false, List, [], ◌∷◌, refl, sym, ap, subst, ◌∙◌, inl, inr, if◌then◌else◌, nat_lt, slice_index}
+use Rattle.std.proofs.Common.{◌≡◌, ℕ, Bool, true, false, List, [], ◌∷◌, refl, sym, ap, subst, inl, inr, if◌then◌else◌, nat_lt, slice_index}
 use Rattle.arrayvec.specs.ArrayVec.{ArrayVec}
 use Rattle.bus_model.specs.declared.operation.Op.{Op}
 use Rattle.bus_model.specs.declared.operation.Reply.{Reply}
@@ -19,9 +19,9 @@ use Rattle.vdm_reading.specs.declared.end.Statistics.TheVariants as statistics
 use Rattle.vdm_reading.specs.declared.reading.VdmReading.{VdmReading}
 use Rattle.vdm_reading.specs.declared.reading.VdmStage.{VdmStage}
 use Rattle.vdm_reading.specs.declared.reading.VdmStage.TheVariants as stage
-use Rattle.vdm_reading.specs.FrozenSteps.{IsControlStep, IsReadingStep, IsShown, WasRead, freezing, is_freeze_done, is_unfreeze_done, read_done, read_half, releasing, store_control}
+use Rattle.vdm_reading.specs.FrozenSteps.{IsReadingStep, IsShown, WasRead, freezing, is_freeze_done, is_unfreeze_done, read_done, read_half, releasing, store_control}
 use Rattle.vdm_reading.specs.VdmAccounts.{IsTold}
-use Rattle.vdm_reading.specs.VdmStages.{accepted_at, after, after_read_back, after_selection, after_work, asked, begun, confirmed, enter, failed, frozen_by, fruitless, fruitless_by, kept, lost_at, may_be_frozen, next_by, over, page_at, read_at, refused_at, released_by, rested, wants, work_at}
+use Rattle.vdm_reading.specs.VdmStages.{accepted_at, after, after_read_back, after_selection, after_work, asked, confirmed, enter, failed, frozen_by, fruitless, fruitless_by, kept, lost_at, may_be_frozen, next_by, over, page_at, read_at, refused_at, released_by, wants, work_at}
 use Rattle.vdm_reading.proofs.ShownLaws.{Shown, is_shown, keeps_shown}
 use Rattle.vdm_reading.proofs.WantedTurns.{by_turn, holds_told}
 

@@ -1,6 +1,5 @@
 -- What a reading was told is what happened, and how it ends.
-use Rattle.std.proofs.Common.{◌≡◌, ℕ, Bool, true, false, List, [], ◌∷◌, Option, Some, None, refl, sym, ap, subst, ◌∙◌, if◌then◌else◌, nat_lt, slice_index}
-use Rattle.arrayvec.specs.ArrayVec.{ArrayVec}
+use Rattle.std.proofs.Common.{◌≡◌, ℕ, Bool, true, false, List, [], ◌∷◌, Option, Some, None, refl, sym, ap, subst, ◌∙◌, if◌then◌else◌, nat_lt}
 use Rattle.bus_model.specs.declared.operation.Op.{Op}
 use Rattle.bus_model.specs.declared.operation.Reply.{Reply}
 use Rattle.bus_model.specs.declared.operation.Reply.TheVariants.{Bytes, Done, Refused}
@@ -16,7 +15,6 @@ use Rattle.paged_memory.specs.declared.page_addressing.KnownPage.TheVariants as 
 use Rattle.paged_memory.specs.Images.{Memory}
 use Rattle.paged_memory.specs.KnownPages.{is_awaited, is_known, missing_page, selecting_first, selection_read, wanted}
 use Rattle.paged_memory.specs.PageAddressing.{read_selection}
-use Rattle.vdm_reading.specs.declared.end.Release.{Release}
 use Rattle.vdm_reading.specs.declared.end.Statistics.TheVariants as statistics
 use Rattle.vdm_reading.specs.declared.end.VdmEnd.{VdmEnd}
 use Rattle.vdm_reading.specs.declared.reading.VdmReading.{VdmReading}
@@ -24,7 +22,7 @@ use Rattle.vdm_reading.specs.declared.reading.VdmStage.{VdmStage}
 use Rattle.vdm_reading.specs.declared.reading.VdmStage.TheVariants as stage
 use Rattle.vdm_reading.specs.FrozenSteps.{freezing, is_freeze_done, is_unfreeze_done, read_done, read_half, releasing, store_control}
 use Rattle.vdm_reading.specs.VdmAccounts.{EachIsWanted, HasEnded, IsTold, reading_after}
-use Rattle.vdm_reading.specs.VdmStages.{accepted_at, after, after_missing, after_pause, after_read_back, after_selection, after_work, asked, confirmed, end_of, enter, failed, finish, frozen_by, fruitless, fruitless_by, kept, lost_at, may_be_frozen, next_by, next_page, over, page_at, read_at, refused_at, released_by, rested, turn, turn_by, wants, work_at}
+use Rattle.vdm_reading.specs.VdmStages.{accepted_at, after, after_missing, after_pause, after_read_back, after_selection, after_work, asked, confirmed, end_of, enter, failed, frozen_by, fruitless_by, kept, lost_at, may_be_frozen, next_by, over, page_at, read_at, refused_at, released_by, rested, turn_by, wants, work_at}
 
 -- what comes next leaves these as they are
 pub record IsSame (old new : VdmReading) : Type 0 where

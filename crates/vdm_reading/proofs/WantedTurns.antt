@@ -1,5 +1,5 @@
 -- What a reading wants is a read back of the selection, the selection of its page, or the work of its stage on that page.
-use Rattle.std.proofs.Common.{◌≡◌, ℕ, ◌==◌, Bool, true, false, List, [], ◌∷◌, Option, Some, None, refl, sym, ap, subst, ◌∙◌, if◌then◌else◌}
+use Rattle.std.proofs.Common.{◌≡◌, ℕ, ◌==◌, Bool, true, false, [], ◌∷◌, Some, None, refl, sym, ap, subst, ◌∙◌, if◌then◌else◌}
 use Rattle.std.proofs.lemmas.Bool.{eqb-true}
 use Rattle.bus_model.specs.declared.operation.Op.{Op}
 use Rattle.bus_model.specs.declared.operation.Reply.{Reply}
@@ -70,7 +70,7 @@ module _ (I : History → VdmReading → Type 0)
   holds pause [] each = begins pause
   holds pause (Made step ∷ before) each = keeps (steps_of before) (reading_after pause before) step.op step.reply each.0 each.1 (holds pause before each.2)
   holds pause (Waited time ∷ before) each = rests (steps_of before) (reading_after pause before) (holds pause before each.1)
-  holds pause (Lacked page ∷ before) each = holds pause before each
+  holds pause (Lacked number ∷ before) each = holds pause before each
   holds pause (Asked number ∷ before) each = holds pause before each
 
   pub holds_told : (events : Events) (reading : VdmReading) → IsTold events reading → I (steps_of events) reading

@@ -1,7 +1,7 @@
 -- What steps on a module's bus say of its statistics (VDM), the newest first: which pages were read, whether the statistics were frozen
 -- then, and whether they may be frozen still. (OIF-CMIS-05.0, "VDM Advertisement and Control", page 2Fh: FreezeRequest in bit 7 of byte
 -- 144, FreezeDone and UnfreezeDone in bits 7 and 6 of byte 145)
-use Rattle.std.specs.Prelude.{◌≡◌, ◌≢◌, ◌⊎◌, ℕ, ◌+◌, ◌/◌, ◌%◌, ◌==◌, ◌&&◌, ◌||◌, nat_lt, not, Bool, true, false, List, [], ◌∷◌, Option, Some, if◌then◌else◌, slice_index}
+use Rattle.std.specs.Prelude.{◌≡◌, ◌≢◌, ◌⊎◌, ℕ, ◌+◌, ◌/◌, ◌%◌, ◌==◌, ◌&&◌, ◌||◌, nat_lt, not, Bool, true, false, List, [], ◌∷◌, Some, if◌then◌else◌, slice_index}
 use Rattle.std.specs.FinMap as map
 use Rattle.bus_model.specs.declared.device.Dev.TheVariants.{A0, A2}
 use Rattle.bus_model.specs.declared.operation.Op.{Op}

@@ -1,14 +1,12 @@
 -- What a reading of a module's statistics (VDM) was told, and what holds of it whatever happened. (docs/observables.md, "Frozen
 -- statistics"; this project's own)
-use Rattle.std.specs.Prelude.{◌≡◌, ◌≢◌, ◌⊎◌, ℕ, ◌+◌, ◌/◌, ◌%◌, ◌≤◌, ◌<◌, ◌==◌, Bool, true, false, List, [], ◌∷◌, length, slice_index}
-use Rattle.std.specs.FinMap as map
+use Rattle.std.specs.Prelude.{◌≡◌, ◌⊎◌, ℕ, ◌<◌, Bool, true, false, List, [], ◌∷◌}
 use Rattle.bus_model.specs.Operations.{Answers}
 use Rattle.conversations.specs.declared.event.Event.TheVariants.{Made, Waited, Lacked, Asked}
-use Rattle.conversations.specs.declared.next.Next.TheVariants.{Do, Wait, End}
-use Rattle.conversations.specs.Events.{Events, steps_of}
+use Rattle.conversations.specs.declared.next.Next.TheVariants.{Do, Wait}
+use Rattle.conversations.specs.Events.{Events}
 use Rattle.field_tables.specs.Halves.{is_absent}
-use Rattle.paged_memory.specs.PageAddressing.{EachStep, History}
-use Rattle.vdm_reading.specs.declared.end.Release.{Release}
+use Rattle.paged_memory.specs.PageAddressing.{History}
 use Rattle.vdm_reading.specs.declared.end.Release.TheVariants as release
 use Rattle.vdm_reading.specs.declared.end.Statistics.{Statistics}
 use Rattle.vdm_reading.specs.declared.end.Statistics.TheVariants as statistics

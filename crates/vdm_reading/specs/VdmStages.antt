@@ -1,6 +1,6 @@
 -- How far the reading of a module's statistics (VDM) has come: what it asks for, and what a reply makes of it. (docs/observables.md,
 -- "Frozen statistics"; this project's own)
-use Rattle.std.specs.Prelude.{ℕ, ◌-◌, ◌==◌, ◌&&◌, nat_lt, not, Bool, true, false, List, [], ◌∷◌, Option, Some, None, if◌then◌else◌, slice_index}
+use Rattle.std.specs.Prelude.{ℕ, ◌-◌, ◌==◌, ◌&&◌, nat_lt, Bool, true, false, List, [], ◌∷◌, Option, Some, None, if◌then◌else◌, slice_index}
 use Rattle.std.specs.FinMap as finite
 use Rattle.bus_model.specs.declared.device.Dev.TheVariants.{A0}
 use Rattle.bus_model.specs.declared.operation.Op.{Op}
@@ -12,7 +12,6 @@ use Rattle.field_tables.specs.Halves.{is_absent}
 use Rattle.observables.specs.Pages.{has_observables, pages}
 use Rattle.paged_memory.specs.declared.key.Key.{Key}
 use Rattle.paged_memory.specs.declared.page_addressing.PageAddressing.TheVariants.{BankAndPage}
-use Rattle.paged_memory.specs.declared.page_addressing.KnownPage.{KnownPage}
 use Rattle.paged_memory.specs.declared.page_addressing.KnownPage.TheVariants as selected
 use Rattle.paged_memory.specs.Images.{Memory, most_pages}
 use Rattle.paged_memory.specs.Keys.{upper_key}
@@ -20,7 +19,6 @@ use Rattle.paged_memory.specs.KnownPages.{is_awaited, is_known, missing_page, se
 use Rattle.vdm_reading.specs.declared.reading.VdmReading.{VdmReading}
 use Rattle.vdm_reading.specs.declared.end.Release.{Release}
 use Rattle.vdm_reading.specs.declared.end.Release.TheVariants as release
-use Rattle.vdm_reading.specs.declared.end.Statistics.{Statistics}
 use Rattle.vdm_reading.specs.declared.end.Statistics.TheVariants as statistics
 use Rattle.vdm_reading.specs.declared.end.VdmEnd.{VdmEnd}
 use Rattle.vdm_reading.specs.declared.reading.VdmStage.{VdmStage}
