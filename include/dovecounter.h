@@ -552,6 +552,192 @@ static inline uint32_t dovecounter_run(struct dovecounter_conversation *conversa
     return status == DOVECOUNTER_ENDED ? (uint32_t)DOVECOUNTER_DONE : status;
 }
 
+/* ---- A port's manager ----
+
+   Keeps the module of one port as it is wanted, while modules are plugged, pulled and replaced, fail, and the program
+   restarts (docs/manager.md). It touches no bus and knows no clock. Say what happens; make the operation that
+   dovecounter_port_next names; pass its reply to dovecounter_port_take, and ask again. Moments are milliseconds by a
+   clock of yours that doesn't go back. Nobody else may read the module: reading a flag clears it.
+
+   These functions answer 31 for memory in which no port began, and 0 otherwise; dovecounter_port_take also 34. */
+
+/* How long a port waits, in milliseconds. */
+struct dovecounter_times {
+    uint32_t settle; /* after a plug, until the module answers: 2000 suits each module */
+    uint32_t period; /* between two looks at a module that is as it is wanted */
+    uint32_t first;  /* after a first failure; doubled with each failure that follows */
+    uint32_t most;   /* after a failure at most */
+};
+
+enum dovecounter_port_stage {
+    DOVECOUNTER_PORT_ABSENT = 0,       /* no module is plugged */
+    DOVECOUNTER_PORT_LEFT = 1,         /* the module is left alone; left says why */
+    DOVECOUNTER_PORT_READING = 2,      /* its memory is read */
+    DOVECOUNTER_PORT_WAKING = 3,       /* it is woken up */
+    DOVECOUNTER_PORT_PROVISIONING = 4, /* the plan's control bytes become active */
+    DOVECOUNTER_PORT_ACTIVATING = 5,   /* the plan's lanes come up */
+    DOVECOUNTER_PORT_WATCHING = 6      /* it is as it is wanted, and looked at once in a while */
+};
+
+/* Why a module is left alone. Also the statuses 11 to 16 of dovecounter_advertisement: nothing can be planned. */
+enum dovecounter_left_reason {
+    DOVECOUNTER_LEFT_NO_LANES = 1,        /* it has no page 11h */
+    DOVECOUNTER_LEFT_NO_PLAN = 2,         /* none of its paths is wanted */
+    DOVECOUNTER_LEFT_NEEDS_POWER = 3,     /* it is not ready, and needs more power than it may have */
+    DOVECOUNTER_LEFT_NEEDS_PERMISSION = 4 /* lanes that are up would be taken down, and may not be */
+};
+
+struct dovecounter_left {
+    uint8_t reason; /* enum dovecounter_left_reason, or 11 to 16; 0 if the module isn't left alone */
+    uint8_t value;  /* 11, 16: the identifier; 12: the revision; 15: the page; else 0 */
+    uint8_t device; /* 14: the half that is absent, as in dovecounter_half; else 0 */
+    uint8_t upper;
+    uint8_t bank;
+    uint8_t page;
+};
+
+/* How often each flag was read as raised since that was acknowledged (65535 stands for more), and when last (0: never).
+   Byte by byte as in the module's memory, and in a byte from bit 0 on. */
+struct dovecounter_flag_counts {
+    uint16_t module_counts[32]; /* bytes 8 to 11 of the lower memory: flag 8 * (byte - 8) + bit */
+    uint64_t module_last[32];
+    uint16_t lane_counts[152]; /* bytes 134 to 152 of page 11h: flag 8 * (byte - 134) + lane - 1 */
+    uint64_t lane_last[152];
+};
+
+/* What a port works for: the plan of the last reading. */
+struct dovecounter_goal {
+    uint8_t control[8]; /* control bytes of host lanes 1 to 8 */
+    uint8_t lanes;      /* host lanes of its paths */
+    uint8_t outside;    /* host lanes that no kept path takes */
+};
+
+/* What works at a module. */
+struct dovecounter_work {
+    struct dovecounter_progress saved;
+    uint16_t most;
+    uint8_t woken;
+    uint8_t doubts;
+    uint8_t taken;
+    uint8_t taken_page;
+    uint8_t stage;
+    uint8_t found;
+};
+
+/* A port. Read flags, due, stage, held, goal (from PROVISIONING to WATCHING) and left; copy it and save it; change
+   nothing. Changed numbers are refused, or taken for another port, perhaps one that no events lead to. */
+struct dovecounter_port {
+    struct dovecounter_flag_counts flags;
+    uint64_t due; /* no operation is named before this moment */
+    struct dovecounter_work work;
+    struct dovecounter_times times;
+    uint32_t magic;
+    uint32_t back_off;
+    uint16_t half_count;
+    uint8_t stage; /* enum dovecounter_port_stage */
+    uint8_t held;  /* 1 if the port holds still */
+    uint8_t outstanding;
+    uint8_t vain;
+    uint8_t selection;
+    uint8_t page;
+    struct dovecounter_goal goal;
+    struct dovecounter_left left;
+    struct dovecounter_half halves[DOVECOUNTER_MOST_READ];
+};
+
+/* Makes an empty port. */
+void dovecounter_port_new(const struct dovecounter_times *times, struct dovecounter_port *port);
+
+/* A module was plugged, or the program has started and one may be there: it is read once times.settle has passed. */
+uint32_t dovecounter_port_plug(struct dovecounter_port *port, uint64_t now);
+
+/* The module was pulled: nothing of it is left but its flags. A reply that is outstanding is still to be passed. */
+uint32_t dovecounter_port_pull(struct dovecounter_port *port);
+
+/* Other weights are wanted, or somebody asks: the module is read and judged anew. Its lanes stay up meanwhile. */
+uint32_t dovecounter_port_reconsider(struct dovecounter_port *port);
+
+/* With held other than 0 the port holds still: no operation is named. With 0 it goes on, as after reconsider. */
+uint32_t dovecounter_port_hold(struct dovecounter_port *port, uint8_t held);
+
+/* The flags that were last read as raised at this moment or before it are known: they count from 0 again. */
+uint32_t dovecounter_port_acknowledge(struct dovecounter_port *port, uint64_t moment);
+
+enum dovecounter_port_do {
+    DOVECOUNTER_PORT_DO = 0,    /* make the operation, and pass its reply to dovecounter_port_take */
+    DOVECOUNTER_PORT_UNTIL = 1, /* nothing before the moment */
+    DOVECOUNTER_PORT_BUSY = 2,  /* nothing before the outstanding reply is passed */
+    DOVECOUNTER_PORT_IDLE = 3   /* nothing before plug, reconsider or hold is called */
+};
+
+/* What is to be done now. */
+struct dovecounter_port_next {
+    uint64_t moment; /* UNTIL; else 0 */
+    uint8_t kind;    /* enum dovecounter_port_do */
+    uint8_t whole;   /* 1 if the operation fetches a whole half; the next three are its place, as in dovecounter_half */
+    uint8_t upper;
+    uint8_t bank;
+    uint8_t page;
+    struct dovecounter_operation operation; /* DO: a fetch of at most 128 bytes, or a store; else zeros */
+};
+
+/* Writes what is to be done now. After DO the port is busy until the reply is passed. */
+uint32_t dovecounter_port_next(struct dovecounter_port *port, uint64_t now, struct dovecounter_port_next *next);
+
+/* What the module is wanted for. */
+struct dovecounter_wanted {
+    uint32_t weights[256]; /* of each HostInterfaceID, as dovecounter_weights writes them */
+    uint32_t stay;         /* what an active path weighs more */
+    uint8_t paired;        /* how the module is read: as for dovecounter_plan */
+    uint8_t counts_by_id;
+    uint8_t most_power;    /* in quarters of a watt: a module that needs more is not woken up; 255: no limit */
+    uint8_t may_take_down; /* lanes that may be taken down although they are up */
+};
+
+enum dovecounter_port_led_to {
+    DOVECOUNTER_PORT_DROPPED = 0, /* nothing: the module was pulled, or it is read anew */
+    DOVECOUNTER_PORT_WENT = 1,    /* on; note says how */
+    DOVECOUNTER_PORT_PAUSED = 2,  /* the operation was in vain, and another follows at the moment */
+    DOVECOUNTER_PORT_FAILED = 3,  /* to a failure; the module is read anew at the moment */
+    DOVECOUNTER_PORT_LEAVES = 4   /* the module is left alone; left says why */
+};
+
+enum dovecounter_port_note {
+    DOVECOUNTER_PORT_QUIET = 0,       /* the work goes on */
+    DOVECOUNTER_PORT_IDENTIFIED = 1,  /* the memory was read, and there is work to do */
+    DOVECOUNTER_PORT_WOKEN = 2,       /* the module was woken up */
+    DOVECOUNTER_PORT_PROVISIONED = 3, /* the control bytes are active */
+    DOVECOUNTER_PORT_CAME_UP = 4,     /* the module is up as it is wanted; also if it was before */
+    DOVECOUNTER_PORT_HELD = 5         /* it was looked at, and still is */
+};
+
+enum dovecounter_port_failure {
+    DOVECOUNTER_PORT_UNREAD = 1,          /* the memory could not be read */
+    DOVECOUNTER_PORT_ASLEEP = 2,          /* the module is not ready though it was woken up */
+    DOVECOUNTER_PORT_NOT_WOKEN = 3,       /* by fault */
+    DOVECOUNTER_PORT_NOT_PROVISIONED = 4, /* by fault */
+    DOVECOUNTER_PORT_NOT_ACTIVATED = 5,   /* by fault */
+    DOVECOUNTER_PORT_UNSEEN = 6,          /* the module could not be looked at */
+    DOVECOUNTER_PORT_CHANGED = 7          /* it is no longer as it was wanted */
+};
+
+/* What a reply led to. */
+struct dovecounter_port_outcome {
+    uint64_t moment;                /* PAUSED, FAILED; else 0 */
+    uint8_t kind;                   /* enum dovecounter_port_led_to */
+    uint8_t note;                   /* WENT: enum dovecounter_port_note; else 0 */
+    uint8_t failure;                /* FAILED: enum dovecounter_port_failure; else 0 */
+    struct dovecounter_fault fault; /* failures 3 to 5: codes 1 to 8; else zeros */
+    struct dovecounter_left left;   /* LEAVES; else zeros */
+};
+
+/* Takes the reply to the operation: a dovecounter_outcome, as dovecounter_reply does, and the bytes of a fetch. `wanted`
+   may differ from call to call; call dovecounter_port_reconsider if it does. Status 34: no reply is outstanding, or the
+   operation can't have this one. After a pull any outcome but DOVECOUNTER_WAITED will do. */
+uint32_t dovecounter_port_take(struct dovecounter_port *port, uint8_t reply, const uint8_t *bytes, size_t byte_count,
+                               const struct dovecounter_wanted *wanted, uint64_t now,
+                               struct dovecounter_port_outcome *outcome);
+
 /* ---- A simulated module ----
 
    For tests without hardware (docs/module.md). Time passes only by dovecounter_module_tick. Pass the halves that the

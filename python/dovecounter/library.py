@@ -165,6 +165,75 @@ class Ending(Structure):
     _fields_ = [("steps", c_uint16), ("fault", Fault)]
 
 
+class Times(Structure):
+    _fields_ = _members(c_uint32, "settle period first most")
+
+
+class Left(Structure):
+    _fields_ = _members(c_uint8, "reason value device upper bank page")
+
+
+class FlagCounts(Structure):
+    _fields_ = [
+        ("module_counts", c_uint16 * 32),
+        ("module_last", c_uint64 * 32),
+        ("lane_counts", c_uint16 * 152),
+        ("lane_last", c_uint64 * 152),
+    ]
+
+
+class Goal(Structure):
+    _fields_ = [("control", Lanes), *_members(c_uint8, "lanes outside")]
+
+
+class Work(Structure):
+    _fields_ = [
+        ("saved", Progress),
+        ("most", c_uint16),
+        *_members(c_uint8, "woken doubts taken taken_page stage found"),
+    ]
+
+
+class Port(Structure):
+    _fields_ = [
+        ("flags", FlagCounts),
+        ("due", c_uint64),
+        ("work", Work),
+        ("times", Times),
+        *_members(c_uint32, "magic back_off"),
+        ("half_count", c_uint16),
+        *_members(c_uint8, "stage held outstanding vain selection page"),
+        ("goal", Goal),
+        ("left", Left),
+        ("halves", Half * MOST_READ),
+    ]
+
+
+class PortNext(Structure):
+    _fields_ = [
+        ("moment", c_uint64),
+        *_members(c_uint8, "kind whole upper bank page"),
+        ("operation", Operation),
+    ]
+
+
+class Wanted(Structure):
+    _fields_ = [
+        ("weights", Weights),
+        ("stay", c_uint32),
+        *_members(c_uint8, "paired counts_by_id most_power may_take_down"),
+    ]
+
+
+class PortOutcome(Structure):
+    _fields_ = [
+        ("moment", c_uint64),
+        *_members(c_uint8, "kind note failure"),
+        ("fault", Fault),
+        ("left", Left),
+    ]
+
+
 class Delays(Structure):
     _fields_ = _members(c_uint16, "apply init turn_on turn_off deinit power_up power_down")
 
@@ -222,6 +291,17 @@ FUNCTIONS: Dict[str, Tuple[Any, Tuple[Any, ...]]] = {
     "next": (c_uint32, (POINTER(Conversation), POINTER(Half), POINTER(Operation))),
     "reply": (c_uint32, (POINTER(Conversation), POINTER(Half), c_uint8, *_BYTES)),
     "end": (c_uint32, (POINTER(Conversation), POINTER(Half), POINTER(Ending))),
+    "port_new": (None, (POINTER(Times), POINTER(Port))),
+    "port_plug": (c_uint32, (POINTER(Port), c_uint64)),
+    "port_pull": (c_uint32, (POINTER(Port),)),
+    "port_reconsider": (c_uint32, (POINTER(Port),)),
+    "port_hold": (c_uint32, (POINTER(Port), c_uint8)),
+    "port_acknowledge": (c_uint32, (POINTER(Port), c_uint64)),
+    "port_next": (c_uint32, (POINTER(Port), c_uint64, POINTER(PortNext))),
+    "port_take": (
+        c_uint32,
+        (POINTER(Port), c_uint8, *_BYTES, POINTER(Wanted), c_uint64, POINTER(PortOutcome)),
+    ),
     "module_begin": (c_uint32, (*_HALVES, POINTER(Delays), POINTER(Module))),
     "module_fetch": (c_uint32, (*_HALVES, POINTER(Module), c_uint8, c_uint8, *_BUFFER)),
     "module_store": (c_uint32, (*_HALVES, POINTER(Module), c_uint8, c_uint8, *_BYTES)),

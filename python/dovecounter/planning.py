@@ -90,7 +90,7 @@ class Judgement(Record):
         return sentence_of(self.reason) if self.reason else ""
 
 
-def _weights(weights: Mapping[int, int]) -> Array[c_uint32]:
+def weights_of(weights: Mapping[int, int]) -> Array[c_uint32]:
     found = library.Weights()
     for host_id, weight in look_at_mapping("the weights", weights).items():
         look_at("a HostInterfaceID", host_id, 255)
@@ -147,7 +147,7 @@ def plan(
     KeptPathNotActive of each kept path that the module doesn't have, if the image has page 11h."""
     look_at_type("the image", image, Image)
     found = library.Plan()
-    halves, table = image.arguments(), _weights(weights)
+    halves, table = image.arguments(), weights_of(weights)
     _look_at_conventions(paired, counts_by_id, stay)
 
     def status(count: int) -> int:
@@ -198,7 +198,7 @@ def check(
     look_at_type("the image", image, Image)
     text = look_at_text("the certificate", certificate)
     found = library.Judgement()
-    halves, table, lines = image.arguments(), _weights(weights), text.split(b"\n")
+    halves, table, lines = image.arguments(), weights_of(weights), text.split(b"\n")
     _look_at_conventions(paired, counts_by_id, stay)
 
     def status(count: int) -> int:

@@ -7,7 +7,7 @@ import time
 from ctypes import byref
 from dataclasses import dataclass
 from enum import Flag
-from typing import Any, Awaitable, Callable, Dict, Optional, TypeVar, Union
+from typing import Any, Awaitable, Callable, Dict, Optional, Tuple, TypeVar, Union
 
 from . import library
 from .faults import (
@@ -86,6 +86,15 @@ class Wait:
 Transact = Callable[[Operation], Reply]
 
 
+def outcome_of(reply: Reply) -> Tuple[int, bytes]:
+    """What came of an operation as the library takes it: a number, and the bytes of a fetch."""
+    if isinstance(reply, bool):
+        return _STORED if reply else _REFUSED, b""
+    if isinstance(reply, (bytes, bytearray)):
+        return _FETCHED, bytes(reply)
+    raise TypeError(f"{reply!r} is neither bytes nor True nor False")
+
+
 class Procedure:
     """An iterator of operations and waits. Tell of each once before you ask for the next: the reply
     to an operation, and that a wait is over. One that was not told of is given again. A refused
@@ -140,12 +149,7 @@ class Procedure:
     def reply(self, reply: Reply) -> None:
         """Tells once what came of the operation. Raises ValueError if it can't have this reply,
         such as fewer bytes than asked for; then it still has to be told."""
-        if isinstance(reply, bool):
-            outcome, data = _STORED if reply else _REFUSED, b""
-        elif isinstance(reply, (bytes, bytearray)):
-            outcome, data = _FETCHED, bytes(reply)
-        else:
-            raise TypeError(f"{reply!r} is neither bytes nor True nor False")
+        outcome, data = outcome_of(reply)
         self._tell(outcome, data, f"the operation can't have the reply {reply!r}")
 
     def waited(self) -> None:

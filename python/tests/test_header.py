@@ -34,6 +34,7 @@ NUMBERS = {
     "void": None,
     "uint8_t": ctypes.c_uint8,
     "uint32_t": ctypes.c_uint32,
+    "uint64_t": ctypes.c_uint64,
     "size_t": ctypes.c_size_t,
 }
 

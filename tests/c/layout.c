@@ -175,6 +175,84 @@ SIZE(ending, 6);
 AT(ending, steps, 0);
 AT(ending, fault, 2);
 
+SIZE(times, 16);
+AT(times, settle, 0);
+AT(times, period, 4);
+AT(times, first, 8);
+AT(times, most, 12);
+
+SIZE(left, 6);
+AT(left, reason, 0);
+AT(left, value, 1);
+AT(left, device, 2);
+AT(left, upper, 3);
+AT(left, bank, 4);
+AT(left, page, 5);
+
+SIZE(flag_counts, 1840);
+AT(flag_counts, module_counts, 0);
+AT(flag_counts, module_last, 64);
+AT(flag_counts, lane_counts, 320);
+AT(flag_counts, lane_last, 624);
+
+SIZE(goal, 10);
+AT(goal, control, 0);
+AT(goal, lanes, 8);
+AT(goal, outside, 9);
+
+SIZE(work, 48);
+AT(work, saved, 0);
+AT(work, most, 40);
+AT(work, woken, 42);
+AT(work, doubts, 43);
+AT(work, taken, 44);
+AT(work, taken_page, 45);
+AT(work, stage, 46);
+AT(work, found, 47);
+
+SIZE(port, 2608);
+AT(port, flags, 0);
+AT(port, due, 1840);
+AT(port, work, 1848);
+AT(port, times, 1896);
+AT(port, magic, 1912);
+AT(port, back_off, 1916);
+AT(port, half_count, 1920);
+AT(port, stage, 1922);
+AT(port, held, 1923);
+AT(port, outstanding, 1924);
+AT(port, vain, 1925);
+AT(port, selection, 1926);
+AT(port, page, 1927);
+AT(port, goal, 1928);
+AT(port, left, 1938);
+AT(port, halves, 1944);
+
+SIZE(port_next, 32);
+AT(port_next, moment, 0);
+AT(port_next, kind, 8);
+AT(port_next, whole, 9);
+AT(port_next, upper, 10);
+AT(port_next, bank, 11);
+AT(port_next, page, 12);
+AT(port_next, operation, 16);
+
+SIZE(wanted, 1032);
+AT(wanted, weights, 0);
+AT(wanted, stay, 1024);
+AT(wanted, paired, 1028);
+AT(wanted, counts_by_id, 1029);
+AT(wanted, most_power, 1030);
+AT(wanted, may_take_down, 1031);
+
+SIZE(port_outcome, 24);
+AT(port_outcome, moment, 0);
+AT(port_outcome, kind, 8);
+AT(port_outcome, note, 9);
+AT(port_outcome, failure, 10);
+AT(port_outcome, fault, 11);
+AT(port_outcome, left, 14);
+
 SIZE(delays, 14);
 AT(delays, apply, 0);
 AT(delays, init, 2);

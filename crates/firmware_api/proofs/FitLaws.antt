@@ -25,7 +25,7 @@ Fits saved halves (OfTasks procedure) = procedure.conversation.limit ≡ most_st
 Fits saved halves (OfPower change) = change.limit ≡ most_steps
 Fits saved halves (OfReading read) = HasNumbers read saved.halves × HasRead read (halves_in saved halves) × (map.len (halves_of read).image ≤ 5)
 
-take_few : {A : Type 0} (n : ℕ) (l : List A) → length (take n l) ≤ n
+pub take_few : {A : Type 0} (n : ℕ) (l : List A) → length (take n l) ≤ n
 take_few zero l = omega arith
 take_few (suc n) [] = omega arith
 take_few (suc n) (x ∷ l) = let rest = take_few n l in omega (arith, rest)

@@ -18,3 +18,4 @@ mod ShortLines
 mod ShortTexts
 mod DecodersRefuse
 mod WatchfulLaws
+mod KeptLaws

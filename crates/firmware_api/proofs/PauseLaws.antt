@@ -29,7 +29,7 @@ use Rattle.firmware_api.specs.declared.kept.Kept.{Kept}
 use Rattle.firmware_api.specs.declared.kept.Kept.TheVariants.{OfTasks, OfPower, OfReading}
 use Rattle.control_sets.specs.PowerProgress.{power_told}
 use Rattle.control_sets.specs.Progress.{OnTasks, tasks_told, tasks_want}
-use Rattle.conversations.specs.Patiently.{Patient, ToldPatiently, paused, wants_patiently}
+use Rattle.conversations.specs.Patiently.{wants_patiently}
 use Rattle.firmware_api.specs.KeptConversations.{Ending, InHand, Spending, WasTold, after_pause, as_ending, in_order, next_of, pieces_want, pieces_told}
 
 -- ---- none of them waits by itself

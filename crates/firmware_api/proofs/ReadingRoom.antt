@@ -104,7 +104,7 @@ both : (a b : Bool) → IsTrue a → IsTrue b → IsTrue (a && b)
 both true b one other = other
 both false b one other = one
 
-grows : (half : HalfBytes) (rest : List HalfBytes) → map.insert (memory_of rest) (key_of half) half.bytes ≡ memory_of (half ∷ rest)
+pub grows : (half : HalfBytes) (rest : List HalfBytes) → map.insert (memory_of rest) (key_of half) half.bytes ≡ memory_of (half ∷ rest)
 unfolding memory_of
 grows half rest = refl
 

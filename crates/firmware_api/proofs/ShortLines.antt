@@ -1,5 +1,5 @@
 -- The number of a faulty line is at most the text's length.
-use Rattle.std.proofs.Common.{◌≡◌, ℕ, ◌+◌, ◌≤◌, Bool, true, false, cond, List, [], ◌∷◌, ◌++◌, length, map, ap, arith}
+use Rattle.std.proofs.Common.{◌≡◌, ℕ, ◌+◌, ◌≤◌, true, false, cond, List, [], ◌∷◌, length, ap, arith}
 use Rattle.std.specs.List.{before_first, onto_first}
 use Rattle.std.proofs.lemmas.List.{length-append, length-map}
 use Rattle.text_lines.specs.Lines.{ended_lines, is_lf, lines_of}

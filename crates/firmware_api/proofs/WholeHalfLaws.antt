@@ -106,6 +106,9 @@ placed_by halves region is =
     let most = at_most_five halves.request halves.image in
     omega (arith, within, most)
 
+pub placed_on : (on : OnHalves) (reply : Reply) → IsReplyTo (halves_want on) reply → on.conversation.settled < 5
+placed_on on reply answers = let asked = asks on reply answers in placed_by on.conversation asked.region asked.is
+
 -- ---- the half that it gives
 
 -- the reply puts its bytes into the image there, or leaves the image

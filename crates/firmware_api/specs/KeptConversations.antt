@@ -1,6 +1,6 @@
 -- The conversations that C keeps: procedures of tasks, changes of power, and readings. What each wants, what a reply or a pause makes
 -- of it, which events it was told, and how it ends. (docs/firmware.md, "Conversations"; this project's own)
-use Rattle.std.specs.Prelude.{◌≡◌, ℕ, false, true, Bool, Option, Some, None}
+use Rattle.std.specs.Prelude.{◌≡◌, ℕ, false, true, Bool, Option, None}
 use Rattle.std.specs.Option.{option_map}
 use Rattle.bus_model.specs.declared.operation.Reply.{Reply}
 use Rattle.conversations.specs.declared.in_pieces.InPieces.{InPieces}

@@ -20,3 +20,5 @@ pub mod RaisedFlags
 pub mod MeasuredValues
 pub mod Monitors
 pub mod ReadWeights
+pub mod PortsTold
+pub mod KeptPorts

@@ -1,6 +1,6 @@
 -- Conversations as the numbers that C keeps: which numbers are one's, and of which; what C is told of it, and what becomes of it.
 -- (docs/firmware.md, "The numbers of a conversation"; this project's own)
-use Rattle.std.specs.Prelude.{◌≡◌, ◌⊎◌, ◌==◌, ◌&&◌, ◌||◌, ◌≤◌, ◌<◌, ◌+◌, ◌*◌, ◌/◌, nat_le, nat_lt, ℕ, Bool, false, not, IsTrue, is_some, List, ◌∷◌, length, take, replicate, Option, Some, None, if◌then◌else◌}
+use Rattle.std.specs.Prelude.{◌≡◌, ◌⊎◌, ◌==◌, ◌&&◌, ◌||◌, ◌≤◌, ◌<◌, ◌+◌, ◌*◌, ◌/◌, nat_le, nat_lt, ℕ, Bool, not, IsTrue, is_some, List, ◌∷◌, length, take, replicate, Option, Some, None, if◌then◌else◌}
 use Rattle.std.specs.FinMap as map
 use Rattle.std.specs.List.{list_all}
 use Rattle.std.specs.Option.{option_map}

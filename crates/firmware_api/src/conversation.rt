@@ -25,7 +25,7 @@ ghost use Rattle.firmware_api.specs.Statuses.{done, status_by};
 
 mod begun;
 mod numbers;
-mod whole_half;
+pub mod whole_half;
 
 use crate::half::HalfBytes;
 use crate::kept::{Ending, Kept};

@@ -1,6 +1,6 @@
 //! What C calls: what a module is, measures and warns of, its Applications, a plan of its lanes, the check of a
-//! certificate, the longest that its states last, conversations with it that are told what the caller's bus answered, and
-//! simulated modules.
+//! certificate, the longest that its states last, conversations with it that are told what the caller's bus answered, the
+//! manager of a port, and simulated modules.
 #![tactic(auto)]
 
 mod advertisement;
@@ -18,6 +18,7 @@ mod monitors;
 mod operation;
 mod patience;
 mod planning;
+mod port;
 mod read_module;
 mod shown_texts;
 mod simulated;

@@ -37,7 +37,8 @@ fn half_in_hand(pieces: &InPieces<OnPage<Halves>>, reply: &Reply) -> Option<Half
     }
 }
 
-fn whole_half(on_page: &OnPage<Halves>, reply: &Reply) -> Option<HalfBytes>
+/// The half that the reply makes whole, which a reading gets from it, if it does.
+pub fn whole_half(on_page: &OnPage<Halves>, reply: &Reply) -> Option<HalfBytes>
     requires few { map.len on_page.now.conversation.image ≤ 5 }
     requires reply { IsReplyTo (halves_want on_page.now) reply.now }
     ensures { HasHalf result on_page.now.conversation (halves_after on_page.now reply.now).conversation }

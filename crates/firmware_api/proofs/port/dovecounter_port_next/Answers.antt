@@ -1,0 +1,28 @@
+use Rattle.std.proofs.Common.{◌≡◌, ◌∙◌, ap}
+use Rattle.port_manager.specs.declared.port.Port.{Port}
+use Rattle.port_manager.specs.declared.port.PortNext.{PortNext}
+use Rattle.port_manager.specs.Ports.{asking, next_at}
+use Rattle.firmware_api.specs.PortsTold.{next_told}
+use Rattle.firmware_api.proofs.KeptLaws.{asking_fits, asking_known, fits_kept, found_kept, put_kept, told_asking}
+use Rattle.firmware_api.proofs.port.dovecounter_port_next.Goals as goal
+
+pub returns-clause-asked : goal.returns-clause-asked
+returns-clause-asked c held kept =
+    let old = c.args.port.now in
+    let count = old.numbers.half_count in
+    let now = c.args.now in
+    let same = found_kept old c.restore.result c.in-Some.held held c.restore.ensures.value c.in-Some.is kept.is in
+    let fits = fits_kept old c.restore.result c.in-Some.held held c.restore.ensures.fits c.in-Some.is same kept in
+    let is : c.next-wants.new.self ≡ asking held (next_at held now) =
+    c.next-wants.ensures.after ∙ ap (λ (n : PortNext). asking c.in-Some.held n) c.next-wants.ensures.value ∙ ap (λ (p : Port). asking p (next_at p now)) same in
+    put_kept old c.put.new.kept c.next-wants.new.self (asking held (next_at held now)) is c.put.ensures.same c.put.ensures.count
+    (asking_fits held (next_at held now) count old.halves fits) (asking_known held (next_at held now) kept.known)
+
+pub returns-clause-told : goal.returns-clause-told
+returns-clause-told c held is =
+    let now = c.args.now in
+    let found = c.in-Some.held in
+    let wants = c.next-wants.result in
+    let same = found_kept c.args.port.now c.restore.result found held c.restore.ensures.value c.in-Some.is is in
+    c.fill.ensures ∙ ap (λ (p : Port). next_told p wants) c.next-wants.ensures.after ∙ told_asking found wants ∙ ap (λ (n : PortNext). next_told found n) c.next-wants.ensures.value
+    ∙ ap (λ (p : Port). next_told p (next_at p now)) same

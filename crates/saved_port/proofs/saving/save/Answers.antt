@@ -1,0 +1,18 @@
+use Rattle.std.proofs.Common.{refl, rules}
+use Rattle.saved_port.proofs.Back.{saved_back}
+use Rattle.saved_port.proofs.saving.save.Goals as goal
+
+pub returns-clause-same : goal.returns-clause-same
+returns-clause-same c image read known =
+    saved_back _ c.args.port.now image (record {
+      magic = refl;
+      times = c.numbers_of_times-times.ensures;
+      due = refl;
+      back_off = refl;
+      outstanding = c.number_of_outstanding-outstanding.ensures;
+      vain = c.number_of-vain.ensures;
+      selection = search rules;
+      page = search rules;
+      flags = c.numbers_of_flags-flags.ensures;
+      held = c.number_of-held.ensures;
+    }) (c.numbers_of-stage.ensures image read known)

@@ -1,0 +1,4 @@
+pub mod SavedPorts
+pub mod Known
+pub mod Outcomes
+pub mod Places

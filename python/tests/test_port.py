@@ -1,0 +1,148 @@
+"""The manager of a port over simulated modules."""
+from __future__ import annotations
+
+import json
+from typing import Callable, Optional
+
+import pytest
+
+from shared import example
+from dovecounter import (
+    Idle,
+    Image,
+    Key,
+    Operation,
+    PathState,
+    Port,
+    PortOutcome,
+    SimulatedModule,
+    Stage,
+    Times,
+    Until,
+    Wanted,
+    page,
+)
+from dovecounter.port import Failure, Kind, Note
+
+DR4 = example("qsfp_dd_400g_dr4.txt")
+WANTED = Wanted({0x11: 400, 0x0D: 1})
+
+
+class Machine:
+    """A port, its module, and a clock."""
+
+    def __init__(self, module: SimulatedModule) -> None:
+        self.port, self.module, self.now, self.made = Port(Times(20, 100, 50, 400)), module, 0, 0
+        self.stores = 0
+        self.places = set()
+
+    def drive(self, until: Callable[[PortOutcome], bool], refuse_each: int = 0) -> Optional[PortOutcome]:
+        for _ in range(5000):
+            step = self.port.next(self.now)
+            if isinstance(step, Until):
+                self.module.tick(min(100, step.moment - self.now))
+                self.now = step.moment
+                continue
+            if isinstance(step, Idle):
+                return None
+            assert isinstance(step, Operation)
+            self.made += 1
+            self.stores += step.is_store and step.offset not in (126, 127)
+            if self.port.place is not None:
+                self.places.add(self.port.place)
+            refused = refuse_each and self.made % refuse_each == 0
+            reply = False if refused else self.module.transact(step)
+            outcome = self.port.take(reply, WANTED, self.now)
+            self.now += 1
+            if until(outcome):
+                return outcome
+        raise AssertionError("it goes on for ever")
+
+    def comes_up(self, refuse_each: int = 0) -> None:
+        assert self.drive(lambda outcome: outcome.note is Note.CAME_UP, refuse_each) is not None
+
+
+@pytest.mark.parametrize("refuse_each", [0, 3, 7])
+def test_a_module_comes_up(refuse_each: int) -> None:
+    machine = Machine(SimulatedModule(DR4))
+    assert machine.port.next(0) is Idle.NOTHING
+    machine.port.plug(0)
+    assert machine.port.next(0) == Until(20)
+    machine.comes_up(refuse_each)
+    assert machine.port.stage is Stage.WATCHING
+    assert PathState.DPActivated in machine.module.path_states
+    goal = machine.port.goal
+    assert goal is not None and goal[0] == machine.module.active
+    assert {Key(0xA0), page(0x00), page(0x01), page(0x11)} <= machine.places
+
+
+def test_a_restart_stores_nothing() -> None:
+    machine = Machine(SimulatedModule(DR4))
+    machine.port.plug(0)
+    machine.comes_up()
+    machine.port, machine.stores = Port(Times(20, 100, 50, 400)), 0
+    machine.port.plug(machine.now)
+    machine.comes_up()
+    assert machine.drive(lambda outcome: outcome.note is Note.HELD) is not None
+    assert machine.stores == 0
+
+
+def test_a_pull_leaves_nothing_and_a_held_port_asks_for_nothing() -> None:
+    machine = Machine(SimulatedModule(DR4))
+    machine.port.plug(0)
+    machine.now = 20
+    assert isinstance(machine.port.next(20), Operation)
+    assert machine.port.next(20) is Idle.NO_REPLY
+    machine.port.pull()
+    assert machine.port.take(False, WANTED, 20).kind is Kind.DROPPED
+    machine.port.hold(True)
+    machine.port.plug(20)
+    assert machine.port.held and machine.port.next(1000) is Idle.NOTHING
+    machine.port.hold(False)
+    machine.comes_up()
+
+
+def test_what_it_says_is_json() -> None:
+    machine = Machine(SimulatedModule(DR4))
+    machine.port.plug(0)
+    machine.comes_up()
+    machine.module = SimulatedModule(DR4)
+    failed = machine.drive(lambda outcome: outcome.kind is Kind.FAILED)
+    assert failed is not None and failed.failure is Failure.CHANGED
+    assert failed.to_dict()["failure"] == "CHANGED"
+    said = machine.port.to_dict()
+    assert json.loads(json.dumps(said)) == said
+    for flag in machine.port.flags:
+        assert flag.count > 0
+    machine.port.acknowledge(machine.now)
+    assert machine.port.flags == ()
+
+
+def test_wrong_replies_and_numbers_are_refused() -> None:
+    port = Port()
+    with pytest.raises(ValueError):
+        port.take(False, WANTED, 0)
+    port.plug(0)
+    assert isinstance(port.next(2000), Operation)
+    with pytest.raises(ValueError):
+        port.take(b"", WANTED, 2000)
+    with pytest.raises(ValueError):
+        port.plug(-1)
+    with pytest.raises(ValueError):
+        Port(Times(settle=2**32))
+    with pytest.raises(TypeError):
+        port.take(None, WANTED, 0)  # type: ignore[arg-type]
+    assert port.take(bytes(128), WANTED, 2000).kind in (Kind.WENT, Kind.LEAVES, Kind.PAUSED)
+
+
+def test_why_a_module_is_left_alone() -> None:
+    machine = Machine(SimulatedModule(DR4))
+    machine.port.plug(0)
+    while machine.port.stage is not Stage.LEFT:
+        step = machine.port.next(machine.now)
+        if isinstance(step, Until):
+            machine.now = step.moment
+            continue
+        assert isinstance(step, Operation)
+        outcome = machine.port.take(machine.module.transact(step), Wanted({}), machine.now)
+    assert machine.port.left == outcome.left == "no plan"

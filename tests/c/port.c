@@ -1,0 +1,393 @@
+/* A port that keeps a simulated module as it is wanted, driven through the library for firmware as its header says: a module comes up
+   over a bus that refuses, one that is up is left alone after a restart, flags count until they are known, and lanes that are up go
+   down by permission alone. And what is refused, for each call. */
+#include "expect.h"
+
+/* ---- a module with two Applications: one of eight host lanes, and one of four ---- */
+
+enum { LOWER, PAGE_00, PAGE_01, PAGE_10, PAGE_11, HALVES };
+enum { ALL_LANES = 0xFF, LONG = 20000, NO_LIMIT = 255 };
+
+static struct dovecounter_half halves[HALVES];
+static const struct dovecounter_delays delays = {3, 4, 2, 2, 4, 5, 4};
+static const struct dovecounter_times times = {.settle = 20, .period = 100, .first = 50, .most = 400};
+
+static void make_halves(void) {
+    static const uint8_t pages[HALVES] = {0, 0x00, 0x01, 0x10, 0x11};
+    for (int i = 0; i < HALVES; i++) {
+        halves[i].device = 0xA0;
+        halves[i].upper = i != LOWER;
+        halves[i].page = pages[i];
+    }
+    halves[PAGE_00].bytes[201 - 128] = 40; /* 10 W */
+    advertise_one(&halves[LOWER], &halves[PAGE_00], &halves[PAGE_01]);
+    memcpy(halves[LOWER].bytes + 90, "\x0D\x1C\x42\x11\xFF", 5);
+    halves[PAGE_01].bytes[177 - 128] = 5;
+    set_sum(&halves[PAGE_01], 130, 254, 255);
+}
+
+/* ---- one port, its module, its bus and its clock ---- */
+
+static struct dovecounter_port port;
+static struct dovecounter_module module;
+static struct dovecounter_wanted wanted;
+static struct dovecounter_port_next next;
+static struct dovecounter_port_outcome outcome;
+static uint64_t now;
+static unsigned refuse_each, transactions, stores;
+
+/* What the port read last, by the places that it named. */
+static struct dovecounter_half seen[HALVES];
+static size_t seen_count;
+
+static void insert_module(void) { expect("a module", 0, dovecounter_module_begin(halves, HALVES, &delays, &module)); }
+
+static void want(uint32_t eight_lanes, uint32_t four_lanes) {
+    memset(&wanted, 0, sizeof wanted);
+    wanted.weights[0x11] = eight_lanes;
+    wanted.weights[0x0D] = four_lanes;
+    wanted.stay = 1;
+    wanted.paired = 1;
+    wanted.most_power = NO_LIMIT;
+}
+
+static void pass(uint64_t milliseconds) {
+    now += milliseconds;
+    for (uint64_t i = 0; i < milliseconds && i < 100; i++) expect("a tick", 0, dovecounter_module_tick(&module));
+}
+
+static void keep_half(const uint8_t bytes[128]) {
+    size_t place = 0;
+    while (place < seen_count && (seen[place].upper != next.upper || seen[place].page != next.page)) place++;
+    if (place == seen_count) seen_count++;
+    expect("room for a half", 1, seen_count <= HALVES);
+    seen[place].device = next.operation.device;
+    seen[place].upper = next.upper;
+    seen[place].bank = next.bank;
+    seen[place].page = next.page;
+    memcpy(seen[place].bytes, bytes, 128);
+}
+
+/* Makes the operation, unless the bus refuses, and passes the reply. */
+static void make_operation(void) {
+    const struct dovecounter_operation *op = &next.operation;
+    uint8_t bytes[128], reply = DOVECOUNTER_REFUSED;
+    transactions++;
+    if (refuse_each != 0 && transactions % refuse_each == 0) {
+        reply = DOVECOUNTER_REFUSED;
+    } else if (op->kind == DOVECOUNTER_FETCH) {
+        if (dovecounter_module_fetch(halves, HALVES, &module, op->device, op->offset, bytes, op->count) == 0)
+            reply = DOVECOUNTER_FETCHED;
+        if (reply == DOVECOUNTER_FETCHED && next.whole) keep_half(bytes);
+    } else {
+        stores += op->offset < 126 || op->offset > 127;
+        if (dovecounter_module_store(halves, HALVES, &module, op->device, op->offset, op->bytes, op->count) == 0)
+            reply = DOVECOUNTER_STORED;
+    }
+    expect("a reply", 0, dovecounter_port_take(&port, reply, bytes, op->count, &wanted, now, &outcome));
+}
+
+static void ask(void) { expect("what is next", 0, dovecounter_port_next(&port, now, &next)); }
+
+/* Drives the port until it led to this, or nothing is to be done, for some time. */
+static int drive_to(uint8_t kind, uint8_t note) {
+    uint64_t end = now + LONG;
+    while (now < end) {
+        ask();
+        if (next.kind == DOVECOUNTER_PORT_IDLE) return 0;
+        if (next.kind == DOVECOUNTER_PORT_UNTIL) {
+            expect("a moment to come", 1, next.moment > now);
+            pass(next.moment - now);
+            continue;
+        }
+        expect("an operation", DOVECOUNTER_PORT_DO, next.kind);
+        make_operation();
+        pass(1);
+        if (outcome.kind == kind && outcome.note == note) return 1;
+    }
+    return 0;
+}
+
+static int comes_up(void) { return drive_to(DOVECOUNTER_PORT_WENT, DOVECOUNTER_PORT_CAME_UP); }
+
+static int is_left(uint8_t reason) {
+    return drive_to(DOVECOUNTER_PORT_LEAVES, 0) && outcome.left.reason == reason && port.left.reason == reason &&
+           port.stage == DOVECOUNTER_PORT_LEFT;
+}
+
+static uint8_t lanes_up(void) {
+    uint8_t lanes = 0;
+    for (int lane = 0; lane < 8; lane++)
+        if (module.lanes[lane].path == 4) lanes |= (uint8_t)(1 << lane);
+    return lanes;
+}
+
+static void plug_in(void) {
+    insert_module();
+    expect("plugged", 0, dovecounter_port_plug(&port, now));
+}
+
+static void begin(void) {
+    memset(&port, 0x5A, sizeof port);
+    dovecounter_port_new(&times, &port);
+    expect("an empty port", DOVECOUNTER_PORT_ABSENT, port.stage);
+    want(101, 10);
+    refuse_each = transactions = stores = 0;
+    seen_count = 0;
+}
+
+/* ---- what a port does ---- */
+
+static void try_up(void) {
+    for (refuse_each = 0; refuse_each < 12; refuse_each = refuse_each == 0 ? 3 : refuse_each + 1) {
+        unsigned each = refuse_each;
+        begin();
+        refuse_each = each;
+        ask();
+        expect("nothing in an empty port", DOVECOUNTER_PORT_IDLE, next.kind);
+        plug_in();
+        ask();
+        expect("a module settles", DOVECOUNTER_PORT_UNTIL, next.kind);
+        expect("for so long", (unsigned long)(now + times.settle), (unsigned long)next.moment);
+        expect("a module comes up", 1, (unsigned long)comes_up());
+        expect("all its lanes", ALL_LANES, lanes_up());
+        expect("the goal's lanes", ALL_LANES, port.goal.lanes);
+        expect("it is watched", DOVECOUNTER_PORT_WATCHING, port.stage);
+        expect("something was stored", 1, stores > 0);
+        expect("its next look", (unsigned long)(now - 1 + times.period), (unsigned long)port.due);
+    }
+}
+
+/* The halves that were read are the module's, by the places that were named. */
+static void try_places(void) {
+    begin();
+    plug_in();
+    expect("a module comes up", 1, (unsigned long)comes_up());
+    expect("four halves", 4, (unsigned long)seen_count); /* page 02h is lacked */
+    struct dovecounter_advertisement advertisement;
+    expect("they advertise", 0, dovecounter_advertisement(seen, seen_count, 0, &advertisement));
+    expect("two Applications", 2, advertisement.count);
+    struct dovecounter_flags flags;
+    expect("they have flags", 0, dovecounter_flags(seen, seen_count, &flags));
+}
+
+/* A program that restarts finds the module up, and stores nothing. */
+static void try_restart(void) {
+    begin();
+    plug_in();
+    expect("a module comes up", 1, (unsigned long)comes_up());
+    struct dovecounter_module before = module;
+    dovecounter_port_new(&times, &port);
+    stores = 0;
+    expect("plugged", 0, dovecounter_port_plug(&port, now));
+    expect("it is up", 1, (unsigned long)comes_up());
+    for (int looks = 0; looks < 5; looks++)
+        expect("it is held", 1, (unsigned long)drive_to(DOVECOUNTER_PORT_WENT, DOVECOUNTER_PORT_HELD));
+    expect("nothing was stored", 0, stores);
+    expect_same("its lanes", before.lanes, module.lanes, sizeof module.lanes);
+}
+
+/* A module that is changed by somebody else, and one that is replaced. */
+static void try_changes(void) {
+    begin();
+    plug_in();
+    expect("a module comes up", 1, (unsigned long)comes_up());
+    insert_module(); /* nobody said so */
+    expect("the change is seen", 1, (unsigned long)drive_to(DOVECOUNTER_PORT_FAILED, 0));
+    expect("as a change", DOVECOUNTER_PORT_CHANGED, outcome.failure);
+    expect("and waited for", (unsigned long)(now - 1 + times.first), (unsigned long)outcome.moment);
+    expect("it comes up again", 1, (unsigned long)comes_up());
+    expect("pulled", 0, dovecounter_port_pull(&port));
+    ask();
+    expect("nothing is left", DOVECOUNTER_PORT_IDLE, next.kind);
+    stores = 0;
+    plug_in();
+    expect("another one comes up", 1, (unsigned long)comes_up());
+    expect("all its lanes", ALL_LANES, lanes_up());
+}
+
+/* A pull drops the reply that is outstanding. */
+static void try_pull(void) {
+    begin();
+    plug_in();
+    pass(times.settle);
+    ask();
+    expect("an operation", DOVECOUNTER_PORT_DO, next.kind);
+    expect("pulled", 0, dovecounter_port_pull(&port));
+    expect("plugged", 0, dovecounter_port_plug(&port, now));
+    ask();
+    expect("the reply first", DOVECOUNTER_PORT_BUSY, next.kind);
+    make_operation();
+    expect("it is dropped", DOVECOUNTER_PORT_DROPPED, outcome.kind);
+    expect("the other comes up", 1, (unsigned long)comes_up());
+}
+
+/* While a port is held, it asks for nothing, whatever comes. */
+static void try_hold(void) {
+    begin();
+    plug_in();
+    expect("a module comes up", 1, (unsigned long)comes_up());
+    expect("held", 0, dovecounter_port_hold(&port, 7));
+    expect("as is said", 1, port.held);
+    pass(1000);
+    ask();
+    expect("nothing", DOVECOUNTER_PORT_IDLE, next.kind);
+    expect("replaced", 0, dovecounter_port_pull(&port));
+    plug_in();
+    pass(1000);
+    ask();
+    expect("still nothing", DOVECOUNTER_PORT_IDLE, next.kind);
+    expect("released", 0, dovecounter_port_hold(&port, 0));
+    expect("it comes up", 1, (unsigned long)comes_up());
+}
+
+/* Each flag that was read counts until it is acknowledged. */
+static void try_flags(void) {
+    enum { LANE_5 = 4, FLAG = 8 * (140 - 134) + LANE_5 };
+    begin();
+    plug_in();
+    expect("a module comes up", 1, (unsigned long)comes_up());
+    pass(times.period);
+    uint16_t before = port.flags.lane_counts[FLAG];
+    for (unsigned raised = 1; raised <= 3; raised++) {
+        module.lane_flags[140 - 134] = 1 << LANE_5;
+        expect("it is held", 1, (unsigned long)drive_to(DOVECOUNTER_PORT_WENT, DOVECOUNTER_PORT_HELD));
+        expect("the flag counts", before + raised, port.flags.lane_counts[FLAG]);
+        expect("and is dated", (unsigned long)now - 1, (unsigned long)port.flags.lane_last[FLAG]);
+    }
+    uint64_t last = port.flags.lane_last[FLAG];
+    expect("pulled", 0, dovecounter_port_pull(&port));
+    expect("it outlives a pull", before + 3, port.flags.lane_counts[FLAG]);
+    expect("known too early", 0, dovecounter_port_acknowledge(&port, last - 1));
+    expect("it counts", before + 3, port.flags.lane_counts[FLAG]);
+    expect("known", 0, dovecounter_port_acknowledge(&port, last));
+    expect("it counts no longer", 0, port.flags.lane_counts[FLAG]);
+    expect("nor is dated", 0, (unsigned long)port.flags.lane_last[FLAG]);
+}
+
+/* Other weights want lanes down that are up: only by permission. */
+static void try_permission(void) {
+    begin();
+    plug_in();
+    expect("a module comes up", 1, (unsigned long)comes_up());
+    want(101, 100);
+    stores = 0;
+    expect("asked", 0, dovecounter_port_reconsider(&port));
+    expect("it is left alone", 1, (unsigned long)is_left(DOVECOUNTER_LEFT_NEEDS_PERMISSION));
+    expect("nothing was stored", 0, stores);
+    expect("all lanes are up", ALL_LANES, lanes_up());
+    wanted.may_take_down = 0x7F;
+    expect("asked", 0, dovecounter_port_reconsider(&port));
+    expect("lane 8 may not", 1, (unsigned long)is_left(DOVECOUNTER_LEFT_NEEDS_PERMISSION));
+    wanted.may_take_down = ALL_LANES;
+    expect("asked", 0, dovecounter_port_reconsider(&port));
+    expect("it is provisioned", 1, (unsigned long)drive_to(DOVECOUNTER_PORT_WENT, DOVECOUNTER_PORT_PROVISIONED));
+    expect("it comes up otherwise", 1, (unsigned long)comes_up());
+    expect("all lanes are up", ALL_LANES, lanes_up());
+    uint8_t active[8];
+    expect("its bytes", 0, dovecounter_module_active(&module, active));
+    expect_same("are the goal's", port.goal.control, active, sizeof active);
+}
+
+/* ---- why a module is left alone ---- */
+
+static void try_left(void) {
+    begin();
+    want(0, 0);
+    plug_in();
+    expect("no plan", 1, (unsigned long)is_left(DOVECOUNTER_LEFT_NO_PLAN));
+    begin();
+    halves[LOWER].bytes[1] = 0x30;
+    insert_module();
+    halves[LOWER].bytes[1] = 0x50;
+    begin();
+    plug_in();
+    expect("a pin", 0, dovecounter_module_pin(&module, 1));
+    wanted.most_power = 39;
+    expect("too much power", 1, (unsigned long)is_left(DOVECOUNTER_LEFT_NEEDS_POWER));
+    wanted.most_power = 40;
+    expect("asked", 0, dovecounter_port_reconsider(&port));
+    expect("it stays asleep", 1, (unsigned long)drive_to(DOVECOUNTER_PORT_FAILED, 0));
+    expect("not woken", DOVECOUNTER_PORT_NOT_WOKEN, outcome.failure);
+    expect("overdue", DOVECOUNTER_OVERDUE, outcome.fault.code);
+}
+
+/* ---- what is refused ---- */
+
+static void refuse_all(const char *what, uint32_t wanted_status) {
+    struct dovecounter_port before = port;
+    struct dovecounter_port_next next_before;
+    struct dovecounter_port_outcome outcome_before;
+    memset(&next, 0x5A, sizeof next);
+    memset(&outcome, 0x5A, sizeof outcome);
+    memcpy(&next_before, &next, sizeof next);
+    memcpy(&outcome_before, &outcome, sizeof outcome);
+    uint8_t none = 0;
+    expect(what, wanted_status, dovecounter_port_plug(&port, 1));
+    expect(what, wanted_status, dovecounter_port_pull(&port));
+    expect(what, wanted_status, dovecounter_port_reconsider(&port));
+    expect(what, wanted_status, dovecounter_port_hold(&port, 1));
+    expect(what, wanted_status, dovecounter_port_acknowledge(&port, 1));
+    expect(what, wanted_status, dovecounter_port_next(&port, 1, &next));
+    expect(what, wanted_status, dovecounter_port_take(&port, DOVECOUNTER_REFUSED, &none, 0, &wanted, 1, &outcome));
+    expect_same(what, &before, &port, sizeof port);
+    expect_same(what, &next_before, &next, sizeof next);
+    expect_same(what, &outcome_before, &outcome, sizeof outcome);
+}
+
+static void refuse_reply(const char *what, uint8_t reply, size_t count) {
+    struct dovecounter_port before = port;
+    static const uint8_t bytes[200];
+    memset(&outcome, 0x5A, sizeof outcome);
+    struct dovecounter_port_outcome outcome_before;
+    memcpy(&outcome_before, &outcome, sizeof outcome);
+    expect(what, DOVECOUNTER_NO_REPLY, dovecounter_port_take(&port, reply, bytes, count, &wanted, now, &outcome));
+    expect_same(what, &before, &port, sizeof port);
+    expect_same(what, &outcome_before, &outcome, sizeof outcome);
+}
+
+static void try_refusals(void) {
+    memset(&port, 0, sizeof port);
+    refuse_all("zeros", DOVECOUNTER_NO_CONVERSATION);
+    begin();
+    port.stage = 7;
+    refuse_all("no stage", DOVECOUNTER_NO_CONVERSATION);
+    port.stage = DOVECOUNTER_PORT_LEFT;
+    refuse_all("left for no reason", DOVECOUNTER_NO_CONVERSATION);
+    port.stage = DOVECOUNTER_PORT_PROVISIONING;
+    refuse_all("no procedure", DOVECOUNTER_NO_CONVERSATION);
+    begin();
+    port.half_count = 6;
+    refuse_all("six halves", DOVECOUNTER_NO_CONVERSATION);
+    begin();
+    refuse_reply("none is awaited", DOVECOUNTER_REFUSED, 0);
+    plug_in();
+    pass(times.settle);
+    refuse_reply("nor yet", DOVECOUNTER_REFUSED, 0);
+    ask();
+    expect("a fetch", DOVECOUNTER_FETCH, next.operation.kind);
+    expect("of a half", 128, next.operation.count);
+    refuse_reply("a store's reply", DOVECOUNTER_STORED, 0);
+    refuse_reply("too few bytes", DOVECOUNTER_FETCHED, 127);
+    refuse_reply("too many bytes", DOVECOUNTER_FETCHED, 129);
+    refuse_reply("no wait", DOVECOUNTER_WAITED, 0);
+    expect("pulled", 0, dovecounter_port_pull(&port));
+    refuse_reply("no wait", DOVECOUNTER_WAITED, 0);
+    make_operation();
+    expect("dropped", DOVECOUNTER_PORT_DROPPED, outcome.kind);
+}
+
+int main(void) {
+    make_halves();
+    try_up();
+    try_places();
+    try_restart();
+    try_changes();
+    try_pull();
+    try_hold();
+    try_flags();
+    try_permission();
+    try_left();
+    try_refusals();
+    return judged("port");
+}
