@@ -10,22 +10,14 @@ void print_line(const char *name, const uint8_t control[8], const char *after) {
 }
 
 enum status refuse_by(const struct port *port, uint32_t status) {
-    warnx("%s: %s", port->name, sentence(status));
+    warnx("%s: %s", port->bus.name, sentence(status));
     return REFUSED;
 }
 
 enum status image(struct port *port) {
     bool whole = read_module(port, true);
     if (port->half_count > 0) puts("module-image 1");
-    for (size_t i = port->half_count; i-- > 0;) { /* the newest is the first */
-        const struct dovecounter_half *half = &port->halves[i];
-        if (half->upper)
-            printf("upper %02X %02x %02x ", half->device, half->bank, half->page);
-        else
-            printf("lower %02X ", half->device);
-        for (size_t at = 0; at < 128; at++) printf("%02x", half->bytes[at]);
-        putchar('\n');
-    }
+    for (size_t i = port->half_count; i-- > 0;) print_half(stdout, &port->halves[i]); /* the newest is the first */
     if (port->half_count > 0) puts("end");
     return whole ? DONE : REFUSED;
 }

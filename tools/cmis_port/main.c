@@ -78,7 +78,7 @@ static const struct command *read_words(int count, char **words, struct port *po
         {"plan", plan, true, false, false},    {"provision", provision, true, true, true},
         {"wake", wake, false, false, false},   {"sleep", put_to_sleep, false, false, true}};
     if (!read_flags(count, words, port) || port->help || optind + 1 >= count) return NULL;
-    port->name = words[optind];
+    port->bus.name = words[optind];
     *weights = words[optind + 2];
     for (const struct command *each = commands; each < commands + 6; each++) {
         if (strcmp(words[optind + 1], each->name) != 0) continue;
@@ -100,16 +100,16 @@ static enum status run(const struct command *command, struct port *port, const c
     bool ready = (!command->plans || read_weights(weights, port->weights)) && open_port(port);
     hold_signals(&port->signals);
     enum status status = ready ? command->run(port) : REFUSED;
-    unlock_bus();
+    unlock_bus(&port->bus);
     release_signals(port);
     if (port->log != NULL) close_log(port);
-    if (port->file >= 0) close(port->file);
+    close_bus(&port->bus);
     return status;
 }
 
 int main(int count, char **words) {
     static char output[1 << 14]; /* holds all of it, to be written where a signal may end the program */
-    struct port port = {.file = -1, .most = 128, .least = 8};
+    struct port port = {.bus = {.file = -1, .lock.file = -1}, .most = 128, .least = 8};
     const char *weights = NULL;
     fill_streams();
     signal(SIGPIPE, SIG_IGN); /* writes fail instead, */

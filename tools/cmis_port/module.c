@@ -131,7 +131,7 @@ unsigned carry_out(struct port *port, enum work work) {
     begin(port, work, &talk.conversation);
     unsigned fault = run(&talk, &ending);
     if (fault == NO_ANSWER) return NO_ANSWER;
-    if (fault != 0) say_fault(port->name, ending.fault);
+    if (fault != 0) say_fault(port->bus.name, ending.fault);
     port->steps[work] = ending.steps;
     return fault;
 }

@@ -1,44 +1,26 @@
 /* cmis-port: reads, plans and provisions the module in a port of a Linux machine, over the proved library (docs/port.md). */
 #ifndef PORT_H
 #define PORT_H
-#include "dovecounter.h"
+#include "bus.h"
 
 #include <signal.h>
-#include <stdbool.h>
-#include <stdio.h>
 
 enum status { DONE = 0, REFUSED = 1, COMMAND_LINE = 2, NOT_PROVISIONED = 3, IN_USE = 4, NOT_WRITTEN = 6 };
 enum work { PROVISION, ACTIVATE, WAKE, SLEEP };
 
-struct directive {
-    enum { OK, NACK, CUT, TICK, LPMODE } kind;
-    unsigned number;
-};
-
-struct simulated {
-    struct dovecounter_half halves[16];
-    size_t count;
-    struct dovecounter_module module;
-    struct directive script[1024];
-    size_t length, at; /* of the script: directives, and the one in hand */
-};
-
 struct port {
     /* what is asked for */
-    const char *name, *log_name;
+    const char *log_name;
     bool activate, ensure, force, wake, help, unpaired, counts_by_id;
     uint32_t weights[256];
     struct dovecounter_path kept[9];
     size_t kept_count;
 
     /* the bus */
-    int file;
+    struct bus bus;
     FILE *log;
-    bool (*carry)(struct port *port, const struct dovecounter_operation *operation, uint8_t *bytes); /* answered? */
-    struct simulated simulated;
-    uint8_t selection[2]; /* bank and page that would be selected */
-    uint8_t most, least;  /* bytes that the adapter fetches at once: as far as is known, and certainly */
-    sigset_t signals;     /* they end the program between two operations */
+    uint8_t most, least; /* bytes that the adapter fetches at once: as far as is known, and certainly */
+    sigset_t signals;    /* they end the program between two operations */
 
     /* what came of it */
     unsigned made, refused;                   /* operations; those that were refused since one was answered */
@@ -51,8 +33,7 @@ struct port {
     struct dovecounter_plan plan;
 };
 
-/* bus.c */
-int64_t now(void); /* in milliseconds */
+/* transactions.c */
 void clear_progress(void);
 void stop(struct port *port, const char *why);
 void pause_ms(struct port *port, int64_t ms);
@@ -62,14 +43,6 @@ void print_now(struct port *port);
 void release_signals(struct port *port);
 bool open_port(struct port *port);
 uint8_t transact(struct port *port, const struct dovecounter_operation *operation, uint8_t bytes[128]);
-
-/* lock.c */
-bool lock_bus(const struct port *port);
-void unlock_bus(void);
-
-/* simulated.c */
-bool open_simulated(struct simulated *simulated, const char *names);
-bool transact_simulated(struct port *port, const struct dovecounter_operation *operation, uint8_t *bytes);
 
 /* module.c */
 enum { MODULE_STATE = 3, PATH_STATES = 128, CONFIG_STATUSES = 202, ACTIVE = 206 }; /* the last three on page 11h */
@@ -113,15 +86,9 @@ void say_hindrance(FILE *out, const char *before, const struct hindrance *hindra
 enum status plan(struct port *port);
 enum status provision(struct port *port);
 
-/* weights.c */
-bool read_weights(const char *name, uint32_t weights[256]);
-
 /* words.c */
-extern const char *const module_states[8], *const path_states[16], *const config_statuses[16];
-unsigned code_of(const uint8_t codes[4], unsigned lane);
 void print_bytes(FILE *out, const uint8_t *bytes, size_t count);
 void print_codes(FILE *out, const uint8_t codes[4], const char *const names[16]);
 void print_lanes(FILE *out, unsigned lanes);
-const char *sentence(uint32_t status);
 void say_fault(const char *name, struct dovecounter_fault fault);
 #endif

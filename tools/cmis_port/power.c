@@ -9,7 +9,7 @@ static bool is_in(struct port *port, unsigned wanted, bool done) {
     if (known) print_flags(port);
     printf("state %s\n", known ? module_states[state_of(port)] : "unknown");
     if (known && done && state_of(port) != wanted)
-        warnx("%s: the module does not stay in %s", port->name, module_states[wanted]);
+        warnx("%s: the module does not stay in %s", port->bus.name, module_states[wanted]);
     return known && state_of(port) == wanted;
 }
 

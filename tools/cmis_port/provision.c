@@ -15,7 +15,7 @@ static void print_held(const struct port *port) {
 static bool read_lanes(struct port *port) {
     bool whole = read_module(port, false);
     print_flags(port);
-    if (whole && bytes_at(port, ACTIVE) == NULL) warnx("%s: the module shows no page 11h any more", port->name);
+    if (whole && bytes_at(port, ACTIVE) == NULL) warnx("%s: the module shows no page 11h any more", port->bus.name);
     return whole && bytes_at(port, ACTIVE) != NULL;
 }
 
@@ -74,8 +74,8 @@ static bool put_in(struct port *port) {
         if (fault != 3) return fault == 0;
         pause_ms(port, BEFORE_AGAIN);
         if (port->ending != GOES_ON || !read_lanes(port) || hindrance(port).status != DONE) return false;
-        if (holds_plan(port)) return warnx("%s: the plan is active now", port->name), true;
-        if (times < 2) warnx("%s: provisioning begins again", port->name);
+        if (holds_plan(port)) return warnx("%s: the plan is active now", port->bus.name), true;
+        if (times < 2) warnx("%s: provisioning begins again", port->bus.name);
     }
     return false;
 }
@@ -92,9 +92,9 @@ static enum status say_what_is_held(struct port *port, bool done) {
     else
         puts("active unknown");
     if (done && known && !ready)
-        warnx("%s: the module is in %s", port->name, module_states[state_of(port)]);
+        warnx("%s: the module is in %s", port->bus.name, module_states[state_of(port)]);
     else if (done && known && !finished)
-        warnx("%s: all was done, but the module shows it no more: has it reset itself?", port->name);
+        warnx("%s: all was done, but the module shows it no more: has it reset itself?", port->bus.name);
     if (done && finished) return DONE;
     return port->stored ? NOT_PROVISIONED : REFUSED;
 }

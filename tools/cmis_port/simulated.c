@@ -1,5 +1,5 @@
 /* A simulated module in place of a bus: sim:IMAGE, or sim:IMAGE,SCRIPT, with texts as cmisctl has them. */
-#include "port.h"
+#include "bus.h"
 
 #include <err.h>
 #include <errno.h>
@@ -87,8 +87,8 @@ static size_t taken(struct directive directive, size_t count) {
     return directive.kind == NACK ? 0 : directive.number < count ? directive.number : count;
 }
 
-bool transact_simulated(struct port *port, const struct dovecounter_operation *operation, uint8_t *bytes) {
-    struct simulated *it = &port->simulated;
+bool transact_simulated(struct bus *bus, const struct dovecounter_operation *operation, uint8_t *bytes) {
+    struct simulated *it = &bus->simulated;
     struct directive directive = follow_script(it);
     size_t count = taken(directive, operation->count);
     uint32_t status = DOVECOUNTER_DONE;

@@ -1,5 +1,5 @@
 /* Weights: a text of lines that the library reads. */
-#include "port.h"
+#include "bus.h"
 
 #include <err.h>
 

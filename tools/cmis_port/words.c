@@ -45,6 +45,16 @@ void print_codes(FILE *out, const uint8_t codes[4], const char *const names[16])
     }
 }
 
+/* A line of an image, as cmisctl reads it. */
+void print_half(FILE *out, const struct dovecounter_half *half) {
+    if (half->upper)
+        fprintf(out, "upper %02X %02x %02x ", half->device, half->bank, half->page);
+    else
+        fprintf(out, "lower %02X ", half->device);
+    for (size_t at = 0; at < sizeof half->bytes; at++) fprintf(out, "%02x", half->bytes[at]);
+    fputc('\n', out);
+}
+
 void print_lanes(FILE *out, unsigned lanes) {
     for (unsigned lane = 0; lane < 8; lane++)
         if (lanes >> lane & 1) fprintf(out, " %u", lane + 1);
