@@ -1,0 +1,221 @@
+/* Adapters with simulated modules, each in a file that the test has in memory too: so a module outlives the daemon, and the test sees what
+   becomes of it, and lets it be plugged, pulled, reset or silent. The daemon is linked with these in place of the system's calls. */
+#include "../../tools/cmis_port/bus.h"
+
+#include <errno.h>
+#include <fcntl.h>
+#include <linux/i2c-dev.h>
+#include <linux/i2c.h>
+#include <stdarg.h>
+#include <stdlib.h>
+#include <string.h>
+#include <sys/ioctl.h>
+#include <sys/mman.h>
+#include <sys/stat.h>
+#include <unistd.h>
+
+enum { SIZE = 1 << 14, READY = 3, ACTIVATED = 4, MOST_TICKS = 2000 };
+
+/* The numbers come first, in the order that `run` knows. */
+struct adapter {
+    /* what the test asks for */
+    uint32_t present, refuse, late, blocks, serial, resets, pin, raises, smbus, rejects, identifier;
+    uint32_t wanted[8];
+    uint32_t unused[13];
+    /* what became of it */
+    uint32_t transactions, refused, stores, needless, dropped, unread, state, deinit;
+    uint32_t paths[8], active[8];
+    uint32_t seen_serial, seen_resets, read_lower, read_lanes, stores_of_power, flags_raised;
+    uint32_t unused_too[2];
+    uint32_t module_flags[32], lane_flags[152]; /* how often each was answered as raised */
+    char image[256];
+    /* not the test's */
+    uint64_t random;
+    int64_t ticked;
+    struct simulated simulated;
+};
+_Static_assert(sizeof(struct adapter) <= SIZE, "the file is too small");
+
+static unsigned below(struct adapter *it, unsigned limit) {
+    it->random ^= it->random << 13;
+    it->random ^= it->random >> 7;
+    it->random ^= it->random << 17;
+    return (unsigned)(it->random >> 16) % limit;
+}
+
+static bool is_up(const struct adapter *it, unsigned lane) {
+    const struct dovecounter_lane *is = &it->simulated.module.lanes[lane];
+    return is->path == ACTIVATED && it->wanted[lane] != 0 && is->active == it->wanted[lane];
+}
+
+/* Another module, or the one that has reset itself. */
+static void begin(struct adapter *it) {
+    const struct dovecounter_delays delays = {8, 8, 8, 8, 8, 8, 8};
+    if (it->serial != it->seen_serial) {
+        it->read_lower = it->read_lanes = 0;
+        memset(&it->simulated, 0, sizeof it->simulated);
+        if (!open_simulated(&it->simulated, it->image)) abort();
+    }
+    dovecounter_module_begin(it->simulated.halves, it->simulated.count, &delays, &it->simulated.module);
+    it->seen_serial = it->serial;
+    it->seen_resets = it->resets;
+}
+
+/* A tick is a millisecond. */
+static void let_time_pass(struct adapter *it) {
+    int64_t time = now(), ticks = time - it->ticked;
+    it->ticked = time;
+    dovecounter_module_pin(&it->simulated.module, it->pin != 0);
+    for (ticks = ticks < MOST_TICKS ? ticks : MOST_TICKS; ticks > 0; ticks--)
+        dovecounter_module_tick(&it->simulated.module);
+    if (it->raises > 1000) it->simulated.module.module_flags = 0xFF;
+    if (below(it, 1000) < it->raises)
+        it->simulated.module.lane_flags[1 + below(it, 18)] |= (uint8_t)(1U << below(it, 8));
+}
+
+/* ---- what is judged */
+
+/* A store that takes down or applies a lane that is up as wanted is needless; one to another module before it was read is too early. */
+static void judge_store(struct adapter *it, const struct i2c_msg *message) {
+    uint8_t offset = message->buf[0];
+    if (offset == 126 || offset == 127) return;
+    it->stores++;
+    it->stores_of_power += offset == 26;
+    it->unread += !it->read_lower || !it->read_lanes;
+    if (it->simulated.module.page != 0x10 || (offset != 128 && offset != 143)) return;
+    for (unsigned lane = 0; lane < 8; lane++)
+        if (message->buf[1] >> lane & 1 && is_up(it, lane)) it->needless++;
+}
+
+static void count_flags(uint32_t *counts, unsigned first, unsigned size, unsigned offset, const uint8_t *bytes,
+                        unsigned count) {
+    for (unsigned flag = 0; flag < size; flag++) {
+        unsigned address = first + flag / 8;
+        if (address >= offset && address < offset + count) counts[flag] += bytes[address - offset] >> flag % 8 & 1;
+    }
+}
+
+static void judge_fetch(struct adapter *it, unsigned offset, const uint8_t *bytes, unsigned count) {
+    bool shows_lanes = it->simulated.module.page == 0x11;
+    count_flags(it->module_flags, 8, 32, offset, bytes, count);
+    if (shows_lanes) count_flags(it->lane_flags, 134, 152, offset, bytes, count);
+    if (offset == 0 && count == 128) it->read_lower = 1;
+    if (offset == 128 && count == 128 && shows_lanes) it->read_lanes = 1;
+}
+
+/* ---- a transaction */
+
+static bool is_done(struct adapter *it, const struct i2c_rdwr_ioctl_data *data) {
+    struct simulated *module = &it->simulated;
+    const struct i2c_msg *sent = &data->msgs[0];
+    uint8_t device = (uint8_t)(sent->addr << 1), offset = sent->buf[0];
+    if (data->nmsgs == 1)
+        return dovecounter_module_store(module->halves, module->count, &module->module, device, offset, sent->buf + 1,
+                                        sent->len - 1U) == DOVECOUNTER_DONE;
+    return dovecounter_module_fetch(module->halves, module->count, &module->module, device, offset, data->msgs[1].buf,
+                                    data->msgs[1].len) == DOVECOUNTER_DONE;
+}
+
+static bool transact(struct adapter *it, const struct i2c_rdwr_ioctl_data *data) {
+    bool was_up[8];
+    if (it->random == 0) it->random = 88172645463325252U + (uint64_t)now() * 1000003;
+    it->transactions++;
+    if (!it->present || below(it, 100) < it->refuse) return false;
+    if (it->serial != it->seen_serial || it->resets != it->seen_resets) begin(it);
+    let_time_pass(it);
+    for (unsigned lane = 0; lane < 8; lane++) was_up[lane] = is_up(it, lane);
+    if (data->nmsgs == 1) judge_store(it, &data->msgs[0]);
+    bool is_answered = is_done(it, data) && below(it, 100) >= it->late;
+    if (it->identifier != 0 && data->nmsgs == 2 && data->msgs[0].buf[0] == 0)
+        data->msgs[1].buf[0] = (uint8_t)it->identifier;
+    if (it->rejects && data->nmsgs == 2 && data->msgs[0].buf[0] == 202 && it->simulated.module.page == 0x11)
+        memset(data->msgs[1].buf, 0x22, data->msgs[1].len); /* ConfigRejected */
+    if (is_answered && data->nmsgs == 2) judge_fetch(it, data->msgs[0].buf[0], data->msgs[1].buf, data->msgs[1].len);
+    if (data->nmsgs == 1) dovecounter_module_tick(&it->simulated.module);
+    for (unsigned lane = 0; lane < 8; lane++) it->dropped += was_up[lane] && !is_up(it, lane);
+    return is_answered;
+}
+
+static void show(struct adapter *it) {
+    const struct dovecounter_module *module = &it->simulated.module;
+    it->state = module->state;
+    it->deinit = module->deinit;
+    for (unsigned lane = 0; lane < 8; lane++) it->paths[lane] = module->lanes[lane].path;
+    for (unsigned lane = 0; lane < 8; lane++) it->active[lane] = module->lanes[lane].active;
+}
+
+static int answer(volatile struct adapter *waits, struct adapter *it, unsigned long request, void *argument) {
+    if (request == I2C_FUNCS) {
+        *(unsigned long *)argument = it->smbus ? I2C_FUNC_SMBUS_BYTE_DATA : I2C_FUNC_I2C;
+        return 0;
+    }
+    const struct i2c_rdwr_ioctl_data *data = argument;
+    while (waits->blocks) usleep(2000);
+    bool is_answered = transact(it, data);
+    show(it);
+    it->refused += !is_answered;
+    errno = EREMOTEIO;
+    return is_answered ? (int)data->nmsgs : -1;
+}
+
+int __real_ioctl(int file, unsigned long request, ...);
+int __wrap_ioctl(int file, unsigned long request, ...);
+
+int __wrap_ioctl(int file, unsigned long request, ...) {
+    struct stat about;
+    va_list arguments;
+    va_start(arguments, request);
+    void *argument = va_arg(arguments, void *);
+    va_end(arguments);
+    if ((request != I2C_FUNCS && request != I2C_RDWR) || fstat(file, &about) != 0 || about.st_size != SIZE)
+        return __real_ioctl(file, request, argument);
+    struct adapter *it = mmap(NULL, SIZE, PROT_READ | PROT_WRITE, MAP_SHARED, file, 0);
+    if (it == MAP_FAILED) abort();
+    int answered = answer(it, it, request, argument);
+    int error = errno;
+    munmap(it, SIZE);
+    errno = error;
+    return answered;
+}
+
+/* Adapters are in the folder that ADAPTERS names, and hang on i2c-0. */
+int __real_open(const char *name, int flags, ...);
+int __wrap_open(const char *name, int flags, ...);
+
+int __wrap_open(const char *name, int flags, ...) {
+    char path[400];
+    const char *adapters = getenv("ADAPTERS");
+    bool is_adapter = adapters != NULL && strncmp(name, "/dev/i2c-", 9) == 0;
+    va_list arguments;
+    va_start(arguments, flags);
+    unsigned mode = flags & O_CREAT ? va_arg(arguments, unsigned) : 0;
+    va_end(arguments);
+    if (is_adapter) snprintf(path, sizeof path, "%s/%s", adapters, name + strlen("/dev/"));
+    return __real_open(is_adapter ? path : name, flags, mode);
+}
+
+char *__real_realpath(const char *name, char *path);
+char *__wrap_realpath(const char *name, char *path);
+
+char *__wrap_realpath(const char *name, char *path) {
+    static const char devices[] = "/sys/bus/i2c/devices/";
+    if (strncmp(name, devices, strlen(devices)) != 0) return __real_realpath(name, path);
+    sprintf(path, "/sys/devices/pci0000:00/i2c-0/%.99s", name + strlen(devices));
+    return path;
+}
+
+/* The journal is standard error here. */
+int __wrap_sd_journal_send_with_location(const char *file, const char *line, const char *function, const char *format,
+                                         ...);
+
+int __wrap_sd_journal_send_with_location(const char *file, const char *line, const char *function, const char *format,
+                                         ...) {
+    char text[600];
+    va_list arguments;
+    (void)file, (void)line, (void)function;
+    va_start(arguments, format);
+    vsnprintf(text, sizeof text, format, arguments);
+    va_end(arguments);
+    fprintf(stderr, "journal: %s\n", text);
+    return 0;
+}

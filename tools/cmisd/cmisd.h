@@ -1,0 +1,100 @@
+/* cmisd: keeps the modules in the ports of a machine as they are wanted, by the proved library (docs/manager.md). */
+#ifndef CMISD_H
+#define CMISD_H
+#include "../cmis_port/bus.h"
+
+#include <poll.h>
+#include <pthread.h>
+
+enum { NAME_SIZE = 32, TEXT_SIZE = 128, WORDS_SIZE = 512 };
+enum { LANES_PAGE = 0x11, MODULE_FLAGS = 32, LANE_FLAGS = 152 };
+
+/* A section of the configuration. */
+struct entry {
+    char name[NAME_SIZE], weights[TEXT_SIZE];
+    char bus[TEXT_SIZE], presence[TEXT_SIZE], low_power[TEXT_SIZE],
+        reset[TEXT_SIZE]; /* the last three are files of pins */
+    struct dovecounter_times times;
+    struct dovecounter_wanted wanted;
+    uint8_t manage;
+};
+
+struct configuration {
+    struct entry *entries;
+    size_t count;
+    unsigned errors;
+};
+
+/* A port, and its memory as it was read since its module was plugged or has failed. The thread of its adapter alone uses `bus`, and takes
+   it out of the list; all else is used by whoever holds `state`. */
+struct port {
+    struct entry entry;
+    struct port *next;
+    struct adapter *adapter;
+    struct bus bus;
+    struct dovecounter_port core;
+    enum { UNKNOWN, ABSENT, PRESENT } presence;
+    bool is_open, is_held, is_blind, is_retired; /* is_blind: its pin can't be read; is_retired: no longer configured */
+    uint8_t permitted;     /* lanes that somebody lets go down, until the module is up or left alone */
+    int64_t due, looks_at; /* when something is to be done next, and when to look whether a module is there */
+    int64_t reopens_in;    /* how long to wait if the bus can't be opened */
+
+    int64_t began, refused_at;            /* when the transaction under way began, or 0; and the first of `refusals` */
+    unsigned refusals, operations, nacks; /* transactions refused in a row; all; all refused */
+    struct dovecounter_half halves[DOVECOUNTER_MOST_READ];
+    size_t half_count;
+    int page; /* that was read to be selected last, or -1 */
+
+    uint8_t stage; /* as it was told last */
+    int64_t since, lanes_since[8], failed_at;
+    char failure[WORDS_SIZE]; /* the last one, or "" */
+    struct dovecounter_flag_counts flags;
+};
+
+/* config.c */
+bool read_lanes(const char *text, uint8_t *lanes);
+const struct entry *entry_of(const struct configuration *configuration, const char *name);
+bool read_configuration(const char *name, struct configuration *configuration);
+
+/* port.c */
+extern pthread_mutex_t state;
+extern struct port *ports;
+void begin_ports(void);
+struct port *port_of(const char *name);
+bool is_still(const struct port *port);
+void ask_again(struct port *port);
+void hold(struct port *port, bool held);
+void apply(const struct configuration *configuration);
+bool stop_all(int64_t most);
+
+/* told.c */
+void say_reason(char words[WORDS_SIZE], const struct dovecounter_left *left);
+void tell(struct port *port, const char *event, const char *words);
+void tell_flags(struct port *port);
+void hear(struct port *port, const struct dovecounter_port_outcome *outcome);
+
+/* status.c */
+extern const char *folder;
+void print_text(FILE *out, const char *before, const char *name, const char *text);
+void print_moment(FILE *out, const char *before, const char *name, int64_t moment);
+void begin_port(FILE *out, const struct port *port);
+void print_port(FILE *out, const struct port *port);
+void name_flag(char name[NAME_SIZE], size_t flag);
+const struct dovecounter_half *half_of(const struct port *port, uint8_t upper, uint8_t page);
+void put_status(const struct port *port);
+void put_image(const struct port *port);
+void remove_file(const char *port, const char *ending);
+void remove_old_files(void);
+
+/* control.c */
+enum { MOST_CLIENTS = 16 };
+int open_control(void);
+int ask(int count, char **words);
+void send_to_listeners(const char *line, size_t length);
+size_t list_clients(struct pollfd files[MOST_CLIENTS]);
+void accept_client(int server);
+void serve(int file);
+
+/* main.c */
+bool reload(void);
+#endif

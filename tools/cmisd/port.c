@@ -1,0 +1,377 @@
+/* What is done at a port, by the thread of its adapter: the operation that the library names, or a look at whether a module is there. */
+#include "cmisd.h"
+
+#include <err.h>
+#include <errno.h>
+#include <fcntl.h>
+#include <limits.h>
+#include <stddef.h>
+#include <stdlib.h>
+#include <string.h>
+#include <unistd.h>
+
+enum { SECOND = 1000, SOON = 100, LONGEST = 64 * SECOND }; /* milliseconds */
+enum { GONE_AFTER = 3 };                                   /* refusals */
+
+/* What hangs on one adapter, beyond all multiplexers, has one thread. */
+struct adapter {
+    char name[TEXT_SIZE];
+    pthread_cond_t woken;
+    struct adapter *next;
+};
+
+pthread_mutex_t state = PTHREAD_MUTEX_INITIALIZER;
+struct port *ports;
+static struct adapter *adapters;
+static bool is_stopping;
+static pthread_cond_t ended;
+
+/* No status but DONE can come of what is called here. */
+static void must(uint32_t status) {
+    if (status == DOVECOUNTER_DONE) return;
+    warnx("the library answers %u", status);
+    abort();
+}
+
+struct port *port_of(const char *name) {
+    for (struct port *each = ports; each != NULL; each = each->next)
+        if (!each->is_retired && strcmp(each->entry.name, name) == 0) return each;
+    return NULL;
+}
+
+/* Whether nothing is to be done at its bus, which others may use then. */
+bool is_still(const struct port *port) { return port->is_held || !port->entry.manage; }
+
+static void forget(struct port *port) {
+    port->half_count = 0;
+    port->page = -1;
+}
+
+/* ---- the bus and the pins */
+
+/* A name that begins with ! is of a pin that is on if it reads 0. Answers -1 if it can't be read. */
+static int read_pin(const char *name) {
+    char text[16] = "";
+    bool is_low = name[0] == '!';
+    int file = open(name + is_low, O_RDONLY | O_CLOEXEC);
+    bool is_read = file >= 0 && read(file, text, sizeof text - 1) > 0;
+    if (file >= 0) close(file);
+    return is_read ? (strtol(text, NULL, 0) != 0) != is_low : -1;
+}
+
+static void set_pin(const struct port *port, const char *name, bool on) {
+    bool is_low = name[0] == '!';
+    if (name[0] == 0 || !port->entry.manage) return;
+    int file = open(name + is_low, O_WRONLY | O_CLOEXEC);
+    if (file < 0 || write(file, on != is_low ? "1\n" : "0\n", 2) != 2) warn("%s: %s", port->entry.name, name);
+    if (file >= 0) close(file);
+}
+
+static void shut(struct port *port) {
+    if (port->is_open) close_bus(&port->bus);
+    port->is_open = false;
+}
+
+/* Opens the bus anew, or waits longer and longer. */
+static void reopen(struct port *port) {
+    port->bus = (struct bus){.name = port->entry.bus, .file = -1, .lock.file = -1};
+    port->is_open = open_bus(&port->bus);
+    if (port->is_open) set_pin(port, port->entry.reset, false);
+    if (!port->is_open) close_bus(&port->bus);
+    port->due = now() + (port->is_open ? 0 : port->reopens_in);
+    port->reopens_in = port->is_open ? SECOND : port->reopens_in < LONGEST ? 2 * port->reopens_in : LONGEST;
+}
+
+/* Makes an operation, while others use the state. */
+static uint8_t make(struct port *port, const struct dovecounter_operation *operation, uint8_t bytes[128]) {
+    int64_t began = port->began = now();
+    pthread_mutex_unlock(&state);
+    bool answered = port->bus.carry(&port->bus, operation, bytes);
+    pthread_mutex_lock(&state);
+    port->began = 0;
+    port->operations++;
+    port->due = now();
+    if (!answered) {
+        port->nacks++;
+        if (port->refusals++ == 0) port->refused_at = began;
+        return DOVECOUNTER_REFUSED;
+    }
+    port->refusals = 0;
+    return operation->kind == DOVECOUNTER_STORE ? DOVECOUNTER_STORED : DOVECOUNTER_FETCHED;
+}
+
+/* ---- whether a module is there */
+
+static void take_presence(struct port *port, bool is_there) {
+    bool was_there = port->presence == PRESENT;
+    if (port->presence == (is_there ? PRESENT : ABSENT)) return;
+    port->presence = is_there ? PRESENT : ABSENT;
+    forget(port);
+    if (is_there)
+        must(dovecounter_port_plug(&port->core, (uint64_t)now()));
+    else
+        must(dovecounter_port_pull(&port->core));
+    port->permitted = 0;
+    if (!is_there) remove_file(port->entry.name, "image");
+    if (is_there || was_there) tell(port, is_there ? "plugged" : "pulled", "");
+    if (is_there) return;
+    set_pin(port, port->entry.low_power, true); /* the next one is to wait until it was read */
+    shut(port);
+}
+
+/* Whether no module is there, if there is no pin to tell: more than three refusals in a row, over more than a second. */
+static bool is_gone(const struct port *port) {
+    bool is_silent = port->refusals > GONE_AFTER && now() - port->refused_at > SECOND;
+    return is_silent && port->entry.presence[0] == 0;
+}
+
+/* Looks at the pin, or fetches byte 0, which clears no flag. */
+static void look(struct port *port) {
+    static const struct dovecounter_operation first = {.kind = DOVECOUNTER_FETCH, .device = 0xA0, .count = 1};
+    uint8_t bytes[128];
+    bool has_pin = port->entry.presence[0] != 0;
+    int found = has_pin ? read_pin(port->entry.presence) : make(port, &first, bytes) == DOVECOUNTER_FETCHED;
+    if (port->is_retired) return;
+    if (found < 0 && !port->is_blind) warn("%s: %s", port->entry.name, port->entry.presence);
+    port->is_blind = found < 0;
+    port->due = now();
+    port->looks_at = now() + (port->refusals == 0 || port->presence == ABSENT ? SECOND : SOON);
+    if (found == 1 || is_gone(port) || (has_pin && found == 0)) take_presence(port, found == 1);
+}
+
+/* ---- what the library decides */
+
+static void take_half(struct port *port, const struct dovecounter_half *half) {
+    size_t at = 0;
+    while (at < port->half_count && memcmp(&port->halves[at], half, offsetof(struct dovecounter_half, bytes)) != 0)
+        at++;
+    if (at == DOVECOUNTER_MOST_READ) return;
+    if (at == port->half_count) port->half_count++;
+    port->halves[at] = *half;
+}
+
+/* Since when each lane is in its state, by what is read of page 11h now. */
+static void date_lanes(struct port *port, const uint8_t was[4], const uint8_t is[4]) {
+    for (unsigned lane = 0; lane < 8; lane++)
+        if (was == NULL || code_of(was, lane) != code_of(is, lane)) port->lanes_since[lane] = now();
+}
+
+/* Keeps what an answer shows of the memory: halves, and bytes of those that were read before. The library reads which page is selected
+   after each selection. */
+static void remember(struct port *port, const struct dovecounter_port_next *next, uint8_t outcome,
+                     const uint8_t bytes[128]) {
+    const struct dovecounter_operation *made = &next->operation;
+    uint8_t upper = made->offset >= 128;
+    if (outcome != DOVECOUNTER_FETCHED) return;
+    if (made->offset == 126 && made->count == 2) port->page = bytes[0] == 0 ? bytes[1] : -1;
+    int page = next->whole ? next->page : upper ? port->page : 0;
+    if (!next->whole && page < 0) return;
+    const struct dovecounter_half *known = half_of(port, upper, (uint8_t)page);
+    struct dovecounter_half half = {made->device, upper, next->bank, (uint8_t)page, {0}};
+    if (!next->whole && known == NULL) return;
+    if (!next->whole) half = *known;
+    memcpy(half.bytes + made->offset % 128, bytes, made->count);
+    if (upper && page == LANES_PAGE) date_lanes(port, known != NULL ? known->bytes : NULL, half.bytes);
+    take_half(port, &half);
+}
+
+static void carry_out(struct port *port, const struct dovecounter_port_next *next) {
+    uint8_t bytes[128];
+    struct dovecounter_port_outcome led_to;
+    uint8_t outcome = make(port, &next->operation, bytes);
+    size_t count = outcome == DOVECOUNTER_FETCHED ? next->operation.count : 0;
+    struct dovecounter_wanted wanted = port->entry.wanted;
+    wanted.may_take_down |= port->permitted;
+    if (port->is_retired) return;
+    remember(port, next, outcome, bytes);
+    must(dovecounter_port_take(&port->core, outcome, bytes, count, &wanted, (uint64_t)now(), &led_to));
+    tell_flags(port);
+    hear(port, &led_to);
+    if (led_to.kind == DOVECOUNTER_PORT_FAILED) forget(port);
+    if (is_gone(port)) take_presence(port, false);
+}
+
+/* One operation, one look, or none, and when the next is due. */
+static void step(struct port *port) {
+    struct dovecounter_port_next next;
+    bool still = is_still(port), has_pin = port->entry.presence[0] != 0;
+    if (still) shut(port);
+    if (!still && !port->is_open) return reopen(port);
+    if ((has_pin || !still) && port->looks_at <= now()) return look(port);
+    must(dovecounter_port_next(&port->core, (uint64_t)now(), &next));
+    if (next.kind == DOVECOUNTER_PORT_DO) return carry_out(port, &next);
+    port->due = has_pin || !still ? port->looks_at : INT64_MAX;
+    if (next.kind == DOVECOUNTER_PORT_UNTIL && next.moment < (uint64_t)port->due) port->due = (int64_t)next.moment;
+}
+
+/* ---- threads */
+
+static void init_condition(pthread_cond_t *condition) {
+    pthread_condattr_t attributes;
+    pthread_condattr_init(&attributes);
+    pthread_condattr_setclock(&attributes, CLOCK_MONOTONIC);
+    pthread_cond_init(condition, &attributes);
+    pthread_condattr_destroy(&attributes);
+}
+
+static void wait_until(pthread_cond_t *condition, int64_t moment) {
+    struct timespec time = {moment / 1000, moment % 1000 * 1000000};
+    pthread_cond_timedwait(condition, &state, &time);
+}
+
+static void drop(struct port *port) {
+    struct port **link = &ports;
+    shut(port);
+    while (*link != port) link = &(*link)->next;
+    *link = port->next;
+    free(port);
+}
+
+/* The port of an adapter that has been due for longest: so none waits for more than one operation of each other. */
+static struct port *next_due(const struct adapter *adapter) {
+    struct port *first = NULL;
+    for (struct port *each = ports; each != NULL; each = each->next)
+        if (each->adapter == adapter && (first == NULL || each->due < first->due)) first = each;
+    return first;
+}
+
+static void *work(void *context) {
+    struct adapter *adapter = context, **link = &adapters;
+    struct port *port;
+    pthread_mutex_lock(&state);
+    while ((port = next_due(adapter)) != NULL) {
+        if (port->is_retired || is_stopping)
+            drop(port);
+        else if (port->due > now())
+            wait_until(&adapter->woken, port->due < now() + LONGEST ? port->due : now() + LONGEST);
+        else
+            step(port);
+    }
+    while (*link != adapter) link = &(*link)->next;
+    *link = adapter->next;
+    pthread_cond_destroy(&adapter->woken);
+    free(adapter);
+    pthread_cond_broadcast(&ended);
+    pthread_mutex_unlock(&state);
+    return NULL;
+}
+
+void begin_ports(void) { init_condition(&ended); }
+
+/* What a bus hangs on, by the path that the kernel has for it, in which multiplexers come later: i2c-0 of ../i2c-0/i2c-7/7-0050/eeprom. */
+static void name_adapter(const char *bus, char name[TEXT_SIZE]) {
+    char link[64], path[PATH_MAX] = "";
+    bool is_device = strncmp(bus, "/dev/i2c-", 9) == 0;
+    snprintf(link, sizeof link, "/sys/bus/i2c/devices/%.20s", bus + (is_device ? 5 : 0));
+    const char *found = realpath(is_device ? link : bus, path) != NULL ? strstr(path, "/i2c-") : NULL;
+    if (found == NULL)
+        snprintf(name, TEXT_SIZE, "%s", bus);
+    else
+        snprintf(name, TEXT_SIZE, "%.*s", (int)strcspn(found + 1, "/"), found + 1);
+}
+
+static struct adapter *adapter_for(const char *bus) {
+    char name[TEXT_SIZE];
+    pthread_t thread;
+    name_adapter(bus, name);
+    for (struct adapter *each = adapters; each != NULL; each = each->next)
+        if (strcmp(each->name, name) == 0) return each;
+    struct adapter *adapter = calloc(1, sizeof *adapter);
+    if (adapter == NULL) err(EXIT_FAILURE, "%s", name);
+    snprintf(adapter->name, TEXT_SIZE, "%s", name);
+    init_condition(&adapter->woken);
+    adapter->next = adapters;
+    adapters = adapter;
+    if (pthread_create(&thread, NULL, work, adapter) != 0) err(EXIT_FAILURE, "%s", name);
+    pthread_detach(thread);
+    return adapter;
+}
+
+/* ---- what the configuration and people ask for */
+
+static void wake(struct port *port) {
+    if (port->due > now()) port->due = now();
+    pthread_cond_signal(&port->adapter->woken);
+}
+
+/* The module is read and judged anew. */
+void ask_again(struct port *port) {
+    forget(port);
+    must(dovecounter_port_reconsider(&port->core));
+    wake(port);
+}
+
+static void hold_or_release(struct port *port) {
+    forget(port);
+    must(dovecounter_port_hold(&port->core, is_still(port)));
+    port->looks_at = now();
+    tell(port, is_still(port) ? "held" : "released", "");
+    wake(port);
+}
+
+void hold(struct port *port, bool held) {
+    bool was_still = is_still(port);
+    port->is_held = held;
+    if (is_still(port) != was_still) hold_or_release(port);
+}
+
+static void add(const struct entry *entry) {
+    struct port *port = calloc(1, sizeof *port), **link = &ports;
+    if (port == NULL) err(EXIT_FAILURE, "%s", entry->name);
+    memcpy(&port->entry, entry, sizeof *entry);
+    port->adapter = adapter_for(entry->bus);
+    port->since = now();
+    port->reopens_in = SECOND;
+    forget(port);
+    dovecounter_port_new(&entry->times, &port->core);
+    must(dovecounter_port_hold(&port->core, is_still(port)));
+    while (*link != NULL) link = &(*link)->next;
+    *link = port;
+    tell(port, "added", "");
+    wake(port);
+}
+
+static void retire(struct port *port) {
+    tell(port, "removed", "");
+    port->is_retired = true;
+    port->due = INT64_MIN;
+    remove_file(port->entry.name, "image");
+    remove_file(port->entry.name, "json");
+    pthread_cond_signal(&port->adapter->woken);
+}
+
+/* A port whose entry and weights are the same is not touched. */
+static void change(struct port *port, const struct entry *entry) {
+    bool is_wanted_otherwise = memcmp(&port->entry.wanted, &entry->wanted, sizeof entry->wanted) != 0;
+    bool was_still = is_still(port);
+    memcpy(&port->entry, entry, sizeof *entry);
+    if (is_wanted_otherwise) tell(port, "changed", "");
+    if (is_wanted_otherwise) ask_again(port);
+    if (is_still(port) != was_still) hold_or_release(port);
+}
+
+/* Whether the bus, the pins and the times are the same. */
+static bool is_same_port(const struct entry *entry, const struct entry *other) {
+    return memcmp(entry->bus, other->bus, offsetof(struct entry, wanted) - offsetof(struct entry, bus)) == 0;
+}
+
+void apply(const struct configuration *configuration) {
+    for (struct port *each = ports; each != NULL; each = each->next) {
+        const struct entry *entry = each->is_retired ? NULL : entry_of(configuration, each->entry.name);
+        if (entry != NULL && is_same_port(&each->entry, entry))
+            change(each, entry);
+        else if (!each->is_retired)
+            retire(each);
+    }
+    for (size_t i = 0; i < configuration->count; i++)
+        if (port_of(configuration->entries[i].name) == NULL) add(&configuration->entries[i]);
+}
+
+/* Begins no further operation, and waits for those under way, at most for so long. Answers whether all have ended. */
+bool stop_all(int64_t most) {
+    int64_t until = now() + most;
+    is_stopping = true;
+    for (struct adapter *each = adapters; each != NULL; each = each->next) pthread_cond_signal(&each->woken);
+    while (adapters != NULL && now() < until) wait_until(&ended, now() + SOON);
+    return adapters == NULL;
+}

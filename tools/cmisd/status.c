@@ -1,0 +1,292 @@
+/* The files of a port, each put in its place whole: PORT.image, its memory as a text of cmisctl, and PORT.json, how it is. */
+#include "cmisd.h"
+
+#include <dirent.h>
+#include <err.h>
+#include <string.h>
+#include <time.h>
+#include <unistd.h>
+
+enum { MODULE_STATE = 3, CONFIG_STATUSES = 202 - 128, ACTIVE = 206 - 128 };
+
+const char *folder = "/run/cmisd";
+
+/* ---- members of JSON, each after `before`, which may be a comma */
+
+static void print_name(FILE *out, const char *before, const char *name) { fprintf(out, "%s\"%s\": ", before, name); }
+
+void print_text(FILE *out, const char *before, const char *name, const char *text) {
+    print_name(out, before, name);
+    fputc('"', out);
+    for (const char *each = text; *each != 0; each++) {
+        bool is_plain = *each >= ' ' && *each <= '~' && *each != '"' && *each != '\\';
+        fprintf(out, is_plain ? "%c" : "\\u%04x", (unsigned char)*each);
+    }
+    fputc('"', out);
+}
+
+static void print_number(FILE *out, const char *before, const char *name, uint64_t number) {
+    print_name(out, before, name);
+    fprintf(out, "%llu", (unsigned long long)number);
+}
+
+static void print_flag(FILE *out, const char *before, const char *name, bool flag) {
+    print_name(out, before, name);
+    fputs(flag ? "true" : "false", out);
+}
+
+/* In seconds since 1970, of a moment of now(). */
+void print_moment(FILE *out, const char *before, const char *name, int64_t moment) {
+    struct timespec time;
+    clock_gettime(CLOCK_REALTIME, &time);
+    int64_t real = (int64_t)time.tv_sec * 1000 + time.tv_nsec / 1000000 - now() + moment;
+    print_name(out, before, name);
+    fprintf(out, "%lld.%03lld", (long long)(real / 1000), (long long)(real % 1000));
+}
+
+/* ---- what is known of a module */
+
+const struct dovecounter_half *half_of(const struct port *port, uint8_t upper, uint8_t page) {
+    for (size_t i = 0; i < port->half_count; i++) {
+        const struct dovecounter_half *half = &port->halves[i];
+        if (half->device == 0xA0 && half->upper == upper && half->bank == 0 && half->page == page) return half;
+    }
+    return NULL;
+}
+
+/* Answers whether the module is one of CMIS. */
+static bool print_identity(FILE *out, const struct port *port) {
+    struct dovecounter_identity identity;
+    if (dovecounter_identity(port->halves, port->half_count, &identity) != DOVECOUNTER_DONE) return false;
+    print_text(out, ", \"identity\": {", "vendor", identity.vendor);
+    print_text(out, ", ", "part", identity.part);
+    print_text(out, ", ", "part_revision", identity.part_revision);
+    print_text(out, ", ", "serial", identity.serial);
+    print_text(out, ", ", "date", identity.date);
+    fputc('}', out);
+    return identity.family == DOVECOUNTER_CMIS;
+}
+
+static void print_control(FILE *out, const uint8_t control[8]) {
+    char text[25];
+    for (unsigned lane = 0; lane < 8; lane++) snprintf(text + 3 * lane, 4, "%02x ", control[lane]);
+    text[23] = 0;
+    print_text(out, "", "control", text);
+}
+
+/* What the port works for, with the paths that these bytes stand for. */
+static void print_plan(FILE *out, const struct port *port) {
+    const struct dovecounter_wanted *wanted = &port->entry.wanted;
+    const struct dovecounter_goal *goal = &port->core.goal;
+    struct dovecounter_plan plan;
+    if (port->core.stage < DOVECOUNTER_PORT_PROVISIONING) return;
+    fputs(", \"plan\": {", out);
+    print_control(out, goal->control);
+    uint32_t status = dovecounter_plan(port->halves, port->half_count, wanted->paired, wanted->counts_by_id,
+                                       wanted->weights, wanted->stay, NULL, 0, &plan);
+    bool is_same = status == DOVECOUNTER_DONE && memcmp(plan.control, goal->control, sizeof plan.control) == 0;
+    for (size_t i = 0; i < plan.count && is_same; i++) {
+        print_number(out, i == 0 ? ", \"paths\": [{" : "}, {", "application", plan.paths[i].application);
+        print_number(out, ", ", "host", plan.paths[i].host);
+        print_number(out, ", ", "media", plan.paths[i].media);
+    }
+    fputs(is_same && plan.count > 0 ? "}]}" : "}", out);
+}
+
+static void print_lanes(FILE *out, const struct port *port) {
+    const struct dovecounter_half *lower = half_of(port, 0, 0), *page = half_of(port, 1, LANES_PAGE);
+    if (lower != NULL) print_text(out, ", ", "state", module_states[lower->bytes[MODULE_STATE] >> 1 & 7]);
+    for (unsigned lane = 0; lane < 8 && page != NULL; lane++) {
+        print_number(out, lane == 0 ? ", \"lanes\": [{" : "}, {", "lane", lane + 1);
+        print_text(out, ", ", "state", path_states[code_of(page->bytes, lane)]);
+        print_moment(out, ", ", "since", port->lanes_since[lane]);
+        print_text(out, ", ", "status", config_statuses[code_of(page->bytes + CONFIG_STATUSES, lane)]);
+        print_number(out, ", ", "active", page->bytes[ACTIVE + lane]);
+    }
+    if (page != NULL) fputs("}]", out);
+}
+
+/* ---- flags */
+
+/* Bytes 134 to 152 of page 11h, and the bits of byte 9. */
+static const char *const lane_flags[] = {
+    "path-state-changed",
+    "tx-failure",
+    "tx-los",
+    "tx-lol",
+    "tx-eq-fail",
+    "tx-power-high-alarm",
+    "tx-power-low-alarm",
+    "tx-power-high-warning",
+    "tx-power-low-warning",
+    "tx-bias-high-alarm",
+    "tx-bias-low-alarm",
+    "tx-bias-high-warning",
+    "tx-bias-low-warning",
+    "rx-los",
+    "rx-lol",
+    "rx-power-high-alarm",
+    "rx-power-low-alarm",
+    "rx-power-high-warning",
+    "rx-power-low-warning",
+};
+static const char *const module_flags[] = {
+    "temperature-high-alarm", "temperature-low-alarm", "temperature-high-warning", "temperature-low-warning",
+    "vcc-high-alarm",         "vcc-low-alarm",         "vcc-high-warning",         "vcc-low-warning",
+};
+
+/* The name of a flag of the module, and after those of the lanes. The others of the module are named by their byte and bit. */
+void name_flag(char name[NAME_SIZE], size_t flag) {
+    bool is_named = flag / 8 == 1;
+    if (flag >= MODULE_FLAGS)
+        snprintf(name, NAME_SIZE, "%s", lane_flags[(flag - MODULE_FLAGS) / 8]);
+    else if (is_named)
+        snprintf(name, NAME_SIZE, "%s", module_flags[flag % 8]);
+    else
+        snprintf(name, NAME_SIZE, "module-flag-%zu.%zu", 8 + flag / 8, flag % 8);
+}
+
+static void print_flags(FILE *out, const struct port *port) {
+    const struct dovecounter_flag_counts *flags = &port->core.flags;
+    const char *before = "";
+    fputs(", \"flags\": [", out);
+    for (size_t flag = 0; flag < MODULE_FLAGS + LANE_FLAGS; flag++) {
+        bool of_lane = flag >= MODULE_FLAGS;
+        size_t at = of_lane ? flag - MODULE_FLAGS : flag;
+        char name[NAME_SIZE];
+        uint16_t count = of_lane ? flags->lane_counts[at] : flags->module_counts[at];
+        if (count == 0) continue;
+        name_flag(name, flag);
+        fprintf(out, "%s{", before);
+        print_text(out, "", "flag", name);
+        if (of_lane) print_number(out, ", ", "lane", at % 8 + 1);
+        print_number(out, ", ", "count", count);
+        print_moment(out, ", ", "last", (int64_t)(of_lane ? flags->lane_last[at] : flags->module_last[at]));
+        fputc('}', out);
+        before = ", ";
+    }
+    fputc(']', out);
+}
+
+/* ---- a port as a whole */
+
+static const char *const stages[] = {
+    [DOVECOUNTER_PORT_ABSENT] = "absent",
+    [DOVECOUNTER_PORT_LEFT] = "left",
+    [DOVECOUNTER_PORT_READING] = "reading",
+    [DOVECOUNTER_PORT_WAKING] = "waking",
+    [DOVECOUNTER_PORT_PROVISIONING] = "provisioning",
+    [DOVECOUNTER_PORT_ACTIVATING] = "activating",
+    [DOVECOUNTER_PORT_WATCHING] = "up",
+};
+
+static void print_wait(FILE *out, const struct port *port) {
+    const char *what = "its next look";
+    if (!port->entry.manage)
+        what = "manage = yes";
+    else if (port->is_held)
+        what = "release";
+    else if (!port->is_open)
+        what = "its bus";
+    else if (port->is_blind)
+        what = "its presence pin";
+    else if (port->began != 0)
+        what = "a reply";
+    else if (port->presence != PRESENT)
+        what = "a module";
+    else if (port->core.stage == DOVECOUNTER_PORT_LEFT)
+        what = "another module, another configuration or provision";
+    else if (port->core.stage != DOVECOUNTER_PORT_WATCHING)
+        what = "its next operation";
+    print_text(out, ", ", "waits_for", what);
+    if (port->began != 0) print_moment(out, ", ", "waits_since", port->began);
+    if (port->core.due > (uint64_t)now()) print_moment(out, ", ", "waits_until", (int64_t)port->core.due);
+}
+
+/* All members of the overview, without the end. */
+void begin_port(FILE *out, const struct port *port) {
+    char words[WORDS_SIZE];
+    print_text(out, "{", "port", port->entry.name);
+    print_text(out, ", ", "bus", port->entry.bus);
+    print_text(out, ", ", "stage", stages[port->core.stage]);
+    print_moment(out, ", ", "since", port->since);
+    if (port->core.stage == DOVECOUNTER_PORT_LEFT) {
+        say_reason(words, &port->core.left);
+        print_text(out, ", ", "why", words);
+    }
+    print_flag(out, ", ", "present", port->presence == PRESENT);
+    print_flag(out, ", ", "held", is_still(port));
+    print_wait(out, port);
+}
+
+void print_port(FILE *out, const struct port *port) {
+    begin_port(out, port);
+    if (print_identity(out, port)) print_lanes(out, port);
+    print_plan(out, port);
+    print_flags(out, port);
+    if (port->failure[0] != 0) print_text(out, ", \"failed\": {", "words", port->failure);
+    if (port->failure[0] != 0) print_moment(out, ", ", "time", port->failed_at), fputc('}', out);
+    print_number(out, ", ", "operations", port->operations);
+    print_number(out, ", ", "refused", port->nacks);
+    print_number(out, ", ", "moment", (uint64_t)now());
+    print_moment(out, ", ", "time", now());
+    fputs("}", out);
+}
+
+/* ---- files */
+
+static void print_line(FILE *out, const struct port *port) {
+    print_port(out, port);
+    fputc('\n', out);
+}
+
+/* The lower half comes first, as it was read first. */
+static void print_image(FILE *out, const struct port *port) {
+    fputs("module-image 1\n", out);
+    for (size_t i = 0; i < port->half_count; i++) print_half(out, &port->halves[i]);
+    fputs("end\n", out);
+}
+
+/* Says once that files can't be written, and once that they can again. */
+static void note_disk(const char *name, bool is_written) {
+    static bool was_written = true;
+    if (!is_written && was_written) warn("%s", name);
+    if (is_written && !was_written) warnx("%s: files can be written again", name);
+    was_written = is_written;
+}
+
+static void put_file(const struct port *port, const char *ending, void (*print)(FILE *out, const struct port *port)) {
+    char name[WORDS_SIZE], made[WORDS_SIZE];
+    snprintf(name, sizeof name, "%s/%s.%s", folder, port->entry.name, ending);
+    snprintf(made, sizeof made, "%s/.%s.%s", folder, port->entry.name, ending);
+    FILE *out = fopen(made, "we");
+    if (out == NULL) return note_disk(name, false);
+    print(out, port);
+    bool is_whole = !ferror(out);
+    is_whole = fclose(out) == 0 && is_whole && rename(made, name) == 0;
+    note_disk(name, is_whole);
+    if (!is_whole) unlink(made);
+}
+
+void put_status(const struct port *port) { put_file(port, "json", print_line); }
+void put_image(const struct port *port) { put_file(port, "image", print_image); }
+
+void remove_file(const char *port, const char *ending) {
+    char name[WORDS_SIZE];
+    snprintf(name, sizeof name, "%s/%s.%s", folder, port, ending);
+    unlink(name);
+}
+
+/* Of a run before this one there may be files of ports that are no longer configured, and images of modules that are gone. */
+void remove_old_files(void) {
+    char name[NAME_SIZE];
+    DIR *entries = opendir(folder);
+    for (struct dirent *each; entries != NULL && (each = readdir(entries)) != NULL;) {
+        const char *dot = strrchr(each->d_name, '.');
+        bool is_own = dot != NULL && (strcmp(dot, ".json") == 0 || strcmp(dot, ".image") == 0);
+        if (!is_own) continue;
+        snprintf(name, sizeof name, "%.*s", (int)(dot - each->d_name), each->d_name);
+        if (port_of(name) == NULL || strcmp(dot, ".image") == 0) remove_file(name, dot + 1);
+    }
+    if (entries != NULL) closedir(entries);
+}

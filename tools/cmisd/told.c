@@ -1,0 +1,142 @@
+/* What is told of a port: lines of the log, and lines of JSON for those who listen. */
+#include "cmisd.h"
+
+#include <stdlib.h>
+#include <string.h>
+#include <systemd/sd-journal.h>
+
+/* A line for the journal with fields of its own, if standard error leads there; else on standard error. */
+static void log_event(const char *name, const char *event, const char *words) {
+    const char *colon = words[0] != 0 ? ": " : "";
+    if (getenv("JOURNAL_STREAM") == NULL)
+        fprintf(stderr, "%s: %s%s%s\n", name, event, colon, words);
+    else
+        sd_journal_send("MESSAGE=%s: %s%s%s", name, event, colon, words, "PRIORITY=6", "CMISD_PORT=%s", name,
+                        "CMISD_EVENT=%s", event, "CMISD_WORDS=%s", words, NULL);
+}
+
+static void tell_listeners(const char *name, const char *event, const char *words) {
+    char *line = NULL;
+    size_t length;
+    FILE *out = open_memstream(&line, &length);
+    if (out == NULL) return;
+    print_text(out, "{", "event", event);
+    print_text(out, ", ", "port", name);
+    print_text(out, ", ", "words", words);
+    print_moment(out, ", ", "time", now());
+    fputs("}\n", out);
+    if (fclose(out) == 0) send_to_listeners(line, length);
+    free(line);
+}
+
+void tell(struct port *port, const char *event, const char *words) {
+    if (port->stage != port->core.stage) port->since = now();
+    port->stage = port->core.stage;
+    log_event(port->entry.name, event, words);
+    tell_listeners(port->entry.name, event, words);
+    put_status(port);
+}
+
+/* ---- what a reply led to */
+
+static const char *const failures[] = {
+    [DOVECOUNTER_PORT_UNREAD] = "the module's memory could not be read",
+    [DOVECOUNTER_PORT_ASLEEP] = "the module is not ready though it was woken up",
+    [DOVECOUNTER_PORT_NOT_WOKEN] = "the module could not be woken up",
+    [DOVECOUNTER_PORT_NOT_PROVISIONED] = "the plan could not be made active",
+    [DOVECOUNTER_PORT_NOT_ACTIVATED] = "the plan's lanes did not come up",
+    [DOVECOUNTER_PORT_UNSEEN] = "the module could not be looked at",
+    [DOVECOUNTER_PORT_CHANGED] = "the module is no longer as it was wanted",
+};
+
+static const char *const reasons[] = {
+    [DOVECOUNTER_LEFT_NO_LANES] = "the module has no page 11h",
+    [DOVECOUNTER_LEFT_NO_PLAN] = "none of the module's data paths is wanted",
+    [DOVECOUNTER_LEFT_NEEDS_POWER] = "the module needs more than max_power",
+    [DOVECOUNTER_LEFT_NEEDS_PERMISSION] = "lanes that are up would go down, and nobody permits it",
+};
+
+/* Why a module is left alone: as the library has it of what a module advertises. */
+void say_reason(char words[WORDS_SIZE], const struct dovecounter_left *left) {
+    uint8_t text[DOVECOUNTER_TEXT_SIZE];
+    size_t length = 0;
+    bool is_own = left->reason <= DOVECOUNTER_LEFT_NEEDS_PERMISSION;
+    if (!is_own) dovecounter_status_text(left->reason, text, sizeof text, &length);
+    int written = snprintf(words, WORDS_SIZE, "%.*s", (int)length, (const char *)text);
+    if (is_own)
+        snprintf(words, WORDS_SIZE, "%s", reasons[left->reason]);
+    else if (left->value != 0)
+        snprintf(words + written, WORDS_SIZE - (size_t)written, " (%02Xh)", left->value);
+}
+
+static void say_failure(char words[WORDS_SIZE], const struct dovecounter_port_outcome *outcome) {
+    const struct dovecounter_fault *fault = &outcome->fault;
+    uint8_t text[DOVECOUNTER_TEXT_SIZE];
+    size_t length = 0;
+    int written = snprintf(words, WORDS_SIZE, "%s", failures[outcome->failure]);
+    if (dovecounter_fault_text(fault->code, text, sizeof text, &length) == DOVECOUNTER_DONE)
+        snprintf(words + written, WORDS_SIZE - (size_t)written, ": PV%u %u %u: %.*s", fault->code, fault->first,
+                 fault->second, (int)length, (const char *)text);
+}
+
+static void tell_failure(struct port *port, const struct dovecounter_port_outcome *outcome) {
+    say_failure(port->failure, outcome);
+    port->failed_at = now();
+    tell(port, "failed", port->failure);
+}
+
+static void tell_identity(struct port *port) {
+    struct dovecounter_identity identity;
+    char words[WORDS_SIZE] = "";
+    if (dovecounter_identity(port->halves, port->half_count, &identity) == DOVECOUNTER_DONE)
+        snprintf(words, sizeof words, "%s %s %s", identity.vendor, identity.part, identity.serial);
+    tell(port, "read", words);
+}
+
+/* Its permission ends when a module is up or left alone. */
+static void tell_end(struct port *port, const char *event, const char *words) {
+    port->permitted = 0;
+    tell(port, event, words);
+}
+
+static void tell_note(struct port *port, uint8_t note) {
+    switch (note) {
+    case DOVECOUNTER_PORT_IDENTIFIED: return tell_identity(port);
+    case DOVECOUNTER_PORT_WOKEN: return tell(port, "woken", "");
+    case DOVECOUNTER_PORT_PROVISIONED: return tell(port, "provisioned", "");
+    case DOVECOUNTER_PORT_CAME_UP: return tell_end(port, "up", "");
+    case DOVECOUNTER_PORT_HELD: return put_status(port);
+    default: return;
+    }
+}
+
+/* What was read as a whole becomes the image. */
+void hear(struct port *port, const struct dovecounter_port_outcome *outcome) {
+    char words[WORDS_SIZE];
+    if (outcome->kind == DOVECOUNTER_PORT_LEAVES || outcome->note != DOVECOUNTER_PORT_QUIET) put_image(port);
+    if (outcome->kind == DOVECOUNTER_PORT_WENT) tell_note(port, outcome->note);
+    if (outcome->kind == DOVECOUNTER_PORT_FAILED) tell_failure(port, outcome);
+    if (outcome->kind != DOVECOUNTER_PORT_LEAVES) return;
+    say_reason(words, &outcome->left);
+    tell_end(port, "left", words);
+}
+
+/* ---- flags */
+
+static void tell_flag(struct port *port, size_t flag) {
+    char name[NAME_SIZE], words[WORDS_SIZE];
+    name_flag(name, flag);
+    if (flag < MODULE_FLAGS) return tell(port, "flag", name);
+    snprintf(words, sizeof words, "%s of lane %zu", name, flag % 8 + 1);
+    tell(port, "flag", words);
+}
+
+/* Those that were read as raised for the first time since they were acknowledged. */
+void tell_flags(struct port *port) {
+    const struct dovecounter_flag_counts was = port->flags, *is = &port->core.flags;
+    port->flags = *is;
+    for (size_t flag = 0; flag < MODULE_FLAGS; flag++)
+        if (is->module_counts[flag] > 0 && was.module_counts[flag] == 0) tell_flag(port, flag);
+    for (size_t flag = 0; flag < LANE_FLAGS; flag++)
+        if (is->lane_counts[flag] > 0 && was.lane_counts[flag] == 0) tell_flag(port, MODULE_FLAGS + flag);
+}
