@@ -1,7 +1,8 @@
 //! `cmisctl`: manages pluggable optical modules through their memory map.
 #![tactic(auto)]
 
-use command_line::{CountedReader, StoppingWriter, run};
+use command_line::{CountedReader, StoppingWriter, allows_colors, run};
+use std::io::IsTerminal;
 use std::process::ExitCode;
 use std::{env, io};
 
@@ -15,6 +16,11 @@ fn words(rt: &HostRuntime) -> io::Result<Vec<String>> {
     Ok(words)
 }
 
+/// Whether standard output is a terminal that shows colors.
+fn shows_colors(rt: &HostRuntime) -> bool {
+    rt.stdout().is_terminal() && allows_colors(&env::var(rt, "NO_COLOR"), &env::var(rt, "TERM"))
+}
+
 fn main(rt: HostRuntime) -> ExitCode {
     let mut reader = CountedReader::new(rt.reader());
     let mut writer = StoppingWriter::new(io::writer(&rt));
@@ -23,6 +29,7 @@ fn main(rt: HostRuntime) -> ExitCode {
     ExitCode::from(run(
         rt.alloc(),
         words(&rt),
+        shows_colors(&rt),
         &mut reader,
         &mut writer,
         &mut errors,

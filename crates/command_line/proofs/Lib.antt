@@ -20,3 +20,4 @@ mod ReportAnswers
 mod TextBehind
 mod CheckedPlans
 pub mod RemarkLemmas
+mod OnScreen

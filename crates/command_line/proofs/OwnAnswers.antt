@@ -27,8 +27,8 @@ own_answer parts IsMine input (Err f) within is own = (within, is, own)
 
 -- no command reads more parts than are cut
 pub few_parts : (choice : Choice) → length (parts_read choice) ≤ most_parts
-few_parts (Report report bus) = omega arith
-few_parts (Observables bus) = omega arith
+few_parts (Report report bus coloring) = omega arith
+few_parts (Observables bus coloring) = omega arith
 few_parts (Metrics bus all labels) = omega arith
 few_parts (Plan true conventions) = omega arith
 few_parts (Plan false conventions) = omega arith

@@ -1,6 +1,6 @@
 -- The answer of a command that reports, by what reporting the image answers.
-use Rattle.std.proofs.Common.{◌≡◌, ℕ, Bool, List, Option, Some, None, Result, Ok, Err, refl, ap, ◌∙◌, ◌⊎◌, inl, inr}
-use Rattle.std.specs.Prelude.{MatchOption, Vec}
+use Rattle.std.proofs.Common.{◌≡◌, ℕ, Bool, List, Option, Some, None, Result, Ok, Err, refl, ap, subst, ◌∙◌, ◌⊎◌, inl, inr}
+use Rattle.std.specs.Prelude.{MatchOption, MatchResult, Vec}
 use Rattle.std.specs.Result.{result_map_both}
 use Rattle.std.specs.declared.alloc.Global.{Global}
 use Rattle.paged_memory.specs.Images.{Memory}
@@ -58,3 +58,20 @@ as_lists r = result_map_both (λ text. text.items) (λ fault. fault) r
 pub same_as_lists : (o : Option ReportFault) (printed : List ℕ) (r : Result (Vec ℕ Global) ReportFault) → Prints o printed r → MatchOption o (IsPrinted printed (as_lists r)) (λ f. as_lists r ≡ Err f)
 same_as_lists None printed r h = h
 same_as_lists (Some f) printed r h = ap as_lists h
+
+-- ---- what is shown of what is printed
+
+module _ (show : List ℕ → List ℕ) where
+  pub shown : (o : Option ReportFault) (printed : List ℕ) (text : Vec ℕ Global) (r : Result (Vec ℕ Global) ReportFault) → Prints o printed (Ok text)
+      → IsPrinted (show text.items) (as_lists r) → Prints o (show printed) r
+  shown None printed text r h is = subst (λ (t : List ℕ). IsPrinted (show t) (as_lists r)) h is
+  shown (Some f) printed text r h is = absurd cc
+
+  pub not_shown : (o : Option ReportFault) (printed : List ℕ) (f : ReportFault) → Prints o printed (Err f) → Prints o (show printed) (Err f)
+  not_shown None printed f h = h
+  not_shown (Some g) printed f h = h
+
+-- what is known of a text that is shown, as lists
+pub printed_by : (text : List ℕ) (r : Result (Vec ℕ Global) ReportFault) → MatchResult r (λ shown. shown.items ≡ text) (λ f. f ≡ report.Memory) → IsPrinted text (as_lists r)
+printed_by text (Ok shown) h = h
+printed_by text (Err f) h = h

@@ -13,6 +13,8 @@ use Rattle.reports.proofs.FetchedReports.{fetched_reports}
 use Rattle.reports.specs.SameReports.{FetchedReportsSame, IsSame, ReportsSame}
 use Rattle.reports.specs.declared.fault.ReportFault.{ReportFault}
 use Rattle.reports.specs.declared.fault.ReportFault.TheVariants as report
+use Rattle.report_entries.specs.Entries.{Entry}
+use Rattle.command_line.specs.Coloring.{shown_as}
 use Rattle.command_line.specs.Commands.{in_form}
 use Rattle.command_line.specs.Limits.{input_limit}
 use Rattle.command_line.specs.OverBus.{IsFetchedFrom, window_at_start}
@@ -21,6 +23,7 @@ use Rattle.command_line.specs.ReportCommands.{IsReported, entries_of, printed, r
 use Rattle.command_line.specs.Parts.{parts_of}
 use Rattle.command_line.specs.Runs.{Answer, IsAnswerTo}
 use Rattle.command_line.specs.SameOverBus.{IsGivenUp, IsToldAlike}
+use Rattle.command_line.specs.declared.choice.coloring.Coloring.{Coloring}
 use Rattle.command_line.specs.declared.choice.commands.Choice.TheVariants.{Report}
 use Rattle.command_line.specs.declared.choice.commands.ReportName.{ReportName}
 use Rattle.command_line.specs.declared.choice.commands.ReportName.TheVariants.{Inventory, Apps, Monitors, Flags, Details}
@@ -151,20 +154,20 @@ module _ (refusal : Memory → Option ReportFault) (text_of : Memory → List �
     plain_report text (Err f) never ended = absurd never
 
 -- what is printed of the same entries is the same, in each form
-printed_told_alike : (name : ReportName) (json : Bool) → ((fetched memory : Memory) → ReportsSame fetched memory → IsSame (refusal_of name) (entries_of name) fetched memory)
-    → IsToldAlike (λ over. in_form json (Report name over))
-printed_told_alike name json pick input a is ended memory read =
-    let text_of = λ (m : Memory). printed json (entries_of name m) in
+printed_told_alike : (name : ReportName) (coloring : Coloring) (json : Bool) → ((fetched memory : Memory) → ReportsSame fetched memory → IsSame (refusal_of name) (entries_of name) fetched memory)
+    → IsToldAlike (λ over. in_form json (Report name over coloring))
+printed_told_alike name coloring json pick input a is ended memory read =
+    let text_of = λ (m : Memory). shown_as coloring json (printed json (entries_of name m)) in
     let same : (fetched memory : Memory) → ReportsSame fetched memory → IsSame (refusal_of name) text_of fetched memory = λ fetched image all.
     let alike = pick fetched image all in
-    record { fault = alike.fault; said = λ none. ap (printed json) (alike.said none) } in
+    record { fault = alike.fault; said = λ none. ap (λ (entries : List Entry). shown_as coloring json (printed json entries)) (alike.said none) } in
     let told = told_alike (λ over. IsReported over (refusal_of name) text_of) (one_report (refusal_of name) text_of)
     (plain_report (refusal_of name) text_of fetched_reports same) input a is ended memory read in
     record { plain = told.0; alone = told.1 }
 
-pub each_told_alike : (name : ReportName) (json : Bool) → IsToldAlike (λ over. in_form json (Report name over))
-each_told_alike Inventory json = printed_told_alike Inventory json (λ fetched memory all. all.inventory)
-each_told_alike Apps json = printed_told_alike Apps json (λ fetched memory all. all.apps)
-each_told_alike Monitors json = printed_told_alike Monitors json (λ fetched memory all. all.monitors)
-each_told_alike Flags json = printed_told_alike Flags json (λ fetched memory all. all.flags)
-each_told_alike Details json = printed_told_alike Details json (λ fetched memory all. all.details)
+pub each_told_alike : (name : ReportName) (coloring : Coloring) (json : Bool) → IsToldAlike (λ over. in_form json (Report name over coloring))
+each_told_alike Inventory coloring json = printed_told_alike Inventory coloring json (λ fetched memory all. all.inventory)
+each_told_alike Apps coloring json = printed_told_alike Apps coloring json (λ fetched memory all. all.apps)
+each_told_alike Monitors coloring json = printed_told_alike Monitors coloring json (λ fetched memory all. all.monitors)
+each_told_alike Flags coloring json = printed_told_alike Flags coloring json (λ fetched memory all. all.flags)
+each_told_alike Details coloring json = printed_told_alike Details coloring json (λ fetched memory all. all.details)

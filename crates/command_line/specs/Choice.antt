@@ -4,18 +4,21 @@ use Rattle.std.specs.Prelude.{Bool, true, false, List, [], ◌∷◌, fold, Opti
 use Rattle.std.specs.Prelude.{codes, find, option_map, option_and_then}
 use Rattle.std.specs.List.{list_any}
 use Rattle.std.specs.Str.{bytes_eq}
-use Rattle.clap.specs.Words.{App, Row, Text, new_app, subcommand_of}
+use Rattle.clap.specs.Words.{App, Row, Text, first_of, new_app, subcommand_of}
 use Rattle.clap.specs.Words.{fault_of, with_rule, with_subcommand, Kinds}
 use Rattle.clap.specs.Simple.{on_top}
 use Rattle.applications.specs.declared.conventions.Conventions.{Conventions}
 use Rattle.command_line.specs.declared.choice.commands.CommandName.{CommandName}
 use Rattle.command_line.specs.declared.choice.commands.CommandName.TheVariants.{Report, Observables, Metrics, Plan, Draw, Check, Provision, Trace}
+use Rattle.command_line.specs.declared.choice.commands.ReportName.{ReportName}
 use Rattle.command_line.specs.declared.choice.commands.ReportName.TheVariants.{Inventory, Apps, Monitors, Flags, Details}
 use Rattle.command_line.specs.declared.choice.commands.Choice.{Choice}
 use Rattle.command_line.specs.declared.choice.commands.Choice.TheVariants as choice
 use Rattle.command_line.specs.declared.choice.commands.Request.{Request}
+use Rattle.command_line.specs.Coloring.{coloring_by}
+use Rattle.command_line.specs.declared.choice.coloring.Coloring.TheVariants.{Auto}
 use Rattle.command_line.specs.declared.choice.word_fault.WordFault.{WordFault}
-use Rattle.command_line.specs.GivenFlags.{FlagEntry, activate, bus, counts_by_id, first, flag_rule, flags_flag, is_given, json, keep, label_flag, now, paired, svg, switch, wake, with_word, with_words}
+use Rattle.command_line.specs.GivenFlags.{FlagEntry, activate, bus, color_flag, counts_by_id, first, flag_rule, flags_flag, is_given, json, keep, label_flag, now, paired, svg, switch, wake, with_word, with_words}
 use Rattle.command_line.specs.MetricsChoice.{metrics_with, then_with}
 
 -- a command, by its name among the words, and its flags
@@ -28,10 +31,10 @@ unfoldable pub commands : List Entry
 commands =
     record { name = codes "inventory"; command = Report Inventory; flags = switch bus ∷ switch json ∷ [] }
     ∷ record { name = codes "apps"; command = Report Apps; flags = switch bus ∷ switch json ∷ [] }
-    ∷ record { name = codes "monitors"; command = Report Monitors; flags = switch bus ∷ switch json ∷ [] }
-    ∷ record { name = codes "flags"; command = Report Flags; flags = switch bus ∷ switch json ∷ [] }
+    ∷ record { name = codes "monitors"; command = Report Monitors; flags = switch bus ∷ switch json ∷ with_word color_flag ∷ [] }
+    ∷ record { name = codes "flags"; command = Report Flags; flags = switch bus ∷ switch json ∷ with_word color_flag ∷ [] }
     ∷ record { name = codes "details"; command = Report Details; flags = switch bus ∷ switch json ∷ [] }
-    ∷ record { name = codes "observables"; command = Observables; flags = switch bus ∷ switch json ∷ [] }
+    ∷ record { name = codes "observables"; command = Observables; flags = switch bus ∷ switch json ∷ with_word color_flag ∷ [] }
     ∷ record { name = codes "metrics"; command = Metrics; flags = switch bus ∷ with_words label_flag ∷ with_word flags_flag ∷ [] }
     ∷ record { name = codes "plan"; command = Plan; flags = switch keep ∷ switch paired ∷ switch counts_by_id ∷ switch now ∷ switch json ∷ [] }
     ∷ record { name = codes "draw"; command = Draw; flags = switch svg ∷ switch keep ∷ switch paired ∷ switch counts_by_id ∷ switch now ∷ [] }
@@ -70,10 +73,17 @@ entry_named name = find (λ entry. bytes_eq entry.name name) commands
 abbrev pub conventions_in : List Row → Conventions
 conventions_in rows = record { paired = is_given paired rows; counts_by_id = is_given counts_by_id rows; now = is_given now rows }
 
+-- a report, whose flag `--color` has to be right
+abbrev pub report_with : ReportName → List Row → Result Choice WordFault
+report_with report rows = then_with (λ coloring. Ok (choice.Report report (is_given bus rows) coloring)) (coloring_by (first_of color_flag rows))
+
+abbrev pub observables_with : List Row → Result Choice WordFault
+observables_with rows = then_with (λ coloring. Ok (choice.Observables (is_given bus rows) coloring)) (coloring_by (first_of color_flag rows))
+
 -- a command with its own flags, by its matches
 abbrev pub choice_with : CommandName → List Row → Result Choice WordFault
-choice_with (Report report) rows = Ok (choice.Report report (is_given bus rows))
-choice_with Observables rows = Ok (choice.Observables (is_given bus rows))
+choice_with (Report report) rows = report_with report rows
+choice_with Observables rows = observables_with rows
 choice_with Metrics rows = metrics_with rows
 choice_with Plan rows = Ok (choice.Plan (is_given keep rows) (conventions_in rows))
 choice_with Draw rows = Ok (choice.Draw (is_given svg rows) (is_given keep rows) (conventions_in rows))
@@ -95,8 +105,8 @@ as_it_stands = record { paired = false; counts_by_id = false; now = false }
 
 -- a command with none of its flags
 abbrev pub plain_choice : CommandName → Choice
-plain_choice (Report report) = choice.Report report false
-plain_choice Observables = choice.Observables false
+plain_choice (Report report) = choice.Report report false Auto
+plain_choice Observables = choice.Observables false Auto
 plain_choice Metrics = choice.Metrics false false []
 plain_choice Plan = choice.Plan false as_it_stands
 plain_choice Draw = choice.Draw false false as_it_stands

@@ -16,8 +16,8 @@ use Rattle.command_line.specs.declared.choice.part.Part.TheVariants.{Image, Weig
 
 -- the answer to the texts of its parts, as JSON or not
 abbrev pub IsAnswerToTexts : Choice → Bool → Texts → Answer → Type 0
-IsAnswerToTexts (Report report bus) json texts = IsReportAnswer report bus json (texts Image)
-IsAnswerToTexts (Observables bus) json texts = IsObservablesAnswer bus json (texts Image)
+IsAnswerToTexts (Report report bus coloring) json texts = IsReportAnswer report bus coloring json (texts Image)
+IsAnswerToTexts (Observables bus coloring) json texts = IsObservablesAnswer bus coloring json (texts Image)
 IsAnswerToTexts (Metrics bus all labels) json texts = IsMetricsAnswer bus all labels (texts Image)
 IsAnswerToTexts (Plan keep conventions) json texts = IsPlanAnswer json conventions (texts Image) (texts Weights) (texts Kept)
 IsAnswerToTexts (Draw svg keep conventions) json texts = IsDrawAnswer svg conventions (texts Image) (texts Weights) (texts Kept)

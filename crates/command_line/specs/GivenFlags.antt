@@ -58,6 +58,9 @@ label_flag = codes "label"
 abbrev pub flags_flag : Text
 flags_flag = codes "flags"
 
+abbrev pub color_flag : Text
+color_flag = codes "color"
+
 -- ---- how it is given
 
 -- alone at most once, or with a word after it, that at most once or any number of times

@@ -51,6 +51,7 @@ examples (Report Monitors) =
     codes "monitors < examples/osfp_800g_dr8.txt"
     ∷ codes "monitors --bus < examples/osfp_800g_dr8.txt"
     ∷ codes "monitors --json < examples/osfp_800g_dr8.txt"
+    ∷ codes "monitors --color always < examples/osfp_800g_overheated.txt"
     ∷ []
 examples (Report Flags) =
     codes "flags < examples/osfp_800g_overheated.txt"

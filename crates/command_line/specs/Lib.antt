@@ -1,5 +1,6 @@
 pub mod GivenFlags
 pub mod MetricsChoice
+pub mod Coloring
 pub mod Choice
 pub mod WordFaults
 pub mod ChoiceFault

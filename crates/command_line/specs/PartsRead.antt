@@ -14,8 +14,8 @@ kept_if false rest = rest
 
 -- the parts in their order
 abbrev pub parts_read : Choice → List Part
-parts_read (Report report bus) = Image ∷ []
-parts_read (Observables bus) = Image ∷ []
+parts_read (Report report bus coloring) = Image ∷ []
+parts_read (Observables bus coloring) = Image ∷ []
 parts_read (Metrics bus all labels) = Image ∷ []
 parts_read (Plan keep conventions) = Image ∷ Weights ∷ kept_if keep []
 parts_read (Draw svg keep conventions) = Image ∷ Weights ∷ kept_if keep []

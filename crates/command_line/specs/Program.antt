@@ -12,6 +12,7 @@ use Rattle.clap.specs.Words.{Text, takes}
 use Rattle.command_line.specs.Choice.{faults_of, program, request_of}
 use Rattle.command_line.specs.ChoiceFault.{IsFaultAmong, refusal_text, status_of_fault}
 use Rattle.command_line.specs.Commands.{IsAnswerOf}
+use Rattle.command_line.specs.Coloring.{request_on_screen}
 use Rattle.command_line.specs.Faults.{fault_line}
 use Rattle.command_line.specs.Runs.{IsCommandRun, ended, ending_after}
 use Rattle.command_line.specs.StoppingWriter.{contents_of, writing_failed}
@@ -86,11 +87,12 @@ pub record IsRefusalRun {R W : Type 0} (contents : W → Option (List ℕ)) (IsS
   pub remarked : ending ≡ refusal_ending (writing_failed writer_after) ending.status
   pub stopped : writing_failed writer ≡ true → writer_after ≡ writer
 
--- what the words ask for was run, or they were refused
-abbrev pub IsProgramRun : {R W : Type 0} → (R → Option (List ℕ)) → (W → Option (List ℕ)) → Result (List Text) Error
+-- what the words ask for was run, on a screen that shows colors or not, or they were refused
+abbrev pub IsProgramRun : {R W : Type 0} → (R → Option (List ℕ)) → (W → Option (List ℕ)) → Bool → Result (List Text) Error
     → CountedReader R → CountedReader R → StoppingWriter W → StoppingWriter W → Ending → Type 0
-IsProgramRun remaining contents (Ok words) reader reader_after writer writer_after ending =
-    ((request : Request) × (request_of words ≡ Some (Ok request)) × IsCommandRun remaining contents request.json (IsAnswerOf request) reader reader_after writer writer_after ending)
+IsProgramRun remaining contents shows_colors (Ok words) reader reader_after writer writer_after ending =
+    ((request : Request) × (request_of words ≡ Some (Ok request))
+    × IsCommandRun remaining contents request.json (IsAnswerOf (request_on_screen shows_colors request)) reader reader_after writer writer_after ending)
     ⊎ ((fault : ChoiceFault) × IsRefusalOf words fault × IsRefusalRun contents (IsRefusalSaid fault) reader reader_after writer writer_after ending)
-IsProgramRun remaining contents (Err error) reader reader_after writer writer_after ending =
+IsProgramRun remaining contents shows_colors (Err error) reader reader_after writer writer_after ending =
     IsRefusalRun contents (IsWordsRefusalSaid error) reader reader_after writer writer_after ending

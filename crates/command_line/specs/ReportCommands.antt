@@ -20,6 +20,8 @@ use Rattle.reports.specs.declared.fault.ReportFault.TheVariants.{Memory as NoMem
 use Rattle.command_line.specs.declared.choice.commands.ReportName.{ReportName}
 use Rattle.command_line.specs.declared.choice.commands.ReportName.TheVariants.{Inventory, Apps, Monitors, Flags, Details}
 use Rattle.command_line.specs.declared.fault.Fault.TheVariants as fault
+use Rattle.command_line.specs.Coloring.{shown_as}
+use Rattle.command_line.specs.declared.choice.coloring.Coloring.{Coloring}
 use Rattle.command_line.specs.OverBus.{IsToReport, IsUnread}
 use Rattle.command_line.specs.Runs.{Answer}
 
@@ -64,6 +66,7 @@ entries_of Monitors memory = monitors_entries memory
 entries_of Flags memory = flags_entries memory
 entries_of Details memory = details_entries memory
 
--- the answer of a report to the text of an image, with the flags `--bus` and `--json` or without them
-abbrev pub IsReportAnswer : ReportName → Bool → Bool → List ℕ → Answer → Type 0
-IsReportAnswer report bus json = IsReported bus (refusal_of report) (λ memory. printed json (entries_of report memory))
+-- the answer of a report to the text of an image, with the flags `--bus` and `--json` or without them, in colors or not
+abbrev pub IsReportAnswer : ReportName → Bool → Coloring → Bool → List ℕ → Answer → Type 0
+IsReportAnswer report bus coloring json =
+    IsReported bus (refusal_of report) (λ memory. shown_as coloring json (printed json (entries_of report memory)))

@@ -3,7 +3,7 @@ use Rattle.std.specs.Prelude.{ℕ, List, ◌++◌, codes}
 use Rattle.module_metrics.specs.declared.label_fault.LabelFault.{LabelFault}
 use Rattle.module_metrics.specs.declared.label_fault.LabelFault.TheVariants as label
 use Rattle.command_line.specs.declared.choice.word_fault.WordFault.{WordFault}
-use Rattle.command_line.specs.declared.choice.word_fault.WordFault.TheVariants.{Label, Flags}
+use Rattle.command_line.specs.declared.choice.word_fault.WordFault.TheVariants.{Label, Flags, Color}
 
 abbrev pub label_sentence : LabelFault → List ℕ
 label_sentence label.Memory = codes "out of memory"
@@ -16,6 +16,7 @@ label_sentence label.Twice = codes "two '--label' have the same key"
 abbrev pub word_sentence : WordFault → List ℕ
 word_sentence (Label fault) = label_sentence fault
 word_sentence Flags = codes "the word after '--flags' has to be 'all'"
+word_sentence Color = codes "the word after '--color' has to be 'auto', 'always' or 'never'"
 
 -- as `clap` says what is wrong
 abbrev pub word_text : WordFault → List ℕ

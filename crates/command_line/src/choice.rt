@@ -6,13 +6,14 @@ ghost use Rattle.std.specs.List.{list_all};
 ghost use Rattle.clap.specs.declared.builder.command.Command.TheViews.{out-Command as fields_of};
 ghost use Rattle.clap.specs.Words.{Text, all_of, app_of, first_of, found_of, rows_of, rule_of, subcommand_rows_of, takes};
 ghost use Rattle.command_line.specs.Choice.{program, request_of, request_in, request_with, choice_with, command_app, conventions_in};
-ghost use Rattle.command_line.specs.Choice.{commands, faults_of, json_request, json_word, plain_request, takes_json};
+ghost use Rattle.command_line.specs.Choice.{commands, faults_of, json_request, json_word, observables_with, plain_request, report_with, takes_json};
 ghost use Rattle.command_line.specs.ChoiceFault.{Gives};
 ghost use Rattle.command_line.specs.GivenFlags.{flag_rule, is_given};
 ghost use Rattle.command_line.specs.MetricsChoice.{all_by, labels_in, metrics_with};
 ghost use Rattle.command_line.specs.Program.{IsRefusalOf};
 ghost use Rattle.command_line.specs.Entries.{entry_of, flag_of};
 
+pub mod coloring;
 pub mod commands;
 pub mod fault;
 mod help;
@@ -23,7 +24,10 @@ pub mod word_fault;
 use applications::Conventions;
 use clap::error::ErrorKind;
 use clap::{Arg, ArgAction, ArgMatches, Command};
-use commands::{Choice, CommandEntry, CommandName, Flag, Request, Takes, command_named};
+use coloring::coloring_by;
+use commands::{
+    Choice, CommandEntry, CommandName, Flag, ReportName, Request, Takes, command_named,
+};
 use fault::ChoiceFault;
 use module_metrics::Labels;
 use notices::VERSION_WITH_TEXTS;
@@ -116,13 +120,8 @@ fn choice_with(
     ensures { Gives (choice_with command (option_map_or (λ matches. rows_of (found_of matches.now)) given.entry [])) result }
 {
     match command {
-        CommandName::Report(report) => Ok(Choice::Report {
-            report,
-            bus: has_flag(given, "bus"),
-        }),
-        CommandName::Observables => Ok(Choice::Observables {
-            bus: has_flag(given, "bus"),
-        }),
+        CommandName::Report(report) => report_with(given, report),
+        CommandName::Observables => observables_with(given),
         CommandName::Metrics => metrics_with(alloc, given),
         CommandName::Plan => Ok(Choice::Plan {
             keep: has_flag(given, "keep"),
@@ -150,6 +149,29 @@ fn choice_with(
             conventions: conventions_in(given),
         }),
     }
+}
+
+/// A report with its flags, of which `--color` has to be right.
+fn report_with(given: Option<&ArgMatches<'_>>, report: ReportName) -> Result<Choice, ChoiceFault>
+    ensures { Gives (report_with report (option_map_or (λ matches. rows_of (found_of matches.now)) given.entry [])) result }
+{
+    let coloring = coloring_by(word_after(given, "color"))?;
+    Ok(Choice::Report {
+        report,
+        bus: has_flag(given, "bus"),
+        coloring,
+    })
+}
+
+/// `observables` with its flags, likewise.
+fn observables_with(given: Option<&ArgMatches<'_>>) -> Result<Choice, ChoiceFault>
+    ensures { Gives (observables_with (option_map_or (λ matches. rows_of (found_of matches.now)) given.entry [])) result }
+{
+    let coloring = coloring_by(word_after(given, "color"))?;
+    Ok(Choice::Observables {
+        bus: has_flag(given, "bus"),
+        coloring,
+    })
 }
 
 /// `metrics` with its flags, whose words have to be right.

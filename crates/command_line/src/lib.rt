@@ -13,6 +13,7 @@ mod output;
 mod parts;
 mod program;
 mod remark;
+mod screen;
 mod status;
 mod told_fault;
 
@@ -20,4 +21,5 @@ pub use fault::Fault;
 pub use input::{CountedReader, MAX_READS, read_input};
 pub use output::{OutputFault, StoppingWriter};
 pub use program::run;
+pub use screen::allows_colors;
 pub use status::Status;

@@ -17,19 +17,20 @@ use std::io;
 use std::io::{ErrorKind, Read, Write};
 
 /// Does what the words of the command line ask for, or says why it does not, and answers how the program ends. The
-/// first word is the program's name. What standard error says comes last, and changes neither the answer nor the status.
+/// first word is the program's name; a report is colored by itself where the terminal shows colors. What standard error says comes last, and changes neither the answer nor the status.
 pub fn run<R: Read, W: Write, E: Write>(
     alloc: Global,
     words: io::Result<Vec<String>>,
+    shows_colors: bool,
     reader: &mut CountedReader<R>,
     writer: &mut StoppingWriter<W>,
     errors: &mut StoppingWriter<E>,
 ) -> Status
-    ensures { (remark : Remark) × IsProgramRun R.remaining W.contents (words_of words)
+    ensures { (remark : Remark) × IsProgramRun R.remaining W.contents shows_colors (words_of words)
         reader.old reader.new writer.old writer.new record { status = result; remark = remark }
         × IsRemarkSaid E.contents remark errors.old errors.new }
 {
-    let ending = ending(alloc, words, reader, writer);
+    let ending = ending(alloc, words, shows_colors, reader, writer);
     say(&ending.remark, errors);
     ending.status
 }
@@ -45,10 +46,11 @@ fn say<E: Write>(remark: &Remark, errors: &mut StoppingWriter<E>)
 fn ending<R: Read, W: Write>(
     alloc: Global,
     words: io::Result<Vec<String>>,
+    shows_colors: bool,
     reader: &mut CountedReader<R>,
     writer: &mut StoppingWriter<W>,
 ) -> Ending
-    ensures { IsProgramRun R.remaining W.contents (words_of words)
+    ensures { IsProgramRun R.remaining W.contents shows_colors (words_of words)
         reader.old reader.new writer.old writer.new result }
 {
     let words = match words {
@@ -56,7 +58,7 @@ fn ending<R: Read, W: Write>(
         Err(error) => return refused(words_refused(&error, writer), writer),
     };
     match request(alloc, words.as_slice()) {
-        Ok(request) => commands::run(alloc, request, reader, writer),
+        Ok(request) => commands::run(alloc, request.on_screen(shows_colors), reader, writer),
         Err(fault) => refused(choice_refused(&fault, writer), writer),
     }
 }

@@ -1,8 +1,10 @@
 //! The commands of the program and their flags, one line each.
 ghost use Rattle.std.specs.Prelude.{◌≡◌, map, option_copied, option_map};
 ghost use Rattle.command_line.specs.Choice.{commands, entry_named};
+ghost use Rattle.command_line.specs.Coloring.{choice_on_screen, request_on_screen};
 ghost use Rattle.command_line.specs.Entries.{entry_of};
 
+use super::coloring::Coloring;
 use applications::Conventions;
 use module_metrics::Labels;
 
@@ -36,10 +38,12 @@ pub enum Choice {
         report: ReportName,
         /// Whether the module is to be read over a bus.
         bus: bool,
+        coloring: Coloring,
     },
     Observables {
         /// As for `Report`.
         bus: bool,
+        coloring: Coloring,
     },
     Metrics {
         /// As for `Report`.
@@ -92,6 +96,43 @@ pub struct Request {
     pub choice: Choice,
     /// Whether the answer is to be JSON.
     pub json: bool,
+}
+
+impl Choice {
+    /// The same, now that it is known whether the program writes to a terminal that shows colors.
+    #[tactic(auto, using(crate::proofs::OnScreen::other_on_screen))]
+    fn on_screen(self, shows_colors: bool) -> Choice
+        ensures { result ≡ choice_on_screen shows_colors self }
+    {
+        match self {
+            Choice::Report {
+                report,
+                bus,
+                coloring,
+            } => Choice::Report {
+                report,
+                bus,
+                coloring: coloring.on_screen(shows_colors),
+            },
+            Choice::Observables { bus, coloring } => Choice::Observables {
+                bus,
+                coloring: coloring.on_screen(shows_colors),
+            },
+            other => other,
+        }
+    }
+}
+
+impl Request {
+    /// As for `Choice`.
+    pub fn on_screen(self, shows_colors: bool) -> Request
+        ensures { result ≡ request_on_screen shows_colors self }
+    {
+        Request {
+            choice: self.choice.on_screen(shows_colors),
+            json: self.json,
+        }
+    }
 }
 
 /// What follows a flag.
@@ -200,6 +241,14 @@ const SVG: Flag = Flag {
     help: "Draw the plan as an SVG",
 };
 
+/// Asks for colors.
+const COLOR: Flag = Flag {
+    name: "color",
+    takes: Takes::Word,
+    word: "WHEN",
+    help: "Color what is beyond a limit, and raised flags: 'always', 'never', or 'auto', on a terminal unless NO_COLOR is set",
+};
+
 /// Asks for a label.
 const LABEL: Flag = Flag {
     name: "label",
@@ -244,10 +293,10 @@ pub fn commands() -> &'static [CommandEntry]
     table! {
         "inventory" Report(Inventory) [BUS JSON] "Print what the module is";
         "apps" Report(Apps) [BUS JSON] "Print the Applications that the module advertises";
-        "monitors" Report(Monitors) [BUS JSON] "Print what the module measures";
-        "flags" Report(Flags) [BUS JSON] "Print the states of the module and its lanes, and the flags that are raised";
+        "monitors" Report(Monitors) [BUS JSON COLOR] "Print what the module measures";
+        "flags" Report(Flags) [BUS JSON COLOR] "Print the states of the module and its lanes, and the flags that are raised";
         "details" Report(Details) [BUS JSON] "Print all that the module says of itself, with names";
-        "observables" Observables [BUS JSON] "Print all that the module measures, VDM too, each with its limits and flags";
+        "observables" Observables [BUS JSON COLOR] "Print all that the module measures, VDM too, each with its limits and flags";
         "metrics" Metrics [BUS LABEL FLAGS] "Print what 'inventory', 'monitors' and 'flags' say, as metrics for Prometheus";
         "plan" Plan [KEEP PAIRED COUNTS_BY_ID NOW JSON] "Print the plan that weighs most for an image and weights, with its certificate";
         "draw" Draw [SVG KEEP PAIRED COUNTS_BY_ID NOW] "Draw the plan, and say for each host lane what else could have been done there";

@@ -92,7 +92,7 @@ fn of_report(report: ReportName) -> &'static str
                 "apps --json < examples/osfp_800g_many_apps.txt"]),
         ReportName::Monitors => end!([image] []
             ["monitors < examples/osfp_800g_dr8.txt" "monitors --bus < examples/osfp_800g_dr8.txt"
-                "monitors --json < examples/osfp_800g_dr8.txt"]),
+                "monitors --json < examples/osfp_800g_dr8.txt" "monitors --color always < examples/osfp_800g_overheated.txt"]),
         ReportName::Flags => end!([image] []
             ["flags < examples/osfp_800g_overheated.txt" "flags --bus < examples/sfp_10g_lr_dim.txt"
                 "flags --json < examples/sfp_10g_lr_dim.txt"]),

@@ -12,6 +12,8 @@ pub enum WordFault {
     Label(LabelFault),
     /// It doesn't say which flags of the module are asked for.
     Flags,
+    /// It doesn't say when a report is to be colored.
+    Color,
 }
 
 impl WordFault {
@@ -22,6 +24,7 @@ impl WordFault {
         match self {
             WordFault::Label(fault) => label_sentence(fault),
             WordFault::Flags => "the word after '--flags' has to be 'all'",
+            WordFault::Color => "the word after '--color' has to be 'auto', 'always' or 'never'",
         }
     }
 }

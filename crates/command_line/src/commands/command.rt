@@ -133,8 +133,14 @@ fn answer_to(alloc: Global, request: &Request, texts: &Texts<'_>) -> Result<Comm
     let script = texts.of(Part::Script);
     let json = request.json;
     match &request.choice {
-        Choice::Report { report: name, bus } => report(alloc, *name, *bus, json, image),
-        Choice::Observables { bus } => print_observables(alloc, *bus, json, image),
+        Choice::Report {
+            report: name,
+            bus,
+            coloring,
+        } => report(alloc, *name, *bus, *coloring, json, image),
+        Choice::Observables { bus, coloring } => {
+            print_observables(alloc, *bus, *coloring, json, image)
+        }
         Choice::Metrics { bus, all, labels } => print_metrics(alloc, *bus, *all, labels, image),
         Choice::Plan { conventions, .. } => plan(alloc, json, *conventions, image, weights, kept),
         Choice::Draw {

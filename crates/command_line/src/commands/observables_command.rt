@@ -1,10 +1,12 @@
 ghost use Rattle.std.specs.Prelude.{◌≢◌, IfErr};
 ghost use Rattle.reports.specs.Families.{detail_fault};
+ghost use Rattle.command_line.specs.Coloring.{shown_as};
 ghost use Rattle.command_line.specs.ObservablesCommand.{IsObservablesAnswer, observed_text};
 ghost use Rattle.command_line.specs.ReportCommands.{Prints};
 ghost use Rattle.command_line.specs.Runs.{IsOwnAnswer, answer_of};
 
 use super::over_bus::image_to_report;
+use crate::choice::coloring::Coloring;
 use crate::command_output::CommandOutput;
 use crate::fault::Fault;
 use crate::remark::Warnings;
@@ -17,18 +19,33 @@ use std::alloc::Global;
 pub fn print_observables(
     alloc: Global,
     is_over_bus: bool,
+    coloring: Coloring,
     is_json: bool,
     image: &[u8],
 ) -> Result<CommandOutput, Fault>
-    ensures answer { IsOwnAnswer (IsObservablesAnswer is_over_bus is_json image.now) (answer_of result) }
+    ensures answer { IsOwnAnswer (IsObservablesAnswer is_over_bus coloring is_json image.now) (answer_of result) }
     ensures read { IfErr result (λ fault. fault ≢ Fault.Io) }
 {
     let image = image_to_report(alloc, image, is_over_bus)?;
     Ok(CommandOutput {
-        text: printed(alloc, is_json, &image)?,
+        text: shown(alloc, coloring, is_json, &image)?,
         fault: None,
         warnings: Warnings::none(),
     })
+}
+
+fn shown(
+    alloc: Global,
+    coloring: Coloring,
+    is_json: bool,
+    image: &Image,
+) -> Result<Vec<u8>, ReportFault>
+    ensures { Prints (detail_fault image.now) (shown_as coloring is_json (observed_text is_json image.now)) result }
+{
+    match printed(alloc, is_json, image) {
+        Ok(text) => coloring.shown(alloc, is_json, text),
+        Err(fault) => Err(fault),
+    }
 }
 
 fn printed(alloc: Global, is_json: bool, image: &Image) -> Result<Vec<u8>, ReportFault>

@@ -1,10 +1,12 @@
 ghost use Rattle.std.specs.Prelude.{◌≢◌, IfErr};
 ghost use Rattle.reports.specs.Answered.{Reports, ReportsJson};
 ghost use Rattle.report_entries.specs.EntryText.{entries_lines};
+ghost use Rattle.command_line.specs.Coloring.{shown_as};
 ghost use Rattle.command_line.specs.ReportCommands.{IsReportAnswer, Prints, entries_of, printed, refusal_of};
 ghost use Rattle.command_line.specs.Runs.{IsOwnAnswer, answer_of};
 
 use super::over_bus::image_to_report;
+use crate::choice::coloring::Coloring;
 use crate::choice::commands::ReportName;
 use crate::command_output::CommandOutput;
 use crate::fault::Fault;
@@ -18,21 +20,38 @@ pub fn report(
     alloc: Global,
     name: ReportName,
     is_over_bus: bool,
+    coloring: Coloring,
     is_json: bool,
     image: &[u8],
 ) -> Result<CommandOutput, Fault>
-    ensures answer { IsOwnAnswer (IsReportAnswer name is_over_bus is_json image.now) (answer_of result) }
+    ensures answer { IsOwnAnswer (IsReportAnswer name is_over_bus coloring is_json image.now) (answer_of result) }
     ensures read { IfErr result (λ fault. fault ≢ Fault.Io) }
 {
     let image = image_to_report(alloc, image, is_over_bus)?;
     Ok(CommandOutput {
-        text: printed(alloc, name, is_json, &image)?,
+        text: shown(alloc, name, coloring, is_json, &image)?,
         fault: None,
         warnings: Warnings::none(),
     })
 }
 
-// What is printed of an image.
+// What is shown of an image.
+fn shown(
+    alloc: Global,
+    name: ReportName,
+    coloring: Coloring,
+    is_json: bool,
+    image: &Image,
+) -> Result<Vec<u8>, ReportFault>
+    ensures { Prints (refusal_of name image.now) (shown_as coloring is_json (printed is_json (entries_of name image.now))) result }
+{
+    match printed(alloc, name, is_json, image) {
+        Ok(text) => coloring.shown(alloc, is_json, text),
+        Err(fault) => Err(fault),
+    }
+}
+
+// What is printed of it.
 fn printed(
     alloc: Global,
     name: ReportName,

@@ -66,7 +66,14 @@ fn inventory<R: Read + Drop, W: Write + Drop>(
     let mut reader = CountedReader::new(reader);
     let mut writer = StoppingWriter::new(writer);
     let mut errors = StoppingWriter::new(Vec::new(alloc));
-    Ok(run(alloc, Ok(words), &mut reader, &mut writer, &mut errors))
+    Ok(run(
+        alloc,
+        Ok(words),
+        false,
+        &mut reader,
+        &mut writer,
+        &mut errors,
+    ))
 }
 
 #[test]
@@ -81,7 +88,14 @@ fn words_that_cannot_be_read_are_refused(rt: HostRuntime) -> Result<(), Fail> {
         let mut writer = StoppingWriter::new(&mut written);
         let words = Err(io::Error::from(kind));
         let mut errors = StoppingWriter::new(Vec::new(rt.alloc()));
-        let ended = run(rt.alloc(), words, &mut reader, &mut writer, &mut errors);
+        let ended = run(
+            rt.alloc(),
+            words,
+            false,
+            &mut reader,
+            &mut writer,
+            &mut errors,
+        );
         assert_eq!(rt; ended, ends);
         assert_eq!(rt; reader.reads(), 0);
         assert_eq!(rt; written.as_slice(), text.as_bytes());

@@ -1,0 +1,4 @@
+pub mod Amounts
+pub mod Alerts
+pub mod Colors
+pub mod Escapes
