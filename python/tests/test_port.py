@@ -62,7 +62,8 @@ class Machine:
         assert self.drive(lambda outcome: outcome.note is Note.CAME_UP, refuse_each) is not None
 
 
-@pytest.mark.parametrize("refuse_each", [0, 3, 7])
+# not each third: a page is selected, read back and fetched from, so that would never be done
+@pytest.mark.parametrize("refuse_each", [0, 4, 7])
 def test_a_module_comes_up(refuse_each: int) -> None:
     machine = Machine(SimulatedModule(DR4))
     assert machine.port.next(0) is Idle.NOTHING
