@@ -34,7 +34,7 @@ class Machine:
     def __init__(self, module: SimulatedModule) -> None:
         self.port, self.module, self.now, self.made = Port(Times(20, 100, 50, 400)), module, 0, 0
         self.stores = 0
-        self.places = set()
+        self.places: set[Key] = set()
 
     def drive(self, until: Callable[[PortOutcome], bool], refuse_each: int = 0) -> Optional[PortOutcome]:
         for _ in range(5000):
