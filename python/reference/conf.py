@@ -1,4 +1,4 @@
-"""How sphinx-build makes the reference of the package (docs/python.md, "Reference")."""
+"""How sphinx-build makes the reference of the package (docs/python.md)."""
 import pathlib
 import sys
 
