@@ -1,14 +1,23 @@
-/* Dovecounter for C: reads pluggable optical modules, plans the lanes of CMIS modules (OIF-CMIS-05.0), checks the
-   certificates of such plans, provisions modules over a bus of yours, and simulates modules for tests.
+/* Dovecounter for C: reads pluggable optical modules, plans the lanes of CMIS modules (OIF-CMIS-05.0), checks such
+   plans, provisions modules over your own bus, and simulates modules for tests.
 
-   Every function except dovecounter_run is proved to return and to do what this file says. What is marked as tested
-   is only tested, and nothing is proved about real modules. No function allocates, prints, waits, keeps a pointer or
-   has state of its own, so calls may run in parallel unless one writes what another uses.
+     Statuses                     the return values of all functions
+     Texts for people             sentences for statuses, faults and verdicts
+     What a module is             decode a module's memory
+     Plans                        weights, plans, certificates
+     Conversations with a module  read, provision, activate, wake, sleep
+     A port's manager             keep the module in a port as wanted
+     A simulated module           a module without hardware
 
-   What no function can check is yours to ensure:
+   Every function except dovecounter_run is proved to return and to do what this file says, except where it says
+   "tested". Nothing is proved about real modules. No function allocates, prints, waits, keeps a pointer or has state
+   of its own, so calls may run in parallel unless one writes what another uses.
+
+   You have to ensure what no function can check:
    - each pointer is valid for its type and length, and not null, even for a length of 0;
-   - what a pointer to const points to doesn't change during the call;
+   - what a const pointer points to doesn't change during the call;
    - what a function writes overlaps none of its other arguments.
+
    Numbers and bytes may have any value.
 
    A set of lanes is a byte whose bit i-1 is lane i: 0x01 is lane 1, 0x80 is lane 8. */
@@ -22,15 +31,14 @@
 extern "C" {
 #endif
 
-/* Changes whenever a structure, a number or a function below does. */
+/* Changes whenever a structure, a number or a function below changes. */
 #define DOVECOUNTER_VERSION 7
 
 /* ---- Statuses ----
 
-   On any status but 0 a function has written nothing, with two exceptions: dovecounter_certificate writes the text's length if
-   the buffer is too small, and dovecounter_weights the number of the faulty line.
-
-   Each function answers the first of its statuses that applies, and 0 if none does:
+   Each function returns the first of its statuses that applies, and 0 if none does. With any status but 0 it has
+   written nothing, with two exceptions: dovecounter_certificate writes the text's length if the buffer is too small,
+   and dovecounter_weights the number of the faulty line.
 
      status_text, fault_text, verdict_text   3 4
      version                                 4
@@ -47,11 +55,13 @@ extern "C" {
      reply                                   31 32 34
      end                                     31 33
      run                                     31 34
+     port_plug to port_next                  31
+     port_take                               31 34
      module_begin                            1 2 51, then as advertisement, then 53 54
      module_fetch, module_store              as advertisement, then 61 62 63
      module_tick, module_pin, module_active  61
 
-   The code before a colon is the fault that cmisctl prints for the same reason (docs/faults.md). */
+   Before the colon is the fault that cmisctl prints for this reason (docs/faults.md). */
 enum dovecounter_status {
     DOVECOUNTER_DONE = 0,
 
@@ -78,9 +88,9 @@ enum dovecounter_status {
     DOVECOUNTER_NO_END = 24,       /* CT4: the line `end` is missing */
 
     /* conversations */
-    DOVECOUNTER_NO_CONVERSATION = 31, /* these numbers are no conversation; zeros aren't one either */
-    DOVECOUNTER_ENDED = 32,           /* it has ended, so there is no operation to make */
-    DOVECOUNTER_NOT_ENDED = 33,       /* there is an operation to make */
+    DOVECOUNTER_NO_CONVERSATION = 31, /* not the numbers of a conversation, or all zero */
+    DOVECOUNTER_ENDED = 32,           /* it has ended: there is no operation to make */
+    DOVECOUNTER_NOT_ENDED = 33,       /* it goes on: there is an operation to make */
     DOVECOUNTER_NO_REPLY = 34,        /* the operation can't have this reply */
     DOVECOUNTER_TOO_FEW_BYTES = 36,   /* a reading needs a bus that fetches 8 bytes at once */
 
@@ -92,13 +102,13 @@ enum dovecounter_status {
     DOVECOUNTER_NEEDED_HALF = 51,      /* SM1: device 0xA0 lacks its lower half, or page 00h, 01h, 10h or 11h of bank 0 */
     DOVECOUNTER_BAD_DELAY = 53,        /* SM3: a delay is 0 or above 1000 */
     DOVECOUNTER_ACTIVE_NOT_PATHS = 54, /* SM4: bytes 206 to 213 of page 11h are no host paths */
-    DOVECOUNTER_NO_MODULE = 61,        /* these numbers are no simulated module; zeros aren't one either */
-    DOVECOUNTER_NO_RANGE = 62,         /* BU2: no such device; or no bytes, too many (128 to fetch, 8 to store), or in two halves */
+    DOVECOUNTER_NO_MODULE = 61,        /* not the numbers of a simulated module, or all zero */
+    DOVECOUNTER_NO_RANGE = 62,         /* BU2: no such device, no bytes, too many (above 128 to fetch, 8 to store), or in two halves */
     DOVECOUNTER_NOT_TAKEN = 63,        /* the module refuses */
 
     /* decoders */
     DOVECOUNTER_LACKS_HALF = 76,           /* RP6: device 0xA0 has no lower half, or a CMIS module lacks a page */
-    DOVECOUNTER_UNKNOWN_MODULE = 71,       /* RP1: the identifier, byte 0, is of no family that is read */
+    DOVECOUNTER_UNKNOWN_MODULE = 71,       /* RP1: the identifier, byte 0, belongs to no family that can be read */
     DOVECOUNTER_UNREAD_REVISION = 74,      /* RP4: the major CMIS revision, byte 1, is neither 4 nor 5 */
     DOVECOUNTER_NO_DIAGNOSTICS = 84,       /* SF4: an SFF-8472 module has no diagnostics */
     DOVECOUNTER_ADDRESS_CHANGE = 86,       /* SF6: it wants an address change before its diagnostics are read */
@@ -113,13 +123,13 @@ enum dovecounter_status {
 
 /* ---- Texts for people ----
 
-   Each function writes ASCII without a line end and without a NUL, and the number of bytes to *text_length. It leaves
-   the rest of the buffer alone. */
+   Each function writes ASCII without a line end and without a NUL, and its length to *text_length. It leaves the
+   rest of the buffer alone. */
 
 /* The longest text of the four functions below. */
 #define DOVECOUNTER_TEXT_SIZE 256
 
-/* What a status means, and what to do. If the status names a fault, this is its sentence in docs/faults.md. */
+/* What a status means, and what to do. If the status names a fault, this is the fault's sentence in docs/faults.md. */
 uint32_t dovecounter_status_text(uint32_t status, uint8_t *buffer, size_t buffer_size, size_t *text_length);
 
 /* What a fault means, by its code, 1 to 8. */
@@ -133,8 +143,8 @@ uint32_t dovecounter_version(uint8_t *buffer, size_t buffer_size, size_t *text_l
 
 /* ---- What a module is ----
 
-   A module's memory comes as an array of halves, in any order. If two have the same place, the first counts; halves
-   that a function doesn't need are ignored. Pages are those of bank 0. */
+   Pass a module's memory as an array of halves, in any order. Of two halves for one place the first counts; halves
+   that a function doesn't need are ignored. Pages are in bank 0. */
 
 /* 128 bytes of a module's memory, and their place. */
 struct dovecounter_half {
@@ -145,7 +155,7 @@ struct dovecounter_half {
     uint8_t bytes[128];
 };
 
-/* What a data path may carry, and where it may begin. */
+/* What a data path can carry, and where it may begin. */
 struct dovecounter_application {
     uint8_t number;       /* AppSelCode, 1 to 15; 0, like all other members, after the last Application */
     uint8_t host_id;      /* HostInterfaceID (SFF-8024) */
@@ -162,17 +172,16 @@ struct dovecounter_advertisement {
     struct dovecounter_application applications[15];
 };
 
-/* Writes what the module advertises. Needs the lower half of 0xA0 and pages 00h and 01h. A module may leave a lane
-   count at 0, meaning the one that the interface ID implies: with counts_by_id other than 0 it is looked up, and
-   stays 0 if it isn't known (docs/planning.md, "Lane counts of 0"). Plans and certificates take the same
-   counts_by_id. */
+/* Writes what the module advertises. Needs the lower half of 0xA0 and pages 00h and 01h. If a module leaves a lane
+   count at 0, the interface ID implies the count: with counts_by_id other than 0 it is looked up, and stays 0 if it
+   isn't known (docs/planning.md, "Lane counts of 0"). Pass the counts_by_id of your plans and certificates. */
 uint32_t dovecounter_advertisement(const struct dovecounter_half *halves, size_t half_count, uint8_t counts_by_id,
                                    struct dovecounter_advertisement *advertisement);
 
 enum dovecounter_family { DOVECOUNTER_CMIS = 1, DOVECOUNTER_SFF_8636 = 2, DOVECOUNTER_SFF_8472 = 3 };
 
-/* What `cmisctl inventory` prints. Texts have no padding, `?` for unprintable bytes, and a NUL. Members marked CMIS
-   are 0 in other modules. */
+/* What `cmisctl inventory` prints. Texts end in a NUL and have no padding, and `?` for unprintable bytes. Members
+   marked CMIS are 0 in other modules. */
 struct dovecounter_identity {
     int64_t max_power;   /* in milliwatts (CMIS) */
     int64_t length;      /* in millimetres (CMIS) */
@@ -198,7 +207,7 @@ struct dovecounter_identity {
 uint32_t dovecounter_identity(const struct dovecounter_half *halves, size_t half_count,
                               struct dovecounter_identity *identity);
 
-/* Limits that are passed: 0 or 1 for a value of the module, a set of lanes for a value of the lanes. */
+/* Which limits were passed: 0 or 1 for a value of the module, a set of lanes for a value of each lane. */
 struct dovecounter_levels {
     uint8_t high_alarm;
     uint8_t low_alarm;
@@ -206,8 +215,8 @@ struct dovecounter_levels {
     uint8_t low_warning;
 };
 
-/* What `cmisctl flags` prints. Flags of lanes are sets of lanes. What the family, or a CMIS module with flat memory,
-   lacks is 0. */
+/* What `cmisctl flags` prints. A flag of lanes is a set of lanes. A flag that the family, or a CMIS module with flat
+   memory, doesn't have is 0. */
 struct dovecounter_flags {
     uint8_t family;             /* enum dovecounter_family */
     uint8_t lanes;              /* how many lanes the flags cover: 8, 4 or 1; 0 for a CMIS module with flat memory */
@@ -215,7 +224,7 @@ struct dovecounter_flags {
     uint8_t path_states[8];     /* codes of the data paths' states, lane 1 first (CMIS) */
     uint8_t statuses[8];        /* codes of the configuration statuses, lane 1 first (CMIS) */
     uint8_t path_state_changed; /* CMIS */
-    uint8_t tx_fault;           /* for CMIS its flag tx-failure */
+    uint8_t tx_fault;           /* tx-failure (CMIS) */
     uint8_t tx_los;
     uint8_t tx_lol;
     uint8_t tx_eq_fail; /* CMIS */
@@ -229,7 +238,7 @@ struct dovecounter_flags {
 };
 
 /* Writes the states and flags. Needs the lower half of 0xA0, and page 11h (CMIS with paged memory) or the lower half
-   of 0xA2 (SFF-8472). A module clears most flags when they are read, so a later reading shows what was raised since. */
+   of 0xA2 (SFF-8472). Reading clears most flags, so a later reading shows what was raised since. */
 uint32_t dovecounter_flags(const struct dovecounter_half *halves, size_t half_count, struct dovecounter_flags *flags);
 
 /* The limits of a value, in its unit. */
@@ -240,7 +249,7 @@ struct dovecounter_limits {
     int64_t low_warning;
 };
 
-/* A value of the module. */
+/* A value of the module, and its limits. */
 struct dovecounter_value {
     int64_t value;
     struct dovecounter_limits limits; /* zeros if has_limits is 0 */
@@ -252,7 +261,7 @@ enum dovecounter_support {
     DOVECOUNTER_RESERVED_MULTIPLIER = 2 /* bias is measured, but scaled by a reserved code (CMIS) */
 };
 
-/* A value of each lane; of a CMIS module, of each media lane. */
+/* A value of each lane (CMIS: each media lane). */
 struct dovecounter_lane_values {
     int64_t values[8];                /* lane 1 first; zeros after the last lane, and unless support is 1 */
     struct dovecounter_limits limits; /* of every lane; zeros if has_limits is 0, and unless support is 1 */
@@ -267,7 +276,7 @@ struct dovecounter_monitors {
     struct dovecounter_lane_values tx_bias;  /* laser bias in microamperes */
     struct dovecounter_lane_values rx_power; /* received light in nanowatts */
     uint8_t family;                          /* enum dovecounter_family */
-    uint8_t lanes;                           /* how many lanes there are values of, as in dovecounter_flags */
+    uint8_t lanes;                           /* how many lanes have values, as in dovecounter_flags */
     uint8_t has_limits;                      /* 0 for a CMIS or SFF-8636 module with flat memory, else 1 */
     uint8_t sum;                             /* 1 if the sum over the limits (page 02h, or CC_DMI of SFF-8472) is there and right */
 };
@@ -277,8 +286,8 @@ struct dovecounter_monitors {
 uint32_t dovecounter_monitors(const struct dovecounter_half *halves, size_t half_count,
                               struct dovecounter_monitors *monitors);
 
-/* The longest that states last, in milliseconds: the upper end of the range that the module's code stands for, and
-   DOVECOUNTER_UNBOUNDED if the range has none or the code is reserved. */
+/* How long states last at most, in milliseconds: the upper end of the advertised range, or DOVECOUNTER_UNBOUNDED if
+   it has none or its code is reserved. */
 struct dovecounter_durations {
     uint32_t module_power_up;   /* MaxDurationModulePwrUp */
     uint32_t module_power_down; /* MaxDurationModulePwrDn */
@@ -290,18 +299,17 @@ struct dovecounter_durations {
 
 #define DOVECOUNTER_UNBOUNDED UINT32_MAX
 
-/* Writes how long states last at most, as the module advertises. Needs the halves of dovecounter_advertisement. */
+/* Writes the durations that the module advertises. Needs the halves that dovecounter_advertisement needs. */
 uint32_t dovecounter_durations(const struct dovecounter_half *halves, size_t half_count,
                                struct dovecounter_durations *durations);
 
 /* ---- Plans ---- */
 
-/* Reads weights from a text, and writes to weights[ID] what each HostInterfaceID is worth, 0 if it isn't listed. The
-   text has a line `[host]` and then lines such as `0Dh = 101`: two hexadecimal digits of either case, `h`, and a
-   decimal weight up to 4294967295 without leading zeros. Blanks, tabs, empty lines and comments after `#` are
-   allowed. The text is UTF-8, and LF ends a line. cmisctl reads the same weights from it (tested). CR LF, the tables
-   `[media]` and `[app]`, and all other TOML are refused. On status 91 and 94 *line is the number of the faulty line,
-   counted from 1, and on 92 it is 0. */
+/* Reads weights from a text: weights[ID] becomes what a HostInterfaceID is worth, 0 if the text doesn't list it. The
+   text is UTF-8, with LF after each line: a line `[host]`, then lines such as `0Dh = 101`, with two hexadecimal
+   digits of either case and a decimal weight up to 4294967295. Blanks, tabs, empty lines and comments after `#` are
+   allowed; other TOML, and CR LF, is refused. cmisctl reads the same weights from it (tested). With status 91 or 94
+   *line is the number of the faulty line, from 1 on; with 92 it is 0. */
 uint32_t dovecounter_weights(const uint8_t *text, size_t text_length, uint32_t weights[256], size_t *line);
 
 /* A data path: an Application on consecutive host lanes and consecutive media lanes. */
@@ -322,24 +330,26 @@ struct dovecounter_plan {
 };
 
 /* Writes the best plan: every path is allowed, no two share a lane, the kept paths are among them, and no such plan
-   weighs more. Of equally good plans it is the first in the order of docs/planning.md. A path weighs what weights has
-   for its HostInterfaceID, and stay more if the Active Control Set already has it; page 11h is needed if stay is not
-   0. With paired other than 0 the module joins the first lanes of an Application in order. No register says whether
-   it does: if in doubt, pass 1, which fits any module. To provision: pass control and outside to
-   dovecounter_provision_begin, then control and lanes to dovecounter_activate_begin. Save paths if you will want to
-   keep them: no register holds the media lanes of a path. */
+   weighs more. Of equally good plans it is the first in the order of docs/planning.md.
+
+   A path weighs what weights has for its HostInterfaceID, and stay more if the Active Control Set already has it
+   (needs page 11h if stay is not 0). With paired other than 0 the module joins the first lanes of an Application in
+   order; no register shows that, so if in doubt pass 1, which fits any module.
+
+   Next, pass control and outside to dovecounter_provision_begin, then control and lanes to
+   dovecounter_activate_begin. Save paths if you will want to keep them: no register holds the media lanes of a path. */
 uint32_t dovecounter_plan(const struct dovecounter_half *halves, size_t half_count, uint8_t paired,
                           uint8_t counts_by_id, const uint32_t weights[256], uint32_t stay,
                           const struct dovecounter_path *kept, size_t kept_count, struct dovecounter_plan *plan);
 
 struct dovecounter_judgement {
-    uint8_t reason;  /* 0: good, and no plan with the paths that it keeps weighs more; else the number in VR1 to VR10 */
+    uint8_t reason;  /* 0: good, and no plan that keeps its kept paths weighs more; else the number in VR1 to VR10 */
     uint64_t number; /* from 1 on: VR1, VR2: the path; VR8, VR9: the kept path; VR5, VR6: the entry; else 0 */
 };
 
-/* Judges a certificate's text for the module and the weights. The text names the paths that it keeps, and whether the
-   module pairs first lanes (if that contradicts paired: VR10). Pass the counts_by_id and the stay that it was made
-   with, which it doesn't name. */
+/* Judges a certificate's text for this module and these weights. The text names the paths that it keeps, and whether
+   the module pairs first lanes (VR10 if that contradicts paired), but neither counts_by_id nor stay: pass those that
+   it was made with. */
 uint32_t dovecounter_check(const struct dovecounter_half *halves, size_t half_count, uint8_t paired,
                            uint8_t counts_by_id, const uint32_t weights[256], uint32_t stay, const uint8_t *text,
                            size_t text_length, struct dovecounter_judgement *judgement);
@@ -347,9 +357,9 @@ uint32_t dovecounter_check(const struct dovecounter_half *halves, size_t half_co
 /* The longest text of a certificate. */
 #define DOVECOUNTER_CERTIFICATE_SIZE 74046
 
-/* Writes the certificate of the plan that dovecounter_plan gives for the same arguments, byte for byte what `cmisctl
+/* Writes the certificate of the plan that dovecounter_plan gives for these arguments, byte for byte what `cmisctl
    plan` prints, without a NUL. dovecounter_check finds it good. *text_length is its length even if the buffer is too
-   small, and a buffer of size 0 asks for just that. */
+   small, so a buffer of size 0 asks for the length. */
 uint32_t dovecounter_certificate(const struct dovecounter_half *halves, size_t half_count, uint8_t paired,
                                  uint8_t counts_by_id, const uint32_t weights[256], uint32_t stay,
                                  const struct dovecounter_path *kept, size_t kept_count, uint8_t *buffer,
@@ -358,23 +368,23 @@ uint32_t dovecounter_certificate(const struct dovecounter_half *halves, size_t h
 /* ---- Conversations with a module ----
 
    A conversation is a procedure or a reading under way. It touches no bus: dovecounter_next names the operation to
-   make, and dovecounter_reply takes its outcome, until dovecounter_end says how it ended. dovecounter_run is that
-   loop, for callers that may block. Nobody else may use the module meanwhile: no driver, no process, no second master
-   of the bus. */
+   make, dovecounter_reply takes its outcome, and dovecounter_end tells how it ended. dovecounter_run is that loop,
+   for callers that may block. Meanwhile nobody else may use the module: no driver, no process, no second master of
+   the bus. */
 
-/* Why a procedure failed. first and second are members of dovecounter_fault, 0 unless named here. */
+/* Why a conversation failed. first and second are members of dovecounter_fault, 0 unless named here. */
 enum dovecounter_fault_code {
     DOVECOUNTER_NO_FAULT = 0,
     DOVECOUNTER_REJECTED = 1,        /* PV1: the module rejected the configuration of lane `first`, by status `second` */
     DOVECOUNTER_NOT_STAGED = 2,      /* PV2: the staged control byte of lane `first` isn't what was stored */
     DOVECOUNTER_NOT_ACTIVE = 3,      /* PV3: the active control byte of lane `first` isn't the plan's */
-    DOVECOUNTER_GAVE_UP_WAITING = 4, /* PV4: 4096 operations, and no other answer */
-    DOVECOUNTER_BUS_ENDED = 5,       /* PV5: `first` is the digit of BU1 or BU2; no procedure here ends so */
+    DOVECOUNTER_GAVE_UP_WAITING = 4, /* PV4: after 4096 operations */
+    DOVECOUNTER_BUS_ENDED = 5,       /* PV5: `first` is the digit of BU1 or BU2; never here */
     DOVECOUNTER_NOT_READY = 6,       /* PV6: the module is in state `first`, not in ModuleReady; wake and sleep: in ModuleFault */
     DOVECOUNTER_RESERVED_CODE = 7,   /* PV7: the module shows `first`, a reserved code */
-    DOVECOUNTER_OVERDUE = 8,         /* pauses added up to more than the limit, and nothing came of them */
-    DOVECOUNTER_RESET = 9,           /* the module left ModuleReady meanwhile, as after a reset, and is in state `first` */
-    DOVECOUNTER_FAULTY = 10          /* the module went to ModuleFault meanwhile, state `first` */
+    DOVECOUNTER_OVERDUE = 8,         /* pauses with nothing done in between exceeded the limit */
+    DOVECOUNTER_RESET = 9,           /* the module left ModuleReady, as after a reset, for state `first` */
+    DOVECOUNTER_FAULTY = 10          /* the module went to ModuleFault, state `first` */
 };
 
 /* What a failure leaves behind, besides page selections:
@@ -393,19 +403,19 @@ struct dovecounter_fault {
     uint8_t second;
 };
 
-/* How long to wait, in milliseconds. A transaction is fruitless if it is refused, or if the same bytes are fetched or
-   the page is selected again next. */
+/* How long to wait, in milliseconds. A transaction is fruitless if it is refused, or if the next one fetches these
+   bytes or selects the page again. */
 struct dovecounter_patience {
     uint32_t pause; /* after a fruitless transaction */
-    uint32_t limit; /* if pauses with nothing done in between add up to more, it ends in fault 8; DOVECOUNTER_UNBOUNDED: never */
-    uint8_t trusts; /* 0: after a refusal select and read back the page again, since the module may have reset itself, and after
-                       each wait of provisioning and activation read the module's state; else: don't */
+    uint32_t limit; /* when pauses with nothing done in between exceed this, the end is fault 8; DOVECOUNTER_UNBOUNDED: never */
+    uint8_t trusts; /* 0: select and read back the page again after a refusal, since the module may have reset, and read the
+                       module's state after each wait of provisioning and activation; else: don't */
 };
 
-/* Writes the patience that suits the module: three times its longest state (three follow each other when a module
-   goes to sleep), at least 10 s, with pauses of at least 100 ms that 4096 operations don't outrun. A state without an
-   end counts as 50 minutes. Needs the halves of dovecounter_advertisement. For a module that you know nothing about,
-   take 20 and 2000. */
+/* Writes the patience that suits the module. The limit is three times its longest state (a module that goes to sleep
+   passes three), at least 10 s; a state without an end counts as 50 minutes. Pauses are at least 100 ms, so long
+   that 4096 operations don't end first. Needs the halves that dovecounter_advertisement needs. For a module that you
+   know nothing about, take 20 and 2000. */
 uint32_t dovecounter_patience(const struct dovecounter_half *halves, size_t half_count,
                               struct dovecounter_patience *patience);
 
@@ -413,7 +423,7 @@ struct dovecounter_progress {
     uint64_t met;
     uint16_t steps;
     uint8_t work;
-    uint8_t lanes; /* of a reading what is requested */
+    uint8_t lanes; /* in a reading: what is requested */
     uint8_t control[8];
     uint8_t selection;
     uint8_t page;
@@ -424,8 +434,8 @@ struct dovecounter_progress {
     uint32_t limit;
 };
 
-/* A conversation under way. Copy it, save it and read halves; change nothing. Changed numbers are refused, or taken
-   for another conversation, perhaps one that no replies lead to (docs/firmware.md, "The numbers of a conversation"). */
+/* A conversation under way. You may copy it, save it and read halves, but change nothing: changed numbers are
+   refused, or taken for another conversation (docs/firmware.md, "The numbers of a conversation"). */
 struct dovecounter_conversation {
     uint32_t magic;
     struct dovecounter_progress saved;
@@ -444,16 +454,18 @@ struct dovecounter_conversation {
 /* The most halves of a reading. */
 #define DOVECOUNTER_MOST_READ 5
 
-/* Begins to put control bytes into the Active Control Set. Takes down and applies `lanes`, which end DPDeactivated.
-   Pass the plan's outside. All other lanes need the plan's bytes already: first compare bytes 206 to 213 of page 11h
-   with control there. If one differs, lanes that are up would be taken down, and the end would be PV1, PV3 or another
-   fault. Their DPDeinit bits are stored as 0, so a lane that is up stays up, unless something else takes it down, and
-   one that the host held down comes up. */
+/* Begins to put control bytes into the Active Control Set: takes down and applies `lanes`, which end DPDeactivated.
+   Pass the plan's outside.
+
+   All other lanes must have the plan's bytes already, so first compare bytes 206 to 213 of page 11h with control
+   there: if one differs, lanes that are up would be taken down, and the end would be PV1, PV3 or another fault.
+   Their DPDeinit bits are cleared, so a lane that is up stays up, unless something else takes it down, and one that
+   the host held down comes up. */
 void dovecounter_provision_begin(const uint8_t control[8], uint8_t lanes, const struct dovecounter_patience *patience,
                                  struct dovecounter_conversation *conversation);
 
-/* Begins to bring up the paths of `lanes`, whose control bytes are active, and to take down all other lanes. Pass the
-   plan's lanes, which end DPActivated. */
+/* Begins to bring up the paths of `lanes`, whose control bytes are active, and to take down all other lanes. Pass
+   the plan's lanes, which end DPActivated. */
 void dovecounter_activate_begin(const uint8_t control[8], uint8_t lanes, const struct dovecounter_patience *patience,
                                 struct dovecounter_conversation *conversation);
 
@@ -465,13 +477,14 @@ void dovecounter_wake_begin(const struct dovecounter_patience *patience, struct 
 void dovecounter_sleep_begin(const struct dovecounter_patience *patience,
                              struct dovecounter_conversation *conversation);
 
-/* Begins to read what reports and plans need (docs/bus.md, "Reading an image"), at most `most` bytes at once: a half
-   comes in pieces of the largest multiple of 8 up to that. A refused piece is fetched again; if the page was selected
-   for it and trusts is 0, the half begins anew, so on a bus that refuses often, fetch as much as it carries. */
+/* Begins to read what reports and plans need (docs/bus.md, "Reading an image"), at most `most` bytes at once: halves
+   come in pieces of the largest multiple of 8 up to that. A refused piece is fetched again. If trusts is 0, a
+   refusal makes a half of a selected page begin anew, so on a bus that often refuses, fetch as much at once as it
+   carries. */
 uint32_t dovecounter_read_begin(uint8_t most, const struct dovecounter_patience *patience,
                                 struct dovecounter_conversation *conversation);
 
-/* What a reading reads besides the lower half of 0xA0, as far as the module has it: a bit for each half. */
+/* What a reading reads besides the lower half of 0xA0, if the module has it: a bit for each half. */
 enum dovecounter_requested {
     DOVECOUNTER_CMIS_PAGE_00 = 1,
     DOVECOUNTER_CMIS_PAGE_01 = 2,
@@ -492,13 +505,13 @@ enum dovecounter_kind { DOVECOUNTER_FETCH = 0, DOVECOUNTER_STORE = 1, DOVECOUNTE
 struct dovecounter_operation {
     uint32_t milliseconds; /* to wait; 0 for a fetch or a store */
     uint8_t kind;          /* enum dovecounter_kind */
-    uint8_t device;        /* 8-bit bus address, 0xA0, or 0xA2 of a reading; 0, like the next three, for a wait */
+    uint8_t device;        /* 8-bit bus address: 0xA0, in a reading also 0xA2; 0, like the next three, for a wait */
     uint8_t offset;        /* address of the first byte */
-    uint8_t count;         /* bytes to fetch or to store: 1 to 8, of a reading up to 128 */
+    uint8_t count;         /* bytes to fetch or to store: 1 to 8, in a reading up to 128 */
     uint8_t bytes[8];      /* to store; zeros after them, and for a fetch */
 };
 
-/* Writes what to do now. halves is the array in which a reading puts what it has read; other conversations ignore it. */
+/* Writes what to do now. A reading keeps what it has read in halves; other conversations ignore them. */
 uint32_t dovecounter_next(const struct dovecounter_conversation *conversation,
                           const struct dovecounter_half halves[DOVECOUNTER_MOST_READ],
                           struct dovecounter_operation *operation);
@@ -510,9 +523,9 @@ enum dovecounter_outcome {
     DOVECOUNTER_WAITED = 3   /* the time has passed */
 };
 
-/* Takes the outcome of that operation, once, and the bytes that were fetched (bytes is read only with
-   DOVECOUNTER_FETCHED). A reading puts each whole half in front of halves, and counts them in conversation->halves. A
-   refused operation comes again, up to 4096 operations in all, pieces and page selections included. */
+/* Takes the outcome of that operation, once, and the bytes of a fetch (with DOVECOUNTER_FETCHED; else bytes isn't
+   read). A reading puts each whole half in front of halves, and counts them in conversation->halves. A refused
+   operation comes again, up to 4096 operations in all, pieces and page selections included. */
 uint32_t dovecounter_reply(struct dovecounter_conversation *conversation,
                            struct dovecounter_half halves[DOVECOUNTER_MOST_READ], uint8_t outcome,
                            const uint8_t *bytes, size_t byte_count);
@@ -522,16 +535,16 @@ struct dovecounter_ending {
     struct dovecounter_fault fault; /* code 0 for a success */
 };
 
-/* Writes how the conversation ended. After a success of provisioning the last operation read the control bytes back
-   from the Active Control Set; after a success of a reading, pass halves and conversation->halves to the functions
-   above. After PV4 and 8 it may be begun again, and after PV3 half a second later. */
+/* Writes how the conversation ended. If provisioning succeeded, its last operation read the control bytes from the
+   Active Control Set. If a reading succeeded, pass halves and conversation->halves to the functions above. After PV4
+   and 8 you may begin again, after PV3 half a second later. */
 uint32_t dovecounter_end(const struct dovecounter_conversation *conversation,
                          const struct dovecounter_half halves[DOVECOUNTER_MOST_READ],
                          struct dovecounter_ending *ending);
 
 /* Carries a conversation out. transact makes a transaction, puts what it fetched into bytes and returns a
-   dovecounter_outcome; pause lets time pass; both get context. Any other return value of transact ends this with
-   status 34, and it may be called again. */
+   dovecounter_outcome; pause lets time pass; both get context. If transact returns anything else, this ends with
+   status 34, and you may call it again. */
 static inline uint32_t dovecounter_run(struct dovecounter_conversation *conversation,
                                        struct dovecounter_half halves[DOVECOUNTER_MOST_READ],
                                        uint8_t (*transact)(void *context, const struct dovecounter_operation *operation,
@@ -554,17 +567,17 @@ static inline uint32_t dovecounter_run(struct dovecounter_conversation *conversa
 
 /* ---- A port's manager ----
 
-   Keeps the module of one port as it is wanted, while modules are plugged, pulled and replaced, fail, and the program
-   restarts (docs/manager.md). It touches no bus and knows no clock. Say what happens; make the operation that
-   dovecounter_port_next names; pass its reply to dovecounter_port_take, and ask again. Moments are milliseconds by a
-   clock of yours that doesn't go back. Nobody else may read the module: reading a flag clears it.
+   Keeps the module in one port as you want it, while modules are plugged, pulled and replaced, fail, and the program
+   restarts (docs/manager.md). It touches no bus and has no clock: report what happens, make the operation that
+   dovecounter_port_next names, pass its reply to dovecounter_port_take, and ask again. Moments are milliseconds by a
+   clock that doesn't go back. Nobody else may read the module: reading a flag clears it.
 
-   These functions answer 31 for memory in which no port began, and 0 otherwise; dovecounter_port_take also 34. */
+   Status 31 means that no port began in this memory. */
 
 /* How long a port waits, in milliseconds. */
 struct dovecounter_times {
-    uint32_t settle; /* after a plug, until the module answers: 2000 suits each module */
-    uint32_t period; /* between two looks at a module that is as it is wanted */
+    uint32_t settle; /* after a plug, until the module answers: 2000 suits every module */
+    uint32_t period; /* between two looks at a module that is as wanted */
     uint32_t first;  /* after a first failure; doubled with each failure that follows */
     uint32_t most;   /* after a failure at most */
 };
@@ -576,15 +589,15 @@ enum dovecounter_port_stage {
     DOVECOUNTER_PORT_WAKING = 3,       /* it is woken up */
     DOVECOUNTER_PORT_PROVISIONING = 4, /* the plan's control bytes become active */
     DOVECOUNTER_PORT_ACTIVATING = 5,   /* the plan's lanes come up */
-    DOVECOUNTER_PORT_WATCHING = 6      /* it is as it is wanted, and looked at once in a while */
+    DOVECOUNTER_PORT_WATCHING = 6      /* it is as wanted, and looked at every period */
 };
 
-/* Why a module is left alone. Also the statuses 11 to 16 of dovecounter_advertisement: nothing can be planned. */
+/* Why a module is left alone; or, if nothing can be planned, a status of dovecounter_advertisement, 11 to 16. */
 enum dovecounter_left_reason {
     DOVECOUNTER_LEFT_NO_LANES = 1,        /* it has no page 11h */
     DOVECOUNTER_LEFT_NO_PLAN = 2,         /* none of its paths is wanted */
-    DOVECOUNTER_LEFT_NEEDS_POWER = 3,     /* it is not ready, and needs more power than it may have */
-    DOVECOUNTER_LEFT_NEEDS_PERMISSION = 4 /* lanes that are up would be taken down, and may not be */
+    DOVECOUNTER_LEFT_NEEDS_POWER = 3,     /* it is not ready, and needs more power than it may draw */
+    DOVECOUNTER_LEFT_NEEDS_PERMISSION = 4 /* lanes that are up would go down, and may not */
 };
 
 struct dovecounter_left {
@@ -596,8 +609,8 @@ struct dovecounter_left {
     uint8_t page;
 };
 
-/* How often each flag was read as raised since that was acknowledged (65535 stands for more), and when last (0: never).
-   Byte by byte as in the module's memory, and in a byte from bit 0 on. */
+/* How often each flag was read as raised since it was acknowledged (at most 65535), and when last (0: never). Flags
+   are in the order of the module's memory, in a byte from bit 0 on. */
 struct dovecounter_flag_counts {
     uint16_t module_counts[32]; /* bytes 8 to 11 of the lower memory: flag 8 * (byte - 8) + bit */
     uint64_t module_last[32];
@@ -605,14 +618,14 @@ struct dovecounter_flag_counts {
     uint64_t lane_last[152];
 };
 
-/* What a port works for: the plan of the last reading. */
+/* What a port works for: the plan that followed from the last reading. */
 struct dovecounter_goal {
     uint8_t control[8]; /* control bytes of host lanes 1 to 8 */
     uint8_t lanes;      /* host lanes of its paths */
     uint8_t outside;    /* host lanes that no kept path takes */
 };
 
-/* What works at a module. */
+/* The port's work at the module. */
 struct dovecounter_work {
     struct dovecounter_progress saved;
     uint16_t most;
@@ -624,8 +637,8 @@ struct dovecounter_work {
     uint8_t found;
 };
 
-/* A port. Read flags, due, stage, held, goal (from PROVISIONING to WATCHING) and left; copy it and save it; change
-   nothing. Changed numbers are refused, or taken for another port, perhaps one that no events lead to. */
+/* A port. You may copy it, save it, and read flags, due, stage, held, goal (from PROVISIONING to WATCHING) and left,
+   but change nothing: changed numbers are refused, or taken for another port, perhaps one that no events lead to. */
 struct dovecounter_port {
     struct dovecounter_flag_counts flags;
     uint64_t due; /* no operation is named before this moment */
@@ -648,19 +661,19 @@ struct dovecounter_port {
 /* Makes an empty port. */
 void dovecounter_port_new(const struct dovecounter_times *times, struct dovecounter_port *port);
 
-/* A module was plugged, or the program has started and one may be there: it is read once times.settle has passed. */
+/* A module was plugged, or the program has started and one may be there. It is read after times.settle. */
 uint32_t dovecounter_port_plug(struct dovecounter_port *port, uint64_t now);
 
-/* The module was pulled: nothing of it is left but its flags. A reply that is outstanding is still to be passed. */
+/* The module was pulled: only its flags are left. Pass an outstanding reply all the same. */
 uint32_t dovecounter_port_pull(struct dovecounter_port *port);
 
-/* Other weights are wanted, or somebody asks: the module is read and judged anew. Its lanes stay up meanwhile. */
+/* The weights changed, or somebody asks: the module is read and judged anew. Its lanes stay up meanwhile. */
 uint32_t dovecounter_port_reconsider(struct dovecounter_port *port);
 
-/* With held other than 0 the port holds still: no operation is named. With 0 it goes on, as after reconsider. */
+/* Holds the port still if held is other than 0: it names no operation. With 0 it goes on, as after reconsider. */
 uint32_t dovecounter_port_hold(struct dovecounter_port *port, uint8_t held);
 
-/* The flags that were last read as raised at this moment or before it are known: they count from 0 again. */
+/* Flags that were last read as raised at this moment or before count from 0 again. */
 uint32_t dovecounter_port_acknowledge(struct dovecounter_port *port, uint64_t moment);
 
 enum dovecounter_port_do {
@@ -684,20 +697,20 @@ struct dovecounter_port_next {
 /* Writes what is to be done now. After DO the port is busy until the reply is passed. */
 uint32_t dovecounter_port_next(struct dovecounter_port *port, uint64_t now, struct dovecounter_port_next *next);
 
-/* What the module is wanted for. */
+/* What you want of the module. */
 struct dovecounter_wanted {
     uint32_t weights[256]; /* of each HostInterfaceID, as dovecounter_weights writes them */
     uint32_t stay;         /* what an active path weighs more */
-    uint8_t paired;        /* how the module is read: as for dovecounter_plan */
+    uint8_t paired;        /* as for dovecounter_plan */
     uint8_t counts_by_id;
-    uint8_t most_power;    /* in quarters of a watt: a module that needs more is not woken up; 255: no limit */
-    uint8_t may_take_down; /* lanes that may be taken down although they are up */
+    uint8_t most_power;    /* in quarters of a watt: a module that needs more isn't woken; 255: no limit */
+    uint8_t may_take_down; /* lanes that may go down although they are up */
 };
 
 enum dovecounter_port_led_to {
     DOVECOUNTER_PORT_DROPPED = 0, /* nothing: the module was pulled, or it is read anew */
     DOVECOUNTER_PORT_WENT = 1,    /* on; note says how */
-    DOVECOUNTER_PORT_PAUSED = 2,  /* the operation was in vain, and another follows at the moment */
+    DOVECOUNTER_PORT_PAUSED = 2,  /* the operation was fruitless; another follows at the moment */
     DOVECOUNTER_PORT_FAILED = 3,  /* to a failure; the module is read anew at the moment */
     DOVECOUNTER_PORT_LEAVES = 4   /* the module is left alone; left says why */
 };
@@ -707,18 +720,18 @@ enum dovecounter_port_note {
     DOVECOUNTER_PORT_IDENTIFIED = 1,  /* the memory was read, and there is work to do */
     DOVECOUNTER_PORT_WOKEN = 2,       /* the module was woken up */
     DOVECOUNTER_PORT_PROVISIONED = 3, /* the control bytes are active */
-    DOVECOUNTER_PORT_CAME_UP = 4,     /* the module is up as it is wanted; also if it was before */
-    DOVECOUNTER_PORT_HELD = 5         /* it was looked at, and still is */
+    DOVECOUNTER_PORT_CAME_UP = 4,     /* the module is up as wanted, perhaps as before */
+    DOVECOUNTER_PORT_HELD = 5         /* a look found it still up as wanted */
 };
 
 enum dovecounter_port_failure {
     DOVECOUNTER_PORT_UNREAD = 1,          /* the memory could not be read */
-    DOVECOUNTER_PORT_ASLEEP = 2,          /* the module is not ready though it was woken up */
+    DOVECOUNTER_PORT_ASLEEP = 2,          /* the module isn't ready although it was woken */
     DOVECOUNTER_PORT_NOT_WOKEN = 3,       /* by fault */
     DOVECOUNTER_PORT_NOT_PROVISIONED = 4, /* by fault */
     DOVECOUNTER_PORT_NOT_ACTIVATED = 5,   /* by fault */
     DOVECOUNTER_PORT_UNSEEN = 6,          /* the module could not be looked at */
-    DOVECOUNTER_PORT_CHANGED = 7          /* it is no longer as it was wanted */
+    DOVECOUNTER_PORT_CHANGED = 7          /* it is no longer as wanted */
 };
 
 /* What a reply led to. */
@@ -731,17 +744,17 @@ struct dovecounter_port_outcome {
     struct dovecounter_left left;   /* LEAVES; else zeros */
 };
 
-/* Takes the reply to the operation: a dovecounter_outcome, as dovecounter_reply does, and the bytes of a fetch. `wanted`
-   may differ from call to call; call dovecounter_port_reconsider if it does. Status 34: no reply is outstanding, or the
-   operation can't have this one. After a pull any outcome but DOVECOUNTER_WAITED will do. */
+/* Takes the reply to the operation: a dovecounter_outcome, and the bytes of a fetch. If `wanted` differs from the
+   last call's, call dovecounter_port_reconsider. Status 34: no reply is outstanding, or the operation can't have
+   this one. After a pull any outcome but DOVECOUNTER_WAITED will do. */
 uint32_t dovecounter_port_take(struct dovecounter_port *port, uint8_t reply, const uint8_t *bytes, size_t byte_count,
                                const struct dovecounter_wanted *wanted, uint64_t now,
                                struct dovecounter_port_outcome *outcome);
 
 /* ---- A simulated module ----
 
-   For tests without hardware (docs/module.md). Time passes only by dovecounter_module_tick. Pass the halves that the
-   module began with to each call. */
+   For tests without hardware (docs/module.md). Time passes only by dovecounter_module_tick. Pass each call the
+   halves that the module began with. */
 
 /* Ticks that each kind of work takes, 1 to 1000. */
 struct dovecounter_delays {
@@ -766,8 +779,8 @@ struct dovecounter_lane {
     uint8_t kept;   /* that byte, or 0 */
 };
 
-/* What changes in a simulated module. Read it, copy it and save it; change nothing. Changed numbers are refused, or
-   taken for a module, perhaps one that no events lead to. */
+/* What changes in a simulated module. You may read it, copy it and save it, but change nothing: changed numbers are
+   refused, or taken for another module, perhaps one that no events lead to. */
 struct dovecounter_module {
     struct dovecounter_delays delays;
     uint16_t left;       /* ticks until the work of the module's state is done; 0 if none runs */
@@ -784,7 +797,7 @@ struct dovecounter_module {
     struct dovecounter_lane lanes[8]; /* lane 1 first */
 };
 
-/* Makes a module with these halves: at least the lower half and pages 00h, 01h, 10h and 11h of 0xA0. */
+/* Makes a module of these halves: at least the lower half and pages 00h, 01h, 10h and 11h of 0xA0. */
 uint32_t dovecounter_module_begin(const struct dovecounter_half *halves, size_t half_count,
                                   const struct dovecounter_delays *delays, struct dovecounter_module *module);
 
@@ -793,8 +806,7 @@ uint32_t dovecounter_module_fetch(const struct dovecounter_half *halves, size_t 
                                   struct dovecounter_module *module, uint8_t device, uint8_t offset, uint8_t *bytes,
                                   size_t byte_count);
 
-/* Stores 1 to 8 bytes in one half, from address offset on. To simulate a store that is cut short, store its first
-   bytes. */
+/* Stores 1 to 8 bytes in one half, from address offset on. To cut a store short, store its first bytes. */
 uint32_t dovecounter_module_store(const struct dovecounter_half *halves, size_t half_count,
                                   struct dovecounter_module *module, uint8_t device, uint8_t offset,
                                   const uint8_t *bytes, size_t byte_count);
