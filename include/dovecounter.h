@@ -306,10 +306,10 @@ uint32_t dovecounter_durations(const struct dovecounter_half *halves, size_t hal
 /* ---- Plans ---- */
 
 /* Reads weights from a text: weights[ID] becomes what a HostInterfaceID is worth, 0 if the text doesn't list it. The
-   text is UTF-8, with LF after each line: a line `[host]`, then lines such as `0Dh = 101`, with two hexadecimal
-   digits of either case and a decimal weight up to 4294967295. Blanks, tabs, empty lines and comments after `#` are
-   allowed; other TOML, and CR LF, is refused. cmisctl reads the same weights from it (tested). With status 91 or 94
-   *line is the number of the faulty line, from 1 on; with 92 it is 0. */
+   text has a line `[host]`, then lines such as `0Dh = 101`: two hexadecimal digits of either case, `h`, and a decimal
+   weight up to 4294967295 without leading zeros. It is UTF-8, LF ends a line, and blanks, tabs, empty lines and
+   comments after `#` are allowed; other TOML, and CR LF, is refused. cmisctl reads these weights from it, too
+   (tested). With status 91 or 94 *line is the number of the faulty line, from 1 on; with 92 it is 0. */
 uint32_t dovecounter_weights(const uint8_t *text, size_t text_length, uint32_t weights[256], size_t *line);
 
 /* A data path: an Application on consecutive host lanes and consecutive media lanes. */
