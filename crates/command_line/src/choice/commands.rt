@@ -190,7 +190,7 @@ const WAKE: Flag = Flag {
     name: "wake",
     takes: Takes::Nothing,
     word: "",
-    help: "Wake the module up before, by clearing its low power requests",
+    help: "First wake the module, by clearing its low power requests",
 };
 
 /// Asks for activation.
@@ -198,7 +198,7 @@ const ACTIVATE: Flag = Flag {
     name: "activate",
     takes: Takes::Nothing,
     word: "",
-    help: "Bring the plan's data paths up as well",
+    help: "Also bring the plan's data paths up",
 };
 
 /// Asks for a plan that keeps data paths.
@@ -206,7 +206,7 @@ const KEEP: Flag = Flag {
     name: "keep",
     takes: Takes::Nothing,
     word: "",
-    help: "Keep data paths: a further part of the input names them, after the weights",
+    help: "Keep the data paths that a part of the input after the weights names",
 };
 
 /// Says that the module pairs first lanes.
@@ -214,7 +214,7 @@ const PAIRED: Flag = Flag {
     name: "paired",
     takes: Takes::Nothing,
     word: "",
-    help: "The module joins the nth host start of an Application with its nth media start alone",
+    help: "The module joins the nth host start of an Application only with its nth media start",
 };
 
 /// Says that lane counts of 0 are those that the interface IDs imply.
@@ -222,7 +222,7 @@ const COUNTS_BY_ID: Flag = Flag {
     name: "counts-by-id",
     takes: Takes::Nothing,
     word: "",
-    help: "A lane count of 0 is the one that the interface ID implies, as far as that is known",
+    help: "Look up a lane count of 0 by interface ID, if the count is known",
 };
 
 /// Asks for what is active to count.
@@ -230,7 +230,7 @@ const NOW: Flag = Flag {
     name: "now",
     takes: Takes::Nothing,
     word: "",
-    help: "A data path that is in the image's Active Control Set weighs more, by what the weights have as 'stay'",
+    help: "A data path in the image's Active Control Set weighs more, by 'stay' of the weights",
 };
 
 /// Asks for an SVG.
@@ -254,7 +254,7 @@ const LABEL: Flag = Flag {
     name: "label",
     takes: Takes::Words,
     word: "KEY=VALUE",
-    help: "Add a label to each sample; it may be given several times",
+    help: "Add a label to each sample; may be given several times",
 };
 
 /// Asks for each flag of the module.
@@ -262,7 +262,7 @@ const FLAGS: Flag = Flag {
     name: "flags",
     takes: Takes::Word,
     word: "all",
-    help: "Tell of each flag whether it is raised, and not of those alone that are",
+    help: "Print every flag, 1 or 0, and not only those that are raised",
 };
 
 /// Asks whether a plan is the first of the best.
@@ -270,7 +270,7 @@ const FIRST: Flag = Flag {
     name: "first",
     takes: Takes::Nothing,
     word: "",
-    help: "Say whether the plan is the first of the best, which is the one that 'plan' prints",
+    help: "Also say whether the plan is the first best one, which 'plan' prints",
 };
 
 // The table: a command's name, its variant, its flags and what help says of it.
@@ -294,14 +294,14 @@ pub fn commands() -> &'static [CommandEntry]
         "inventory" Report(Inventory) [BUS JSON] "Print what the module is";
         "apps" Report(Apps) [BUS JSON] "Print the Applications that the module advertises";
         "monitors" Report(Monitors) [BUS JSON COLOR] "Print what the module measures";
-        "flags" Report(Flags) [BUS JSON COLOR] "Print the states of the module and its lanes, and the flags that are raised";
-        "details" Report(Details) [BUS JSON] "Print all that the module says of itself, with names";
-        "observables" Observables [BUS JSON COLOR] "Print all that the module measures, VDM too, each with its limits and flags";
-        "metrics" Metrics [BUS LABEL FLAGS] "Print what 'inventory', 'monitors' and 'flags' say, as metrics for Prometheus";
-        "plan" Plan [KEEP PAIRED COUNTS_BY_ID NOW JSON] "Print the plan that weighs most for an image and weights, with its certificate";
-        "draw" Draw [SVG KEEP PAIRED COUNTS_BY_ID NOW] "Draw the plan, and say for each host lane what else could have been done there";
+        "flags" Report(Flags) [BUS JSON COLOR] "Print the states of the module and its lanes, and the raised flags";
+        "details" Report(Details) [BUS JSON] "Print everything that the module has about itself, with names";
+        "observables" Observables [BUS JSON COLOR] "Print everything that the module measures, VDM too, with limits and flags";
+        "metrics" Metrics [BUS LABEL FLAGS] "Print inventory, monitors and flags as metrics for Prometheus";
+        "plan" Plan [KEEP PAIRED COUNTS_BY_ID NOW JSON] "Print the best plan for an image and weights, with its certificate";
+        "draw" Draw [SVG KEEP PAIRED COUNTS_BY_ID NOW] "Draw the plan, and show what each other choice would cost";
         "check" Check [FIRST PAIRED COUNTS_BY_ID NOW JSON] "Judge a certificate for an image and weights, and print its plan if it is good";
-        "provision" Provision [WAKE ACTIVATE KEEP PAIRED COUNTS_BY_ID NOW JSON] "Put the plan into the Active Control Set of a simulated module, over a bus that does as a script says";
+        "provision" Provision [WAKE ACTIVATE KEEP PAIRED COUNTS_BY_ID NOW JSON] "Put the plan into the Active Control Set of a simulated module, over a scripted bus";
         "trace" Trace [WAKE ACTIVATE KEEP PAIRED COUNTS_BY_ID NOW JSON] "Do what 'provision' does, and print each transaction";
     }
 }

@@ -5,11 +5,11 @@ ghost use Rattle.command_line.specs.Help.{help_of};
 use super::commands::{CommandName, ReportName};
 
 /// The end of the program's own help.
-pub const OF_PROGRAM: &str = "An image text has a module's memory, in lines of hexadecimal digits.
-'tools/module-image PORT' prints that of the module in a network port,
-'tools/module-image FILE' that of a dump (eeprom, hexdump, i2cdump ..);
-'cmisctl COMMAND --help' says what else a command reads. docs/formats.md
-describes all texts, and docs/faults.md what each fault means.
+pub const OF_PROGRAM: &str = "An image is a module's memory as text, in lines of hexadecimal digits.
+'tools/module-image PORT' makes one of the module in a network port,
+'tools/module-image FILE' of a dump (eeprom, hexdump, i2cdump ..).
+'cmisctl COMMAND --help' lists what else a command reads. docs/formats.md
+describes all texts, docs/faults.md all faults.
 'plan' prints a certificate; 'check' prints its plan in words, 'draw' as a
 picture, and 'provision' the control bytes.";
 
