@@ -154,7 +154,7 @@ int main(void) {
         fault = carry_out(&module, &procedure);
     }
     if (fault != 0) {
-        printf("fault PV%u\n", fault);
+        printf("fault %u\n", fault);
         return 4;
     }
     printf("transactions %u\nactive", module.transactions);

@@ -8,8 +8,8 @@
 #include <stdbool.h>
 #include <string.h>
 
-/* Starts a transaction; a fetch fills `bytes`. Many drivers take 7-bit addresses: operation->device >> 1. */
-void i2c_start(const struct dovecounter_operation *operation, uint8_t bytes[8]);
+/* Starts a transaction; a fetch fills `bytes` (a procedure fetches at most 8, a reading 128). Many drivers take 7-bit addresses: operation->device >> 1. */
+void i2c_start(const struct dovecounter_operation *operation, uint8_t bytes[128]);
 
 /* A clock, modulo 2^32. */
 uint32_t milliseconds(void);
@@ -25,7 +25,7 @@ static struct dovecounter_patience patience;
 static struct dovecounter_conversation conversation;
 static struct dovecounter_half halves[DOVECOUNTER_MOST_READ]; /* procedures read none */
 static struct dovecounter_operation operation;                /* the last one */
-static uint8_t bytes[8];                                      /* of a fetch */
+static uint8_t bytes[128];                                    /* of a fetch */
 static unsigned beginnings;                                   /* of this stage */
 static uint32_t since;                                        /* when what is under way began */
 static bool rests;                                            /* a stage is begun again, after a while */
@@ -52,7 +52,8 @@ static void begin(enum stage wanted) {
         dovecounter_activate_begin(plan.control, plan.lanes, &patience, &conversation);
 }
 
-/* Begins to carry out a plan, with the patience from dovecounter_patience, unless one is under way. */
+/* Begins to carry out a plan, with the patience from dovecounter_patience, unless one is under way. A plan without a path would take
+   all lanes down: don't pass one unless you want that. */
 bool carry_out(const struct dovecounter_plan *wanted, const struct dovecounter_patience *patient) {
     if (stage == PROVISIONING || stage == ACTIVATING) return false;
     plan = *wanted;
@@ -86,7 +87,7 @@ static void end(void) {
 static bool is_over(void) {
     if (operation.kind != DOVECOUNTER_WAIT) return over;
     outcome = DOVECOUNTER_WAITED;
-    return milliseconds() - since >= operation.milliseconds;
+    return milliseconds() - since > operation.milliseconds; /* the first of them may be nearly over */
 }
 
 /* Starts what comes next, if anything does. */

@@ -33,12 +33,12 @@ static uint8_t carry_out(struct dovecounter_conversation *conversation, struct d
     return ending.fault.code;
 }
 
-/* Returns 0, the status that refused, or 1000 plus the fault's code. Four paths of 100GAUI-2 outweigh one of
-   400GAUI-8. */
+/* Returns 0, the status that refused, 1000 plus the fault's code, or 2000 if the module offers nothing that is worth
+   anything. Four paths of 100GAUI-2 outweigh one of 400GAUI-8. */
 uint32_t plan_and_provision(struct dovecounter_plan *plan) {
     static const uint32_t weights[256] = {[0x0D] = 101, [0x11] = 400};
     static const struct dovecounter_path kept[1]; /* the module carries nothing yet, so none is kept */
-    struct dovecounter_patience patience = {.pause = 20, .limit = 2000};
+    struct dovecounter_patience patience = {.pause = 100, .limit = 10000};
     static struct dovecounter_half halves[DOVECOUNTER_MOST_READ];
     struct dovecounter_conversation conversation;
     dovecounter_read_begin(128, &patience, &conversation);
@@ -47,6 +47,7 @@ uint32_t plan_and_provision(struct dovecounter_plan *plan) {
     uint32_t status = dovecounter_plan(halves, conversation.halves, 1, 0, weights, 0, kept, 0, plan);
     if (status == DOVECOUNTER_DONE) status = dovecounter_patience(halves, conversation.halves, &patience);
     if (status != DOVECOUNTER_DONE) return status;
+    if (plan->count == 0) return 2000; /* to provision it would take all lanes down */
     dovecounter_provision_begin(plan->control, plan->outside, &patience, &conversation);
     if ((fault = carry_out(&conversation, halves)) != 0) return 1000 + fault;
     dovecounter_activate_begin(plan->control, plan->lanes, &patience, &conversation);

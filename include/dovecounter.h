@@ -132,7 +132,7 @@ enum dovecounter_status {
 /* What a status means, and what to do. If the status names a fault, this is the fault's sentence in docs/faults.md. */
 uint32_t dovecounter_status_text(uint32_t status, uint8_t *buffer, size_t buffer_size, size_t *text_length);
 
-/* What a fault means, by its code, 1 to 8. */
+/* What a fault means, by its code, 1 to 10. */
 uint32_t dovecounter_fault_text(uint32_t code, uint8_t *buffer, size_t buffer_size, size_t *text_length);
 
 /* What is wrong with a certificate, by the reason of a dovecounter_judgement, 1 to 10. */
@@ -330,11 +330,12 @@ struct dovecounter_plan {
 };
 
 /* Writes the best plan: every path is allowed, no two share a lane, the kept paths are among them, and no such plan
-   weighs more. Of equally good plans it is the first in the order of docs/planning.md.
+   weighs more. Of equally good plans it is the first in the order of docs/planning.md. If nothing is worth anything,
+   count is 0, and to provision the plan would take all lanes down.
 
-   A path weighs what weights has for its HostInterfaceID, and stay more if the Active Control Set already has it
-   (needs page 11h if stay is not 0). With paired other than 0 the module joins the first lanes of an Application in
-   order; no register shows that, so if in doubt pass 1, which fits any module.
+   A path weighs weights[its HostInterfaceID], plus `stay` if the Active Control Set already has it (needs page 11h if
+   stay is not 0). Pass paired 1 if the module joins an Application's first host lanes and first media lanes in order.
+   No register shows that; 1 fits any module, so pass 1 if in doubt.
 
    Next, pass control and outside to dovecounter_provision_begin, then control and lanes to
    dovecounter_activate_begin. Save paths if you will want to keep them: no register holds the media lanes of a path. */
@@ -370,7 +371,7 @@ uint32_t dovecounter_certificate(const struct dovecounter_half *halves, size_t h
    A conversation is a procedure or a reading under way. It touches no bus: dovecounter_next names the operation to
    make, dovecounter_reply takes its outcome, and dovecounter_end tells how it ended. dovecounter_run is that loop,
    for callers that may block. Meanwhile nobody else may use the module: no driver, no process, no second master of
-   the bus. */
+   the bus. You may drop a conversation at any moment; the module keeps what was stored. */
 
 /* Why a conversation failed. first and second are members of dovecounter_fault, 0 unless named here. */
 enum dovecounter_fault_code {
@@ -403,8 +404,7 @@ struct dovecounter_fault {
     uint8_t second;
 };
 
-/* How long to wait, in milliseconds. A transaction is fruitless if it is refused, or if the next one fetches these
-   bytes or selects the page again. */
+/* How long to wait, in milliseconds. A transaction is fruitless if it is refused, or if the next one repeats it. */
 struct dovecounter_patience {
     uint32_t pause; /* after a fruitless transaction */
     uint32_t limit; /* when pauses with nothing done in between exceed this, the end is fault 8; DOVECOUNTER_UNBOUNDED: never */
@@ -412,10 +412,10 @@ struct dovecounter_patience {
                        module's state after each wait of provisioning and activation; else: don't */
 };
 
-/* Writes the patience that suits the module. The limit is three times its longest state (a module that goes to sleep
-   passes three), at least 10 s; a state without an end counts as 50 minutes. Pauses are at least 100 ms, so long
-   that 4096 operations don't end first. Needs the halves that dovecounter_advertisement needs. For a module that you
-   know nothing about, take 20 and 2000. */
+/* Writes the patience that suits the module; trusts is 0. The limit is three times its longest state (a module that
+   goes to sleep passes three), from 10 s to 150 minutes, since a state without an end counts as 50 minutes. A pause
+   is 100 ms, or more if 4096 operations would end before the limit. Needs the halves that dovecounter_advertisement
+   needs. For a module that you know nothing about, take 100 and 10000. */
 uint32_t dovecounter_patience(const struct dovecounter_half *halves, size_t half_count,
                               struct dovecounter_patience *patience);
 
@@ -457,10 +457,10 @@ struct dovecounter_conversation {
 /* Begins to put control bytes into the Active Control Set: takes down and applies `lanes`, which end DPDeactivated.
    Pass the plan's outside.
 
-   All other lanes must have the plan's bytes already, so first compare bytes 206 to 213 of page 11h with control
-   there: if one differs, lanes that are up would be taken down, and the end would be PV1, PV3 or another fault.
-   Their DPDeinit bits are cleared, so a lane that is up stays up, unless something else takes it down, and one that
-   the host held down comes up. */
+   Lanes that are not in `lanes` need the plan's bytes already: before you begin, compare control with bytes 206 to
+   213 of page 11h there. If one differs, lanes that are up would be taken down, and the end would be PV1, PV3 or
+   another fault. The DPDeinit bits of these lanes are cleared, so a lane that is up stays up, unless something else
+   takes it down, and one that the host held down comes up. */
 void dovecounter_provision_begin(const uint8_t control[8], uint8_t lanes, const struct dovecounter_patience *patience,
                                  struct dovecounter_conversation *conversation);
 
@@ -477,10 +477,10 @@ void dovecounter_wake_begin(const struct dovecounter_patience *patience, struct 
 void dovecounter_sleep_begin(const struct dovecounter_patience *patience,
                              struct dovecounter_conversation *conversation);
 
-/* Begins to read what reports and plans need (docs/bus.md, "Reading an image"), at most `most` bytes at once: halves
-   come in pieces of the largest multiple of 8 up to that. A refused piece is fetched again. If trusts is 0, a
-   refusal makes a half of a selected page begin anew, so on a bus that often refuses, fetch as much at once as it
-   carries. */
+/* Begins to read what reports and plans need (docs/bus.md, "Reading an image"), which clears the module's latched
+   flags. Halves come in pieces of the largest multiple of 8 up to `most` bytes. A refused piece is fetched again. If
+   trusts is 0, a refusal makes a half of a selected page begin anew, so on a bus that often refuses, fetch as much at
+   once as it carries. */
 uint32_t dovecounter_read_begin(uint8_t most, const struct dovecounter_patience *patience,
                                 struct dovecounter_conversation *conversation);
 
@@ -524,7 +524,7 @@ enum dovecounter_outcome {
 };
 
 /* Takes the outcome of that operation, once, and the bytes of a fetch (with DOVECOUNTER_FETCHED; else bytes isn't
-   read). A reading puts each whole half in front of halves, and counts them in conversation->halves. A refused
+   read). A reading inserts each whole half at halves[0], and counts them in conversation->halves. A refused
    operation comes again, up to 4096 operations in all, pieces and page selections included. */
 uint32_t dovecounter_reply(struct dovecounter_conversation *conversation,
                            struct dovecounter_half halves[DOVECOUNTER_MOST_READ], uint8_t outcome,

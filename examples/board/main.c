@@ -16,7 +16,7 @@ static struct dovecounter_conversation conversation;
 static struct dovecounter_plan plan;
 
 /* Before anything is known of the module. */
-static struct dovecounter_patience patience = {.pause = 20, .limit = 2000};
+static struct dovecounter_patience patience = {.pause = 100, .limit = 10000};
 
 static void print_number(const char *before, uint32_t number) {
     char digits[11] = {0};
@@ -63,6 +63,10 @@ static bool plan_lanes(void) {
     if (status != DOVECOUNTER_DONE) {
         print_number("no plan, status ", status);
         print("\n");
+        return false;
+    }
+    if (plan.count == 0) { /* to provision it would take all lanes down */
+        print("no path is worth anything\n");
         return false;
     }
     print_number("weight ", (uint32_t)plan.weight);

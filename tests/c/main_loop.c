@@ -36,7 +36,7 @@ static void fail(const char *why) {
 
 uint32_t milliseconds(void) { return clock_now; }
 
-void i2c_start(const struct dovecounter_operation *operation, uint8_t bytes[8]) {
+void i2c_start(const struct dovecounter_operation *operation, uint8_t bytes[128]) {
     if (is_busy) fail("a transaction began during another one");
     if (operation->device != 0xA0 || operation->count == 0 || operation->count > 8) fail("an operation of no shape");
     bool is_again = operation->offset == asked_before.offset && operation->kind == asked_before.kind &&

@@ -73,7 +73,11 @@ int main(void) {
     expect("a bus without four transactions in a row", 1000 + DOVECOUNTER_OVERDUE, plan_and_provision(&plan));
     begin(1);
     expect("a silent module", 1000 + DOVECOUNTER_OVERDUE, plan_and_provision(&plan));
-    expect("it was patient", 1, slept > 2000);
+    expect("it was patient", 1, slept > 10000);
+    for (int app = 0; app < 8; app++)
+        if (halves[0].bytes[86 + 4 * app] != 0xFF) halves[0].bytes[86 + 4 * app] = 1;
+    begin(0);
+    expect("nothing of worth", 2000, plan_and_provision(&plan));
     is_of_cmis = false;
     halves[0].bytes[0] = 0x11; /* SFF-8636 with flat memory */
     halves[0].bytes[2] = 0x04;
