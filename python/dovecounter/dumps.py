@@ -502,8 +502,11 @@ _OTHERS = [
 ]
 
 
+_OF_TEXT = b"\t\n\r" + bytes(range(0x20, 0x7F))
+
+
 def _is_text(data: bytes) -> bool:
-    return all(byte in b"\t\n\r" or 0x20 <= byte <= 0x7E for byte in data)
+    return not data.translate(None, _OF_TEXT)
 
 
 def _says_nothing_is_there(line: str) -> bool:
