@@ -26,6 +26,7 @@ from typing import Any, Callable, Dict, List, Tuple
 
 VERSION = 7  # DOVECOUNTER_VERSION
 TEXT_SIZE = 256  # DOVECOUNTER_TEXT_SIZE
+CERTIFICATE_SIZE = 74046  # DOVECOUNTER_CERTIFICATE_SIZE
 UNBOUNDED = 2**32 - 1  # DOVECOUNTER_UNBOUNDED
 MOST_READ = 5  # DOVECOUNTER_MOST_READ
 FILE = f"libdovecounter.so.{VERSION}"
@@ -280,6 +281,13 @@ FUNCTIONS: Dict[str, Tuple[Any, Tuple[Any, ...]]] = {
     "check": (
         c_uint32,
         (*_HALVES, c_uint8, c_uint8, _WEIGHTS, c_uint32, *_BYTES, POINTER(Judgement)),
+    ),
+    "certificate": (
+        c_uint32,
+        (
+            *(*_HALVES, c_uint8, c_uint8, _WEIGHTS, c_uint32, POINTER(Path), c_size_t),
+            *(POINTER(c_uint8), c_size_t, POINTER(c_size_t)),
+        ),
     ),
     "weights": (c_uint32, (*_BYTES, _WEIGHTS, POINTER(c_size_t))),
     "patience": (c_uint32, (*_HALVES, POINTER(Patience))),

@@ -2,9 +2,9 @@
 from __future__ import annotations
 
 import warnings
-from ctypes import Array, byref, c_size_t, c_uint32
+from ctypes import Array, byref, c_size_t, c_uint8, c_uint32
 from dataclasses import dataclass
-from typing import Any, Dict, Mapping, Optional, Sequence, Tuple, Union
+from typing import Any, Callable, Dict, Mapping, Optional, Sequence, Tuple, Union
 
 from . import library
 from .faults import (
@@ -23,6 +23,7 @@ from .showing import Record, picture
 
 _plan = library.function("plan")
 _check = library.function("check")
+_certificate = library.function("certificate")
 _read_weights = library.function("weights")
 
 
@@ -127,6 +128,32 @@ def _look_at_conventions(paired: bool, counts_by_id: bool, stay: int) -> None:
     look_at("the weight of staying", stay, 2**32 - 1)
 
 
+def _arguments(
+    image: Image, weights: Mapping[int, int], paired: bool, counts_by_id: bool, stay: int
+) -> Tuple[Any, ...]:
+    """What each function that plans takes first."""
+    look_at_type("the image", image, Image)
+    halves, table = image.arguments(), weights_of(weights)
+    _look_at_conventions(paired, counts_by_id, stay)
+    return (*halves, paired, counts_by_id, table, stay)
+
+
+def _expect_plan(
+    image: Image, keep: Sequence[DataPath], status: Callable[[Tuple[Any, int]], int]
+) -> None:
+    """Raises what there is instead of a plan, by the status with the paths that are kept."""
+
+    def answered(count: int) -> int:
+        return status((_kept(keep[:count]), count))
+
+    answer = answered(len(keep))
+    if CODES.get(answer) == "KP3":
+        raise Fault(
+            "KP3", first_refused(len(keep), lambda count: CODES.get(answered(count)) == "KP3")
+        )
+    image.take(answer)
+
+
 def plan(
     image: Image,
     weights: Mapping[int, int],
@@ -145,21 +172,9 @@ def plan(
     has it already, by its Active Control Set (page 11h), 0 to 4294967295.
     Raises a Fault of AD1 to AD6, KP2 or KP3; ValueError for a number that is out of range. Warns by
     KeptPathNotActive of each kept path that the module doesn't have, if the image has page 11h."""
-    look_at_type("the image", image, Image)
     found = library.Plan()
-    halves, table = image.arguments(), weights_of(weights)
-    _look_at_conventions(paired, counts_by_id, stay)
-
-    def status(count: int) -> int:
-        kept = _kept(keep[:count])
-        return int(_plan(*halves, paired, counts_by_id, table, stay, kept, count, byref(found)))
-
-    answer = status(len(keep))
-    if CODES.get(answer) == "KP3":
-        raise Fault(
-            "KP3", first_refused(len(keep), lambda count: CODES.get(status(count)) == "KP3")
-        )
-    image.take(answer)
+    arguments = _arguments(image, weights, paired, counts_by_id, stay)
+    _expect_plan(image, keep, lambda kept: int(_plan(*arguments, *kept, byref(found))))
     paths = tuple(
         DataPath(path.application, path.host, path.media) for path in found.paths[: found.count]
     )
@@ -168,6 +183,24 @@ def plan(
         told = f"{path} is to be kept, but the module's Active Control Set doesn't have it"
         warnings.warn(told, KeptPathNotActive, stacklevel=2)
     return best
+
+
+def certificate(
+    image: Image,
+    weights: Mapping[int, int],
+    keep: Sequence[DataPath] = (),
+    paired: bool = False,
+    counts_by_id: bool = False,
+    stay: int = 0,
+) -> str:
+    """The certificate of the plan that `plan` gives for the same, as `cmisctl plan` prints it: a text
+    by which `check` finds that no such plan weighs more. Raises what `plan` does, and warns of
+    nothing."""
+    arguments = _arguments(image, weights, paired, counts_by_id, stay)
+    text, length = (c_uint8 * library.CERTIFICATE_SIZE)(), c_size_t()
+    room = (text, len(text), byref(length))
+    _expect_plan(image, keep, lambda kept: int(_certificate(*arguments, *kept, *room)))
+    return bytes(text[: length.value]).decode("ascii")
 
 
 def _not_active(image: Image, best: Plan, keep: Sequence[DataPath]) -> Tuple[DataPath, ...]:
@@ -195,19 +228,13 @@ def check(
     was made only `counts_by_id` says, and how much staying weighed only `stay`: they have to be as
     they were for `plan`. Raises a Fault of AD1 to
     AD6 or CT1 to CT4; ValueError for a number that is out of range."""
-    look_at_type("the image", image, Image)
     text = look_at_text("the certificate", certificate)
-    found = library.Judgement()
-    halves, table, lines = image.arguments(), weights_of(weights), text.split(b"\n")
-    _look_at_conventions(paired, counts_by_id, stay)
+    found, lines = library.Judgement(), text.split(b"\n")
+    arguments = _arguments(image, weights, paired, counts_by_id, stay)
 
     def status(count: int) -> int:
         beginning = b"".join(line + b"\n" for line in lines[:count]) if count < len(lines) else text
-        return int(
-            _check(
-                *halves, paired, counts_by_id, table, stay, beginning, len(beginning), byref(found)
-            )
-        )
+        return int(_check(*arguments, beginning, len(beginning), byref(found)))
 
     answer = status(len(lines))
     code = CODES.get(answer)

@@ -1,11 +1,24 @@
 """The manager of one port, which keeps its module as it is wanted (docs/manager.md)."""
 from __future__ import annotations
 
+import asyncio
 import copy
+import time
 from ctypes import byref
 from dataclasses import astuple, dataclass
 from enum import Enum, IntEnum
-from typing import Any, Dict, Iterator, Mapping, Optional, Tuple, Union
+from typing import (
+    Any,
+    AsyncIterator,
+    Awaitable,
+    Callable,
+    Dict,
+    Iterator,
+    Mapping,
+    Optional,
+    Tuple,
+    Union,
+)
 
 from . import library
 from .faults import CODES, look_at, look_at_choice, look_at_type
@@ -19,6 +32,7 @@ _NO_REPLY = 34
 _STORE = 1
 _LEFT = {1: "no page 11h", 2: "no plan", 3: "needs power", 4: "needs permission"}
 _OVERDUE = 8
+_LONGEST_PAUSE = 1000  # after which it is looked whether somebody has called the port meanwhile
 
 _new = library.function("port_new")
 _plug = library.function("port_plug")
@@ -219,6 +233,28 @@ class Port:
             raise ValueError(f"no operation that is outstanding can have the reply {reply!r}")
         _expect_done(status)
         return _outcome_in(found)
+
+    async def run_async(
+        self,
+        transact: Callable[[Operation], Awaitable[Reply]],
+        wanted: Wanted,
+        clock: Callable[[], int] = lambda: time.monotonic_ns() // 1_000_000,
+        pause: Callable[[float], Awaitable[object]] = asyncio.sleep,
+    ) -> AsyncIterator[PortOutcome]:
+        """Makes all operations by `transact`, and yields what each led to, until nothing is to be
+        done: no module is there, or it is left alone or held. Meanwhile other tasks may call the
+        port. If `transact` raises or its task is cancelled, the operation counts as refused, and
+        you may run the port again."""
+        while not isinstance(step := self.next(clock()), Idle):
+            if isinstance(step, Until):
+                await pause(min(step.moment - clock(), _LONGEST_PAUSE) / 1000)
+                continue
+            try:
+                reply = await transact(step)
+            except BaseException:
+                self.take(False, wanted, clock())
+                raise
+            yield self.take(reply, wanted, clock())
 
     @property
     def stage(self) -> Stage:

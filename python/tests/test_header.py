@@ -112,6 +112,7 @@ def test_each_function_is_declared_as_in_the_header() -> None:
 def test_numbers_are_those_of_the_header() -> None:
     assert f"#define DOVECOUNTER_VERSION {library.VERSION}\n" in HEADER
     assert f"#define DOVECOUNTER_TEXT_SIZE {library.TEXT_SIZE}\n" in HEADER
+    assert f"#define DOVECOUNTER_CERTIFICATE_SIZE {library.CERTIFICATE_SIZE}\n" in HEADER
     assert "#define DOVECOUNTER_UNBOUNDED UINT32_MAX\n" in HEADER
     assert library.UNBOUNDED == ctypes.c_uint32(-1).value
     for family in Family:

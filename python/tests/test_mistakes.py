@@ -30,6 +30,7 @@ from dovecounter import (
     Sleeping,
     Wait,
     Waking,
+    certificate,
     check,
     library,
     page,
@@ -55,6 +56,7 @@ def test_numbers_out_of_range_are_refused_and_not_cut() -> None:
         lambda: plan(DR4, WEIGHTS, [DataPath(2, 257, 1)]),
         lambda: plan(DR4, WEIGHTS, [DataPath(2, 1, -255)]),
         lambda: check(DR4, {0x11: 2**32}, ""),
+        lambda: certificate(DR4, WEIGHTS, stay=2**32),
         lambda: SimulatedModule(DR4, Delays(init=65537)),
         lambda: SimulatedModule(DR4, Delays(apply=-1)),
         lambda: module.fetch(0x1A0, 0, 1),
@@ -95,6 +97,7 @@ def test_numbers_out_of_range_are_refused_and_not_cut() -> None:
         lambda: plan(DR4, WEIGHTS, counts_by_id=None),  # type: ignore[arg-type]
         lambda: plan(DR4, WEIGHTS, [(2, 1, 1)]),  # type: ignore[list-item]
         lambda: check(DR4, WEIGHTS, "", paired=256),  # type: ignore[arg-type]
+        lambda: certificate(DR4, WEIGHTS, paired=256),  # type: ignore[arg-type]
         lambda: check(DR4, WEIGHTS, pathlib.Path("x")),  # type: ignore[arg-type]
         lambda: DR4.advertisement(256),  # type: ignore[arg-type]
         lambda: read_weights(pathlib.Path("x")),  # type: ignore[arg-type]

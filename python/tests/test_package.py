@@ -35,6 +35,7 @@ from dovecounter import (
     Operation,
     Provisioning,
     SimulatedModule,
+    certificate,
     check,
     page,
     plan,
@@ -88,26 +89,23 @@ def test_what_an_image_advertises_and_its_plans_are_what_the_program_prints(
         assert [line for line in lines if line.startswith("path")] == [
             f"path {one.application} {one.host} {one.media}" for one in best.paths
         ]
-        certificate = "\n".join(lines)
-        assert check(image, weights, certificate) == Judgement(None, 0)
-        told = cmisctl("check", image.to_text(), table(weights), certificate + "\n")
+        text = certificate(image, weights, kept)
+        assert text == "".join(f"{line}\n" for line in lines)
+        assert check(image, weights, text) == Judgement(None, 0)
+        told = cmisctl("check", image.to_text(), table(weights), text)
         assert told[-1] == f"control {best.control.hex(' ')}"
 
 
 def test_a_module_that_pairs_first_lanes() -> None:
-    certificate = "\n".join(cmisctl("plan", DR4.to_text(), table(WEIGHTS)))
+    apart = "\n".join(cmisctl("plan", DR4.to_text(), table(WEIGHTS)))
     paired = "\n".join(cmisctl("plan --paired", DR4.to_text(), table(WEIGHTS)))
-    assert (
-        check(DR4, WEIGHTS, certificate) == check(DR4, WEIGHTS, paired, True) == Judgement(None, 0)
-    )
-    assert (
-        check(DR4, WEIGHTS, paired)
-        == check(DR4, WEIGHTS, certificate, True)
-        == Judgement("VR10", 0)
-    )
-    apart = [DataPath(2, 3, 1)]
-    assert apart[0] in plan(DR4, WEIGHTS, apart).paths
-    assert str(fault_of(plan, DR4, WEIGHTS, apart, True)) == "KP3 1"
+    assert certificate(DR4, WEIGHTS, paired=True) == paired + "\n"
+    assert check(DR4, WEIGHTS, apart) == check(DR4, WEIGHTS, paired, True) == Judgement(None, 0)
+    assert check(DR4, WEIGHTS, paired) == check(DR4, WEIGHTS, apart, True) == Judgement("VR10", 0)
+    kept = [DataPath(2, 3, 1)]
+    assert kept[0] in plan(DR4, WEIGHTS, kept).paths
+    for planned in (plan, certificate):
+        assert str(fault_of(planned, DR4, WEIGHTS, kept, True)) == "KP3 1"
 
 
 def test_a_module_that_leaves_lane_counts_to_interface_ids() -> None:
@@ -116,9 +114,10 @@ def test_a_module_that_leaves_lane_counts_to_interface_ids() -> None:
     assert plan(image, WEIGHTS, counts_by_id=True) == plan(DR4, WEIGHTS)
     assert [one.host_lanes for one in image.applications()] == [0, 0]
     assert image.applications(counts_by_id=True) == DR4.applications()
-    certificate = "\n".join(cmisctl("plan --counts-by-id", image.to_text(), table(WEIGHTS)))
-    assert check(image, WEIGHTS, certificate, counts_by_id=True) == Judgement(None, 0)
-    assert check(image, WEIGHTS, certificate) == Judgement("VR1", 1)
+    text = certificate(image, WEIGHTS, counts_by_id=True)
+    assert text.splitlines() == cmisctl("plan --counts-by-id", image.to_text(), table(WEIGHTS))
+    assert check(image, WEIGHTS, text, counts_by_id=True) == Judgement(None, 0)
+    assert check(image, WEIGHTS, text) == Judgement("VR1", 1)
 
 
 def test_a_path_that_is_active_weighs_more() -> None:
@@ -128,13 +127,15 @@ def test_a_path_that_is_active_weighs_more() -> None:
     assert plan(image, weights).weight == 405
     staying = plan(image, weights, stay=1)
     assert (staying.weight, len(staying.paths)) == (406, 4)
-    text = "stay = 1\n" + table(weights)
-    certificate = "\n".join(cmisctl("plan --now", image.to_text(), text))
-    assert check(image, weights, certificate, stay=1) == Judgement(None, 0)
-    assert check(image, weights, certificate) == Judgement("VR3", 0)
+    text = certificate(image, weights, stay=1)
+    wanted = "stay = 1\n" + table(weights)
+    assert text.splitlines() == cmisctl("plan --now", image.to_text(), wanted)
+    assert check(image, weights, text, stay=1) == Judgement(None, 0)
+    assert check(image, weights, text) == Judgement("VR3", 0)
     bare = image.without(page(0x11))
     assert plan(bare, weights) == plan(image, weights)
-    assert str(fault_of(plan, bare, weights, (), False, False, 1)) == "AD4 upper A0 00 11"
+    for planned in (plan, certificate):
+        assert str(fault_of(planned, bare, weights, (), False, False, 1)) == "AD4 upper A0 00 11"
     with pytest.raises(ValueError):
         plan(image, weights, stay=2**32)
 

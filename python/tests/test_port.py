@@ -1,8 +1,9 @@
 """The manager of a port over simulated modules."""
 from __future__ import annotations
 
+import asyncio
 import json
-from typing import Callable, Optional
+from typing import Callable, List, Optional
 
 import pytest
 
@@ -15,6 +16,7 @@ from dovecounter import (
     PathState,
     Port,
     PortOutcome,
+    Reply,
     SimulatedModule,
     Stage,
     Times,
@@ -36,7 +38,9 @@ class Machine:
         self.stores = 0
         self.places: set[Key] = set()
 
-    def drive(self, until: Callable[[PortOutcome], bool], refuse_each: int = 0) -> Optional[PortOutcome]:
+    def drive(
+        self, until: Callable[[PortOutcome], bool], refuse_each: int = 0
+    ) -> Optional[PortOutcome]:
         for _ in range(5000):
             step = self.port.next(self.now)
             if isinstance(step, Until):
@@ -147,3 +151,87 @@ def test_why_a_module_is_left_alone() -> None:
         assert isinstance(step, Operation)
         outcome = machine.port.take(machine.module.transact(step), Wanted({}), machine.now)
     assert machine.port.left == outcome.left == "no plan"
+
+
+class Served(Machine):
+    """One whose bus and clock are coroutines."""
+
+    async def disturb(self) -> None:
+        """What comes before an operation."""
+        await asyncio.sleep(0)
+
+    async def transact(self, operation: Operation) -> Reply:
+        await self.disturb()
+        self.made += 1
+        self.now += 1
+        return self.module.transact(operation)
+
+    async def pause(self, seconds: float) -> None:
+        assert 0 < seconds <= 1
+        await asyncio.sleep(0)
+        self.module.tick(min(100, round(seconds * 1000)))
+        self.now += round(seconds * 1000)
+
+    async def notes(self, last: Note) -> List[Note]:
+        """Those of its outcomes, up to this one; all, if it ends before."""
+        found: List[Note] = []
+        async for outcome in self.port.run_async(
+            self.transact, WANTED, lambda: self.now, self.pause
+        ):
+            if outcome.note not in (None, Note.QUIET):
+                assert outcome.note is not None
+                found.append(outcome.note)
+            if outcome.note is last:
+                break
+        return found
+
+
+def test_ports_are_kept_side_by_side_by_coroutines() -> None:
+    machines = [Served(SimulatedModule(DR4)) for _ in range(2)]
+    for machine in machines:
+        machine.port.plug(0)
+
+    async def all_of_them() -> List[List[Note]]:
+        return await asyncio.gather(*(machine.notes(Note.CAME_UP) for machine in machines))
+
+    first, second = asyncio.run(all_of_them())
+    assert first == second == [Note.IDENTIFIED, Note.PROVISIONED, Note.CAME_UP]
+    for machine in machines:
+        assert machine.port.goal is not None and machine.port.goal[0] == machine.module.active
+
+
+class Pulled(Served):
+    async def disturb(self) -> None:
+        if self.made == 5:
+            self.port.pull()
+
+
+def test_a_port_without_a_module_ends_by_itself() -> None:
+    machine = Pulled(SimulatedModule(DR4))
+    assert asyncio.run(machine.notes(Note.CAME_UP)) == []
+    machine.port.plug(0)
+    assert asyncio.run(machine.notes(Note.CAME_UP)) == []
+    assert machine.made == 6 and machine.port.stage is Stage.ABSENT
+
+
+class Stuck(Served):
+    is_stuck = True
+
+    async def disturb(self) -> None:
+        if self.made == 5 and self.is_stuck:
+            await asyncio.Event().wait()
+
+
+def test_an_operation_of_a_cancelled_task_counts_as_refused() -> None:
+    machine = Stuck(SimulatedModule(DR4))
+    machine.port.plug(0)
+
+    async def cancelled() -> None:
+        with pytest.raises(asyncio.TimeoutError):
+            await asyncio.wait_for(machine.notes(Note.CAME_UP), 0.2)
+        assert machine.made == 5
+        machine.is_stuck = False
+        assert (await machine.notes(Note.CAME_UP))[-1] is Note.CAME_UP
+
+    asyncio.run(cancelled())
+    assert machine.port.stage is Stage.WATCHING
