@@ -24,7 +24,10 @@ static const char usage[] =
     "  --ensure        take down what is in the way, but no active path that the plan has too\n"
     "  --force         take down whatever is up; accept a plan without paths\n"
     "  --wake          take the module out of low power first\n"
-    "  --log FILE      write each transaction to FILE\n";
+    "  --log FILE      write each transaction to FILE\n"
+    "Examples:\n"
+    "  cmis-port /dev/i2c-7 image | cmisctl inventory\n"
+    "  cmis-port /dev/i2c-7 provision --activate --ensure --wake weights.txt\n";
 
 static bool read_path(const char *word, struct dovecounter_path *path) {
     unsigned application, host, media;

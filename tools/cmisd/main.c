@@ -26,7 +26,10 @@ static const char usage[] =
     "    reload                         read FILE again\n"
     "    hold PORT | release PORT       leave its bus to others, or no longer\n"
     "    provision PORT [LANES]         judge the module anew; LANES may go down\n"
-    "    acknowledge PORT [MOMENT]      its flags are known\n";
+    "    acknowledge PORT [MOMENT]      its flags are known\n"
+    "Examples:\n"
+    "  cmisd --check\n"
+    "  cmisd show swp1\n";
 
 static const char *configuration_name = "/etc/cmisd.conf";
 
