@@ -4,7 +4,7 @@ use Rattle.std.proofs.Common.{get_or-set_same, get_or-set_other}
 use Rattle.std.proofs.Math.ListN.{length-replicate, length-set}
 use Rattle.std.proofs.lemmas.Bool.{cases_Bool, cases_eq, cases_lt}
 use Rattle.std.proofs.lemmas.Bool.Decides.{nat_tests}
-use Rattle.std.proofs.lemmas.List.{ext_get_or, get_or-replicate}
+use Rattle.std.proofs.lemmas.List.{ext_get_or, get_or-replicate, get_or_past}
 use Rattle.std.proofs.lemmas.List.FromFn.{get_or-map-range_with_len, length-map-range_with_len}
 use Rattle.lane_planner.specs.Tables.{AreParts, has_cell, number_at, numbers_of}
 
@@ -139,3 +139,34 @@ numbers_blank cells states all each =
     (λ i inside.
     let within : i < 2304 = omega (arith, inside, length_numbers blank blank) in
     zero_number cells i all within ∙ sym (get_or-replicate states i 0 0 (omega (arith, within, each))))
+
+-- ---- how large they are
+
+pub number_small : (lows highs : List ℕ) (place : ℕ) → AreParts lows highs → ((cell : ℕ) → get_or lows cell 0 < 4294967296) → place < 2304 → get_or (numbers_of lows highs) place 0 < 1090921693184
+number_small lows highs place are low below = elim (cases_Bool (has_cell place)) [
+  | inl has ↦ omega (arith, number_kept lows highs place below has, low (place - 255), are.small (place - 255))
+  | inr none ↦ omega (arith, number_none lows highs place below none)
+]
+
+pub parts_set : (lows highs : List ℕ) (cell low high : ℕ) → AreParts lows highs → high < 254 → AreParts (set lows cell low) (set highs cell high)
+parts_set lows highs cell low high are small = record {
+  low = length-set lows cell low ∙ are.low;
+  high = length-set highs cell high ∙ are.high;
+  small = λ other. elim (cases_eq other cell) [
+    | inl same ↦ elim (cases_lt cell (length highs)) [
+      | inl inside ↦ omega (arith, small, ap (λ (n : ℕ). get_or (set highs cell high) n 0) same, get_or-set_same highs cell high 0 inside)
+      | inr past ↦ omega (arith, get_or_past (set highs cell high) other 0 (omega (arith, past, same, length-set highs cell high)))
+    ]
+    | inr differs ↦ omega (arith, get_or-set_other highs cell other high 0 differs, are.small other)
+  ];
+}
+
+pub parts_blank : (cells : ℕ) → cells ≡ 1793 → AreParts (replicate cells 0) (replicate cells 0)
+parts_blank cells all = record {
+  low = length-replicate {A = ℕ} cells 0 ∙ all;
+  high = length-replicate {A = ℕ} cells 0 ∙ all;
+  small = λ cell. elim (cases_lt cell cells) [
+    | inl inside ↦ omega (arith, get_or-replicate {X = ℕ} cells cell 0 0 inside)
+    | inr past ↦ omega (arith, get_or_past (replicate cells 0) cell 0 (omega (arith, past, length-replicate {A = ℕ} cells 0)))
+  ];
+}

@@ -33,10 +33,11 @@ number_at lows highs place =
 unfoldable pub numbers_of : List ℕ → List ℕ → List ℕ
 numbers_of lows highs = map (number_at lows highs) (range_with_len 0 most_states)
 
--- there are as many cells for both
+-- there are as many cells for both, and certificates keep such numbers in five bytes
 pub record AreParts (lows highs : List ℕ) : Type 0 where
   pub low : length lows ≡ 1793
   pub high : length highs ≡ 1793
+  pub small : (cell : ℕ) → slice_index highs cell < 254
 
 -- a number for each state; each lane that is still to be decided adds at most four weights of 32 bits
 pub record IsTable (table : List ℕ) : Type 0 where

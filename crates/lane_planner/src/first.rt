@@ -11,7 +11,7 @@ use plan_certificate::{Certificate, Path};
 pub fn first_best<const STATES: usize>(
     advert: &Advert,
     weights: &AppWeights,
-    certificate: &Certificate<STATES>,
+    certificate: &Certificate<'_, STATES>,
 ) -> bool
     requires { IsGood advert.now weights.now certificate.now }
     ensures { IsTrue result ↔ IsFirstBest advert.now weights.now certificate.now.kept certificate.now.paths }

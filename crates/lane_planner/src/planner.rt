@@ -18,7 +18,7 @@ use arrayvec::ArrayVec;
 use plan_certificate::{Certificate, Plan, STATES};
 
 /// The first plan of those that weigh most, with what can still be gained from each state that decisions from the start reach.
-pub fn plan(advert: &Advert, weights: &AppWeights) -> Certificate<STATES>
+pub fn plan(advert: &Advert, weights: &AppWeights) -> Certificate<'static, STATES>
     ensures kept { result.kept ≡ [] }
     ensures good { IsGood advert.now weights.now result }
     ensures judged { verdict advert.now weights.now result ≡ verdicts.Good }
@@ -36,7 +36,11 @@ pub fn plan(advert: &Advert, weights: &AppWeights) -> Certificate<STATES>
 }
 
 /// As `plan`, of the plans that hold the kept paths.
-pub fn plan_keeping(advert: &Advert, weights: &AppWeights, kept: &Plan) -> Certificate<STATES>
+pub fn plan_keeping(
+    advert: &Advert,
+    weights: &AppWeights,
+    kept: &Plan,
+) -> Certificate<'static, STATES>
     requires { IsAdmissible advert.now kept.now }
     ensures kept { result.kept ≡ kept.now }
     ensures good { IsGood advert.now weights.now result }

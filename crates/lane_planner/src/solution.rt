@@ -12,7 +12,7 @@ use crate::reached::reached;
 use crate::table::Table;
 use applications::{Advert, AppWeights};
 use arrayvec::ArrayVec;
-use plan_certificate::{Certificate, Entries, Entry, Plan, STATES};
+use plan_certificate::{Certificate, Entries, Entry, LARGE_POTENTIAL, Plan, STATES};
 
 /// The first of the plans that weigh most, with what can still be gained from each state that decisions from the start reach.
 #[derive(Drop)]
@@ -69,7 +69,7 @@ impl Solution {
     }
 
     /// The certificate of the plan.
-    pub fn certificate(&self, problem: &Problem) -> Certificate<STATES>
+    pub fn certificate(&self, problem: &Problem) -> Certificate<'static, STATES>
         ensures { result ≡ claim_of problem.now self.now }
     {
         Certificate {
@@ -83,8 +83,8 @@ impl Solution {
 }
 
 // The entries of the marked states.
-fn entries_of(marks: &Marks, table: &Table) -> Entries<STATES>
-    ensures { result ≡ marked_entries marks.now table.now STATES }
+fn entries_of(marks: &Marks, table: &Table) -> Entries<'static, STATES>
+    ensures { result.entries ≡ marked_entries marks.now table.now STATES }
 {
     let mut entries = Entries::new();
     for place in 0..STATES {
@@ -98,7 +98,8 @@ fn entries_of(marks: &Marks, table: &Table) -> Entries<STATES>
 /// The entry of the state at a place.
 pub fn entry_at(table: &Table, place: usize) -> Entry
     requires { place < STATES }
-    ensures { result ≡ entry_at table.now place }
+    ensures entry { result ≡ entry_at table.now place }
+    ensures small { result.potential < LARGE_POTENTIAL }
 {
     Entry {
         boundary: (place / 256) as u8,

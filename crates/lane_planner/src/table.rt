@@ -1,7 +1,7 @@
 ghost use Rattle.std.specs.Prelude.{◌≡◌, ◌-◌, ◌≤◌, ◌<◌, true, replicate, slice_index, slice_set};
 ghost use Rattle.lane_planner.specs.Tables.{gain_at, has_cell};
 
-use plan_certificate::{STATES, State};
+use plan_certificate::{LARGE_POTENTIAL, STATES, State};
 use std::marker::Model;
 
 /// How many states there are before the last boundary.
@@ -10,7 +10,7 @@ const OPEN_STATES: usize = 2048;
 /// How many of them have a cell: the start, and those past the first boundary.
 const CELLS: usize = 1793;
 
-/// A number below 2 ^ 40 for each state, by their places: 0 for those at the last boundary, from which nothing can be gained, and for
+/// A number below 254 * 2 ^ 32 for each state, by their places: 0 for those at the last boundary, from which nothing can be gained, and for
 /// those beside the start at the first one, which nothing reaches. Of the others each takes five bytes and not eight, for firmware has
 /// little stack.
 #[derive(Drop)]
@@ -43,7 +43,8 @@ impl Table {
 
     pub(crate) fn at(&self, place: usize) -> u64
         requires { place < STATES }
-        ensures { result ≡ slice_index self.now place }
+        ensures value { result ≡ slice_index self.now place }
+        ensures small { result < LARGE_POTENTIAL }
     {
         let (low, high) = (&self.low, &self.high);
         if has_cell(place) {
@@ -64,7 +65,7 @@ impl Table {
 
     pub(crate) fn put(&mut self, place: usize, number: u64)
         requires place { has_cell place ≡ true }
-        requires small { number < 1099511627776 }
+        requires small { number < LARGE_POTENTIAL }
         ensures { self.new ≡ slice_set self.old place number }
     {
         let cell = cell_of(place);

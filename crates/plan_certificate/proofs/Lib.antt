@@ -3,6 +3,7 @@ pub mod Lists
 pub mod Ranks
 mod Lookups
 mod EntryPlaces
+mod NextEntries
 mod NoFlaw
 pub mod PathTakenOut
 pub mod KeptPaths
@@ -14,6 +15,8 @@ pub mod PairedLanes
 mod ActivePaths
 mod CountedLanes
 mod LineWords
+mod FiveBytes
+mod ReadLines
 mod NextLines
 mod Drafts
 mod AddedLines

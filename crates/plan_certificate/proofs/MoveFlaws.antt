@@ -1,5 +1,5 @@
 -- The flaws of the decisions of moves: where the heaviest moves have none, none has.
-use Rattle.std.proofs.Common.{◌≡◌, ℕ, ◌+◌, ◌<◌, ◌≤◌, Bool, false, List, [], ◌∷◌, Option, Some, None, nat_lt, refl, sym, ap, ◌∙◌, arith}
+use Rattle.std.proofs.Common.{◌≡◌, ℕ, ◌+◌, ◌<◌, ◌≤◌, Bool, true, false, List, [], ◌∷◌, Option, Some, None, nat_lt, refl, sym, ap, ◌∙◌, arith}
 use Rattle.std.specs.List.{flat_map}
 use Rattle.std.specs.Option.{is_none, is_some, unwrap_or}
 use Rattle.std.proofs.lemmas.Bool.Decides.{nat_tests}
@@ -16,7 +16,7 @@ use Rattle.plan_certificate.specs.declared.verdict.Reason.TheVariants.{NotClosed
 use Rattle.plan_certificate.specs.Certificates.{state_of}
 use Rattle.plan_certificate.specs.Moves.{AreHeaviest, AreMoves, move_decisions, decisions_by}
 use Rattle.plan_certificate.specs.Verdicts.{Flaws, PossibleFlaw, entry_flaws, flaw, potential_of, decision_flaws, decisions_flaws}
-use Rattle.plan_certificate.proofs.HeaviestMoves.{HoldsOfLighter, each_outweighed}
+use Rattle.plan_certificate.proofs.HeaviestMoves.{HoldsOfLighter, each_among, each_outweighed}
 use Rattle.plan_certificate.proofs.MoveDecisions.{no_decisions, decisions_are}
 use Rattle.plan_certificate.proofs.NoFlaw.{NoFlaw, flaw_first, none_of_each}
 
@@ -58,3 +58,22 @@ ended_has_none advert weights kept entries number entry past = ap (λ (decisions
 pub none_is : (found : Option Flaw) → is_some found ≡ false → found ≡ None
 none_is None is = refl
 none_is (Some flaw) is = absurd cc
+
+some_is : (found : Option Flaw) → (found ≡ None → ⊥) → is_some found ≡ true
+some_is None some = absurd (some refl)
+some_is (Some flaw) some = refl
+
+-- one of two searches finds something where the other does
+pub both_find : (one other : Option Flaw) → (one ≡ None → other ≡ None) → (other ≡ None → one ≡ None) → is_some one ≡ is_some other
+both_find None other to back = ap is_some (sym (to refl))
+both_find (Some flaw) other to back = sym (some_is other (λ none. (let wrong : Some flaw ≡ None = back none in cc)))
+
+pub heaviest_have_none : (entries : List Entry) (entry : ℕ × Entry) (free : Bool) (state : State) (moves heaviest : List Move) → AreHeaviest moves heaviest → NoFlaw (decisions_flaws entries entry (decisions_by free state moves)) → NoFlaw (decisions_flaws entries entry (decisions_by free state heaviest))
+heaviest_have_none entries entry free state moves heaviest are none =
+    let flaws = decision_flaws entries entry in
+    (none_of_each flaws (decisions_by free state heaviest)).1
+    (each_among free state (λ decision. NoFlaw (flaws decision)) moves heaviest are ((none_of_each flaws (decisions_by free state moves)).0 none))
+
+pub some_flaw : (found : Option Flaw) → is_some found ≡ true → (flaw : Flaw) × (found ≡ Some flaw)
+some_flaw None some = absurd cc
+some_flaw (Some flaw) some = (flaw, refl)

@@ -5,11 +5,14 @@ pub mod KeptPaths
 pub mod States
 pub mod ReachedStates
 pub mod Moves
+pub mod FollowedMoves
 pub mod Certificates
 pub mod EntryPlaces
 pub mod Verdicts
 pub mod CertificateText
+pub mod Bounds
 pub mod CertificateFaults
 pub mod KeptText
 pub mod CertificateDrafts
+pub mod ReadLines
 pub mod FaultWords

@@ -1,9 +1,11 @@
+mod bounds;
 mod entries;
 mod reading;
 mod writing;
 
 use crate::plan::Plan;
 use crate::state::State;
+pub use bounds::LARGE_POTENTIAL;
 pub use entries::Entries;
 use field_tables::LaneSet;
 use std::marker::Model;
@@ -45,7 +47,7 @@ impl Entry {
 /// A plan, its weight, the paths that it keeps, and entries that are to show that no plan that keeps them weighs more:
 /// `check` says whether they do.
 #[derive(Debug, Drop)]
-pub struct Certificate<const STATES: usize> {
+pub struct Certificate<'text, const STATES: usize> {
     /// It is for a module that pairs first lanes.
     pub paired: bool,
     pub weight: u64,
@@ -53,15 +55,15 @@ pub struct Certificate<const STATES: usize> {
     pub kept: Plan,
     pub plan: Plan,
     /// The states rise by boundary, then by the byte of used media lanes.
-    pub entries: Entries<STATES>,
+    pub entries: Entries<'text, STATES>,
 }
 
-impl<const STATES: usize> Model for Certificate<STATES> {
+impl<'text, const STATES: usize> Model for Certificate<'text, STATES> {
     ghost use Rattle.plan_certificate.specs.Certificates.{Claim, HasStates};
 
     ghost Value = { Claim };
 
-    ghost view = { λ certificate. record { paired = certificate.paired; weight = certificate.weight; kept = certificate.kept; paths = certificate.plan; entries = certificate.entries } };
+    ghost view = { λ certificate. record { paired = certificate.paired; weight = certificate.weight; kept = certificate.kept; paths = certificate.plan; entries = certificate.entries.entries } };
 
-    ghost invariant = { λ certificate. HasStates certificate.entries };
+    ghost invariant = { λ certificate. HasStates certificate.entries.entries };
 }

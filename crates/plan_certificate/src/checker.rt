@@ -1,15 +1,18 @@
-ghost use Rattle.std.specs.Prelude.{◌≡◌, ◌↔◌, ◌<◌, ◌≤◌, ◌+◌, All};
+ghost use Rattle.std.specs.Prelude.{◌≡◌, ◌↔◌, ◌<◌, ◌≤◌, ◌+◌, All, IsTrue, is_some};
 ghost use Rattle.field_tables.specs.FirstFault.{first_fault};
 ghost use Rattle.plan_certificate.specs.Plans.{AreAllowed, IsBest};
-ghost use Rattle.plan_certificate.specs.Moves.{AreMoves, LeadsOn, decisions_by};
+ghost use Rattle.plan_certificate.specs.FollowedMoves.{IsFollowed};
+ghost use Rattle.plan_certificate.specs.Moves.{LeadsOn, decisions_by};
 ghost use Rattle.plan_certificate.specs.Certificates.{IsGood, state_of};
 ghost use Rattle.plan_certificate.specs.Verdicts as spec;
 
 use crate::certificate::{Certificate, Entries, Entry};
 use crate::flaws::paths_flaw;
-use crate::moves::{Move, Moves};
+use crate::kept::may_stay_free;
+use crate::moves::{Move, put_moves};
 use crate::path::Path;
 use crate::plan::{Plan, weight_of};
+use crate::retained::Moves;
 use crate::state::{Decision, HOST_LANES, State};
 use crate::verdict::{Flaw, Reason, Verdict};
 use applications::{Advert, AppWeights};
@@ -18,7 +21,7 @@ use applications::{Advert, AppWeights};
 pub fn check<const STATES: usize>(
     advert: &Advert,
     weights: &AppWeights,
-    certificate: &Certificate<STATES>,
+    certificate: &Certificate<'_, STATES>,
 ) -> Verdict
     ensures verdict { result ≡ spec.verdict advert.now weights.now certificate.now }
     ensures good { (result ≡ Verdict.Good) ↔ IsGood advert.now weights.now certificate.now }
@@ -45,9 +48,9 @@ fn flaw<const ROOM: usize>(
     weight: u64,
     kept: &Plan,
     plan: &Plan,
-    entries: &Entries<ROOM>,
+    entries: &Entries<'_, ROOM>,
 ) -> Option<Flaw>
-    ensures { result ≡ first_fault (spec.all_flaws advert.now weights.now (record { paired = paired; weight = weight; kept = kept.now; paths = plan.now; entries = entries.now })) }
+    ensures { result ≡ first_fault (spec.all_flaws advert.now weights.now (record { paired = paired; weight = weight; kept = kept.now; paths = plan.now; entries = entries.now.entries })) }
 {
     if paired != advert.is_paired() {
         return Some(Flaw {
@@ -73,11 +76,11 @@ fn bound_flaw<const ROOM: usize>(
     advert: &Advert,
     weights: &AppWeights,
     kept: &[Path],
-    entries: &Entries<ROOM>,
+    entries: &Entries<'_, ROOM>,
     weight: u64,
 ) -> Option<Flaw>
     requires { AreAllowed advert.now kept.now }
-    ensures { result ≡ first_fault (spec.bound_flaws advert.now weights.now kept.now entries.now weight) }
+    ensures { result ≡ first_fault (spec.bound_flaws advert.now weights.now kept.now entries.now.entries weight) }
 {
     let Some(start) = entries.potential_of(State::start()) else {
         return Some(Flaw {
@@ -101,68 +104,81 @@ fn entries_flaw<const ROOM: usize>(
     advert: &Advert,
     weights: &AppWeights,
     kept: &[Path],
-    entries: &Entries<ROOM>,
+    entries: &Entries<'_, ROOM>,
 ) -> Option<Flaw>
     requires { AreAllowed advert.now kept.now }
-    ensures { result ≡ first_fault (spec.entries_flaws advert.now weights.now kept.now entries.now) }
+    ensures { result ≡ first_fault (spec.entries_flaws advert.now weights.now kept.now entries.now.entries) }
 {
     let mut moves = Moves::at(advert, weights, kept, 0);
-    for place in 0..entries.len() {
-        let entry = entries.at(place);
-        if let Some(flaw) = entry_flaw(
-            advert,
-            weights,
-            kept,
-            &mut moves,
-            entries,
-            place + 1,
-            &entry,
-        ) {
-            return Some(flaw);
+    let (mut number, mut from) = (0, 0);
+    while let Some(entry) = entries.first_from(from) {
+        number += 1;
+        if has_flaw(advert, weights, kept, &mut moves, entries, number, &entry) {
+            return entry_flaw(advert, weights, kept, &mut moves, entries, number, &entry);
         }
+        from = entry.place() + 1;
     }
     None
 }
 
 // Where the decisions of the heaviest moves have no flaw, none has.
+fn has_flaw<const ROOM: usize>(
+    advert: &Advert,
+    weights: &AppWeights,
+    kept: &[Path],
+    moves: &mut Moves,
+    entries: &Entries<'_, ROOM>,
+    number: usize,
+    entry: &Entry,
+) -> bool
+    requires open { moves.old.boundary < 8 }
+    requires kept { AreAllowed advert.now kept.now }
+    requires moves { IsFollowed advert.now weights.now kept.now moves.old }
+    ensures flaw { result ≡ is_some (first_fault (spec.entry_flaws advert.now weights.now kept.now entries.now.entries (number, entry.now))) }
+    ensures started { IsTrue result → entry.now.boundary < 8 }
+    ensures open { moves.new.boundary < 8 }
+    ensures moves { IsFollowed advert.now weights.now kept.now moves.new }
+{
+    if entry.boundary >= HOST_LANES {
+        return false;
+    }
+    moves.turn_to(advert, weights, kept, entry.boundary);
+    let followed = &moves.followed;
+    let heaviest = followed.moves.as_slice();
+    decisions_flaw(followed.may_stay_free, heaviest, entries, number, entry).is_some()
+}
+
+// The first flaw of an entry, by all moves, which are listed in the place of the heaviest.
 fn entry_flaw<const ROOM: usize>(
     advert: &Advert,
     weights: &AppWeights,
     kept: &[Path],
     moves: &mut Moves,
-    entries: &Entries<ROOM>,
+    entries: &Entries<'_, ROOM>,
     number: usize,
     entry: &Entry,
 ) -> Option<Flaw>
-    requires open { moves.old.boundary < 8 }
+    requires started { entry.now.boundary < 8 }
     requires kept { AreAllowed advert.now kept.now }
-    requires moves { AreMoves advert.now weights.now kept.now moves.old.boundary moves.old.may_stay_free moves.old.all.items moves.old.heaviest.items }
-    ensures flaw { result ≡ first_fault (spec.entry_flaws advert.now weights.now kept.now entries.now (number, entry.now)) }
-    ensures open { moves.new.boundary < 8 }
-    ensures moves { AreMoves advert.now weights.now kept.now moves.new.boundary moves.new.may_stay_free moves.new.all.items moves.new.heaviest.items }
+    ensures { result ≡ first_fault (spec.entry_flaws advert.now weights.now kept.now entries.now.entries (number, entry.now)) }
 {
-    if entry.boundary >= HOST_LANES {
-        return None;
-    }
-    moves.turn_to(advert, weights, kept, entry.boundary);
-    let free = moves.may_stay_free;
-    if decisions_flaw(free, moves.heaviest.as_slice(), entries, number, entry).is_none() {
-        return None;
-    }
-    decisions_flaw(free, moves.all.as_slice(), entries, number, entry)
+    let all = &mut moves.followed.moves;
+    put_moves(all, advert, weights, kept, entry.boundary + 1);
+    let free = may_stay_free(advert, kept, entry.boundary + 1);
+    decisions_flaw(free, all.as_slice(), entries, number, entry)
 }
 
 // The first flaw of the free lane's decision, if it may stay free, and those of moves.
 fn decisions_flaw<const ROOM: usize>(
     may_stay_free: bool,
     moves: &[Move],
-    entries: &Entries<ROOM>,
+    entries: &Entries<'_, ROOM>,
     number: usize,
     entry: &Entry,
 ) -> Option<Flaw>
     requires open { entry.now.boundary < 8 }
     requires lead_on { All (LeadsOn entry.now.boundary) moves.now }
-    ensures { result ≡ first_fault (spec.decisions_flaws entries.now (number, entry.now) (decisions_by may_stay_free (state_of entry.now) moves.now)) }
+    ensures { result ≡ first_fault (spec.decisions_flaws entries.now.entries (number, entry.now) (decisions_by may_stay_free (state_of entry.now) moves.now)) }
 {
     let state = entry.state();
     if may_stay_free {
@@ -183,12 +199,12 @@ fn decisions_flaw<const ROOM: usize>(
 }
 
 fn decision_flaw<const ROOM: usize>(
-    entries: &Entries<ROOM>,
+    entries: &Entries<'_, ROOM>,
     number: usize,
     entry: &Entry,
     decision: &Decision,
 ) -> Option<Flaw>
-    ensures { result ≡ first_fault (spec.decision_flaws entries.now (number, entry.now) decision.now) }
+    ensures { result ≡ first_fault (spec.decision_flaws entries.now.entries (number, entry.now) decision.now) }
 {
     let Some(later) = entries.potential_of(decision.end) else {
         return Some(Flaw {

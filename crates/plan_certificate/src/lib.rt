@@ -18,7 +18,7 @@ mod state;
 mod verdict;
 
 pub use certificate::{
-    Certificate, ENTRY_LINE, Entries, Entry, HEAD, end_line, entry_line, head_of,
+    Certificate, ENTRY_LINE, Entries, Entry, HEAD, LARGE_POTENTIAL, end_line, entry_line, head_of,
 };
 pub use checker::check;
 pub use fault::{CertificateFault, KeptFault};

@@ -1,13 +1,12 @@
-ghost use Rattle.std.specs.Prelude.{◌≡◌, ◌≤◌, ◌<◌, ◌+◌, ◌-◌, ◌++◌, [], length, false, All, AllPairs};
+ghost use Rattle.std.specs.Prelude.{◌≡◌, ◌≤◌, ◌<◌, ◌+◌, ◌-◌, ◌++◌, [], length, All, AllPairs};
 ghost use Rattle.plan_certificate.specs.Paths.{IsLower};
 ghost use Rattle.plan_certificate.specs.Plans.{AreAllowed};
 ghost use Rattle.plan_certificate.specs.States.{paths_of_app};
-ghost use Rattle.plan_certificate.specs.Moves.{AreMoves, LeadsOn};
+ghost use Rattle.plan_certificate.specs.Moves.{LeadsOn};
 ghost use Rattle.plan_certificate.specs.Moves as spec;
 
-use crate::kept::{is_eligible_as, may_stay_free};
+use crate::kept::is_eligible_as;
 use crate::path::Path;
-use crate::retained::put_heaviest;
 use crate::state::{Decision, State};
 use applications::{Advert, AppWeights};
 use arrayvec::ArrayVec;
@@ -47,70 +46,6 @@ impl Move {
                 used: state.used.union(self.media_lanes),
             },
         }
-    }
-}
-
-/// The moves at the host lane after a boundary, for plans that keep certain paths.
-#[derive(Debug, Drop)]
-pub struct Moves {
-    pub boundary: u8,
-    /// Whether the lane may stay free: no kept path has it.
-    pub may_stay_free: bool,
-    /// By rising Application and media lane.
-    pub all: ArrayVec<Move, MAX_MOVES>,
-    /// Of those on the same lanes one that weighs most.
-    pub heaviest: ArrayVec<Move, MAX_MOVES>,
-}
-
-impl Moves {
-    /// No moves, for others to be listed in their place.
-    pub fn none() -> Self
-        ensures { result ≡ record { boundary = 0; may_stay_free = false; all = record { items = [] }; heaviest = record { items = [] } } }
-    {
-        Moves {
-            boundary: 0,
-            may_stay_free: false,
-            all: ArrayVec::new(),
-            heaviest: ArrayVec::new(),
-        }
-    }
-
-    pub fn at(advert: &Advert, weights: &AppWeights, kept: &[Path], boundary: u8) -> Self
-        requires open { boundary < 8 }
-        requires kept { AreAllowed advert.now kept.now }
-        ensures boundary { result.boundary ≡ boundary }
-        ensures moves { AreMoves advert.now weights.now kept.now boundary result.may_stay_free result.all.items result.heaviest.items }
-    {
-        let mut moves = Moves::none();
-        moves.list(advert, weights, kept, boundary);
-        moves
-    }
-
-    /// Turns to the host lane after another boundary.
-    pub fn turn_to(&mut self, advert: &Advert, weights: &AppWeights, kept: &[Path], boundary: u8)
-        requires boundary { boundary < 8 }
-        requires kept { AreAllowed advert.now kept.now }
-        requires moves { AreMoves advert.now weights.now kept.now self.old.boundary self.old.may_stay_free self.old.all.items self.old.heaviest.items }
-        ensures boundary { self.new.boundary ≡ boundary }
-        ensures moves { AreMoves advert.now weights.now kept.now boundary self.new.may_stay_free self.new.all.items self.new.heaviest.items }
-    {
-        if self.boundary != boundary {
-            self.list(advert, weights, kept, boundary);
-        }
-    }
-
-    /// Lists the moves at the host lane after a boundary, in the place of others.
-    #[inline(never)]
-    pub fn list(&mut self, advert: &Advert, weights: &AppWeights, kept: &[Path], boundary: u8)
-        requires boundary { boundary < 8 }
-        requires kept { AreAllowed advert.now kept.now }
-        ensures boundary { self.new.boundary ≡ boundary }
-        ensures moves { AreMoves advert.now weights.now kept.now boundary self.new.may_stay_free self.new.all.items self.new.heaviest.items }
-    {
-        self.boundary = boundary;
-        self.may_stay_free = may_stay_free(advert, kept, boundary + 1);
-        put_moves(&mut self.all, advert, weights, kept, boundary + 1);
-        put_heaviest(&mut self.heaviest, self.all.as_slice());
     }
 }
 

@@ -4,6 +4,7 @@ ghost use Rattle.std.specs.List.{HoldsAt};
 ghost use Rattle.plan_certificate.specs.declared.moves.Move.{Move};
 ghost use Rattle.plan_certificate.specs.Plans.{AreAllowed};
 ghost use Rattle.plan_certificate.specs.Moves.{AreHeaviest, AreMoves, HasLanesOf, IsOutweighed, moves_at};
+ghost use Rattle.plan_certificate.specs.FollowedMoves.{IsFollowed};
 
 use crate::kept::may_stay_free;
 use crate::moves::{MAX_MOVES, Move, push_moves};
@@ -45,6 +46,43 @@ impl FollowedMoves {
     }
 }
 
+/// The same, and of which boundary they are.
+#[derive(Debug, Drop)]
+pub struct Moves {
+    pub boundary: u8,
+    pub followed: FollowedMoves,
+}
+
+impl Moves {
+    pub fn at(advert: &Advert, weights: &AppWeights, kept: &[Path], boundary: u8) -> Self
+        requires open { boundary < 8 }
+        requires kept { AreAllowed advert.now kept.now }
+        ensures boundary { result.boundary ≡ boundary }
+        ensures moves { IsFollowed advert.now weights.now kept.now result }
+    {
+        let mut moves = Moves {
+            boundary,
+            followed: FollowedMoves::none(),
+        };
+        moves.followed.list(advert, weights, kept, boundary);
+        moves
+    }
+
+    /// Turns to the host lane after another boundary.
+    pub fn turn_to(&mut self, advert: &Advert, weights: &AppWeights, kept: &[Path], boundary: u8)
+        requires boundary { boundary < 8 }
+        requires kept { AreAllowed advert.now kept.now }
+        requires moves { IsFollowed advert.now weights.now kept.now self.old }
+        ensures boundary { self.new.boundary ≡ boundary }
+        ensures moves { IsFollowed advert.now weights.now kept.now self.new }
+    {
+        if self.boundary != boundary {
+            self.boundary = boundary;
+            self.followed.list(advert, weights, kept, boundary);
+        }
+    }
+}
+
 // Puts those from a host lane on in the place of others, from the moves of one Application after another.
 fn put_heaviest_at(
     heaviest: &mut ArrayVec<Move, MAX_MOVES>,
@@ -62,15 +100,6 @@ fn put_heaviest_at(
         push_moves(&mut moves, advert, weights, kept, host, app.number);
         retain_all(heaviest, moves.as_slice());
     }
-}
-
-/// Puts those of these moves in the place of others.
-pub fn put_heaviest(heaviest: &mut ArrayVec<Move, MAX_MOVES>, moves: &[Move])
-    requires { length moves.now ≤ MAX_MOVES }
-    ensures { AreHeaviest moves.now heaviest.new.items }
-{
-    heaviest.clear();
-    retain_all(heaviest, moves);
 }
 
 // Adds those of these moves that none on the same lanes outweighs, and leaves out the ones that they outweigh.

@@ -73,7 +73,7 @@ fn good_output(
     tells_first: bool,
     advert: &Advert,
     weights: &AppWeights,
-    certificate: &Certificate<STATES>,
+    certificate: &Certificate<'_, STATES>,
 ) -> Result<Vec<u8>, AllocError>
     requires { IsGood advert.now weights.now certificate.now }
     ensures { IfOk result (λ text. TellsGood is_json tells_first advert.now weights.now certificate.now text.items) }
@@ -96,7 +96,7 @@ fn said_first(
     is_asked: bool,
     advert: &Advert,
     weights: &AppWeights,
-    certificate: &Certificate<STATES>,
+    certificate: &Certificate<'_, STATES>,
 ) -> Option<bool>
     requires { IsGood advert.now weights.now certificate.now }
     ensures { SaysFirst is_asked advert.now weights.now certificate.now result }
@@ -113,7 +113,7 @@ fn good_text(
     is_first: Option<bool>,
     advert: &Advert,
     weights: &AppWeights,
-    certificate: &Certificate<STATES>,
+    certificate: &Certificate<'_, STATES>,
 ) -> Result<Vec<u8>, AllocError>
     requires { IsGood advert.now weights.now certificate.now }
     ensures { IfOk result (λ text. text.items ≡ text_of (good_lines is_first advert.now weights.now certificate.now)) }

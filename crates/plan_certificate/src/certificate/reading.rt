@@ -6,10 +6,10 @@ ghost use Rattle.text_lines.specs.Lines.{lines_of};
 ghost use Rattle.plan_certificate.specs.declared.line.Line.{Line};
 ghost use Rattle.plan_certificate.specs.declared.stage.Stage.TheVariants as stages;
 ghost use Rattle.plan_certificate.specs.declared.plan.TheConstants.{MAX_PATHS};
-ghost use Rattle.plan_certificate.specs.Certificates.{entry_place, HasStates};
 ghost use Rattle.plan_certificate.specs.CertificateText.{line_text, IsLineInRange, IsTextOf};
 ghost use Rattle.plan_certificate.specs.CertificateFaults.{IsLineFault, IsFirstFault};
 ghost use Rattle.plan_certificate.specs.CertificateDrafts.{lines_so_far, text_so_far, HasKeptAlone, MayCome, IsDraft};
+ghost use Rattle.plan_certificate.specs.ReadLines.{claim_of, IsLineAt};
 
 use super::{Certificate, Entries};
 use crate::fault::CertificateFault;
@@ -20,9 +20,18 @@ use crate::stage::Stage;
 use arrayvec::ArrayVec;
 use text_lines::split_line;
 
-impl<const STATES: usize> Certificate<STATES> {
+/// What a certificate's text says before its states.
+#[derive(Debug, Drop)]
+pub(crate) struct Head {
+    pub(crate) paired: bool,
+    pub(crate) weight: u64,
+    pub(crate) kept: Plan,
+    pub(crate) plan: Plan,
+}
+
+impl<'text, const STATES: usize> Certificate<'text, STATES> {
     /// The certificate of a text, or the text's first fault.
-    pub fn read(text: &[u8]) -> Result<Self, CertificateFault>
+    pub fn read(text: &'text [u8]) -> Result<Self, CertificateFault>
         ensures ok { IfOk result (IsTextOf STATES (lines_of text.now)) }
         ensures err { IfErr result (IsFirstFault STATES (lines_of text.now)) }
     {
@@ -37,7 +46,42 @@ impl<const STATES: usize> Certificate<STATES> {
     pub fn blank() -> Self
         ensures { result ≡ record { paired = false; weight = 0; kept = []; paths = []; entries = [] } }
     {
+        let head = Head::blank();
         Certificate {
+            paired: head.paired,
+            weight: head.weight,
+            kept: head.kept,
+            plan: head.plan,
+            entries: Entries::new(),
+        }
+    }
+
+    /// Makes a blank certificate that of a text, in its place, if the text has no fault.
+    pub fn take(&mut self, text: &'text [u8]) -> Result<(), CertificateFault>
+        requires { self.old ≡ record { paired = false; weight = 0; kept = []; paths = []; entries = [] } }
+        ensures ok { OnOk result (IsTextOf STATES (lines_of text.now) self.new) }
+        ensures err { IfErr result (IsFirstFault STATES (lines_of text.now)) }
+    {
+        let mut head = Head::blank();
+        let read = read_lines(&mut head, &mut self.entries, text);
+        let _rising = self.entries.is_full();
+        if let Err(fault) = read {
+            return Err(fault);
+        }
+        self.paired = head.paired;
+        self.weight = head.weight;
+        self.kept = head.kept;
+        self.plan = head.plan;
+        Ok(())
+    }
+}
+
+impl Head {
+    // Nothing, before any line.
+    fn blank() -> Self
+        ensures { result ≡ record { paired = false; weight = 0; kept = []; plan = [] } }
+    {
+        Head {
             paired: false,
             weight: 0,
             kept: Plan {
@@ -46,128 +90,155 @@ impl<const STATES: usize> Certificate<STATES> {
             plan: Plan {
                 paths: ArrayVec::new(),
             },
-            entries: Entries::new(),
         }
     }
+}
 
-    /// Makes a blank certificate that of a text, in its place, if the text has no fault.
-    pub fn take(&mut self, text: &[u8]) -> Result<(), CertificateFault>
-        requires { self.old ≡ record { paired = false; weight = 0; kept = []; paths = []; entries = [] } }
-        ensures ok { OnOk result (IsTextOf STATES (lines_of text.now) self.new) }
-        ensures err { IfErr result (IsFirstFault STATES (lines_of text.now)) }
-    {
-        let mut stage = Stage::Start;
-        let mut number = 0;
-        let mut rest = text;
-        while let Some((line, after)) = split_line(rest) {
-            number += 1;
-            match self.take_line(stage, line, number) {
-                Ok(next) => stage = next,
-                Err(fault) => return Err(fault),
-            }
-            rest = after;
+// Takes the lines of a text.
+fn read_lines<'text, const STATES: usize>(
+    head: &mut Head,
+    entries: &mut Entries<'text, STATES>,
+    text: &'text [u8],
+) -> Result<(), CertificateFault>
+    requires head { head.old ≡ record { paired = false; weight = 0; kept = []; plan = [] } }
+    requires entries { entries.old.entries ≡ [] }
+    ensures ok { OnOk result (IsTextOf STATES (lines_of text.now) (claim_of head.new entries.new.entries)) }
+    ensures err { IfErr result (IsFirstFault STATES (lines_of text.now)) }
+{
+    entries.begin(text);
+    let mut stage = Stage::Start;
+    let (mut number, mut at) = (0, 0);
+    let mut rest = text;
+    while let Some((line, after)) = split_line(rest) {
+        number += 1;
+        match take_line(head, entries, stage, line, number, at) {
+            Ok(next) => stage = next,
+            Err(fault) => return Err(fault),
         }
-        if stage != Stage::Ended {
-            return Err(CertificateFault::NoEnd);
+        at += line.len() + 1;
+        rest = after;
+    }
+    if stage != Stage::Ended {
+        return Err(CertificateFault::NoEnd);
+    }
+    Ok(())
+}
+
+// Takes the line of this number, which follows the lines so far and begins there in the text.
+fn take_line<const STATES: usize>(
+    head: &mut Head,
+    entries: &mut Entries<'_, STATES>,
+    stage: Stage,
+    line: &[u8],
+    number: usize,
+    at: usize,
+) -> Result<Stage, CertificateFault>
+    requires drafted { IsDraft STATES stage (claim_of head.old entries.old.entries) }
+    requires counted { number ≡ length (lines_so_far stage (claim_of head.old entries.old.entries)) + 1 }
+    requires line { IsLineAt entries.old.text at line.now number }
+    ensures drafted { IfOk result (λ next. IsDraft STATES next (claim_of head.new entries.new.entries)) }
+    ensures added { IfOk result (λ next. text_so_far next (claim_of head.new entries.new.entries)
+        ≡ text_so_far stage (claim_of head.old entries.old.entries) ++ line.now ∷ []) }
+    ensures fault { IfErr result (IsLineFault STATES (text_so_far stage (claim_of head.old entries.old.entries) ++ line.now ∷ [])) }
+    ensures text { entries.new.text ≡ entries.old.text }
+    ensures short { OnOk result (length line.now ≤ 31) }
+{
+    let Some(read) = read_line(line) else {
+        return Err(CertificateFault::BadLine(number));
+    };
+    if !may_come(head, entries, stage, read) {
+        return Err(CertificateFault::BadLine(number));
+    }
+    add(head, entries, stage, read, number, at)
+}
+
+// Kept paths come before paths, and paths before states.
+fn may_come<const STATES: usize>(
+    head: &Head,
+    entries: &Entries<'_, STATES>,
+    stage: Stage,
+    line: Line,
+) -> bool
+    ensures { IsTrue result ↔ MayCome stage (claim_of head.now entries.now.entries) line }
+{
+    match line {
+        Line::Header(_) | Line::KeptHeader(_) => stage == Stage::Start,
+        Line::Weight(_) => stage == Stage::Headed || stage == Stage::KeptHeaded,
+        Line::KeepLine(_) => {
+            stage == Stage::KeptWeighed || stage == Stage::Weighed && has_kept_alone(head, entries)
         }
-        Ok(())
+        Line::PathLine(_) => stage == Stage::Weighed && entries.is_empty(),
+        Line::StateLine(_) | Line::End => stage == Stage::Weighed,
     }
+}
 
-    // Takes the line of this number, which follows the lines so far.
-    fn take_line(
-        &mut self,
-        stage: Stage,
-        line: &[u8],
-        number: usize,
-    ) -> Result<Stage, CertificateFault>
-        requires drafted { IsDraft STATES stage self.old }
-        requires counted { number ≡ length (lines_so_far stage self.old) + 1 }
-        ensures drafted { IfOk result (λ next. IsDraft STATES next self.new) }
-        ensures added { IfOk result (λ next. text_so_far next self.new ≡ text_so_far stage self.old ++ line.now ∷ []) }
-        ensures fault { IfErr result (IsLineFault STATES (text_so_far stage self.old ++ line.now ∷ [])) }
-    {
-        let Some(line) = read_line(line) else {
-            return Err(CertificateFault::BadLine(number));
-        };
-        if !self.may_come(stage, line) {
-            return Err(CertificateFault::BadLine(number));
+fn has_kept_alone<const STATES: usize>(head: &Head, entries: &Entries<'_, STATES>) -> bool
+    ensures { IsTrue result ↔ HasKeptAlone (claim_of head.now entries.now.entries) }
+{
+    let (kept, plan) = (&head.kept, &head.plan);
+    !kept.paths.is_empty() && plan.paths.is_empty() && entries.is_empty()
+}
+
+// Adds what the next line says.
+fn add<const STATES: usize>(
+    head: &mut Head,
+    entries: &mut Entries<'_, STATES>,
+    stage: Stage,
+    line: Line,
+    number: usize,
+    at: usize,
+) -> Result<Stage, CertificateFault>
+    requires drafted { IsDraft STATES stage (claim_of head.old entries.old.entries) }
+    requires in_turn { MayCome stage (claim_of head.old entries.old.entries) line }
+    requires fits { IsLineInRange line }
+    requires counted { number ≡ length (lines_so_far stage (claim_of head.old entries.old.entries)) + 1 }
+    requires line { IsLineAt entries.old.text at (line_text line) number }
+    ensures drafted { IfOk result (λ next. IsDraft STATES next (claim_of head.new entries.new.entries)) }
+    ensures added { IfOk result (λ next. lines_so_far next (claim_of head.new entries.new.entries)
+        ≡ lines_so_far stage (claim_of head.old entries.old.entries) ++ line ∷ []) }
+    ensures fault { IfErr result (IsLineFault STATES (text_so_far stage (claim_of head.old entries.old.entries) ++ line_text line ∷ [])) }
+    ensures text { entries.new.text ≡ entries.old.text }
+{
+    match line {
+        Line::Header(paired) => Ok(headed(head, paired, Stage::Headed)),
+        Line::KeptHeader(paired) => Ok(headed(head, paired, Stage::KeptHeaded)),
+        Line::Weight(weight) => {
+            head.weight = weight;
+            Ok(weighed(stage))
         }
-        self.add(stage, line, number)
-    }
-
-    // Kept paths come before paths, and paths before states.
-    fn may_come(&self, stage: Stage, line: Line) -> bool
-        ensures { IsTrue result ↔ MayCome stage self.now line }
-    {
-        match line {
-            Line::Header(_) | Line::KeptHeader(_) => stage == Stage::Start,
-            Line::Weight(_) => stage == Stage::Headed || stage == Stage::KeptHeaded,
-            Line::KeepLine(_) => {
-                stage == Stage::KeptWeighed || stage == Stage::Weighed && self.has_kept_alone()
+        Line::KeepLine(path) => {
+            if !add_path(&mut head.kept, path) {
+                return Err(CertificateFault::TooMany);
             }
-            Line::PathLine(_) => stage == Stage::Weighed && self.entries.is_empty(),
-            Line::StateLine(_) | Line::End => stage == Stage::Weighed,
+            Ok(Stage::Weighed)
         }
-    }
-
-    fn has_kept_alone(&self) -> bool
-        ensures { IsTrue result ↔ HasKeptAlone self.now }
-    {
-        let (kept, plan) = (&self.kept, &self.plan);
-        !kept.paths.is_empty() && plan.paths.is_empty() && self.entries.is_empty()
-    }
-
-    // Adds what the next line says.
-    fn add(&mut self, stage: Stage, line: Line, number: usize) -> Result<Stage, CertificateFault>
-        requires drafted { IsDraft STATES stage self.old }
-        requires in_turn { MayCome stage self.old line }
-        requires fits { IsLineInRange line }
-        requires counted { number ≡ length (lines_so_far stage self.old) + 1 }
-        ensures drafted { IfOk result (λ next. IsDraft STATES next self.new) }
-        ensures added { IfOk result (λ next. lines_so_far next self.new ≡ lines_so_far stage self.old ++ line ∷ []) }
-        ensures fault { IfErr result (IsLineFault STATES (text_so_far stage self.old ++ line_text line ∷ [])) }
-    {
-        match line {
-            Line::Header(paired) => Ok(self.headed(paired, Stage::Headed)),
-            Line::KeptHeader(paired) => Ok(self.headed(paired, Stage::KeptHeaded)),
-            Line::Weight(weight) => {
-                self.weight = weight;
-                Ok(weighed(stage))
+        Line::PathLine(path) => {
+            if !add_path(&mut head.plan, path) {
+                return Err(CertificateFault::TooMany);
             }
-            Line::KeepLine(path) => {
-                if !add_path(&mut self.kept, path) {
-                    return Err(CertificateFault::TooMany);
-                }
-                Ok(Stage::Weighed)
-            }
-            Line::PathLine(path) => {
-                if !add_path(&mut self.plan, path) {
-                    return Err(CertificateFault::TooMany);
-                }
-                Ok(Stage::Weighed)
-            }
-            Line::StateLine(entry) => {
-                if !self.entries.are_below(&entry) {
-                    return Err(CertificateFault::OutOfOrder(number));
-                }
-                if self.entries.is_full() {
-                    return Err(CertificateFault::TooMany);
-                }
-                self.entries.push(entry);
-                Ok(Stage::Weighed)
-            }
-            Line::End => Ok(Stage::Ended),
+            Ok(Stage::Weighed)
         }
+        Line::StateLine(entry) => {
+            if !entries.are_below(&entry) {
+                return Err(CertificateFault::OutOfOrder(number));
+            }
+            if entries.is_full() {
+                return Err(CertificateFault::TooMany);
+            }
+            entries.push_stated(entry, at);
+            Ok(Stage::Weighed)
+        }
+        Line::End => Ok(Stage::Ended),
     }
+}
 
-    // What a header leads to, which also says whether the certificate is for a module that pairs first lanes.
-    fn headed(&mut self, paired: bool, next: Stage) -> Stage
-        ensures marked { self.new ≡ record self.old { paired = paired } }
-        ensures next { result ≡ next }
-    {
-        self.paired = paired;
-        next
-    }
+// What a header leads to, which also says whether the certificate is for a module that pairs first lanes.
+fn headed(head: &mut Head, paired: bool, next: Stage) -> Stage
+    ensures marked { head.new ≡ record head.old { paired = paired } }
+    ensures next { result ≡ next }
+{
+    head.paired = paired;
+    next
 }
 
 // What a weight leads to.

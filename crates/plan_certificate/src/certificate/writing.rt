@@ -22,7 +22,7 @@ pub const HEAD: usize = 314;
 /// The most bytes of the line of an entry.
 pub const ENTRY_LINE: usize = 32;
 
-impl<const STATES: usize> Certificate<STATES> {
+impl<const STATES: usize> Certificate<'_, STATES> {
     /// The text of the certificate.
     pub fn write(&self, alloc: Global) -> Result<Vec<u8>, AllocError>
         ensures written { IfOk result (λ text. text.items ≡ text_of (certificate_lines self.now)) }
@@ -40,14 +40,16 @@ impl<const STATES: usize> Certificate<STATES> {
 // Most lines are states, so these are put together byte by byte.
 fn write_entries<const STATES: usize>(
     text: &mut Vec<u8>,
-    entries: &Entries<STATES>,
+    entries: &Entries<'_, STATES>,
 ) -> Result<(), AllocError>
-    ensures written { OnOk result (text.new.items ≡ text.old.items ++ text_of (map line_text (map (λ entry. Line.StateLine entry) entries.now))) }
-    ensures each { OnOk result (AllByRecursion IsEntryInRange entries.now) }
-    ensures few { OnOk result (length entries.now ≤ STATES) }
+    ensures written { OnOk result (text.new.items ≡ text.old.items ++ text_of (map line_text (map (λ entry. Line.StateLine entry) entries.now.entries))) }
+    ensures each { OnOk result (AllByRecursion IsEntryInRange entries.now.entries) }
+    ensures few { OnOk result (length entries.now.entries ≤ STATES) }
 {
-    for index in 0..entries.len() {
-        text.extend_from_slice(entry_line(entries.at(index)).as_slice())?;
+    let mut from = 0;
+    while let Some(entry) = entries.first_from(from) {
+        text.extend_from_slice(entry_line(entry).as_slice())?;
+        from = entry.place() + 1;
     }
     Ok(())
 }

@@ -15,6 +15,6 @@ overflow_add-result c =
     let table = c.args.table.now in
     let decision : Decision = move_decision c.args.state.now c.args.one.now in
     let place : c.place.result ≡ state_place decision.end = c.place.ensures ∙ ap (λ (d : Decision). state_place d.end) c.decision.ensures in
-    let rest : c.at-rest.result ≡ gain_at table decision.end = c.at-rest.ensures ∙ ap (λ (n : ℕ). get_or table n 0) place in
+    let rest : c.at-rest.result ≡ gain_at table decision.end = c.at-rest.ensures.value ∙ ap (λ (n : ℕ). get_or table n 0) place in
     let small = small_in table decision.end c.requires.table c.requires.leads_on.within in
     omega (arith, rest, small, c.requires.leads_on.light)

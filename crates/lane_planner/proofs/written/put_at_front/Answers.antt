@@ -16,7 +16,7 @@ returns-clause-read_back c =
     let marks = c.args.solution.now.marks in
     let table = c.args.solution.now.gains in
     let head = c.head_of-head.ensures in
-    let small = subst (λ (n : ℕ). n < 2 ^ 64) c.at-weight.ensures head.small in
+    let small = subst (λ (n : ℕ). n < 2 ^ 64) c.at-weight.ensures.value head.small in
     let are : AreEntries marks table most_states (marked_entries marks table most_states) = are_marked marks table most_states (omega arith) in
     let claim = claim_of c.args.problem.now c.args.solution.now in
     written_lines most_states claim (is_readable most_states claim small head.kept_in_range head.paths_in_range c.put_entries.ensures.each are.states head.few_kept head.few_paths are.few)
@@ -36,7 +36,7 @@ returns-clause-put c =
     let begun = both_put head states before c.put.new.buffer c.put_entries.new.buffer 0 c.put.new.len c.put_entries.new.len c.put.ensures c.put_entries.ensures.put in
     let all = both_put (head ++ states) end before c.put_entries.new.buffer after 0 c.put_entries.new.len c.put-2.new.len begun c.put-2.ensures in
     let paired = ap (λ (b : Bool). text_of (map line_text (head_lines b c.at-weight.result problem.kept.now plan))) c.is_paired.ensures in
-    let weighs = ap (λ (n : ℕ). text_of (map line_text (head_lines problem.advert.now.paired n problem.kept.now plan))) c.at-weight.ensures in
+    let weighs = ap (λ (n : ℕ). text_of (map line_text (head_lines problem.advert.now.paired n problem.kept.now plan))) c.at-weight.ensures.value in
     let head_is = c.as_slice.ensures.value ∙ c.head_of-head.ensures.written ∙ paired ∙ weighs in
     let whole = whole_text claim head (head ++ states) ((head ++ states) ++ end) head_is refl (ap (λ (l : List ℕ). (head ++ states) ++ l) c.end_line.ensures) in
     subst (λ (text : List ℕ). Puts text before 0 after c.put-2.new.len) whole all

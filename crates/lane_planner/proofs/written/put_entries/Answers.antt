@@ -41,7 +41,7 @@ loop-place-preserved c =
       | then-has w ↦
           let entry : Entry = w.entry_at.result in
           let piece = w.as_slice.result.now in
-          let more : so_far ++ entry ∷ [] ≡ all = ap (λ (e : Entry). so_far ++ e ∷ []) w.entry_at.ensures ∙ sym (one_marked marks table place (sym c.has.ensures ∙ w.if-has.true)) in
+          let more : so_far ++ entry ∷ [] ≡ all = ap (λ (e : Entry). so_far ++ e ∷ []) w.entry_at.ensures.entry ∙ sym (one_marked marks table place (sym c.has.ensures ∙ w.if-has.true)) in
           let line = w.as_slice.ensures.value ∙ w.entry_line-line.ensures.written in
           let text : written ++ piece ≡ lines_of_entries all =
           entry_text [] written (written ++ piece) so_far entry refl (ap (λ (l : List ℕ). written ++ l) line) ∙ ap lines_of_entries more in

@@ -11,7 +11,7 @@ pub returns-in-None-clause-verdict : goal.returns-in-None-clause-verdict
 unfolding verdict
 returns-in-None-clause-verdict g c =
     let of : Claim → Option Flaw = λ certificate. first_fault (all_flaws c.args.advert.now c.args.weights.now certificate) in
-    let whole : record { paired = c.certificate.inside.paired; weight = c.certificate.inside.weight; kept = c.certificate.inside.kept; paths = c.certificate.inside.plan; entries = c.certificate.inside.entries } ≡ c.args.certificate.now = c.certificate.view_is in
+    let whole : record { paired = c.certificate.inside.paired; weight = c.certificate.inside.weight; kept = c.certificate.inside.kept; paths = c.certificate.inside.plan; entries = c.certificate.inside.entries.entries } ≡ c.args.certificate.now = c.certificate.view_is in
     ap judged (sym c.in-None.is ∙ c.flaw.ensures ∙ ap of whole)
 
 pub returns-in-None-clause-good : goal.returns-in-None-clause-good
@@ -27,7 +27,7 @@ pub returns-in-Some-clause-verdict : goal.returns-in-Some-clause-verdict
 unfolding verdict
 returns-in-Some-clause-verdict g c =
     let of : Claim → Option Flaw = λ certificate. first_fault (all_flaws c.args.advert.now c.args.weights.now certificate) in
-    let whole : record { paired = c.certificate.inside.paired; weight = c.certificate.inside.weight; kept = c.certificate.inside.kept; paths = c.certificate.inside.plan; entries = c.certificate.inside.entries } ≡ c.args.certificate.now = c.certificate.view_is in
+    let whole : record { paired = c.certificate.inside.paired; weight = c.certificate.inside.weight; kept = c.certificate.inside.kept; paths = c.certificate.inside.plan; entries = c.certificate.inside.entries.entries } ≡ c.args.certificate.now = c.certificate.view_is in
     ap judged (sym c.in-Some.is ∙ c.flaw.ensures ∙ ap of whole)
 
 pub returns-in-Some-clause-good : goal.returns-in-Some-clause-good

@@ -9,5 +9,5 @@ use Rattle.plan_certificate.proofs.checker.decisions_flaw.Given as goal
 -- the decisions so far have no flaw
 abbrev pub invariant-loop-one : goal.invariant-loop-one
 invariant-loop-one g l =
-    first_fault (flaws_by (decision_flaws l.entries (l.number, l.entry)) l.state (drop l.one-index l.moves))
-    ≡ first_fault (decisions_flaws l.entries (l.number, l.entry) (decisions_by l.may_stay_free (state_of l.entry) l.moves))
+    first_fault (flaws_by (decision_flaws l.entries.entries (l.number, l.entry)) l.state (drop l.one-index l.moves))
+    ≡ first_fault (decisions_flaws l.entries.entries (l.number, l.entry) (decisions_by l.may_stay_free (state_of l.entry) l.moves))
