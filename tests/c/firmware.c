@@ -314,8 +314,32 @@ static void check_text(const char *what, const char *text, uint32_t status, uint
 
 static const char good[] = "certificate 1\nweight 400\npath 1 1 1\nstate 0 00 400\n" REST;
 
+/* A certificate that is good but for a state that no decision reaches, and where the lane after it leads. */
+static void check_unreached(const char *what, const char *potential, const char *later, uint8_t reason, size_t number) {
+    char text[500];
+    snprintf(text, sizeof text,
+             "certificate 1\nweight 400\npath 1 1 1\nstate 0 00 400\nstate 1 00 0\nstate 2 00 0\nstate 3 00 0\n"
+             "state 4 00 0\nstate 5 00 0\nstate 6 00 0\nstate 7 00 0\nstate 7 ff %s\nstate 8 00 0\nstate 8 0f 0\n%s"
+             "end\n",
+             potential, later);
+    check_text(what, text, DOVECOUNTER_DONE, reason, number);
+}
+
+/* Potentials from 254 * 2 ^ 32 on are looked up in the text. */
+static void try_large(void) {
+    check_unreached("the largest", "18446744073709551615", "state 8 ff 18446744073709551615\n", 0, 0);
+    check_unreached("one too low", "18446744073709551614", "state 8 ff 18446744073709551615\n", 6, 9);
+    check_unreached("the last that is kept", "1090921693183", "state 8 ff 1090921693184\n", 6, 9);
+    check_unreached("the first that is not", "1090921693184", "state 8 ff 1090921693183\n", 0, 0);
+    check_unreached("two that are not", "1099511627776", "state 8 ff 1090921693184\n", 0, 0);
+    check_unreached("one that is not, and nothing", "1090921693184", "", 5, 9);
+    check_text("the start's", "certificate 1\nweight 400\npath 1 1 1\nstate 0 00 18446744073709551615\n" REST,
+               DOVECOUNTER_DONE, 7, 0);
+}
+
 static void try_check(void) {
     struct dovecounter_judgement judgement;
+    try_large();
     check_text("a good certificate", good, DOVECOUNTER_DONE, 0, 0);
     check_text("CT1", "certificate 5\n", DOVECOUNTER_BAD_LINE, 0, 0);
     check_text("CT2", "certificate 1\nweight 0\nstate 1 00 0\nstate 0 00 0\nend\n", DOVECOUNTER_OUT_OF_ORDER, 0, 0);

@@ -30,3 +30,14 @@ fn has_room_for_so_many_states(rt: HostRuntime) -> Result<(), Fail> {
     );
     Ok(())
 }
+
+// What five bytes have no room for is taken from the text.
+#[test]
+fn keeps_large_potentials(rt: HostRuntime) -> Result<(), Fail> {
+    let text = b"certificate 2\nweight 5\nkeep 15 8 8\npath 1 1 1\nstate 0 00 1090921693183\n\
+        state 0 05 1090921693184\nstate 3 10 18446744073709551615\nstate 3 1f 0\n\
+        state 8 ff 1099511627776\nend\n";
+    let certificate = Certificate::<2304>::read(text)?;
+    assert_eq!(rt; certificate.write(rt.alloc())?.as_slice(), text.as_slice());
+    Ok(())
+}
