@@ -21,7 +21,9 @@ static struct dovecounter_durations durations;
 static struct dovecounter_identity identity;
 static struct dovecounter_flags flags;
 static struct dovecounter_monitors monitors;
-static const char certificate[] = "certificate 1\nweight 0\nstate 0 00 0\nend\n";
+/* Potentials that are looked up in the text take most. */
+static const char certificate[] =
+    "certificate 1\nweight 0\nstate 0 00 18446744073709551615\nstate 1 00 18446744073709551615\nend\n";
 
 static struct dovecounter_patience advertised;
 
