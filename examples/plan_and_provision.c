@@ -12,11 +12,11 @@ void sleep_ms(uint32_t milliseconds);
 static uint8_t transact(void *context, const struct dovecounter_operation *operation, uint8_t bytes[128]) {
     (void)context;
     uint8_t address = operation->device >> 1;
-    if (operation->kind == DOVECOUNTER_FETCH)
-        return i2c_fetch(address, operation->offset, bytes, operation->count) ? DOVECOUNTER_FETCHED
-                                                                              : DOVECOUNTER_REFUSED;
-    return i2c_store(address, operation->offset, operation->bytes, operation->count) ? DOVECOUNTER_STORED
-                                                                                     : DOVECOUNTER_REFUSED;
+    bool fetches = operation->kind == DOVECOUNTER_FETCH;
+    bool done = fetches ? i2c_fetch(address, operation->offset, bytes, operation->count)
+                        : i2c_store(address, operation->offset, operation->bytes, operation->count);
+    if (!done) return DOVECOUNTER_REFUSED;
+    return fetches ? DOVECOUNTER_FETCHED : DOVECOUNTER_STORED;
 }
 
 static void pause(void *context, uint32_t milliseconds) {

@@ -167,6 +167,6 @@ parts_blank cells all = record {
   high = length-replicate {A = ℕ} cells 0 ∙ all;
   small = λ cell. elim (cases_lt cell cells) [
     | inl inside ↦ omega (arith, get_or-replicate {A = ℕ} cells cell 0 0 inside)
-    | inr past ↦ omega (arith, get_or_past (replicate cells 0) cell 0 (omega (arith, past, length-replicate {A = ℕ} cells 0)))
+    | inr past ↦ omega (arith, get_or_past {X = ℕ} (replicate cells 0) cell 0 (omega (arith, past, length-replicate {A = ℕ} cells 0)))
   ];
 }
