@@ -12,9 +12,7 @@ use Rattle.module_metrics.specs.Answers.{code_of, first_fault, metrics_of, told_
 use Rattle.module_metrics.specs.Exposition.{Label, exposition}
 use Rattle.module_metrics.specs.ModuleMetrics.{module_metrics}
 use Rattle.reports.proofs.FetchedReports.{fetched_reports}
-use Rattle.reports.specs.FlagsByFamily.{flags_entries, flags_fault, flags_told}
-use Rattle.reports.specs.Inventory.{inventory_entries, inventory_fault}
-use Rattle.reports.specs.MonitorsByFamily.{monitors_entries, monitors_fault}
+use Rattle.reports.specs.Reports.{flags_entries, flags_fault, flags_told, inventory_entries, inventory_fault, monitors_entries, monitors_fault}
 use Rattle.reports.specs.SameReports.{FetchedReportsSame, IsSame, ReportsSame}
 use Rattle.reports.specs.declared.fault.ReportFault.{ReportFault}
 use Rattle.command_line.specs.Commands.{in_form}

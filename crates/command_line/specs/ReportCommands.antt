@@ -12,9 +12,7 @@ use Rattle.report_entries.specs.Entries.{Entry}
 use Rattle.report_entries.specs.EntryJson.{json_text, report_json}
 use Rattle.report_entries.specs.EntryText.{report_text}
 use Rattle.reports.specs.Details.{details_entries, details_fault}
-use Rattle.reports.specs.Inventory.{inventory_entries, inventory_fault}
-use Rattle.reports.specs.MonitorsByFamily.{monitors_entries, monitors_fault}
-use Rattle.reports.specs.FlagsByFamily.{flags_entries, flags_fault}
+use Rattle.reports.specs.Reports.{flags_entries, flags_fault, inventory_entries, inventory_fault, monitors_entries, monitors_fault}
 use Rattle.reports.specs.declared.fault.ReportFault.{ReportFault}
 use Rattle.reports.specs.declared.fault.ReportFault.TheVariants.{Memory as NoMemory}
 use Rattle.command_line.specs.declared.choice.commands.ReportName.{ReportName}

@@ -12,7 +12,9 @@ use Rattle.conversations.specs.Selecting.{since_refusal, trusted}
 use Rattle.control_sets.specs.declared.procedures.task.Task.{Task}
 use Rattle.control_sets.specs.declared.procedures.task.Task.TheVariants.{FindReady, AwaitDeactivated, AwaitApplied, CheckActive, AwaitActivated}
 use Rattle.bus_model.specs.SameOperation.{same_op}
-use Rattle.control_sets.specs.Pages.{EachStep, History, is_page_confirmed, is_open, is_read, leaves_open, may_select, read_selection, selection}
+use Rattle.paged_memory.specs.declared.page_addressing.PageAddressing.TheVariants.{BankAndPage}
+use Rattle.paged_memory.specs.PageAddressing.{is_read, leaves_open}
+use Rattle.control_sets.specs.Pages.{EachStep, History, is_page_confirmed, is_open, may_select, read_selection, selection}
 use Rattle.control_sets.specs.Tasks.{operation, page_of}
 use Rattle.control_sets.specs.Procedures.{EachAnswers, EachGoesOn}
 use Rattle.control_sets.specs.OutcomeSteps.{IsAmong, Newest}
@@ -74,7 +76,7 @@ selecting tasks step before turn e = elim turn.does as (λ _. IsSelection step) 
   | inr (inr works) ↦ absurd (contradicts e (ap may_select works.is ∙ not_selecting turn.task))
 ]
 
-leaves : (step : Step) → IsSelection step → leaves_open step ≡ true
+leaves : (step : Step) → IsSelection step → leaves_open BankAndPage step ≡ true
 leaves step (inl e) = ap (λ (op : Op). may_select op || (same_op read_selection op && not (is_read step.reply))) e
 leaves step (inr e) = ap (λ (op : Op). may_select op || (same_op read_selection op && not (is_read step.reply))) e
 
@@ -85,7 +87,7 @@ open_reads tasks step before turn e = elim turn.does as (λ _. step.op ≡ read_
   | inr (inr works) ↦ absurd (contradicts e works.closed)
 ]
 
-leaves_unread : (step : Step) → AwaitsReadBack step → leaves_open step ≡ true
+leaves_unread : (step : Step) → AwaitsReadBack step → leaves_open BankAndPage step ≡ true
 leaves_unread step (inl selects) = leaves step selects
 leaves_unread step (inr none) = λ i. may_select (none.0 i) || (same_op read_selection (none.0 i) && not (is_read (none.1 i)))
 
@@ -101,7 +103,7 @@ refused (Bytes bytes) answers e = cc
 refused Done answers e = absurd answers
 refused Refused answers e = refl
 
-awaits : {doubts : Bool} (tasks : List Task) (last : Step) (before : History) → Turn doubts tasks last before → Answers last.op last.reply → leaves_open last ≡ true → AwaitsReadBack last
+awaits : {doubts : Bool} (tasks : List Task) (last : Step) (before : History) → Turn doubts tasks last before → Answers last.op last.reply → leaves_open BankAndPage last ≡ true → AwaitsReadBack last
 awaits tasks last before turn fit e = elim (or_cases (may_select last.op) (same_op read_selection last.op && not (is_read last.reply)) e) as (λ _. AwaitsReadBack last) [
   | inl selects ↦ inl (selecting tasks last before turn selects)
   | inr unread ↦

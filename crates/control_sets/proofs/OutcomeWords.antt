@@ -14,7 +14,7 @@ use Rattle.bus_model.proofs.SameOperations.{ops_are, ops_same}
 use Rattle.control_sets.specs.declared.fault.ProvisionFault.{ProvisionFault}
 use Rattle.paged_memory.specs.PageAddressing as addressing
 use Rattle.paged_memory.specs.declared.page_addressing.PageAddressing.TheVariants.{BankAndPage}
-use Rattle.control_sets.specs.Pages.{EachStep, History, is_page_confirmed, may_select, read_selection, reads_back}
+use Rattle.control_sets.specs.Pages.{EachStep, History, is_page_confirmed, may_select, read_selection}
 use Rattle.control_sets.specs.OutcomeAnswers.{Answer, EndsIn, IsAnswer}
 use Rattle.control_sets.specs.OutcomeOperations.{Confirms, CoversSelection, read_back_of}
 use Rattle.control_sets.specs.OutcomeSteps.{IsAmong}
@@ -50,14 +50,14 @@ reply_is : (page : ℕ) (reply : Reply) → addressing.is_page BankAndPage page 
 reply_is page (Bytes bytes) e = let items = selection_is page bytes.items e in λ i. Bytes (record { items = items i })
 reply_is page _ e = cc
 
-read_back_is : (page : ℕ) (step : Step) → reads_back page step ≡ true → step ≡ read_back_of page
+read_back_is : (page : ℕ) (step : Step) → addressing.reads_back BankAndPage page step ≡ true → step ≡ read_back_of page
 read_back_is page step e =
     let parts = and_parts _ _ e in
     let op = ops_are read_selection step.op parts.0 in
     let reply = reply_is page step.reply parts.1 in
     λ i. record { op = sym op i; reply = reply i }
 
-reads_it_back : (page : ℕ) → reads_back page (read_back_of page) ≡ true
+reads_it_back : (page : ℕ) → addressing.reads_back BankAndPage page (read_back_of page) ≡ true
 reads_it_back page = eq-eqb page page refl
 
 not_covering : (step : Step) (before : History) (page : ℕ) → (not (may_select step.op) && is_page_confirmed page before) ≡ true → (may_select step.op ≡ false) × (is_page_confirmed page before ≡ true)
@@ -69,7 +69,7 @@ not_covering step before page e = by (may_select step.op) refl e where
 pub confirms_page : (page : ℕ) (history : History) → is_page_confirmed page history ≡ true → Confirms page history
 confirms_page page [] e = cc
 confirms_page page (step ∷ before) e =
-    elim (or_cases (reads_back page step) (not (may_select step.op) && is_page_confirmed page before) e) as (λ _. Confirms page (step ∷ before)) [
+    elim (or_cases (addressing.reads_back BankAndPage page step) (not (may_select step.op) && is_page_confirmed page before) e) as (λ _. Confirms page (step ∷ before)) [
       | inl now ↦ record { since = []; before = before; split = ap (λ (step : Step). step ∷ before) (read_back_is page step now); kept = tt }
       | inr earlier ↦
           let parts = not_covering step before page earlier in

@@ -32,12 +32,12 @@ stops power stage (Some (Reserved code)) history come = refl
 stops power stage (Some fault) [] come = absurd come
 stops power stage (Some fault) (step ∷ before) come = absurd come.0
 
-module _ (change : PatientPower) (events : Events) (told : ToldPower events change) (limit : change.limit ≡ most_steps) where
-  pub can_power : (more : Bool) → more ≡ true → (nat_le change.steps most_steps && (can_stop change.conversation.conversation.fault && more)) ≡ true
-  can_power more no_more =
+module _ (change : PatientPower) (limit : change.limit ≡ most_steps) where
+  pub can_power : (events : Events) → ToldPower events change → (nat_le change.steps most_steps && can_stop change.conversation.conversation.fault) ≡ true
+  can_power events told =
       let (own, adds, come) = told.0 in
       let inner = change.conversation.conversation in
-      and_from _ _ (le-leb change.steps most_steps (subst (λ (n : ℕ). change.steps ≤ n) limit told.2)) (and_from _ _ (stops inner.power inner.stage inner.fault (steps_of own) come) no_more)
+      and_from _ _ (le-leb change.steps most_steps (subst (λ (n : ℕ). change.steps ≤ n) limit told.2)) (stops inner.power inner.stage inner.fault (steps_of own) come)
 
   pub same_power : patient_power change.conversation.conversation change.conversation.patience change.conversation.due change.conversation.idle change.steps ≡ change
   same_power = λ i. record { conversation = change.conversation; steps = change.steps; limit = sym limit i }

@@ -26,9 +26,6 @@ IsActivationStepBy doubts lanes step before =
     ⊎ ((IsAmong (read_active ∷ read_path_states ∷ []) step.op × Confirms status_page (trusted doubts before))
     ⊎ (IsAmong (release lanes ∷ []) step.op × Confirms control_page (trusted doubts before)))
 
-abbrev pub IsActivationStep : Lanes → Step → History → Type 0
-IsActivationStep lanes step before = IsActivationStepBy false lanes step before
-
 -- in which order the steps stand
 pub record IsActivationOrder (control : List ℕ) (lanes : Lanes) (history : History) : Type 0 where
   -- nothing is stored before the module was found ready

@@ -2,7 +2,6 @@
 -- (docs/bus.md, "Confirmed pages"; OIF-CMIS-05.0, BankSelect and PageSelect, bytes 126 and 127 of the lower memory)
 use Rattle.std.specs.Prelude.{ℕ, Bool}
 use Rattle.bus_model.specs.declared.operation.Op.{Op}
-use Rattle.bus_model.specs.declared.operation.Reply.{Reply}
 use Rattle.bus_model.specs.declared.operation.Step.{Step}
 use Rattle.paged_memory.specs.declared.page_addressing.PageAddressing.TheVariants.{BankAndPage}
 use Rattle.paged_memory.specs.PageAddressing as addressing
@@ -24,17 +23,8 @@ read_selection = addressing.read_selection BankAndPage
 abbrev pub may_select : Op → Bool
 may_select = addressing.may_select BankAndPage
 
-abbrev pub reads_back : ℕ → Step → Bool
-reads_back = addressing.reads_back BankAndPage
-
 abbrev pub is_page_confirmed : ℕ → History → Bool
 is_page_confirmed = addressing.is_page_confirmed BankAndPage
-
-abbrev pub is_read : Reply → Bool
-is_read = addressing.is_read
-
-abbrev pub leaves_open : Step → Bool
-leaves_open = addressing.leaves_open BankAndPage
 
 abbrev pub is_open : History → Bool
 is_open = addressing.is_open BankAndPage

@@ -20,50 +20,50 @@ use Rattle.field_tables.specs.Halves.{is_absent}
 use Rattle.field_tables.specs.Readings.{bit, number, reading_at}
 use Rattle.field_tables.specs.Reasons.{Reason, judged, refused_by}
 use Rattle.applications.specs.Refusals.{is_read_revision}
-use Rattle.module_decoding.specs.CmisPages.{absent_page, flag_pages, identity_pages, monitor_pages}
+use Rattle.module_decoding.specs.declared.report.DecodeFault.{DecodeFault}
+use Rattle.module_decoding.specs.declared.report.DecodeFault.TheVariants.{Module, Sff}
+use Rattle.module_decoding.specs.declared.report.Report.{Report}
+use Rattle.module_decoding.specs.declared.report.Report.TheVariants.{Inventory, Monitors, Flags}
+use Rattle.module_decoding.specs.CmisPages.{absent_page, is_flat}
 use Rattle.module_decoding.specs.declared.module_family.ModuleFault.{ModuleFault}
-use Rattle.module_decoding.specs.ModuleFamilies.{family_of, fault_in, identifier, module_fault}
+use Rattle.module_decoding.specs.ModuleFamilies as families
+use Rattle.module_decoding.specs.ModuleFamilies.{family_of, identifier, module_fault}
+use Rattle.module_decoding.specs.Reports.{fault_in, fault_of, lacked, of_sff, pages_of, sff8472_fault, sff8636_fault}
 use Rattle.sff8636_map.specs.Refusals as sff8636
 use Rattle.sff8636_map.specs.Refusals.{module_fault as qsfp_module_fault, identity_fault as qsfp_identity_fault, threshold_fault as qsfp_threshold_fault, measured_fault as qsfp_measured_fault}
 use Rattle.sff8472_map.specs.Refusals as sff8472
 use Rattle.sff8472_map.specs.Refusals.{module_fault as sfp_module_fault, flags_fault as sfp_flags_fault, measured_fault as sfp_measured_fault}
-use Rattle.firmware_api.specs.declared.status.Refusal.{Refusal}
-use Rattle.firmware_api.specs.declared.status.Refusal.TheVariants.{Module, Sff}
-use Rattle.firmware_api.specs.Identities as identities
+use Rattle.firmware_api.specs.declared.status.Refusal.TheVariants.{Decode}
 use Rattle.firmware_api.specs.Identities.{identity_refusal}
-use Rattle.firmware_api.specs.Monitors as monitors
 use Rattle.firmware_api.specs.Monitors.{monitors_refusal}
-use Rattle.firmware_api.specs.RaisedFlags as flags
 use Rattle.firmware_api.specs.RaisedFlags.{flags_refusal}
-use Rattle.firmware_api.specs.Plans.{refusal_before}
-use Rattle.firmware_api.specs.ReadModules.{lacks, unread_refusal}
 use Rattle.firmware_api.specs.Statuses.{is_answered}
 
-abbrev AreAnswered : Option Refusal → Type 0
-AreAnswered refusal = IfSome refusal (λ r. IsTrue (is_answered r))
+abbrev AreAnswered : Option DecodeFault → Type 0
+AreAnswered fault = IfSome (option_map Decode fault) (λ r. IsTrue (is_answered r))
 
 -- what applies is answered
 abbrev are_told : List (Bool × SffFault) → Bool
-are_told faults = list_all (λ fault. not fault.0 || is_answered (Sff fault.1)) faults
+are_told faults = list_all (λ fault. not fault.0 || is_answered (Decode (Sff fault.1))) faults
 
-first_told : (faults : List (Bool × SffFault)) → IsTrue (are_told faults) → AreAnswered (option_map Sff (first_fault faults))
+first_told : (faults : List (Bool × SffFault)) → IsTrue (are_told faults) → AreAnswered (of_sff (first_fault faults))
 first_told [] all = tt
 first_told ((applies, fault) ∷ faults) all =
-    (elim applies as (λ b. IsTrue ((not b || is_answered (Sff fault)) && are_told faults) →
-    AreAnswered (option_map Sff (option_map (λ (f : Bool × SffFault). f.1) (cond b (Some (b, fault)) (find (λ (f : Bool × SffFault). f.0) faults))))) [
-      | true ↦ λ all. (and_parts (is_answered (Sff fault)) (are_told faults) all).0
+    (elim applies as (λ b. IsTrue ((not b || is_answered (Decode (Sff fault))) && are_told faults) →
+    AreAnswered (of_sff (option_map (λ (f : Bool × SffFault). f.1) (cond b (Some (b, fault)) (find (λ (f : Bool × SffFault). f.0) faults))))) [
+      | true ↦ λ all. (and_parts (is_answered (Decode (Sff fault))) (are_told faults) all).0
       | false ↦ λ all. first_told faults all
     ]) all
 
-all_answered : (faults : List (Bool × SffFault)) → IsTrue (list_all (λ fault. is_answered (Sff fault.1)) faults) → IsTrue (are_told faults)
+all_answered : (faults : List (Bool × SffFault)) → IsTrue (list_all (λ fault. is_answered (Decode (Sff fault.1))) faults) → IsTrue (are_told faults)
 all_answered [] all = refl
 all_answered ((applies, fault) ∷ faults) all =
-    let parts = and_parts (is_answered (Sff fault)) (list_all (λ (f : Bool × SffFault). is_answered (Sff f.1)) faults) all in
-    and_from (not applies || is_answered (Sff fault)) (are_told faults)
-    (or_right (not applies) (is_answered (Sff fault)) parts.0)
+    let parts = and_parts (is_answered (Decode (Sff fault))) (list_all (λ (f : Bool × SffFault). is_answered (Decode (Sff f.1))) faults) all in
+    and_from (not applies || is_answered (Decode (Sff fault))) (are_told faults)
+    (or_right (not applies) (is_answered (Decode (Sff fault))) parts.0)
     (all_answered faults parts.1)
 
-lacking : (page : Option Key) → AreAnswered (lacks page)
+lacking : (page : Option Key) → AreAnswered (lacked page)
 lacking None = tt
 lacking (Some key) = refl
 
@@ -77,28 +77,10 @@ module _ (memory : Memory) where
   known_by true one other = λ same. cc
   known_by false one other = λ same. cc
 
-  is_known : (found : Option Family) → family_by (identifier memory) ≡ found → fault_in found (is_read_revision (number memory CRevision)) memory ≡ None → (family : Family) × IsOf family
-  unfolding fault_in
+  is_known : (found : Option Family) → family_by (identifier memory) ≡ found → families.fault_in found (is_read_revision (number memory CRevision)) memory ≡ None → (family : Family) × IsOf family
+  unfolding families.fault_in
   is_known (Some family) is none = (family, is)
   is_known None is none = absurd (known_by (is_absent memory (lower_key A0)) _ _ none)
-
-  -- what comes after the family was found
-  abbrev Later : (Family → Memory → Option Refusal) → Type 0
-  Later refusal_of = (family : Family) → IsOf family → AreAnswered (refusal_of family memory)
-
-  by_family : (refusal_of : Family → Memory → Option Refusal) → Later refusal_of → (family : Family) → IsOf family → AreAnswered (refusal_of (family_of memory) memory)
-  unfolding family_of
-  by_family refusal_of later family is = rw (is) (later family is)
-
-  by_fault : (refusal_of : Family → Memory → Option Refusal) → Later refusal_of → (fault : Option ModuleFault) → module_fault memory ≡ fault →
-      AreAnswered (refusal_before (option_map (λ f. Module f) fault) (refusal_of (family_of memory) memory))
-  unfolding module_fault
-  by_fault refusal_of later (Some fault) is = refl
-  by_fault refusal_of later None is = let known = is_known (family_by (identifier memory)) refl is in by_family refusal_of later known.0 known.1
-
-  answered : (refusal_of : Family → Memory → Option Refusal) → Later refusal_of → AreAnswered (refusal_before (unread_refusal memory) (refusal_of (family_of memory) memory))
-  unfolding unread_refusal
-  answered refusal_of later = by_fault refusal_of later (module_fault memory) refl
 
   -- ---- the reasons against modules of SFF
 
@@ -123,68 +105,82 @@ module _ (memory : Memory) where
   of_sfp : IsOf Sff8472 → (reasons : List (Reason SffFault)) → IsTrue (told reasons) → IsTrue (told (sff8472.module_reasons ++ reasons))
   of_sfp is reasons rest = rw (or_right (not (is_absent memory (lower_key A0))) true refl, sfp_own is) rest
 
-  refused : (reasons : List (Reason SffFault)) → IsTrue (told reasons) → AreAnswered (option_map Sff (refused_by memory reasons))
+  refused : (reasons : List (Reason SffFault)) → IsTrue (told reasons) → AreAnswered (of_sff (refused_by memory reasons))
   refused reasons all = first_told (map (judged memory) reasons) all
 
-  qsfp_module : IsOf Sff8636 → AreAnswered (option_map Sff (sff8636.module_fault memory))
+  qsfp_module : IsOf Sff8636 → AreAnswered (of_sff (sff8636.module_fault memory))
   unfolding qsfp_module_fault
   qsfp_module is = refused sff8636.module_reasons (of_qsfp is [] refl)
 
-  qsfp_identity : IsOf Sff8636 → AreAnswered (option_map Sff (sff8636.identity_fault memory))
+  qsfp_identity : IsOf Sff8636 → AreAnswered (of_sff (sff8636.identity_fault memory))
   unfolding qsfp_identity_fault
   qsfp_identity is = refused sff8636.identity_reasons (of_qsfp is (drop 2 sff8636.identity_reasons) (all_answered (map (judged memory) (drop 2 sff8636.identity_reasons)) refl))
 
   -- limits are looked for if memory is not flat
-  with_limits : (flat : Bool) → bit memory QFlatMemory ≡ flat → IsOf Sff8636 → AreAnswered (option_map Sff (if flat then None else sff8636.threshold_fault memory))
+  with_limits : (flat : Bool) → bit memory QFlatMemory ≡ flat → IsOf Sff8636 → AreAnswered (of_sff (if flat then None else sff8636.threshold_fault memory))
   unfolding qsfp_threshold_fault
   with_limits true flat is = tt
   with_limits false flat is = refused sff8636.threshold_reasons (of_qsfp is (drop 2 sff8636.threshold_reasons) (rw (flat) (all_answered (map (judged memory) (drop 3 sff8636.threshold_reasons)) refl)))
 
-  either : (one other : Option SffFault) → AreAnswered (option_map Sff one) → AreAnswered (option_map Sff other) → AreAnswered (option_map Sff (option_or one other))
+  either : (one other : Option SffFault) → AreAnswered (option_map Sff one) → AreAnswered (option_map Sff other) → AreAnswered (of_sff (option_or one other))
   either None other first later = later
   either (Some fault) other first later = first
 
-  qsfp_measured : IsOf Sff8636 → AreAnswered (option_map Sff (sff8636.measured_fault memory))
+  qsfp_measured : IsOf Sff8636 → AreAnswered (of_sff (sff8636.measured_fault memory))
   unfolding qsfp_measured_fault
   qsfp_measured is = either (sff8636.module_fault memory) (if bit memory QFlatMemory then None else sff8636.threshold_fault memory) (qsfp_module is) (with_limits (bit memory QFlatMemory) refl is)
 
-  sfp_module : IsOf Sff8472 → AreAnswered (option_map Sff (sff8472.module_fault memory))
+  sfp_module : IsOf Sff8472 → AreAnswered (of_sff (sff8472.module_fault memory))
   unfolding sfp_module_fault
   sfp_module is = refused sff8472.module_reasons (of_sfp is [] refl)
 
-  sfp_flags : IsOf Sff8472 → AreAnswered (option_map Sff (sff8472.flags_fault memory))
+  sfp_flags : IsOf Sff8472 → AreAnswered (of_sff (sff8472.flags_fault memory))
   unfolding sfp_flags_fault
   sfp_flags is = refused sff8472.flags_reasons (of_sfp is (drop 2 sff8472.flags_reasons) (all_answered (map (judged memory) (drop 2 sff8472.flags_reasons)) refl))
 
-  sfp_measured : IsOf Sff8472 → AreAnswered (option_map Sff (sff8472.measured_fault memory))
+  sfp_measured : IsOf Sff8472 → AreAnswered (of_sff (sff8472.measured_fault memory))
   unfolding sfp_measured_fault
   sfp_measured is = refused sff8472.measured_reasons (of_sfp is (drop 2 sff8472.measured_reasons) (all_answered (map (judged memory) (drop 2 sff8472.measured_reasons)) refl))
 
-  -- ---- the calls
+  -- ---- the reports
 
-  by_identity : Later identities.refusal_of
-  by_identity Cmis is = lacking (absent_page identity_pages memory)
-  by_identity Sff8636 is = qsfp_identity is
-  by_identity Sff8472 is = sfp_module is
+  qsfp_later : (report : Report) → IsOf Sff8636 → AreAnswered (of_sff (sff8636_fault report memory))
+  qsfp_later Inventory is = qsfp_identity is
+  qsfp_later Monitors is = qsfp_measured is
+  qsfp_later Flags is = qsfp_module is
 
-  by_monitors : Later monitors.refusal_of
-  by_monitors Cmis is = lacking (absent_page (monitor_pages memory) memory)
-  by_monitors Sff8636 is = qsfp_measured is
-  by_monitors Sff8472 is = sfp_measured is
+  sfp_later : (report : Report) → IsOf Sff8472 → AreAnswered (of_sff (sff8472_fault report memory))
+  sfp_later Inventory is = sfp_module is
+  sfp_later Monitors is = sfp_measured is
+  sfp_later Flags is = sfp_flags is
 
-  by_flags : Later flags.refusal_of
-  by_flags Cmis is = lacking (absent_page (flag_pages memory) memory)
-  by_flags Sff8636 is = qsfp_module is
-  by_flags Sff8472 is = sfp_flags is
+  later : (report : Report) (family : Family) → IsOf family → AreAnswered (fault_in report family memory)
+  later report Cmis is = lacking (absent_page (pages_of report (is_flat memory)) memory)
+  later report Sff8636 is = qsfp_later report is
+  later report Sff8472 is = sfp_later report is
 
-pub of_identity : (memory : Memory) → AreAnswered (identity_refusal memory)
+  by_family : (report : Report) (family : Family) → IsOf family → AreAnswered (fault_in report (family_of memory) memory)
+  unfolding family_of
+  by_family report family is = rw (is) (later report family is)
+
+  by_fault : (report : Report) (fault : Option ModuleFault) → module_fault memory ≡ fault →
+      AreAnswered (option_or (option_map (λ f. Module f) fault) (fault_in report (family_of memory) memory))
+  unfolding module_fault
+  by_fault report (Some fault) is = refl
+  by_fault report None is = let known = is_known (family_by (identifier memory)) refl is in by_family report known.0 known.1
+
+  answered : (report : Report) → AreAnswered (fault_of report memory)
+  unfolding fault_of
+  answered report = by_fault report (module_fault memory) refl
+
+pub of_identity : (memory : Memory) → IfSome (identity_refusal memory) (λ r. IsTrue (is_answered r))
 unfolding identity_refusal
-of_identity memory = answered memory identities.refusal_of (by_identity memory)
+of_identity memory = answered memory Inventory
 
-pub of_monitors : (memory : Memory) → AreAnswered (monitors_refusal memory)
+pub of_monitors : (memory : Memory) → IfSome (monitors_refusal memory) (λ r. IsTrue (is_answered r))
 unfolding monitors_refusal
-of_monitors memory = answered memory monitors.refusal_of (by_monitors memory)
+of_monitors memory = answered memory Monitors
 
-pub of_flags : (memory : Memory) → AreAnswered (flags_refusal memory)
+pub of_flags : (memory : Memory) → IfSome (flags_refusal memory) (λ r. IsTrue (is_answered r))
 unfolding flags_refusal
-of_flags memory = answered memory flags.refusal_of (by_flags memory)
+of_flags memory = answered memory Flags

@@ -1,7 +1,7 @@
 -- Simulated modules of which C keeps what changes: why there is none, and what an event makes of the numbers.
 use Rattle.std.proofs.Common.{◌≡◌, List, Option, Some, None, Result, Ok, Err, refl, ap, sym, subst, ◌∙◌}
 use Rattle.std.specs.Prelude.{IfOk, MatchOption}
-use Rattle.std.specs.Option.{option_map}
+use Rattle.std.specs.Option.{option_map, option_or}
 use Rattle.std.proofs.lemmas.Option.{none-some}
 use Rattle.paged_memory.specs.Images.{Memory}
 use Rattle.applications.specs.Advertised.{Advertised}
@@ -22,7 +22,6 @@ use Rattle.firmware_api.specs.declared.half.HalfBytes.{HalfBytes}
 use Rattle.firmware_api.specs.declared.status.Refusal.{Refusal}
 use Rattle.firmware_api.specs.declared.status.Refusal.TheVariants.{NoStart, NoModule}
 use Rattle.firmware_api.specs.Halves.{memory_of}
-use Rattle.firmware_api.specs.Plans.{refusal_before}
 use Rattle.firmware_api.specs.SimulatedModules.{begun, half_refusal, held, held_by, module_in, unless_refused}
 use Rattle.firmware_api.proofs.SavedLaws.{same_some}
 use Rattle.firmware_api.proofs.StatusLaws.{same_ok}
@@ -38,7 +37,7 @@ passed (Ok sim) = Ok sim
 passed (Err fault) = Err (NoStart fault)
 
 passes : (refusal : Option Refusal) (fault : Option SimFault) (made : Result SimModule SimFault) (sim : SimModule) → refusal ≡ None →
-    MatchOption fault (made ≡ Ok sim) (λ f. made ≡ Err f) → unless_refused (refusal_before refusal (option_map NoStart fault)) sim ≡ passed made
+    MatchOption fault (made ≡ Ok sim) (λ f. made ≡ Err f) → unless_refused (option_or refusal (option_map NoStart fault)) sim ≡ passed made
 passes None None made sim none is = sym (ap passed is)
 passes None (Some fault) made sim none is = sym (ap passed is)
 passes (Some refusal) fault made sim none is = cc

@@ -4,9 +4,7 @@ use Rattle.bus_model.specs.declared.operation.Op.{Op}
 use Rattle.conversations.specs.declared.event.Event.TheVariants.{Waited}
 use Rattle.conversations.specs.declared.next.Next.{Next}
 use Rattle.conversations.specs.declared.next.Next.TheVariants.{Do, Wait, End}
-use Rattle.conversations.specs.declared.pausing.Timed.{Timed}
 use Rattle.conversations.specs.declared.watching.Watched.TheVariants.{InOrder}
-use Rattle.conversations.specs.declared.within.Spent.{Spent}
 use Rattle.conversations.specs.Events.{Events}
 use Rattle.conversations.specs.Pieces.{next_piece}
 use Rattle.conversations.specs.Selecting.{next_on}
@@ -30,7 +28,7 @@ use Rattle.firmware_api.specs.declared.kept.Kept.TheVariants.{OfTasks, OfPower, 
 use Rattle.control_sets.specs.PowerProgress.{power_told}
 use Rattle.control_sets.specs.Progress.{OnTasks, tasks_told, tasks_want}
 use Rattle.conversations.specs.Patiently.{wants_patiently}
-use Rattle.firmware_api.specs.KeptConversations.{Ending, InHand, Spending, WasTold, after_pause, as_ending, in_order, next_of, pieces_want, pieces_told}
+use Rattle.firmware_api.specs.KeptConversations.{Ending, InHand, Spending, WasTold, after_pause, ending_by, next_of, pieces_want, pieces_told, read_ending}
 
 -- ---- none of them waits by itself
 
@@ -59,13 +57,9 @@ pieces_wait_not pieces time waits =
 
 -- ---- so a wait that is wanted is a pause that is due
 
-not_ending : (wanted : Next (Spent (Timed (Unit {0})))) (time : ℕ) → as_ending wanted ≡ Wait time → wanted ≡ Wait time
-not_ending (Wait other) time waits = let same : other ≡ time = cc in ap (λ (t : ℕ). Wait t) same
-not_ending _ time waits = absurd cc
-
-not_in_order : (wanted : Next Spending) (time : ℕ) → in_order wanted ≡ Wait time → wanted ≡ Wait time
-not_in_order (Wait other) time waits = let same : other ≡ time = cc in ap (λ (t : ℕ). Wait t) same
-not_in_order _ time waits = absurd cc
+not_ending : {E : Type 0} (f : E → Ending) (wanted : Next E) (time : ℕ) → ending_by f wanted ≡ Wait time → wanted ≡ Wait time
+not_ending f (Wait other) time waits = let same : other ≡ time = cc in ap (λ (t : ℕ). Wait t) same
+not_ending f _ time waits = absurd cc
 
 -- a conversation that was told its events is told the pause
 pub told_after_pause : (kept : Kept) (time : ℕ) → next_of kept ≡ Wait time → (events : Events) → WasTold events kept → WasTold (Waited time ∷ events) (after_pause kept)
@@ -74,23 +68,17 @@ told_after_pause (OfTasks procedure) time waits events (own, adds, told) =
     let wants = own_wait procedure.look (wants_patiently tasks_want inner) time waits in
     let before = subst (λ (w : Option Op). AddsLooks procedure.watches own events procedure.look w) (ap (λ (n : Next Spending). op_of n) wants) adds in
     (Waited time ∷ own, (own, procedure.look, refl, before, refl), told_pause tasks_want tasks_told inner time (tasks_wait_not inner.conversation.conversation) wants own told)
-told_after_pause (OfPower change) time waits events told = told_pause power_wants power_told change time (power_waits_not change.conversation.conversation) (not_in_order (wants_patiently power_wants change) time waits) events told
-told_after_pause (OfReading read) time waits events told = told_pause pieces_want pieces_told read time (pieces_wait_not read.conversation.conversation) (not_ending (wants_patiently pieces_want read) time waits) events told
+told_after_pause (OfPower change) time waits events told = told_pause power_wants power_told change time (power_waits_not change.conversation.conversation) (not_ending InOrder (wants_patiently power_wants change) time waits) events told
+told_after_pause (OfReading read) time waits events told = told_pause pieces_want pieces_told read time (pieces_wait_not read.conversation.conversation) (not_ending read_ending (wants_patiently pieces_want read) time waits) events told
 
--- ---- the end of a change of power, as that of each conversation
+-- ---- the end, as that of each conversation
 
-pub same_order : (wanted : Next Spending) (op : Op) → in_order wanted ≡ Do op → wanted ≡ Do op
-same_order (Do other) op is = let same : other ≡ op = cc in ap (λ (o : Op). Do o) same
-same_order _ op is = absurd cc
+pub same_do : {E : Type 0} (f : E → Ending) (wanted : Next E) (op : Op) → ending_by f wanted ≡ Do op → wanted ≡ Do op
+same_do f (Do other) op is = let same : other ≡ op = cc in ap (λ (o : Op). Do o) same
+same_do f _ op is = absurd cc
 
 pub ends_in_order : (P : Spending → Type 0) (wanted : Next Spending) → IfEnd wanted P →
-    IfEnd (in_order wanted) (λ (ending : Ending). (spent : Spending) × (ending ≡ InOrder spent) × P spent)
+    IfEnd (ending_by InOrder wanted) (λ (ending : Ending). (spent : Spending) × (ending ≡ InOrder spent) × P spent)
 ends_in_order P (Do op) ends = tt
 ends_in_order P (Wait time) ends = tt
 ends_in_order P (End spent) ends = (spent, refl, ends)
-
--- ---- the end of a reading, as that of each conversation
-
-pub same_do : (wanted : Next (Spent (Timed (Unit {0})))) (op : Op) → as_ending wanted ≡ Do op → wanted ≡ Do op
-same_do (Do other) op is = let same : other ≡ op = cc in ap (λ (o : Op). Do o) same
-same_do _ op is = absurd cc

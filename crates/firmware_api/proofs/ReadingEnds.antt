@@ -32,7 +32,7 @@ use Rattle.firmware_api.specs.declared.kept.Kept.{Kept}
 use Rattle.firmware_api.specs.declared.kept.Kept.TheVariants.{OfTasks, OfPower, OfReading}
 use Rattle.firmware_api.specs.Halves.{memory_of}
 use Rattle.conversations.specs.Patiently.{wants_patiently}
-use Rattle.firmware_api.specs.KeptConversations.{Bringing, Ending, Fetching, Spending, Subject, Turning, WasTold, about, as_ending, needed, next_of, pieces_want}
+use Rattle.firmware_api.specs.KeptConversations.{Bringing, Ending, Fetching, Spending, Subject, Turning, WasTold, about, ending_by, needed, next_of, pieces_want, read_ending}
 use Rattle.firmware_api.specs.ReadEnds.{HasImage, HasReadModule}
 use Rattle.firmware_api.specs.SavedConversations as saving
 use Rattle.firmware_api.specs.SavedConversations.{IsSavedAt, conversation_in, halves_in}
@@ -52,7 +52,7 @@ end_in (End (InOrder spent)) = spent.end
 end_in (End (Left code)) = None
 
 module _ (steps limit idle : ℕ) (patience : Patience) (piece : ℕ) (part : List ℕ) (by : PageAddressing) (selected : KnownPage) (page : Option ℕ) (spent : Spending) where
-  ends_by : (due : Bool) (found : Option Region) → as_ending (next_within steps limit (next_pausing due idle patience (next_piece piece part (next_on by selected page (reading.wants_by found))))) ≡ End (InOrder spent) →
+  ends_by : (due : Bool) (found : Option Region) → ending_by read_ending (next_within steps limit (next_pausing due idle patience (next_piece piece part (next_on by selected page (reading.wants_by found))))) ≡ End (InOrder spent) →
       EndsBy found spent.end
   ends_by due None ends = subst (EndsBy None) (ap end_in ends) refl
   ends_by due (Some region) ends = by_due due (nat_lt patience.limit idle) ends where
@@ -62,11 +62,11 @@ module _ (steps limit idle : ℕ) (patience : Patience) (piece : ℕ) (part : Li
     some : Some region ≢ None
     some none = cc
 
-    by_steps : (few : Bool) → as_ending (if few then Do op else End (record { steps = steps; end = None })) ≡ End (InOrder spent) → EndsBy (Some region) spent.end
+    by_steps : (few : Bool) → ending_by read_ending (if few then Do op else End (record { steps = steps; end = None })) ≡ End (InOrder spent) → EndsBy (Some region) spent.end
     by_steps true ends = absurd cc
     by_steps false ends = subst (EndsBy (Some region)) (ap end_in ends) some
 
-    by_due : (due late : Bool) → as_ending (next_within steps limit (if due then (if late then End Overdue else Wait patience.pause) else Do op)) ≡ End (InOrder spent) → EndsBy (Some region) spent.end
+    by_due : (due late : Bool) → ending_by read_ending (next_within steps limit (if due then (if late then End Overdue else Wait patience.pause) else Do op)) ≡ End (InOrder spent) → EndsBy (Some region) spent.end
     by_due true true ends = subst (EndsBy (Some region)) (ap end_in ends) some
     by_due true false ends = absurd cc
     by_due false late ends = by_steps (nat_lt steps limit) ends
@@ -105,7 +105,7 @@ module _ (saved : SavedConversation) (halves : List HalfBytes) (request : Reques
       (subst (λ (r : Request). HasReadModule on.doubts r events (memory_of (halves_in saved halves)) (InOrder spent)) same_request (subst (λ (image : Memory). HasReadModule on.doubts on.conversation.request events image (InOrder spent)) has.0 ended))
 
 -- a reading looks at no state
-never_left : (wanted : Next (Spent (Timed (Unit {0})))) (code : ℕ) → as_ending wanted ≡ End (Left code) → ⊥
+never_left : (wanted : Next (Spent (Timed (Unit {0})))) (code : ℕ) → ending_by read_ending wanted ≡ End (Left code) → ⊥
 never_left (Do op) code ends = cc
 never_left (Wait time) code ends = cc
 never_left (End spent) code ends = cc

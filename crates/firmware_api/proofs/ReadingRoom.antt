@@ -23,13 +23,13 @@ use Rattle.module_reading.specs.ImageReading.{in_hand, wants_by}
 use Rattle.firmware_api.specs.declared.half.HalfBytes.{HalfBytes}
 use Rattle.firmware_api.specs.Halves.{has_place, key_of, memory_of}
 use Rattle.conversations.specs.Patiently.{Patient, after_patiently, wants_patiently}
-use Rattle.firmware_api.specs.KeptConversations.{InHand, as_ending, halves_after, halves_of, halves_want, pieces_after, pieces_want}
+use Rattle.firmware_api.specs.KeptConversations.{InHand, ending_by, halves_after, halves_of, halves_want, pieces_after, pieces_want, read_ending}
 use Rattle.firmware_api.specs.SavedConversations.{HasHalf, HasInFront, HasNumbers, HasRead, IsInFront}
 use Rattle.firmware_api.proofs.WholeHalfLaws.{placed_by}
 
 -- ---- what the reply is one to
 
-pub ending_reply : (wanted : Next (Spent (Timed (Unit {0})))) (reply : Reply) → IsReplyTo (as_ending wanted) reply → IsReplyTo wanted reply
+pub ending_reply : (wanted : Next (Spent (Timed (Unit {0})))) (reply : Reply) → IsReplyTo (ending_by read_ending wanted) reply → IsReplyTo wanted reply
 ending_reply (Do op) reply answers = answers
 ending_reply _ reply answers = answers
 

@@ -11,6 +11,7 @@ use Rattle.sim_module.specs.declared.fault.SimFault.{SimFault}
 use Rattle.sim_module.specs.declared.fault.SimFault.TheVariants as sim
 use Rattle.module_decoding.specs.declared.module_family.ModuleFault.{ModuleFault}
 use Rattle.module_decoding.specs.declared.module_family.ModuleFault.TheVariants as module_fault
+use Rattle.module_decoding.specs.declared.report.DecodeFault.TheVariants.{Module, Sff}
 use Rattle.field_tables.specs.declared.sff_fault.SffFault.{SffFault}
 use Rattle.field_tables.specs.declared.sff_fault.SffFault.TheVariants as sff
 use Rattle.applications.specs.declared.weights.lines.WeightLinesFault.{WeightLinesFault}
@@ -34,12 +35,12 @@ unfolding statuses sentences
 of_start (sim.Advert f) answered = of_advert f refl
 of_start _ answered = refl
 
-of_module : (f : ModuleFault) → IsTrue (is_answered (refusal.Module f)) → IsTrue (is_some (text_by statuses (status_of (refusal.Module f))))
+of_module : (f : ModuleFault) → IsTrue (is_some (text_by statuses (status_of (refusal.Decode (Module f)))))
 unfolding statuses sentences
-of_module (module_fault.Absent x) answered = refl
-of_module _ answered = refl
+of_module (module_fault.Absent x) = refl
+of_module _ = refl
 
-of_sff : (f : SffFault) → IsTrue (is_answered (refusal.Sff f)) → IsTrue (is_some (text_by statuses (status_of (refusal.Sff f))))
+of_sff : (f : SffFault) → IsTrue (is_answered (refusal.Decode (Sff f))) → IsTrue (is_some (text_by statuses (status_of (refusal.Decode (Sff f)))))
 unfolding statuses sentences
 of_sff (sff.WrongIdentifier x) answered = absurd cc
 of_sff sff.FlatMemory answered = absurd cc
@@ -55,7 +56,7 @@ unfolding statuses sentences
 each_refusal_has_a_text (refusal.Advert f) answered = of_advert f answered
 each_refusal_has_a_text (refusal.Certificate f) answered = of_certificate f answered
 each_refusal_has_a_text (refusal.NoStart f) answered = of_start f answered
-each_refusal_has_a_text (refusal.Module f) answered = of_module f answered
-each_refusal_has_a_text (refusal.Sff f) answered = of_sff f answered
+each_refusal_has_a_text (refusal.Decode (Module f)) answered = of_module f
+each_refusal_has_a_text (refusal.Decode (Sff f)) answered = of_sff f answered
 each_refusal_has_a_text (refusal.Weights f) answered = of_weights f answered
 each_refusal_has_a_text _ answered = refl

@@ -1,8 +1,8 @@
 -- What is known of refusals by results in which their statuses stand.
 use Rattle.std.proofs.Common.{◌≡◌, ℕ, Option, Some, None, Result, Ok, Err, sym, subst, ◌∙◌}
 use Rattle.std.specs.Prelude.{MatchOption}
+use Rattle.std.specs.Option.{option_or}
 use Rattle.firmware_api.specs.declared.status.Refusal.{Refusal}
-use Rattle.firmware_api.specs.Plans.{refusal_before}
 use Rattle.firmware_api.specs.Statuses.{status_of}
 
 pub same_ok : {A E : Type 0} (a b : A) → ◌≡◌ {A = Result A E} (Ok a) (Ok b) → a ≡ b
@@ -32,7 +32,7 @@ module _ {A : Type 0} (result : Result A ℕ) where
   -- what holds by the value holds, unless a refusal came before it or comes after it
   pub when_value : (refusal : Option Refusal) (later : A → Option Refusal) (value right : A) (P : A → Type 0) (H : Refusal → Type 0) →
       Answers refusal result (result ≡ Ok right) → result ≡ Ok value → MatchOption (later value) (P value) H →
-      MatchOption (refusal_before refusal (later right)) (P right) H
+      MatchOption (option_or refusal (later right)) (P right) H
   when_value None later value right P H told is holds =
       subst (λ (a : A). MatchOption (later a) (P a) H) (same_ok value right (sym is ∙ told)) holds
   when_value (Some refusal) later value right P H told is holds = absurd (not_both value (status_of refusal) (sym is ∙ told))

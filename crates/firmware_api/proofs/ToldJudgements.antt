@@ -9,6 +9,7 @@ use Rattle.firmware_api.specs.declared.half.HalfBytes.{HalfBytes}
 use Rattle.firmware_api.specs.declared.status.Refusal.{Refusal}
 use Rattle.firmware_api.specs.Checks.{IsJudged, IsTextJudged, IsTold, Tells}
 use Rattle.firmware_api.specs.Halves.{advert_of, refusal_under}
+use Rattle.firmware_api.specs.Plans.{path_weights}
 use Rattle.firmware_api.specs.Statuses.{status_of}
 use Rattle.firmware_api.proofs.ModuleRefusals.{IsPassed}
 use Rattle.firmware_api.proofs.StatusLaws.{Answers, not_both, same_err, when_value}
@@ -21,10 +22,10 @@ told_refusal (Some refusal) read right status after P told is = (Err refusal, re
 
 module _ (halves : List HalfBytes) (conventions : Conventions) (weights : TableWeights) (stay : ℕ) (text : List ℕ) (read : Result Advertised ℕ) (status : ℕ) (after : Judgement)
     (passes : IsPassed conventions read halves) where
-  pub told_if_read : (advert : Advertised) → read ≡ Ok advert → IsTold (IsTextJudged advert weights stay text) status after → IsTold (IsJudged halves conventions weights stay text) status after
+  pub told_if_read : (advert : Advertised) → read ≡ Ok advert → IsTold (IsTextJudged advert (path_weights advert weights stay) text) status after → IsTold (IsJudged halves conventions weights stay text) status after
   told_if_read advert is (judged, right, tells) = (
     judged,
-    when_read (refusal_under conventions halves) (λ (a : Advertised). IsTextJudged a weights stay text judged) (λ refusal. judged ≡ Err refusal) passes is right,
+    when_read (refusal_under conventions halves) (λ (a : Advertised). IsTextJudged a (path_weights a weights stay) text judged) (λ refusal. judged ≡ Err refusal) passes is right,
     tells,
   ) where
     when_read : (refusal : Option Refusal) (P : Advertised → Type 0) (H : Refusal → Type 0) → Answers refusal read (read ≡ Ok (advert_of halves conventions)) →
@@ -34,4 +35,4 @@ module _ (halves : List HalfBytes) (conventions : Conventions) (weights : TableW
 
   pub told_if_refused : read ≡ Err status → IsTold (IsJudged halves conventions weights stay text) status after
   told_if_refused is =
-      told_refusal (refusal_under conventions halves) read (advert_of halves conventions) status after (IsTextJudged (advert_of halves conventions) weights stay text) passes is
+      told_refusal (refusal_under conventions halves) read (advert_of halves conventions) status after (IsTextJudged (advert_of halves conventions) (path_weights (advert_of halves conventions) weights stay) text) passes is

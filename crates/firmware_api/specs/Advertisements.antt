@@ -39,11 +39,8 @@ abbrev pub application_at : List App → ℕ → Application
 application_at apps place = application_in (slice_get apps place)
 
 -- AppSelCodes are 1 to 15
-abbrev pub most_applications : ℕ
-most_applications = 15
-
 unfoldable pub applications_of : List App → List Application
-applications_of apps = map (application_at apps) (range_with_len 0 most_applications)
+applications_of apps = map (application_at apps) (range_with_len 0 15)
 
 abbrev pub advertisement_of : Advertised → Advertisement
 advertisement_of advert = record {

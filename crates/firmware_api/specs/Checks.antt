@@ -48,18 +48,15 @@ judgement_by advert weights (Ok certificate) = Ok (judgement_of (verdict advert 
 judgement_by advert weights (Err fault) = Err (Certificate fault)
 
 -- of what the text is read as; a text is read as one result alone
-abbrev pub IsTextJudgedBy : Advertised → PathWeights → List ℕ → Result Judgement Refusal → Type 0
-IsTextJudgedBy advert weights text judged =
+abbrev pub IsTextJudged : Advertised → PathWeights → List ℕ → Result Judgement Refusal → Type 0
+IsTextJudged advert weights text judged =
     (read : Result Claim CertificateFault) × IsAnswer most_states (lines_of text) read × (judged ≡ judgement_by advert weights read)
 
--- the same by the weights that C hands over
-abbrev pub IsTextJudged : Advertised → TableWeights → ℕ → List ℕ → Result Judgement Refusal → Type 0
-IsTextJudged advert weights stay text judged = IsTextJudgedBy advert (path_weights advert weights stay) text judged
-
--- refusals of the halves come first
+-- the same by the weights that C hands over; refusals of the halves come first
 abbrev pub IsJudged : List HalfBytes → Conventions → TableWeights → ℕ → List ℕ → Result Judgement Refusal → Type 0
 IsJudged halves conventions weights stay text judged =
-    MatchOption (refusal_under conventions halves) (IsTextJudged (advert_of halves conventions) weights stay text judged) (λ refusal. judged ≡ Err refusal)
+    let advert = advert_of halves conventions in
+    MatchOption (refusal_under conventions halves) (IsTextJudged advert (path_weights advert weights stay) text judged) (λ refusal. judged ≡ Err refusal)
 
 -- what C is told of a result: the judgement, or the refusal's number
 abbrev pub Tells : ℕ → Judgement → Result Judgement Refusal → Type 0
@@ -70,16 +67,14 @@ abbrev pub IsTold : (Result Judgement Refusal → Type 0) → ℕ → Judgement 
 IsTold Is status after = (judged : Result Judgement Refusal) × Is judged × Tells status after judged
 
 -- the text is that of a certificate which shows that no plan with its kept paths weighs more than its own
-abbrev pub IsTextShownBestBy : Advertised → PathWeights → List ℕ → Type 0
-IsTextShownBestBy advert weights text =
+abbrev pub IsTextShownBest : Advertised → PathWeights → List ℕ → Type 0
+IsTextShownBest advert weights text =
     (certificate : Claim) × IsTextOf most_states (lines_of text) certificate
     × IsGood advert weights certificate
     × IsBest advert weights certificate.kept certificate.paths
 
--- the same by the weights that C hands over
-abbrev pub IsTextShownBest : Advertised → TableWeights → ℕ → List ℕ → Type 0
-IsTextShownBest advert weights stay text = IsTextShownBestBy advert (path_weights advert weights stay) text
-
--- the same for the module whose memory has these halves
+-- the same by the weights that C hands over, for the module whose memory has these halves
 abbrev pub IsShownBest : List HalfBytes → Conventions → TableWeights → ℕ → List ℕ → Type 0
-IsShownBest halves conventions weights stay text = IsTextShownBest (advert_of halves conventions) weights stay text
+IsShownBest halves conventions weights stay text =
+    let advert = advert_of halves conventions in
+    IsTextShownBest advert (path_weights advert weights stay) text

@@ -7,13 +7,9 @@ use Rattle.field_tables.specs.declared.field.Field.TheVariants as fields
 use Rattle.field_tables.specs.Readings.{number}
 use Rattle.firmware_api.specs.declared.durations.Durations.{Durations}
 
--- of a code without an upper end, or without a meaning: 2^32 - 1
-abbrev pub unbounded : ℕ
-unbounded = 4294967295
-
--- the end of the range that a code stands for, in milliseconds
+-- the end of the range that a code stands for, in milliseconds; 2^32 - 1 of a code without an upper end, or without a meaning
 abbrev pub longest : ℕ → ℕ
-longest code = unwrap_or (longest_duration code) unbounded
+longest code = unwrap_or (longest_duration code) 4294967295
 
 abbrev pub durations_of : Memory → Durations
 durations_of memory = record {

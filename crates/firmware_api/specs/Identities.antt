@@ -10,16 +10,15 @@ use Rattle.field_tables.specs.declared.field.Sum.TheVariants as sums
 use Rattle.field_tables.specs.declared.field.TextField.TheVariants as texts
 use Rattle.field_tables.specs.Readings.{all_numbers, is_sum_right, number, text}
 use Rattle.module_decoding.specs.Amounts.{amount_at, length_in}
-use Rattle.module_decoding.specs.CmisPages.{absent_page, identity_pages, is_flat}
+use Rattle.module_decoding.specs.declared.report.Report.TheVariants.{Inventory}
+use Rattle.module_decoding.specs.CmisPages.{is_flat}
 use Rattle.module_decoding.specs.ModuleFamilies.{family_of}
-use Rattle.sff8636_map.specs.Refusals as sff8636_refusals
-use Rattle.sff8472_map.specs.Refusals as sff8472_refusals
+use Rattle.module_decoding.specs.Reports.{fault_of}
 use Rattle.firmware_api.specs.declared.identity.ModuleIdentity.{ModuleIdentity}
 use Rattle.firmware_api.specs.declared.identity.SharedFields.{SharedFields}
 use Rattle.firmware_api.specs.declared.status.Refusal.{Refusal}
-use Rattle.firmware_api.specs.declared.status.Refusal.TheVariants.{Sff}
-use Rattle.firmware_api.specs.Plans.{refusal_before}
-use Rattle.firmware_api.specs.ReadModules.{family_number, lacks, number_of, unread_refusal}
+use Rattle.firmware_api.specs.declared.status.Refusal.TheVariants.{Decode}
+use Rattle.firmware_api.specs.ReadModules.{family_number, number_of}
 use Rattle.firmware_api.specs.ShownTexts.{shown_text}
 
 -- what modules of every family say, by the fields that have it; what only some say is 0
@@ -95,11 +94,6 @@ cmis_identity memory = record (shared_identity memory Cmis cmis_fields) {
   technology = number memory fields.CTechnology;
 }
 
-abbrev pub refusal_of : Family → Memory → Option Refusal
-refusal_of Cmis memory = lacks (absent_page identity_pages memory)
-refusal_of Sff8636 memory = option_map Sff (sff8636_refusals.identity_fault memory)
-refusal_of Sff8472 memory = option_map Sff (sff8472_refusals.module_fault memory)
-
 abbrev pub identity_of : Family → Memory → ModuleIdentity
 identity_of Cmis memory = cmis_identity memory
 identity_of Sff8636 memory = record (shared_identity memory Sff8636 qsfp_fields) { sum_ext = number_of (is_sum_right memory sums.QSumExt) }
@@ -107,7 +101,7 @@ identity_of Sff8472 memory = record (shared_identity memory Sff8472 sfp_fields) 
 
 -- why C is not told what a module is
 unfoldable pub identity_refusal : Memory → Option Refusal
-identity_refusal memory = refusal_before (unread_refusal memory) (refusal_of (family_of memory) memory)
+identity_refusal memory = option_map Decode (fault_of Inventory memory)
 
 -- by its family
 unfoldable pub identity_in : Memory → ModuleIdentity

@@ -17,7 +17,7 @@ use Rattle.conversations.specs.declared.within.Spent.{Spent}
 use Rattle.conversations.specs.Events.{Events, steps_of}
 use Rattle.conversations.specs.Patiently.{EndsPatiently, GoesOnPatiently, Patient, ToldPatiently, after_patiently, paused, wants_patiently}
 use Rattle.conversations.specs.Pieces.{InHalves, InHalvesSoFar, IsInPieces, after_piece, next_piece}
-use Rattle.conversations.specs.Selecting.{Knows, WithSelections, chosen, next_on, on_after, trusted}
+use Rattle.conversations.specs.Selecting.{Knows, chosen, next_on, on_after, trusted}
 use Rattle.conversations.specs.Wanted.{op_of}
 use Rattle.conversations.specs.Watching.{EndsWatching, WithLooks, after_watching, look_after_wait, next_watching}
 use Rattle.paged_memory.specs.declared.page_addressing.PageAddressing.TheVariants.{BankAndPage}
@@ -29,6 +29,7 @@ use Rattle.control_sets.specs.Progress as tasks
 use Rattle.module_reading.specs.declared.halves.Halves.{Halves}
 use Rattle.module_reading.specs.declared.request.Request.{Request}
 use Rattle.module_reading.specs.ImageReading as reading
+use Rattle.module_reading.specs.ReadingRuns.{WithOwn}
 use Rattle.firmware_api.specs.declared.kept.Kept.{Kept}
 use Rattle.firmware_api.specs.declared.kept.Kept.TheVariants.{OfTasks, OfPower, OfReading}
 
@@ -42,18 +43,8 @@ tasks_after on reply = on_after tasks.after_reply (λ list number. list) false B
 abbrev pub Watchful : Type 0
 Watchful = Watching tasks.PatientProcedure
 
-abbrev pub watchful_want : Watchful → Next (Watched (Spent (Timed (Option ProvisionFault))))
-watchful_want it = next_watching it.look (wants_patiently tasks.tasks_want it.conversation)
-
 abbrev pub watchful_after : Watchful → Reply → Watchful
 watchful_after it reply = after_watching (wants_patiently tasks.tasks_want) (after_patiently tasks.tasks_want tasks_after) it reply
-
-abbrev pub watchful_paused : Watchful → Watchful
-watchful_paused it = record { conversation = paused it.conversation; watches = it.watches; look = look_after_wait it.watches it.look }
-
-abbrev pub watchful_told : Events → Watchful → Type 0
-watchful_told events it =
-    WithLooks it.watches it.look (op_of (wants_patiently tasks.tasks_want it.conversation)) (λ own. tasks.ToldPatient own it.conversation) events
 
 -- ---- halves on confirmed pages, in pieces
 
@@ -73,13 +64,10 @@ abbrev pub halves_after : OnHalves → Reply → OnHalves
 halves_after on reply =
     on_after reading.after_reply (λ halves page. reading.after_lack halves) true (chosen (reading.addressing on.conversation)) (needed on.conversation) on reply
 
-abbrev pub OfTheHalves : OnHalves → (Events → Type 0) → Events → Type 0
-OfTheHalves on P events = WithSelections on.doubts true (reading.addressed_after on.conversation.request) (reading.needed_after on.conversation.request) P events
-
 abbrev pub halves_told : OnHalves → Events → Type 0
 halves_told on events =
     Knows true (reading.addressing on.conversation) on.selection on.taken (trusted on.doubts (steps_of events))
-    × OfTheHalves on (λ own. reading.IsTold own on.conversation) events
+    × WithOwn on.doubts on.conversation.request (λ own. reading.IsTold own on.conversation) events
 
 abbrev pub pieces_want : InHand → Next (Unit {0})
 pieces_want pieces = next_piece pieces.piece pieces.part.items (halves_want pieces.conversation)
@@ -110,21 +98,16 @@ no_fault Overdue = Overdue
 abbrev pub read_ending : Spent (Timed (Unit {0})) → Ending
 read_ending spent = InOrder (record { steps = spent.steps; end = option_map no_fault spent.end })
 
-abbrev pub as_ending : Next (Spent (Timed (Unit {0}))) → Next Ending
-as_ending (Do op) = Do op
-as_ending (Wait time) = Wait time
-as_ending (End spent) = End (read_ending spent)
-
--- what looks at no state ends as it ends
-abbrev pub in_order : Next Spending → Next Ending
-in_order (Do op) = Do op
-in_order (Wait time) = Wait time
-in_order (End spent) = End (InOrder spent)
+-- with how the conversation itself ends
+abbrev pub ending_by : {E : Type 0} → (E → Ending) → Next E → Next Ending
+ending_by f (Do op) = Do op
+ending_by f (Wait time) = Wait time
+ending_by f (End spent) = End (f spent)
 
 abbrev pub next_of : Kept → Next Ending
-next_of (OfTasks procedure) = watchful_want procedure
-next_of (OfPower change) = in_order (wants_patiently power_wants change)
-next_of (OfReading read) = as_ending (wants_patiently pieces_want read)
+next_of (OfTasks procedure) = next_watching procedure.look (wants_patiently tasks.tasks_want procedure.conversation)
+next_of (OfPower change) = ending_by InOrder (wants_patiently power_wants change)
+next_of (OfReading read) = ending_by read_ending (wants_patiently pieces_want read)
 
 abbrev pub after : Kept → Reply → Kept
 after (OfTasks procedure) reply = OfTasks (watchful_after procedure reply)
@@ -132,24 +115,15 @@ after (OfPower change) reply = OfPower (after_patiently power_wants change_after
 after (OfReading read) reply = OfReading (after_patiently pieces_want pieces_after read reply)
 
 abbrev pub after_pause : Kept → Kept
-after_pause (OfTasks procedure) = OfTasks (watchful_paused procedure)
+after_pause (OfTasks it) = OfTasks (record { conversation = paused it.conversation; watches = it.watches; look = look_after_wait it.watches it.look })
 after_pause (OfPower change) = OfPower (paused change)
 after_pause (OfReading read) = OfReading (paused read)
 
 abbrev pub WasTold : Events → Kept → Type 0
-WasTold events (OfTasks procedure) = watchful_told events procedure
+WasTold events (OfTasks it) =
+    WithLooks it.watches it.look (op_of (wants_patiently tasks.tasks_want it.conversation)) (λ own. tasks.ToldPatient own it.conversation) events
 WasTold events (OfPower change) = ToldPower events change
 WasTold events (OfReading read) = ToldPatiently pieces_want pieces_told events read
-
-abbrev pub TasksGoOn : tasks.PatientProcedure → Events → Type 0
-TasksGoOn procedure events =
-    let on = procedure.conversation.conversation in
-    GoesOnPatiently (tasks.GoesOn on.doubts on.conversation.work) procedure events
-
-abbrev pub TasksEnd : tasks.PatientProcedure → Events → Spending → Type 0
-TasksEnd procedure events spent =
-    let on = procedure.conversation.conversation in
-    EndsPatiently (tasks.GoesOn on.doubts on.conversation.work) (tasks.Ends on.doubts on.conversation.work) procedure events spent
 
 abbrev pub PowerEnds : PatientPower → Events → Spending → Type 0
 PowerEnds change events spent =
@@ -159,10 +133,14 @@ PowerEnds change events spent =
 abbrev pub ReadingEnds : Patient InHand → Events → Spent (Timed (Unit {0})) → Type 0
 ReadingEnds read events spent =
     let on = read.conversation.conversation.conversation in
-    EndsPatiently (InHalvesSoFar (OfTheHalves on (reading.GoesOnHalves on.conversation.request))) (λ events end. InHalves (OfTheHalves on (reading.EndsHalves on.conversation.request)) events) read events spent
+    let with_own = WithOwn on.doubts on.conversation.request in
+    EndsPatiently (InHalvesSoFar (with_own (reading.GoesOnHalves on.conversation.request))) (λ events end. InHalves (with_own (reading.EndsHalves on.conversation.request)) events) read events spent
 
 abbrev pub EndsSo : Kept → Events → Ending → Type 0
-EndsSo (OfTasks procedure) events ending = EndsWatching procedure.watches (TasksGoOn procedure.conversation) (TasksEnd procedure.conversation) events ending
+EndsSo (OfTasks it) events ending =
+    let on = it.conversation.conversation.conversation in
+    let goes_on = tasks.GoesOn on.doubts on.conversation.work in
+    EndsWatching it.watches (GoesOnPatiently goes_on it.conversation) (EndsPatiently goes_on (tasks.Ends on.doubts on.conversation.work) it.conversation) events ending
 EndsSo (OfPower change) events ending = (spent : Spending) × (ending ≡ InOrder spent) × PowerEnds change events spent
 EndsSo (OfReading read) events ending = (spent : Spent (Timed (Unit {0}))) × (ending ≡ read_ending spent) × ReadingEnds read events spent
 

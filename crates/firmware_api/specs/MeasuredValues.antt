@@ -1,6 +1,6 @@
 -- Values that a module measures and their limits, as C sees them. (docs/firmware.md, "Decoders"; OIF-CMIS-05.0, "Supported
 -- Monitors Advertisement" of page 01h, the monitor thresholds of page 02h and "Lane-Specific Monitors" of page 11h)
-use Rattle.std.specs.Prelude.{ℕ, ◌==◌, nat_le, if◌then◌else◌, Bool, true, false, ℤ, pos, List, [], ◌∷◌, map, Option, Some, None}
+use Rattle.std.specs.Prelude.{ℕ, ◌==◌, nat_le, if◌then◌else◌, Bool, true, false, ℤ, pos, List, map, replicate, Option, Some, None}
 use Rattle.std.specs.List.{range_with_len}
 use Rattle.paged_memory.specs.Images.{Memory}
 use Rattle.field_tables.specs.declared.field.Field.{Field}
@@ -64,11 +64,8 @@ lane_values memory limited field power limits = record {
   support = measured;
 }
 
-abbrev pub no_values : List ℤ
-no_values = pos 0 ∷ pos 0 ∷ pos 0 ∷ pos 0 ∷ pos 0 ∷ pos 0 ∷ pos 0 ∷ pos 0 ∷ []
-
 abbrev pub no_lane_values : ℕ → LaneValues
-no_lane_values support = record { values = no_values; limits = no_limits; support = support }
+no_lane_values support = record { values = replicate 8 (pos 0); limits = no_limits; support = support }
 
 abbrev pub is_reserved : Memory → Option Field → Bool
 is_reserved memory None = false

@@ -10,23 +10,22 @@ use Rattle.paged_memory.specs.Images.{Memory}
 use Rattle.field_tables.specs.declared.field.Field.TheVariants as fields
 use Rattle.field_tables.specs.declared.field.Sum.TheVariants as sums
 use Rattle.field_tables.specs.Readings.{bit, is_sum_right}
-use Rattle.module_decoding.specs.CmisPages.{absent_page, is_flat, monitor_pages}
+use Rattle.module_decoding.specs.declared.report.Report.TheVariants as report
+use Rattle.module_decoding.specs.CmisPages.{is_flat}
 use Rattle.module_decoding.specs.ModuleFamilies.{family_of}
-use Rattle.sff8636_map.specs.Refusals as sff8636_refusals
-use Rattle.sff8472_map.specs.Refusals as sff8472_refusals
+use Rattle.module_decoding.specs.Reports.{fault_of}
 use Rattle.firmware_api.specs.declared.monitors.MeasuredFields.{MeasuredFields}
 use Rattle.firmware_api.specs.declared.monitors.ModuleMonitors.{ModuleMonitors}
 use Rattle.firmware_api.specs.declared.status.Refusal.{Refusal}
-use Rattle.firmware_api.specs.declared.status.Refusal.TheVariants.{Sff}
+use Rattle.firmware_api.specs.declared.status.Refusal.TheVariants.{Decode}
 use Rattle.firmware_api.specs.MeasuredValues.{lane_values, module_value, no_lane_values, supported_values, unsupported}
-use Rattle.firmware_api.specs.Plans.{refusal_before}
-use Rattle.firmware_api.specs.ReadModules.{family_number, lacks, number_of, unread_refusal}
+use Rattle.firmware_api.specs.ReadModules.{family_number, number_of}
 
--- a CMIS module with flat memory has neither lanes nor limits
-abbrev pub flat_monitors : Memory → ModuleMonitors
-flat_monitors memory = record {
-  temperature = module_value memory false fields.CTemperature fields.CTempLimits;
-  vcc = module_value memory false fields.CVcc fields.CVccLimits;
+-- a CMIS module itself, which has limits or has none
+abbrev pub own_monitors : Memory → Bool → ModuleMonitors
+own_monitors memory limited = record {
+  temperature = module_value memory limited fields.CTemperature fields.CTempLimits;
+  vcc = module_value memory limited fields.CVcc fields.CVccLimits;
   tx_power = no_lane_values unsupported;
   tx_bias = no_lane_values unsupported;
   rx_power = no_lane_values unsupported;
@@ -37,20 +36,18 @@ flat_monitors memory = record {
 }
 
 abbrev pub paged_monitors : Memory → ModuleMonitors
-paged_monitors memory = record {
-  temperature = module_value memory true fields.CTemperature fields.CTempLimits;
-  vcc = module_value memory true fields.CVcc fields.CVccLimits;
+paged_monitors memory = record (own_monitors memory true) {
   tx_power = supported_values memory fields.CTxPowerMonitor fields.CTxPower None fields.CTxPowerLimits;
   tx_bias = supported_values memory fields.CTxBiasMonitor fields.CTxBias (Some fields.CBiasMultiplier) fields.CTxBiasLimits;
   rx_power = supported_values memory fields.CRxPowerMonitor fields.CRxPower None fields.CRxPowerLimits;
-  family = family_number Cmis;
   lanes = 8;
   has_limits = 1;
   sum = number_of (is_sum_right memory sums.CSum02);
 }
 
+-- with flat memory it has neither lanes nor limits
 unfoldable pub cmis_monitors : Memory → ModuleMonitors
-cmis_monitors memory = if is_flat memory then flat_monitors memory else paged_monitors memory
+cmis_monitors memory = if is_flat memory then own_monitors memory false else paged_monitors memory
 
 -- what is measured, by the fields that have it, and zeros
 abbrev pub measured : Memory → Bool → MeasuredFields → ModuleMonitors
@@ -96,11 +93,6 @@ sfp_monitors memory = record {
   sum = number_of (is_sum_right memory sums.SSumDmi);
 }
 
-abbrev pub refusal_of : Family → Memory → Option Refusal
-refusal_of Cmis memory = lacks (absent_page (monitor_pages memory) memory)
-refusal_of Sff8636 memory = option_map Sff (sff8636_refusals.measured_fault memory)
-refusal_of Sff8472 memory = option_map Sff (sff8472_refusals.measured_fault memory)
-
 abbrev pub monitors_of : Family → Memory → ModuleMonitors
 monitors_of Cmis memory = cmis_monitors memory
 monitors_of Sff8636 memory = qsfp_monitors memory
@@ -108,7 +100,7 @@ monitors_of Sff8472 memory = sfp_monitors memory
 
 -- why C is not told what a module measures
 unfoldable pub monitors_refusal : Memory → Option Refusal
-monitors_refusal memory = refusal_before (unread_refusal memory) (refusal_of (family_of memory) memory)
+monitors_refusal memory = option_map Decode (fault_of report.Monitors memory)
 
 -- by the family
 unfoldable pub monitors_in : Memory → ModuleMonitors

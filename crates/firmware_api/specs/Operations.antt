@@ -13,10 +13,6 @@ use Rattle.firmware_api.specs.declared.operation.Operation.{Operation}
 abbrev pub most_stored : ℕ
 most_stored = 8
 
--- the most bytes of a fetch: those of one half
-abbrev pub most_fetched : ℕ
-most_fetched = 128
-
 -- A0h or A2h
 abbrev pub address_of : Dev → ℕ
 address_of A0 = 160
@@ -36,12 +32,12 @@ operation_of (Store dev offset bytes) =
 abbrev pub waiting : ℕ → Operation
 waiting time = record { milliseconds = time; kind = 2; device = 0; offset = 0; count = 0; bytes = replicate most_stored 0 }
 
--- 0 for a refusal, 1 for a store that was taken, 2 for bytes that were fetched
+-- 0 for a refusal, 1 for a store that was taken, 2 for bytes that were fetched: those of one half at most
 abbrev pub reply_of : ℕ → List ℕ → Option Reply
 reply_of number bytes =
     if number == 0 then Some Refused
     else (if number == 1 then Some Done
-    else (if number == 2 then (if nat_le (length bytes) most_fetched then Some (Bytes (record { items = bytes })) else None)
+    else (if number == 2 then (if nat_le (length bytes) 128 then Some (Bytes (record { items = bytes })) else None)
     else None))
 
 -- so long was waited

@@ -1,6 +1,6 @@
 -- A plan as C sees it, and why kept paths are refused. (docs/firmware.md, "Plans"; this project's own)
-use Rattle.std.specs.Prelude.{◌≡◌, ℕ, ◌-◌, ◌<◌, nat_lt, List, ◌++◌, length, replicate, AllPairs, Option, Some, None, if◌then◌else◌}
-use Rattle.std.specs.Option.{option_map}
+use Rattle.std.specs.Prelude.{◌≡◌, ℕ, ◌-◌, ◌<◌, nat_lt, List, ◌++◌, length, replicate, AllPairs, Option, Some, if◌then◌else◌}
+use Rattle.std.specs.Option.{option_map, option_or}
 use Rattle.field_tables.specs.LaneSets.{byte_of}
 use Rattle.applications.specs.Advertised.{Advertised}
 use Rattle.applications.specs.declared.conventions.Conventions.{Conventions}
@@ -25,13 +25,9 @@ kept_refusal advert kept =
     if nat_lt most_paths (length kept) then Some TooManyKept
     else option_map (λ number. KeptNotAdmissible) (kept_fault advert kept)
 
-abbrev pub refusal_before : Option Refusal → Option Refusal → Option Refusal
-refusal_before (Some refusal) later = Some refusal
-refusal_before None later = later
-
 -- refusals of the halves come first
 abbrev pub plan_refusal : List HalfBytes → Conventions → List Path → Option Refusal
-plan_refusal halves conventions kept = refusal_before (refusal_under conventions halves) (kept_refusal (advert_of halves conventions) kept)
+plan_refusal halves conventions kept = option_or (refusal_under conventions halves) (kept_refusal (advert_of halves conventions) kept)
 
 -- what stands after the last path
 abbrev pub no_path : Path
@@ -56,12 +52,8 @@ lane_plan advert weights kept paths = record {
 }
 
 -- the first of the best plans that hold the kept paths, by rising host lane
-pub record IsPlannedBy (advert : Advertised) (weights : PathWeights) (kept : List Path) (plan : LanePlan) : Type 0 where
+pub record IsPlanned (advert : Advertised) (weights : PathWeights) (kept : List Path) (plan : LanePlan) : Type 0 where
   pub paths : List Path
   pub is_first : IsFirstBest advert weights kept paths
   pub rising : AllPairs (λ path later. path.host < later.host) paths
   pub plan_is : plan ≡ lane_plan advert weights kept paths
-
--- the same by the weights that C hands over
-abbrev pub IsPlanned : Advertised → TableWeights → ℕ → List Path → LanePlan → Type 0
-IsPlanned advert weights stay kept plan = IsPlannedBy advert (path_weights advert weights stay) kept plan

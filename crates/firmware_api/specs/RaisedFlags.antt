@@ -9,16 +9,15 @@ use Rattle.paged_memory.specs.Images.{Memory}
 use Rattle.field_tables.specs.declared.field.Field.{Field}
 use Rattle.field_tables.specs.declared.field.Field.TheVariants as fields
 use Rattle.field_tables.specs.Readings.{all_numbers, bit_at, number}
-use Rattle.module_decoding.specs.CmisPages.{absent_page, flag_pages, is_flat}
+use Rattle.module_decoding.specs.declared.report.Report.TheVariants.{Flags}
+use Rattle.module_decoding.specs.CmisPages.{is_flat}
 use Rattle.module_decoding.specs.ModuleFamilies.{family_of}
-use Rattle.sff8636_map.specs.Refusals as sff8636_refusals
-use Rattle.sff8472_map.specs.Refusals as sff8472_refusals
+use Rattle.module_decoding.specs.Reports.{fault_of}
 use Rattle.firmware_api.specs.declared.flags.ModuleFlags.{ModuleFlags}
 use Rattle.firmware_api.specs.declared.flags.LevelFlags.{LevelFlags}
 use Rattle.firmware_api.specs.declared.status.Refusal.{Refusal}
-use Rattle.firmware_api.specs.declared.status.Refusal.TheVariants.{Sff}
-use Rattle.firmware_api.specs.Plans.{refusal_before}
-use Rattle.firmware_api.specs.ReadModules.{family_number, lacks, unread_refusal}
+use Rattle.firmware_api.specs.declared.status.Refusal.TheVariants.{Decode}
+use Rattle.firmware_api.specs.ReadModules.{family_number}
 
 -- a bit of a byte of lanes
 abbrev pub lane_bit : Memory → Field → ℕ → ℕ → ℕ
@@ -146,11 +145,6 @@ sfp_flags memory = record no_flags {
 unfoldable pub cmis_flags : Memory → ModuleFlags
 cmis_flags memory = if is_flat memory then flat_flags memory else paged_flags memory
 
-abbrev pub refusal_of : Family → Memory → Option Refusal
-refusal_of Cmis memory = lacks (absent_page (flag_pages memory) memory)
-refusal_of Sff8636 memory = option_map Sff (sff8636_refusals.module_fault memory)
-refusal_of Sff8472 memory = option_map Sff (sff8472_refusals.flags_fault memory)
-
 abbrev pub flags_of : Family → Memory → ModuleFlags
 flags_of Cmis memory = cmis_flags memory
 flags_of Sff8636 memory = qsfp_flags memory
@@ -158,7 +152,7 @@ flags_of Sff8472 memory = sfp_flags memory
 
 -- why C is not told which flags are raised
 unfoldable pub flags_refusal : Memory → Option Refusal
-flags_refusal memory = refusal_before (unread_refusal memory) (refusal_of (family_of memory) memory)
+flags_refusal memory = option_map Decode (fault_of Flags memory)
 
 -- by the family
 unfoldable pub flags_in : Memory → ModuleFlags

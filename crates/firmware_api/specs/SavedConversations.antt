@@ -64,9 +64,6 @@ abbrev pub is_sound : SavedConversation → Bool
 is_sound saved =
     saved.magic == conversation_magic && (nat_le saved.doubts 1 && (nat_le saved.taken 1 && ((saved.taken == 1 || saved.taken_page == 0) && nat_le saved.watches 1)))
 
-abbrev pub taken_in : SavedConversation → Option ℕ
-taken_in saved = if saved.taken == 1 then Some saved.taken_page else None
-
 -- the code of the module's state that shows the fault, if one does
 abbrev pub code_in : ProvisionFault → Option ℕ
 code_in (ModuleState code) = if is_some (state_at code) then Some code else None
@@ -103,7 +100,7 @@ reading_with saved halves selection due = OfReading (record {
       conversation = record {
         conversation = record { request = record { halves = saved.saved.lanes }; image = memory_of (halves_in saved halves); settled = saved.saved.met };
         selection = selection;
-        taken = taken_in saved;
+        taken = if saved.taken == 1 then Some saved.taken_page else None;
         doubts = saved.doubts == 1;
       };
       piece = saved.piece;

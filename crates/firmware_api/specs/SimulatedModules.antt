@@ -2,7 +2,7 @@
 -- module"; this project's own)
 use Rattle.std.specs.Prelude.{◌≡◌, ℕ, ◌+◌, ◌==◌, ◌&&◌, ◌||◌, nat_le, nat_lt, Bool, true, false, not, List, length, Option, Some, None, Result, Ok, Err, if◌then◌else◌}
 use Rattle.std.specs.List.{list_all}
-use Rattle.std.specs.Option.{option_map}
+use Rattle.std.specs.Option.{option_map, option_or}
 use Rattle.bus_model.specs.declared.device.Dev.{Dev}
 use Rattle.bus_model.specs.declared.device.Dev.TheVariants.{A0, A2}
 use Rattle.applications.specs.Refusals.{advert_fault}
@@ -23,7 +23,6 @@ use Rattle.firmware_api.specs.declared.status.Refusal.{Refusal}
 use Rattle.firmware_api.specs.declared.status.Refusal.TheVariants.{TooManyHalves, NoPlace, Advert, NoStart, NoModule, NoRange, NotTaken}
 use Rattle.firmware_api.specs.Halves.{has_place, memory_of}
 use Rattle.paged_memory.specs.Images.{most_pages}
-use Rattle.firmware_api.specs.Plans.{refusal_before}
 
 -- of the halves themselves
 abbrev pub half_refusal : List HalfBytes → Option Refusal
@@ -39,15 +38,11 @@ unless_refused (Some refusal) value = Err refusal
 -- the module of the halves at the start, or why there is none
 abbrev pub begun : List HalfBytes → Delays → Result SimModule Refusal
 begun halves delays =
-    unless_refused (refusal_before (half_refusal halves) (option_map NoStart (start_fault (memory_of halves) delays))) (start (memory_of halves) delays)
+    unless_refused (option_or (half_refusal halves) (option_map NoStart (start_fault (memory_of halves) delays))) (start (memory_of halves) delays)
 
 -- the numbers are those that a module has when it is saved, for C may read each
 abbrev pub AreSaved : SavedModule → Type 0
 AreSaved numbers = (moving : Moving) × (numbers ≡ saved moving)
-
--- what never changes of the module that has these halves
-abbrev pub fixed_by : List HalfBytes → Fixed
-fixed_by halves = record { image = memory_of halves; advert = own_advert (memory_of halves) }
 
 -- the module of which this never changes, and the rest has these numbers
 abbrev pub module_in : Fixed → SavedModule → Option SimModule
@@ -61,7 +56,7 @@ held_by None None (Some sim) = Ok sim
 
 -- the module that has these halves and these numbers, or why there is none
 abbrev pub held : List HalfBytes → SavedModule → Result SimModule Refusal
-held halves numbers = held_by (half_refusal halves) (advert_fault (memory_of halves)) (module_in (fixed_by halves) numbers)
+held halves numbers = held_by (half_refusal halves) (advert_fault (memory_of halves)) (module_in (record { image = memory_of halves; advert = own_advert (memory_of halves) }) numbers)
 
 -- why numbers alone are not those of a module
 abbrev pub refusal_in : {A : Type 0} → Option A → Option Refusal

@@ -9,12 +9,14 @@ use Rattle.field_tables.specs.declared.sff_fault.SffFault.{SffFault}
 use Rattle.field_tables.specs.declared.sff_fault.SffFault.TheVariants as sff_fault
 use Rattle.module_decoding.specs.declared.module_family.ModuleFault.{ModuleFault}
 use Rattle.module_decoding.specs.declared.module_family.ModuleFault.TheVariants as module_fault
+use Rattle.module_decoding.specs.declared.report.DecodeFault.{DecodeFault}
+use Rattle.module_decoding.specs.declared.report.DecodeFault.TheVariants.{Module, Sff}
 use Rattle.plan_certificate.specs.declared.fault.CertificateFault.{CertificateFault}
 use Rattle.plan_certificate.specs.declared.fault.CertificateFault.TheVariants.{BadLine, OutOfOrder, TooMany, NoEnd}
 use Rattle.sim_module.specs.declared.fault.SimFault.{SimFault}
 use Rattle.sim_module.specs.declared.fault.SimFault.TheVariants as sim_fault
 use Rattle.firmware_api.specs.declared.status.Refusal.{Refusal}
-use Rattle.firmware_api.specs.declared.status.Refusal.TheVariants.{TooManyHalves, NoPlace, NoText, TooSmall, Advert, Certificate, TooManyKept, KeptNotAdmissible, NoConversation, Ended, NotEnded, NoReply, TooFewBytes, NoStart, NoModule, NoRange, NotTaken, Module, Sff, Weights}
+use Rattle.firmware_api.specs.declared.status.Refusal.TheVariants.{TooManyHalves, NoPlace, NoText, TooSmall, Advert, Certificate, TooManyKept, KeptNotAdmissible, NoConversation, Ended, NotEnded, NoReply, TooFewBytes, NoStart, NoModule, NoRange, NotTaken, Decode, Weights}
 
 -- of a call that did what it is for
 abbrev pub done : ℕ
@@ -55,6 +57,10 @@ sff_status sff_fault.NoDiagnostics = 84
 sff_status sff_fault.ExternalCalibration = 85
 sff_status sff_fault.AddressChange = 86
 
+abbrev pub decode_status : DecodeFault → ℕ
+decode_status (Module fault) = module_status fault
+decode_status (Sff fault) = sff_status fault
+
 abbrev pub weights_status : WeightLinesFault → ℕ
 weights_status (weights_fault.BadLine line) = 91
 weights_status weights_fault.NoHost = 92
@@ -78,8 +84,7 @@ status_of (NoStart fault) = start_status fault
 status_of NoModule = 61
 status_of NoRange = 62
 status_of NotTaken = 63
-status_of (Module fault) = module_status fault
-status_of (Sff fault) = sff_status fault
+status_of (Decode fault) = decode_status fault
 status_of (Weights fault) = weights_status fault
 
 -- a call is refused, or does what it is for
@@ -99,6 +104,6 @@ by_status (Err refusal) = Err (status_of refusal)
 -- A module's family is known by its identifier before it is decoded, and with flat memory values have no limits: no call answers
 -- these two.
 abbrev pub is_answered : Refusal → Bool
-is_answered (Sff (sff_fault.WrongIdentifier identifier)) = false
-is_answered (Sff sff_fault.FlatMemory) = false
+is_answered (Decode (Sff (sff_fault.WrongIdentifier identifier))) = false
+is_answered (Decode (Sff sff_fault.FlatMemory)) = false
 is_answered _ = true

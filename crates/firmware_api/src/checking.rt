@@ -1,6 +1,7 @@
 ghost use Rattle.std.specs.Prelude.{◌≡◌, ◌≢◌};
-ghost use Rattle.firmware_api.specs.Checks.{IsJudged, IsShownBest, IsTextJudged, IsTextJudgedBy, IsTextShownBest, IsTextShownBestBy, IsTold, judgement_of, reason_number};
+ghost use Rattle.firmware_api.specs.Checks.{IsJudged, IsShownBest, IsTextJudged, IsTextShownBest, IsTold, judgement_of, reason_number};
 ghost use Rattle.firmware_api.specs.Halves.{conventions_of};
+ghost use Rattle.firmware_api.specs.Plans.{path_weights};
 ghost use Rattle.firmware_api.specs.Statuses.{done};
 
 use crate::half::{HalfBytes, conventions_of, read_advert_under};
@@ -50,8 +51,8 @@ fn judge(
     text: &[u8],
     judgement: &mut Judgement,
 ) -> u32
-    ensures told { IsTold (IsTextJudged advert.now weights.now stay text.now) result judgement.new }
-    ensures best { result ≡ done → judgement.new.reason ≡ 0 → IsTextShownBest advert.now weights.now stay text.now }
+    ensures told { IsTold (IsTextJudged advert.now (path_weights advert.now weights.now stay) text.now) result judgement.new }
+    ensures best { result ≡ done → judgement.new.reason ≡ 0 → IsTextShownBest advert.now (path_weights advert.now weights.now stay) text.now }
     ensures refused { result ≢ done → judgement.new ≡ judgement.old }
 {
     judge_by(
@@ -64,8 +65,8 @@ fn judge(
 
 // The same by what the paths of each Application weigh.
 fn judge_by(advert: &Advert, weights: &AppWeights, text: &[u8], judgement: &mut Judgement) -> u32
-    ensures told { IsTold (IsTextJudgedBy advert.now weights.now text.now) result judgement.new }
-    ensures best { result ≡ done → judgement.new.reason ≡ 0 → IsTextShownBestBy advert.now weights.now text.now }
+    ensures told { IsTold (IsTextJudged advert.now weights.now text.now) result judgement.new }
+    ensures best { result ≡ done → judgement.new.reason ≡ 0 → IsTextShownBest advert.now weights.now text.now }
     ensures refused { result ≢ done → judgement.new ≡ judgement.old }
 {
     let mut certificate = Certificate::<STATES>::blank();

@@ -4,15 +4,15 @@ ghost use Rattle.field_tables.specs.Readings.{is_of_bytes};
 ghost use Rattle.firmware_api.specs.Halves.{memory_of};
 ghost use Rattle.firmware_api.specs.RaisedFlags as spec;
 ghost use Rattle.firmware_api.specs.RaisedFlags.{flags_in, flags_refusal};
-ghost use Rattle.firmware_api.specs.Plans.{refusal_before};
+ghost use Rattle.std.specs.Option.{option_or};
 ghost use Rattle.firmware_api.specs.SimulatedModules.{half_refusal};
 ghost use Rattle.firmware_api.specs.Statuses.{done, status_by};
 
 use crate::half::{HalfBytes, half_status, image_of};
 use crate::read_module::family_number;
-use crate::status::{DONE, PAGE_ABSENT, module_status, sff_status};
+use crate::status::{DONE, decode_status};
 use field_tables::{Field, all_numbers, bit_at, number};
-use module_decoding::{absent_flag_page, family_of, is_flat};
+use module_decoding::{Report, family_with, is_flat};
 use paged_memory::{Family, Image};
 
 /// Which limits are passed: 0 or 1 for a value of the module, a byte of lanes for a value of its lanes.
@@ -53,7 +53,7 @@ pub struct ModuleFlags {
 /// Puts into `flags` the states and the flags of the module whose memory has these halves.
 #[unsafe(no_mangle)]
 pub extern "C" fn dovecounter_flags(halves: &[HalfBytes], flags: &mut ModuleFlags) -> u32
-    ensures status { result ≡ status_by (refusal_before (half_refusal halves.now) (flags_refusal (memory_of halves.now))) }
+    ensures status { result ≡ status_by (option_or (half_refusal halves.now) (flags_refusal (memory_of halves.now))) }
     ensures done { result ≡ done → flags.new ≡ flags_in (memory_of halves.now) }
     ensures refused { result ≢ done → flags.new ≡ flags.old }
 {
@@ -64,35 +64,28 @@ pub extern "C" fn dovecounter_flags(halves: &[HalfBytes], flags: &mut ModuleFlag
     put_flags(&image_of(halves), flags)
 }
 
-#[tactic(auto, unfolding(crate::specs::RaisedFlags::flags_refusal, crate::specs::RaisedFlags::flags_in, crate::specs::ReadModules::unread_refusal))]
+#[tactic(auto, unfolding(crate::specs::RaisedFlags::flags_refusal, crate::specs::RaisedFlags::flags_in))]
 fn put_flags(image: &Image, flags: &mut ModuleFlags) -> u32
     ensures status { result ≡ status_by (flags_refusal image.now) }
     ensures done { result ≡ done → flags.new ≡ flags_in image.now }
     ensures refused { result ≢ done → flags.new ≡ flags.old }
 {
-    match family_of(image) {
-        Ok(Family::Cmis) => match absent_flag_page(image) {
-            Some(_page) => PAGE_ABSENT,
-            None => {
-                put_cmis_flags(image, flags);
-                DONE
-            }
-        },
-        Ok(Family::Sff8636) => match sff8636_map::module_refusal(image) {
-            Some(fault) => sff_status(fault),
-            None => {
-                put_qsfp_flags(image, flags);
-                DONE
-            }
-        },
-        Ok(Family::Sff8472) => match sff8472_map::flags_refusal(image) {
-            Some(fault) => sff_status(fault),
-            None => {
-                put_sfp_flags(image, flags);
-                DONE
-            }
-        },
-        Err(fault) => module_status(fault),
+    match family_with(Report::Flags, image) {
+        Ok(family) => {
+            put_flags_of(family, image, flags);
+            DONE
+        }
+        Err(fault) => decode_status(fault),
+    }
+}
+
+fn put_flags_of(family: Family, image: &Image, flags: &mut ModuleFlags)
+    ensures { flags.new ≡ spec.flags_of family image.now }
+{
+    match family {
+        Family::Cmis => put_cmis_flags(image, flags),
+        Family::Sff8636 => put_qsfp_flags(image, flags),
+        Family::Sff8472 => put_sfp_flags(image, flags),
     }
 }
 

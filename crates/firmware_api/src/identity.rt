@@ -4,16 +4,16 @@ ghost use Rattle.field_tables.specs.Readings.{is_of_bytes};
 ghost use Rattle.firmware_api.specs.Halves.{memory_of};
 ghost use Rattle.firmware_api.specs.Identities as spec;
 ghost use Rattle.firmware_api.specs.Identities.{identity_in, identity_refusal, shared_identity};
-ghost use Rattle.firmware_api.specs.Plans.{refusal_before};
+ghost use Rattle.std.specs.Option.{option_or};
 ghost use Rattle.firmware_api.specs.SimulatedModules.{half_refusal};
 ghost use Rattle.firmware_api.specs.Statuses.{done, status_by};
 
 use crate::half::{HalfBytes, half_status, image_of};
 use crate::read_module::{family_number, number_of};
 use crate::shown_texts::put_text;
-use crate::status::{DONE, PAGE_ABSENT, module_status, sff_status};
+use crate::status::{DONE, decode_status};
 use field_tables::{Field, Sum, TextField, all_numbers, is_sum_right, number};
-use module_decoding::{absent_identity_page, amount_at, family_of, is_flat, length_in};
+use module_decoding::{Report, amount_at, family_with, is_flat, length_in};
 use paged_memory::{Family, Image};
 
 /// What a module is. Amounts are in thousandths of a watt and of a metre. What only CMIS has is 0 for other modules.
@@ -60,7 +60,7 @@ pub struct SharedFields {
 /// Puts into `identity` what the module whose memory has these halves is.
 #[unsafe(no_mangle)]
 pub extern "C" fn dovecounter_identity(halves: &[HalfBytes], identity: &mut ModuleIdentity) -> u32
-    ensures status { result ≡ status_by (refusal_before (half_refusal halves.now) (identity_refusal (memory_of halves.now))) }
+    ensures status { result ≡ status_by (option_or (half_refusal halves.now) (identity_refusal (memory_of halves.now))) }
     ensures done { result ≡ done → identity.new ≡ identity_in (memory_of halves.now) }
     ensures refused { result ≢ done → identity.new ≡ identity.old }
 {
@@ -71,37 +71,34 @@ pub extern "C" fn dovecounter_identity(halves: &[HalfBytes], identity: &mut Modu
     put_identity(&image_of(halves), identity)
 }
 
-#[tactic(auto, unfolding(crate::specs::Identities::identity_refusal, crate::specs::Identities::identity_in, crate::specs::ReadModules::unread_refusal))]
+#[tactic(auto, unfolding(crate::specs::Identities::identity_refusal, crate::specs::Identities::identity_in))]
 fn put_identity(image: &Image, identity: &mut ModuleIdentity) -> u32
     ensures status { result ≡ status_by (identity_refusal image.now) }
     ensures done { result ≡ done → identity.new ≡ identity_in image.now }
     ensures refused { result ≢ done → identity.new ≡ identity.old }
 {
-    match family_of(image) {
-        Ok(Family::Cmis) => match absent_identity_page(image) {
-            Some(_page) => PAGE_ABSENT,
-            None => {
-                put_cmis(image, identity);
-                DONE
-            }
-        },
-        Ok(Family::Sff8636) => match sff8636_map::identity_refusal(image) {
-            Some(fault) => sff_status(fault),
-            None => {
-                put_shared(image, Family::Sff8636, &QSFP, identity);
-                identity.sum_ext = number_of(is_sum_right(image, Sum::QSumExt));
-                DONE
-            }
-        },
-        Ok(Family::Sff8472) => match sff8472_map::module_refusal(image) {
-            Some(fault) => sff_status(fault),
-            None => {
-                put_shared(image, Family::Sff8472, &SFP, identity);
-                identity.sum_ext = number_of(is_sum_right(image, Sum::SSumExt));
-                DONE
-            }
-        },
-        Err(fault) => module_status(fault),
+    match family_with(Report::Inventory, image) {
+        Ok(family) => {
+            put_identity_of(family, image, identity);
+            DONE
+        }
+        Err(fault) => decode_status(fault),
+    }
+}
+
+fn put_identity_of(family: Family, image: &Image, identity: &mut ModuleIdentity)
+    ensures { identity.new ≡ spec.identity_of family image.now }
+{
+    match family {
+        Family::Cmis => put_cmis(image, identity),
+        Family::Sff8636 => {
+            put_shared(image, Family::Sff8636, &QSFP, identity);
+            identity.sum_ext = number_of(is_sum_right(image, Sum::QSumExt));
+        }
+        Family::Sff8472 => {
+            put_shared(image, Family::Sff8472, &SFP, identity);
+            identity.sum_ext = number_of(is_sum_right(image, Sum::SSumExt));
+        }
     }
 }
 

@@ -1,9 +1,10 @@
 ghost use Rattle.std.specs.Prelude.{◌≡◌, ◌∷◌};
 ghost use Rattle.bus_model.specs.declared.operation.Op.{Op};
 ghost use Rattle.conversations.specs.declared.next.Next.TheVariants.{Do};
+ghost use Rattle.conversations.specs.declared.watching.Watched.TheVariants.{InOrder};
 ghost use Rattle.conversations.specs.Events.{Events, made};
 ghost use Rattle.conversations.specs.Wanted.{IfEnd, IsReplyTo};
-ghost use Rattle.firmware_api.specs.KeptConversations.{EndsSo, WasTold, after, as_ending, in_order, next_of, no_fault};
+ghost use Rattle.firmware_api.specs.KeptConversations.{EndsSo, WasTold, after, ending_by, next_of, no_fault, read_ending};
 
 use bus_model::Reply;
 use control_sets::{PatientPower, ProvisionFault, WatchfulProcedure};
@@ -53,7 +54,7 @@ impl Kept {
 
 // What looks at no state ends as it ends.
 fn in_order(next: Next<Spent<Timed<Option<ProvisionFault>>>>) -> Next<Ending>
-    ensures { result ≡ in_order next }
+    ensures { result ≡ ending_by InOrder next }
 {
     match next {
         Next::Do(op) => Next::Do(op),
@@ -64,7 +65,7 @@ fn in_order(next: Next<Spent<Timed<Option<ProvisionFault>>>>) -> Next<Ending>
 
 // A module that was read is no fault.
 fn as_ending(next: Next<Spent<Timed<()>>>) -> Next<Ending>
-    ensures { result ≡ as_ending next }
+    ensures { result ≡ ending_by read_ending next }
 {
     match next {
         Next::Do(op) => Next::Do(op),

@@ -3,7 +3,7 @@ ghost use Rattle.field_tables.specs.FieldRows.{row_of};
 ghost use Rattle.firmware_api.specs.Halves.{memory_of};
 ghost use Rattle.firmware_api.specs.Monitors as spec;
 ghost use Rattle.firmware_api.specs.Monitors.{monitors_in, monitors_refusal};
-ghost use Rattle.firmware_api.specs.Plans.{refusal_before};
+ghost use Rattle.std.specs.Option.{option_or};
 ghost use Rattle.firmware_api.specs.SimulatedModules.{half_refusal};
 ghost use Rattle.firmware_api.specs.Statuses.{done, status_by};
 
@@ -12,9 +12,9 @@ use crate::measured_values::{
     LaneValues, ModuleValue, NO_LIMITS, put_lanes, put_supported, put_value,
 };
 use crate::read_module::{family_number, number_of};
-use crate::status::{DONE, PAGE_ABSENT, module_status, sff_status};
+use crate::status::{DONE, decode_status};
 use field_tables::{Field, Sum, bit, is_sum_right};
-use module_decoding::{absent_monitor_page, family_of, is_flat};
+use module_decoding::{Report, family_with, is_flat};
 use paged_memory::{Family, Image};
 
 /// What a module measures. What it does not have is 0.
@@ -52,7 +52,7 @@ pub struct MeasuredFields {
 /// Puts into `monitors` what the module whose memory has these halves measures.
 #[unsafe(no_mangle)]
 pub extern "C" fn dovecounter_monitors(halves: &[HalfBytes], monitors: &mut ModuleMonitors) -> u32
-    ensures status { result ≡ status_by (refusal_before (half_refusal halves.now) (monitors_refusal (memory_of halves.now))) }
+    ensures status { result ≡ status_by (option_or (half_refusal halves.now) (monitors_refusal (memory_of halves.now))) }
     ensures done { result ≡ done → monitors.new ≡ monitors_in (memory_of halves.now) }
     ensures refused { result ≢ done → monitors.new ≡ monitors.old }
 {
@@ -63,35 +63,28 @@ pub extern "C" fn dovecounter_monitors(halves: &[HalfBytes], monitors: &mut Modu
     put_monitors(&image_of(halves), monitors)
 }
 
-#[tactic(auto, unfolding(crate::specs::Monitors::monitors_refusal, crate::specs::Monitors::monitors_in, crate::specs::ReadModules::unread_refusal))]
+#[tactic(auto, unfolding(crate::specs::Monitors::monitors_refusal, crate::specs::Monitors::monitors_in))]
 fn put_monitors(image: &Image, monitors: &mut ModuleMonitors) -> u32
     ensures status { result ≡ status_by (monitors_refusal image.now) }
     ensures done { result ≡ done → monitors.new ≡ monitors_in image.now }
     ensures refused { result ≢ done → monitors.new ≡ monitors.old }
 {
-    match family_of(image) {
-        Ok(Family::Cmis) => match absent_monitor_page(image) {
-            Some(_page) => PAGE_ABSENT,
-            None => {
-                put_cmis_monitors(image, monitors);
-                DONE
-            }
-        },
-        Ok(Family::Sff8636) => match sff8636_map::measured_refusal(image) {
-            Some(fault) => sff_status(fault),
-            None => {
-                put_qsfp_monitors(image, monitors);
-                DONE
-            }
-        },
-        Ok(Family::Sff8472) => match sff8472_map::measured_refusal(image) {
-            Some(fault) => sff_status(fault),
-            None => {
-                put_sfp_monitors(image, monitors);
-                DONE
-            }
-        },
-        Err(fault) => module_status(fault),
+    match family_with(Report::Monitors, image) {
+        Ok(family) => {
+            put_monitors_of(family, image, monitors);
+            DONE
+        }
+        Err(fault) => decode_status(fault),
+    }
+}
+
+fn put_monitors_of(family: Family, image: &Image, monitors: &mut ModuleMonitors)
+    ensures { monitors.new ≡ spec.monitors_of family image.now }
+{
+    match family {
+        Family::Cmis => put_cmis_monitors(image, monitors),
+        Family::Sff8636 => put_qsfp_monitors(image, monitors),
+        Family::Sff8472 => put_sfp_monitors(image, monitors),
     }
 }
 

@@ -1,7 +1,7 @@
 ghost use Rattle.std.specs.Prelude.{◌≡◌, ◌≢◌, MatchOption, Ok, Err};
 ghost use Rattle.plan_certificate.specs.Plans.{IsAdmissible};
 ghost use Rattle.firmware_api.specs.Halves.{advert_of, conventions_of};
-ghost use Rattle.firmware_api.specs.Plans.{IsPlanned, IsPlannedBy, kept_refusal, paths_of, plan_refusal};
+ghost use Rattle.firmware_api.specs.Plans.{IsPlanned, kept_refusal, path_weights, paths_of, plan_refusal};
 ghost use Rattle.firmware_api.specs.Statuses.{done, status_by, status_of};
 
 use crate::half::{HalfBytes, conventions_of, read_advert_under};
@@ -45,7 +45,7 @@ pub extern "C" fn dovecounter_plan(
     plan: &mut LanePlan,
 ) -> u32
     ensures status { result ≡ status_by (plan_refusal halves.now (conventions_of paired counts_by_id stay) kept.now) }
-    ensures done { result ≡ done → IsPlanned (advert_of halves.now (conventions_of paired counts_by_id stay)) weights.now stay kept.now plan.new }
+    ensures done { let advert = advert_of halves.now (conventions_of paired counts_by_id stay) in result ≡ done → IsPlanned advert (path_weights advert weights.now stay) kept.now plan.new }
     ensures refused { result ≢ done → plan.new ≡ plan.old }
 {
     let advert = match read_advert_under(conventions_of(paired, counts_by_id, stay), halves) {
@@ -79,7 +79,7 @@ pub fn kept_plan(advert: &Advert, kept: &[Path]) -> Result<Plan, u32>
 #[inline(never)]
 fn put_best(advert: &Advert, weights: &[u32; 256], stay: u32, kept: &Plan, plan: &mut LanePlan)
     requires { IsAdmissible advert.now kept.now }
-    ensures { IsPlanned advert.now weights.now stay kept.now plan.new }
+    ensures { IsPlanned advert.now (path_weights advert.now weights.now stay) kept.now plan.new }
 {
     put_plan(
         advert,
@@ -108,7 +108,7 @@ const NO_PLAN: LanePlan = LanePlan {
 // The same by what the paths of each Application weigh.
 fn put_plan(advert: &Advert, weights: &AppWeights, kept: &Plan, plan: &mut LanePlan)
     requires { IsAdmissible advert.now kept.now }
-    ensures { IsPlannedBy advert.now weights.now kept.now plan.new }
+    ensures { IsPlanned advert.now weights.now kept.now plan.new }
 {
     let best = first_plan(advert, weights, kept);
     *plan = NO_PLAN;

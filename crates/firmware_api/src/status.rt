@@ -1,9 +1,9 @@
 ghost use Rattle.std.specs.Prelude.{◌≡◌, ◌≢◌};
-ghost use Rattle.firmware_api.specs.Statuses.{advert_status, certificate_status, done, module_status, sff_status, start_status, status_of, weights_status};
+ghost use Rattle.firmware_api.specs.Statuses.{advert_status, certificate_status, decode_status, done, module_status, sff_status, start_status, status_of, weights_status};
 
 use applications::{AdvertFault, WeightLinesFault};
 use field_tables::SffFault;
-use module_decoding::ModuleFault;
+use module_decoding::{DecodeFault, ModuleFault};
 use plan_certificate::CertificateFault;
 use sim_module::SimFault;
 
@@ -38,8 +38,6 @@ pub const NO_MODULE: u32 = 61;
 pub const NO_RANGE: u32 = 62;
 
 pub const NOT_TAKEN: u32 = 63;
-/// A page of a CMIS module is needed that is not there.
-pub const PAGE_ABSENT: u32 = 76;
 
 /// Why a call does nothing.
 #[derive(Clone, Copy)]
@@ -78,10 +76,8 @@ pub enum Refusal {
     NoRange,
     /// The simulated module refuses.
     NotTaken,
-    /// The module is not decoded, or lacks a page that is needed.
-    Module(ModuleFault),
-    /// The memory of the SFF module is not read.
-    Sff(SffFault),
+    /// The module is not decoded, or lacks a half that is needed.
+    Decode(DecodeFault),
     /// The lines say no weights.
     Weights(WeightLinesFault),
 }
@@ -110,8 +106,7 @@ impl Refusal {
             Refusal::NoModule => NO_MODULE,
             Refusal::NoRange => NO_RANGE,
             Refusal::NotTaken => NOT_TAKEN,
-            Refusal::Module(fault) => module_status(fault),
-            Refusal::Sff(fault) => sff_status(fault),
+            Refusal::Decode(fault) => decode_status(fault),
             Refusal::Weights(fault) => weights_status(fault),
         }
     }
@@ -159,19 +154,28 @@ pub fn start_status(fault: SimFault) -> u32
 }
 
 /// The number by which C knows it.
-pub fn module_status(fault: ModuleFault) -> u32
+pub fn decode_status(fault: DecodeFault) -> u32
+    ensures status { result ≡ decode_status fault }
+    ensures refused { result ≢ done }
+{
+    match fault {
+        DecodeFault::Module(fault) => module_status(fault),
+        DecodeFault::Sff(fault) => sff_status(fault),
+    }
+}
+
+fn module_status(fault: ModuleFault) -> u32
     ensures status { result ≡ module_status fault }
     ensures refused { result ≢ done }
 {
     match fault {
         ModuleFault::Unknown(_) => 71,
         ModuleFault::Revision(_) => 74,
-        ModuleFault::Absent(_) => PAGE_ABSENT,
+        ModuleFault::Absent(_) => 76,
     }
 }
 
-/// The number by which C knows it.
-pub fn sff_status(fault: SffFault) -> u32
+fn sff_status(fault: SffFault) -> u32
     ensures status { result ≡ sff_status fault }
     ensures refused { result ≢ done }
 {

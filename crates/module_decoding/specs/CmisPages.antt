@@ -1,5 +1,5 @@
--- The pages of a CMIS module that have what is told of it. (docs/formats.md, "inventory", "monitors", "flags" and "details"; OIF-CMIS-05.0,
--- "Management Characteristics" and "Management Memory Map")
+-- Pages of a CMIS module, and those that have its details. (docs/formats.md, "details"; OIF-CMIS-05.0, "Management Characteristics" and
+-- "Management Memory Map")
 use Rattle.std.specs.Prelude.{ℕ, Bool, if◌then◌else◌, List, [], ◌∷◌, map, Option, find}
 use Rattle.bus_model.specs.declared.device.Dev.TheVariants.{A0}
 use Rattle.paged_memory.specs.declared.key.Key.{Key}
@@ -14,20 +14,8 @@ abbrev pub is_flat : Memory → Bool
 is_flat memory = bit memory CFlatMemory
 
 -- those that are needed of a module that has more
-abbrev pub unless_flat : Memory → List ℕ → List ℕ
-unless_flat memory pages = if is_flat memory then [] else pages
-
--- of what it is
-abbrev pub identity_pages : List ℕ
-identity_pages = 0x00 ∷ []
-
--- of what it measures
-abbrev pub monitor_pages : Memory → List ℕ
-monitor_pages memory = unless_flat memory (0x01 ∷ 0x02 ∷ 0x11 ∷ [])
-
--- of its states and flags
-abbrev pub flag_pages : Memory → List ℕ
-flag_pages memory = unless_flat memory (0x11 ∷ [])
+abbrev pub unless_flat : Bool → List ℕ → List ℕ
+unless_flat flat pages = if flat then [] else pages
 
 -- of all that it says of itself
 abbrev pub detail_pages : Memory → List ℕ

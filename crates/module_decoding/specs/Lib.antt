@@ -2,3 +2,4 @@ pub mod ModuleFamilies
 pub mod CmisPages
 pub mod Amounts
 pub mod PaddedTexts
+pub mod Reports

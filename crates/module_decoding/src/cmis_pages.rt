@@ -1,7 +1,7 @@
 // The pages of a CMIS module that have what is told of it.
 ghost use Rattle.std.specs.Prelude.{◌≡◌};
 ghost use Rattle.module_decoding.specs.CmisPages as spec;
-ghost use Rattle.module_decoding.specs.CmisPages.{absent_page, detail_pages, flag_pages, identity_pages, is_flat, monitor_pages};
+ghost use Rattle.module_decoding.specs.CmisPages.{absent_page, detail_pages, is_flat};
 
 use bus_model::Dev;
 use field_tables::{Field, bit};
@@ -12,27 +12,6 @@ pub fn is_flat(image: &Image) -> bool
     ensures { result ≡ is_flat image.now }
 {
     bit(image, Field::CFlatMemory)
-}
-
-/// The first page that the image lacks of those that say what the module is.
-pub fn absent_identity_page(image: &Image) -> Option<Key>
-    ensures { result ≡ absent_page identity_pages image.now }
-{
-    absent_page(image, &[0x00])
-}
-
-/// The first page that the image lacks of those that have what the module measures.
-pub fn absent_monitor_page(image: &Image) -> Option<Key>
-    ensures { result ≡ absent_page (monitor_pages image.now) image.now }
-{
-    absent_page(image, unless_flat(image, &[0x01, 0x02, 0x11]))
-}
-
-/// The first page that the image lacks of those that have the module's states and flags.
-pub fn absent_flag_page(image: &Image) -> Option<Key>
-    ensures { result ≡ absent_page (flag_pages image.now) image.now }
-{
-    absent_page(image, unless_flat(image, &[0x11]))
 }
 
 /// The first page that the image lacks of those that have all that the module says of itself.
@@ -46,16 +25,16 @@ pub fn absent_detail_page(image: &Image) -> Option<Key>
     }
 }
 
-// Those that are needed of a module that has more than page 00h.
-fn unless_flat(image: &Image, pages: &'static [u8]) -> &'static [u8]
-    ensures { result.now ≡ spec.unless_flat image.now pages.now }
+/// Those that are needed of a module that has more than page 00h.
+pub fn unless_flat(image: &Image, pages: &'static [u8]) -> &'static [u8]
+    ensures { result.now ≡ spec.unless_flat (is_flat image.now) pages.now }
 {
     if is_flat(image) { &[] } else { pages }
 }
 
-// The first of these pages of bank 0 that the image lacks.
+/// The first of these pages of bank 0 that the image lacks.
 #[tactic(auto, unfolding(crate::specs::CmisPages::absent_page))]
-fn absent_page(image: &Image, pages: &[u8]) -> Option<Key>
+pub fn absent_page(image: &Image, pages: &[u8]) -> Option<Key>
     ensures { result ≡ absent_page pages.now image.now }
 {
     for page in pages {

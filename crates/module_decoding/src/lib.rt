@@ -6,10 +6,10 @@ mod amounts;
 mod cmis_pages;
 mod module_family;
 mod padded_texts;
+mod report;
 
 pub use amounts::{amount_at, length_in, limit_amounts, unit_of};
-pub use cmis_pages::{
-    absent_detail_page, absent_flag_page, absent_identity_page, absent_monitor_page, is_flat,
-};
+pub use cmis_pages::{absent_detail_page, is_flat};
 pub use module_family::{ModuleFault, detail_family_of, family_of};
 pub use padded_texts::{shown_byte, trimmed};
+pub use report::{DecodeFault, Report, family_with};

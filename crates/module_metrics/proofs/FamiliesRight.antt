@@ -10,6 +10,7 @@ use Rattle.paged_memory.specs.declared.family.Family.TheVariants.{Cmis, Sff8636,
 use Rattle.paged_memory.specs.Images.{Memory}
 use Rattle.field_tables.specs.declared.field.Field.TheVariants.{QFlatMemory}
 use Rattle.field_tables.specs.Readings.{bit}
+use Rattle.module_decoding.specs.declared.report.Report.TheVariants.{Flags, Inventory, Monitors}
 use Rattle.module_decoding.specs.CmisPages.{is_flat}
 use Rattle.module_decoding.specs.ModuleFamilies.{family_of}
 use Rattle.report_entries.specs.declared.flag.Flag.{Flag}
@@ -20,18 +21,10 @@ use Rattle.report_entries.specs.Flags.{raised}
 use Rattle.report_entries.specs.Quantities.{name_of}
 use Rattle.report_entries.specs.Rows.{Row, row_fits, rows_entries}
 use Rattle.reports.specs.declared.fault.ReportFault.{ReportFault}
-use Rattle.reports.specs.CmisFlags as cmis_flags
-use Rattle.reports.specs.CmisInventory as cmis_identity
-use Rattle.reports.specs.CmisMonitors as cmis_measures
-use Rattle.reports.specs.FlagsByFamily as flags
-use Rattle.reports.specs.FlagsByFamily.{flags_entries, flags_fault, flags_told}
-use Rattle.reports.specs.Inventory as identities
-use Rattle.reports.specs.Inventory.{inventory_entries, inventory_fault}
-use Rattle.reports.specs.MonitorsByFamily as measures
-use Rattle.reports.specs.MonitorsByFamily.{monitors_entries, monitors_fault}
-use Rattle.reports.specs.SffFlags as sff_flags
-use Rattle.reports.specs.SffInventory as sff_identity
-use Rattle.reports.specs.SffMonitors as sff_measures
+use Rattle.reports.specs.FlagRows as warnings
+use Rattle.reports.specs.InventoryRows as identity
+use Rattle.reports.specs.MonitorRows as measures
+use Rattle.reports.specs.Reports.{entries_in, entries_of, flags_fault, flags_told, inventory_fault, monitors_fault, told_in}
 use Rattle.module_metrics.specs.AddedLabels.{AreAdded}
 use Rattle.module_metrics.specs.Answers.{code_of, first_fault, metrics_of, told_flags, unless}
 use Rattle.module_metrics.specs.BaseUnits.{base_name}
@@ -89,18 +82,18 @@ flags_apart : (told : List (Flag × Bool)) → list_all has_small_lane told ≡ 
 flags_apart told small new =
     apart_by values (map flag_labels told) (subst (λ vs. AreApart vs) (sym (same_values told small)) (tested (map flag_value told) new))
 
-pub cmis_flags_apart : (memory : Memory) (flat : Bool) → AreApart (map flag_labels (rows_flags memory flat cmis_flags.flag_rows))
-unfolding row_flags cmis_flags.flag_rows flag_name limit_name condition_name name_of
-cmis_flags_apart memory true = flags_apart (rows_flags memory true cmis_flags.flag_rows) refl refl
-cmis_flags_apart memory false = flags_apart (rows_flags memory false cmis_flags.flag_rows) refl refl
+pub cmis_flags_apart : (memory : Memory) (flat : Bool) → AreApart (map flag_labels (rows_flags memory flat warnings.cmis_rows))
+unfolding row_flags warnings.cmis_rows flag_name limit_name condition_name name_of
+cmis_flags_apart memory true = flags_apart (rows_flags memory true warnings.cmis_rows) refl refl
+cmis_flags_apart memory false = flags_apart (rows_flags memory false warnings.cmis_rows) refl refl
 
-pub qsfp_flags_apart : (memory : Memory) → AreApart (map flag_labels (sff_flags.qsfp_flags memory))
-unfolding row_flags sff_flags.qsfp_flags sff_flags.qsfp_rows flag_name limit_name condition_name name_of
-qsfp_flags_apart memory = flags_apart (sff_flags.qsfp_flags memory) refl refl
+pub qsfp_flags_apart : (memory : Memory) → AreApart (map flag_labels (told_in Sff8636 memory))
+unfolding row_flags warnings.qsfp_rows flag_name limit_name condition_name name_of
+qsfp_flags_apart memory = flags_apart (told_in Sff8636 memory) refl refl
 
-pub sfp_flags_apart : (memory : Memory) → AreApart (map flag_labels (sff_flags.sfp_flags memory))
-unfolding row_flags sff_flags.sfp_flags sff_flags.sfp_rows flag_name limit_name condition_name name_of
-sfp_flags_apart memory = flags_apart (sff_flags.sfp_flags memory) refl refl
+pub sfp_flags_apart : (memory : Memory) → AreApart (map flag_labels (told_in Sff8472 memory))
+unfolding row_flags warnings.sfp_rows flag_name limit_name condition_name name_of
+sfp_flags_apart memory = flags_apart (told_in Sff8472 memory) refl refl
 
 raised_sub : (told : List (Flag × Bool)) → Sub (map flag_labels (each_raised (raised told))) (map flag_labels told)
 unfolding flag_sample sample
@@ -161,120 +154,116 @@ asked_apart true (Some fault) told apart = tt
 
 -- ---- CMIS
 
-cmis_rows : AreRight cmis_identity.inventory_rows cmis_measures.monitor_rows (flat_map row_names cmis_flags.state_rows ++ flag_names)
-unfolding is_taken cmis_identity.inventory_rows cmis_measures.monitor_rows cmis_flags.state_rows sff_identity.qsfp_rows sff_identity.sfp_rows info_name sums_name fault_name amount_name scope_name base_name state_name paths_name statuses_name count_name flags_name label
+cmis_rows : AreRight identity.cmis_rows measures.cmis_rows (flat_map row_names warnings.state_rows ++ flag_names)
+unfolding is_taken identity.cmis_rows measures.cmis_rows warnings.state_rows identity.qsfp_rows identity.sfp_rows info_name sums_name fault_name amount_name scope_name base_name state_name paths_name statuses_name count_name flags_name label
 cmis_rows = record { keys_own = refl; keys_new = refl; sums_new = refl; names_new = refl }
 
-cmis_sums : AllByRecursion IsSum (flat_map row_sums cmis_identity.inventory_rows ++ flat_map row_sums cmis_measures.monitor_rows)
-unfolding cmis_identity.inventory_rows cmis_measures.monitor_rows label
+cmis_sums : AllByRecursion IsSum (flat_map row_sums identity.cmis_rows ++ flat_map row_sums measures.cmis_rows)
+unfolding identity.cmis_rows measures.cmis_rows label
 cmis_sums = (refl, (refl, tt))
 
-cmis_fit : (list_all is_sure cmis_identity.inventory_rows ≡ true) × (list_all row_fits cmis_identity.inventory_rows ≡ true)
-    × (list_all row_fits cmis_measures.monitor_rows ≡ true) × (list_all row_fits cmis_flags.state_rows ≡ true)
-unfolding cmis_identity.inventory_rows cmis_measures.monitor_rows cmis_flags.state_rows
+cmis_fit : (list_all is_sure identity.cmis_rows ≡ true) × (list_all row_fits identity.cmis_rows ≡ true)
+    × (list_all row_fits measures.cmis_rows ≡ true) × (list_all row_fits warnings.state_rows ≡ true)
+unfolding identity.cmis_rows measures.cmis_rows warnings.state_rows
 cmis_fit = (refl, refl, refl, refl)
 
 -- of its states and flags
-cmis_named : (all : Bool) (told : List (Flag × Bool)) (memory : Memory) → Sub (flat_map (entry_names all told) (cmis_flags.flags_entries memory)) (flat_map row_names cmis_flags.state_rows ++ flag_names)
+cmis_named : (all : Bool) (told : List (Flag × Bool)) (memory : Memory) → Sub (flat_map (entry_names all told) (entries_in Flags Cmis memory)) (flat_map row_names warnings.state_rows ++ flag_names)
 cmis_named all told memory =
     let f = entry_names all told in
-    let states = rows_entries memory (is_flat memory) cmis_flags.state_rows in
-    let last = flags_entry (raised (cmis_flags.all_flags memory)) in
-    subst (λ zs. Sub zs (flat_map row_names cmis_flags.state_rows ++ flag_names)) (sym (flat_map-append f states (last ∷ [])))
-    (sub_append (flat_map f states) (flat_map row_names cmis_flags.state_rows) (f last ++ []) flag_names (names_sub all told memory (is_flat memory) cmis_flags.state_rows)
-    (subst (λ zs. Sub (zs ++ []) flag_names) (sym (flags_named all told (raised (cmis_flags.all_flags memory)))) (sub_all flag_names)))
+    let states = rows_entries memory (is_flat memory) warnings.state_rows in
+    let last = flags_entry (raised (told_in Cmis memory)) in
+    subst (λ zs. Sub zs (flat_map row_names warnings.state_rows ++ flag_names)) (sym (flat_map-append f states (last ∷ [])))
+    (sub_append (flat_map f states) (flat_map row_names warnings.state_rows) (f last ++ []) flag_names (names_sub all told memory (is_flat memory) warnings.state_rows)
+    (subst (λ zs. Sub (zs ++ []) flag_names) (sym (flags_named all told (raised (told_in Cmis memory)))) (sub_all flag_names)))
 
-cmis_apart : (memory : Memory) → AreApart (map flag_labels (cmis_flags.all_flags memory))
-unfolding cmis_flags.all_flags
+cmis_apart : (memory : Memory) → AreApart (map flag_labels (told_in Cmis memory))
 cmis_apart memory = cmis_flags_apart memory (is_flat memory)
 
-cmis_plain : (memory : Memory) → AllByRecursion EntryIsPlain (cmis_flags.flags_entries memory)
+cmis_plain : (memory : Memory) → AllByRecursion EntryIsPlain (entries_in Flags Cmis memory)
 cmis_plain memory =
-    both EntryIsPlain (rows_entries memory (is_flat memory) cmis_flags.state_rows) (flags_entry (raised (cmis_flags.all_flags memory)) ∷ [])
-    (plain_rows memory (is_flat memory) cmis_flags.state_rows cmis_fit.3) (flags_plain (cmis_flags.all_flags memory) (cmis_apart memory), tt)
+    both EntryIsPlain (rows_entries memory (is_flat memory) warnings.state_rows) (flags_entry (raised (told_in Cmis memory)) ∷ [])
+    (plain_rows memory (is_flat memory) warnings.state_rows cmis_fit.3) (flags_plain (told_in Cmis memory) (cmis_apart memory), tt)
 
 cmis_right : (common : List Label) → AreAdded common → (all : Bool) (memory : Memory) (first second third : Option ReportFault) (fault : Option (List ℕ))
-    → AreMetrics common (module_metrics all (asked all third (cmis_flags.all_flags memory)) (unless first (cmis_identity.inventory_entries memory)) (unless second (cmis_measures.monitors_entries memory))
-    (unless third (cmis_flags.flags_entries memory)) fault)
-unfolding cmis_identity.inventory_entries cmis_measures.monitors_entries
+    → AreMetrics common (module_metrics all (asked all third (told_in Cmis memory)) (unless first (entries_in Inventory Cmis memory)) (unless second (entries_in Monitors Cmis memory))
+    (unless third (entries_in Flags Cmis memory)) fault)
 cmis_right common added all memory first second third fault =
-    let told = asked all third (cmis_flags.all_flags memory) in
-    let names = flat_map row_names cmis_flags.state_rows ++ flag_names in
-    module_right common added (unless first (rows_entries memory (is_flat memory) cmis_identity.inventory_rows)) (unless second (rows_entries memory (is_flat memory) cmis_measures.monitor_rows))
-    (unless third (cmis_flags.flags_entries memory)) cmis_identity.inventory_rows cmis_measures.monitor_rows names all told
-    (said_of all told memory (is_flat memory) (is_flat memory) cmis_identity.inventory_rows cmis_measures.monitor_rows (cmis_flags.flags_entries memory) names cmis_fit.0 cmis_fit.1 cmis_fit.2
+    let told = asked all third (told_in Cmis memory) in
+    let names = flat_map row_names warnings.state_rows ++ flag_names in
+    module_right common added (unless first (rows_entries memory (is_flat memory) identity.cmis_rows)) (unless second (rows_entries memory (is_flat memory) measures.cmis_rows))
+    (unless third (entries_in Flags Cmis memory)) identity.cmis_rows measures.cmis_rows names all told
+    (said_of all told memory (is_flat memory) (is_flat memory) identity.cmis_rows measures.cmis_rows (entries_in Flags Cmis memory) names cmis_fit.0 cmis_fit.1 cmis_fit.2
     (cmis_named all told memory) (cmis_plain memory) first second third)
-    cmis_rows (asked_apart all third (cmis_flags.all_flags memory) (cmis_apart memory)) cmis_sums fault
+    cmis_rows (asked_apart all third (told_in Cmis memory) (cmis_apart memory)) cmis_sums fault
 
 -- ---- SFF-8636
 
-qsfp_rows : AreRight sff_identity.qsfp_rows sff_measures.qsfp_rows flag_names
-unfolding is_taken cmis_identity.inventory_rows sff_identity.qsfp_rows sff_identity.sfp_rows sff_measures.qsfp_rows info_name sums_name fault_name amount_name scope_name base_name count_name flags_name label
+qsfp_rows : AreRight identity.qsfp_rows measures.qsfp_rows flag_names
+unfolding is_taken identity.cmis_rows identity.qsfp_rows identity.sfp_rows measures.qsfp_rows info_name sums_name fault_name amount_name scope_name base_name count_name flags_name label
 qsfp_rows = record { keys_own = refl; keys_new = refl; sums_new = refl; names_new = refl }
 
-qsfp_sums : AllByRecursion IsSum (flat_map row_sums sff_identity.qsfp_rows ++ flat_map row_sums sff_measures.qsfp_rows)
-unfolding sff_identity.qsfp_rows sff_measures.qsfp_rows label
+qsfp_sums : AllByRecursion IsSum (flat_map row_sums identity.qsfp_rows ++ flat_map row_sums measures.qsfp_rows)
+unfolding identity.qsfp_rows measures.qsfp_rows label
 qsfp_sums = (refl, (refl, tt))
 
-qsfp_fit : (list_all is_sure sff_identity.qsfp_rows ≡ true) × (list_all row_fits sff_identity.qsfp_rows ≡ true) × (list_all row_fits sff_measures.qsfp_rows ≡ true)
-unfolding sff_identity.qsfp_rows sff_measures.qsfp_rows
+qsfp_fit : (list_all is_sure identity.qsfp_rows ≡ true) × (list_all row_fits identity.qsfp_rows ≡ true) × (list_all row_fits measures.qsfp_rows ≡ true)
+unfolding identity.qsfp_rows measures.qsfp_rows
 qsfp_fit = (refl, refl, refl)
 
 sff_named : (all : Bool) (told : List (Flag × Bool)) (raised : List Flag) → Sub (flat_map (entry_names all told) (flags_entry raised ∷ [])) flag_names
 sff_named all told raised = subst (λ zs. Sub (zs ++ []) flag_names) (sym (flags_named all told raised)) (sub_all flag_names)
 
 qsfp_right : (common : List Label) → AreAdded common → (all : Bool) (memory : Memory) (first second third : Option ReportFault) (fault : Option (List ℕ))
-    → AreMetrics common (module_metrics all (asked all third (sff_flags.qsfp_flags memory)) (unless first (sff_identity.qsfp_entries memory)) (unless second (sff_measures.sff8636_entries memory))
-    (unless third (sff_flags.sff8636_entries memory)) fault)
-unfolding sff_identity.qsfp_entries sff_measures.sff8636_entries
+    → AreMetrics common (module_metrics all (asked all third (told_in Sff8636 memory)) (unless first (entries_in Inventory Sff8636 memory)) (unless second (entries_in Monitors Sff8636 memory))
+    (unless third (entries_in Flags Sff8636 memory)) fault)
 qsfp_right common added all memory first second third fault =
-    let flags = sff_flags.qsfp_flags memory in
+    let flags = told_in Sff8636 memory in
     let told = asked all third flags in
     let warned = flags_entry (raised flags) ∷ [] in
-    module_right common added (unless first (rows_entries memory false sff_identity.qsfp_rows)) (unless second (rows_entries memory (bit memory QFlatMemory) sff_measures.qsfp_rows)) (unless third warned)
-    sff_identity.qsfp_rows sff_measures.qsfp_rows flag_names all told
-    (said_of all told memory false (bit memory QFlatMemory) sff_identity.qsfp_rows sff_measures.qsfp_rows warned flag_names qsfp_fit.0 qsfp_fit.1 qsfp_fit.2
+    module_right common added (unless first (rows_entries memory (bit memory QFlatMemory) identity.qsfp_rows)) (unless second (rows_entries memory (bit memory QFlatMemory) measures.qsfp_rows)) (unless third warned)
+    identity.qsfp_rows measures.qsfp_rows flag_names all told
+    (said_of all told memory (bit memory QFlatMemory) (bit memory QFlatMemory) identity.qsfp_rows measures.qsfp_rows warned flag_names qsfp_fit.0 qsfp_fit.1 qsfp_fit.2
     (sff_named all told (raised flags)) (flags_plain flags (qsfp_flags_apart memory), tt) first second third)
     qsfp_rows (asked_apart all third flags (qsfp_flags_apart memory)) qsfp_sums fault
 
 -- ---- SFF-8472
 
-sfp_rows : AreRight sff_identity.sfp_rows sff_measures.sfp_rows flag_names
-unfolding is_taken cmis_identity.inventory_rows sff_identity.qsfp_rows sff_identity.sfp_rows sff_measures.sfp_rows info_name sums_name fault_name amount_name scope_name base_name count_name flags_name label
+sfp_rows : AreRight identity.sfp_rows measures.sfp_rows flag_names
+unfolding is_taken identity.cmis_rows identity.qsfp_rows identity.sfp_rows measures.sfp_rows info_name sums_name fault_name amount_name scope_name base_name count_name flags_name label
 sfp_rows = record { keys_own = refl; keys_new = refl; sums_new = refl; names_new = refl }
 
-sfp_sums : AllByRecursion IsSum (flat_map row_sums sff_identity.sfp_rows ++ flat_map row_sums sff_measures.sfp_rows)
-unfolding sff_identity.sfp_rows sff_measures.sfp_rows label
+sfp_sums : AllByRecursion IsSum (flat_map row_sums identity.sfp_rows ++ flat_map row_sums measures.sfp_rows)
+unfolding identity.sfp_rows measures.sfp_rows label
 sfp_sums = (refl, (refl, (refl, tt)))
 
-sfp_fit : (list_all is_sure sff_identity.sfp_rows ≡ true) × (list_all row_fits sff_identity.sfp_rows ≡ true) × (list_all row_fits sff_measures.sfp_rows ≡ true)
-unfolding sff_identity.sfp_rows sff_measures.sfp_rows
+sfp_fit : (list_all is_sure identity.sfp_rows ≡ true) × (list_all row_fits identity.sfp_rows ≡ true) × (list_all row_fits measures.sfp_rows ≡ true)
+unfolding identity.sfp_rows measures.sfp_rows
 sfp_fit = (refl, refl, refl)
 
 sfp_right : (common : List Label) → AreAdded common → (all : Bool) (memory : Memory) (first second third : Option ReportFault) (fault : Option (List ℕ))
-    → AreMetrics common (module_metrics all (asked all third (sff_flags.sfp_flags memory)) (unless first (sff_identity.sfp_entries memory)) (unless second (sff_measures.sff8472_entries memory))
-    (unless third (sff_flags.sff8472_entries memory)) fault)
-unfolding sff_identity.sfp_entries sff_measures.sff8472_entries
+    → AreMetrics common (module_metrics all (asked all third (told_in Sff8472 memory)) (unless first (entries_in Inventory Sff8472 memory)) (unless second (entries_in Monitors Sff8472 memory))
+    (unless third (entries_in Flags Sff8472 memory)) fault)
 sfp_right common added all memory first second third fault =
-    let flags = sff_flags.sfp_flags memory in
+    let flags = told_in Sff8472 memory in
     let told = asked all third flags in
     let warned = flags_entry (raised flags) ∷ [] in
-    module_right common added (unless first (rows_entries memory false sff_identity.sfp_rows)) (unless second (rows_entries memory false sff_measures.sfp_rows)) (unless third warned)
-    sff_identity.sfp_rows sff_measures.sfp_rows flag_names all told
-    (said_of all told memory false false sff_identity.sfp_rows sff_measures.sfp_rows warned flag_names sfp_fit.0 sfp_fit.1 sfp_fit.2
+    module_right common added (unless first (rows_entries memory false identity.sfp_rows)) (unless second (rows_entries memory false measures.sfp_rows)) (unless third warned)
+    identity.sfp_rows measures.sfp_rows flag_names all told
+    (said_of all told memory false false identity.sfp_rows measures.sfp_rows warned flag_names sfp_fit.0 sfp_fit.1 sfp_fit.2
     (sff_named all told (raised flags)) (flags_plain flags (sfp_flags_apart memory), tt) first second third)
     sfp_rows (asked_apart all third flags (sfp_flags_apart memory)) sfp_sums fault
 
 -- ---- all
 
 of_family : (common : List Label) → AreAdded common → (all : Bool) (memory : Memory) (first second third : Option ReportFault) (fault : Option (List ℕ)) (family : Family)
-    → AreMetrics common (module_metrics all (asked all third (flags.told_in family memory)) (unless first (identities.entries_in family memory)) (unless second (measures.entries_in family memory))
-    (unless third (flags.entries_in family memory)) fault)
+    → AreMetrics common (module_metrics all (asked all third (told_in family memory)) (unless first (entries_in Inventory family memory)) (unless second (entries_in Monitors family memory))
+    (unless third (entries_in Flags family memory)) fault)
 of_family common added all memory first second third fault Cmis = cmis_right common added all memory first second third fault
 of_family common added all memory first second third fault Sff8636 = qsfp_right common added all memory first second third fault
 of_family common added all memory first second third fault Sff8472 = sfp_right common added all memory first second third fault
 
 pub every_module_right : EveryModulesMetricsAreRight
-unfolding metrics_of told_flags inventory_entries monitors_entries flags_entries flags_told
+unfolding metrics_of told_flags entries_of flags_told
 every_module_right common all memory added =
     of_family common added all memory (inventory_fault memory) (monitors_fault memory) (flags_fault memory) (option_map code_of (first_fault memory)) (family_of memory)

@@ -7,9 +7,7 @@ use Rattle.report_entries.specs.declared.flag.Flag.{Flag}
 use Rattle.report_entries.specs.Shown.{printable}
 use Rattle.reports.specs.declared.fault.ReportFault.{ReportFault}
 use Rattle.reports.specs.FaultWords.{report_fault_words}
-use Rattle.reports.specs.FlagsByFamily.{flags_entries, flags_fault, flags_told}
-use Rattle.reports.specs.Inventory.{inventory_entries, inventory_fault}
-use Rattle.reports.specs.MonitorsByFamily.{monitors_entries, monitors_fault}
+use Rattle.reports.specs.Reports.{flags_entries, flags_fault, flags_told, inventory_entries, inventory_fault, monitors_entries, monitors_fault}
 use Rattle.module_metrics.specs.Exposition.{Label, Metric, exposition}
 use Rattle.module_metrics.specs.ModuleMetrics.{fault_metrics, module_metrics}
 

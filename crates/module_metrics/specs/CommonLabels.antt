@@ -4,8 +4,7 @@ use Rattle.std.specs.Prelude.{◌≡◌, ℕ, ◌==◌, ◌&&◌, ◌||◌, Bool
 use Rattle.std.specs.List.{after_first, before_first, flat_map, list_any, position_or_len}
 use Rattle.std.specs.Str.{bytes_eq}
 use Rattle.report_entries.specs.Rows.{Row, Source, Word, Either, Code, Revision, Next, Text, Oui, Right, Amount, Length, Lanes, Limits, State, LaneStates}
-use Rattle.reports.specs.CmisInventory as cmis
-use Rattle.reports.specs.SffInventory as sff
+use Rattle.reports.specs.InventoryRows as inventory
 use Rattle.module_metrics.specs.Exposition.{Label, label}
 use Rattle.module_metrics.specs.Grammar.{is_name, is_reserved}
 use Rattle.module_metrics.specs.MetricNames.{snake}
@@ -45,7 +44,7 @@ is_row_key rows key = list_any (bytes_eq key) (flat_map row_keys rows)
 unfoldable pub is_taken : List ℕ → Bool
 is_taken key =
     list_any (bytes_eq key) sample_keys
-    || (is_row_key cmis.inventory_rows key || (is_row_key sff.qsfp_rows key || is_row_key sff.sfp_rows key))
+    || (is_row_key inventory.cmis_rows key || (is_row_key inventory.qsfp_rows key || is_row_key inventory.sfp_rows key))
 
 -- ---- words
 

@@ -5,9 +5,7 @@ ghost use Rattle.report_entries.specs.Entries.{Entry as SpecEntry, entry_of, sai
 ghost use Rattle.reports.specs.declared.fault.ReportFault.{ReportFault as SpecFault};
 ghost use Rattle.reports.specs.declared.fault.ReportFault.TheVariants.{Memory};
 ghost use Rattle.reports.specs.Answered.{Says};
-ghost use Rattle.reports.specs.FlagsByFamily.{flags_entries, flags_fault};
-ghost use Rattle.reports.specs.Inventory.{inventory_entries, inventory_fault};
-ghost use Rattle.reports.specs.MonitorsByFamily.{monitors_entries, monitors_fault};
+ghost use Rattle.reports.specs.Reports.{flags_entries, flags_fault, inventory_entries, inventory_fault, monitors_entries, monitors_fault};
 ghost use Rattle.module_metrics.specs.AddedLabels.{AreAdded};
 ghost use Rattle.module_metrics.specs.Answers.{code_of, fault_text, first_fault, metrics_of, told_flags, unless};
 ghost use Rattle.module_metrics.specs.Exposition.{exposition};

@@ -7,6 +7,7 @@ use Rattle.paged_memory.specs.Images.{Memory}
 use Rattle.field_tables.specs.declared.field.Field.TheVariants.{QFlatMemory}
 use Rattle.field_tables.specs.Readings.{bit}
 use Rattle.field_tables.proofs.SameValues.{Agree}
+use Rattle.module_decoding.specs.declared.report.Report.TheVariants.{Flags, Inventory, Monitors}
 use Rattle.module_decoding.specs.CmisPages.{is_flat}
 use Rattle.module_reading.specs.Regions.{cmis_regions, everything, has_diagnostics, key_of, qsfp_regions, regions_in, sfp_regions}
 use Rattle.reports.specs.SameReports.{FetchedReportsSame}
@@ -16,9 +17,7 @@ use Rattle.module_reading.proofs.RegionLaws.{begins_lower}
 use Rattle.reports.proofs.SameApps.{same_apps}
 use Rattle.reports.proofs.SameDetails.{same_details}
 use Rattle.reports.proofs.SameFamilies.{CmisAgree, FamilyAgrees, QsfpAgree, SfpAgree}
-use Rattle.reports.proofs.SameFlags.{same_flags, same_told}
-use Rattle.reports.proofs.SameInventories.{same_inventory}
-use Rattle.reports.proofs.SameMonitors.{same_monitors}
+use Rattle.reports.proofs.SameSaid.{same_report, same_told}
 
 module _ (a b : Memory) where
   abbrev AllAgree : List Region → Type 0
@@ -50,4 +49,4 @@ module _ (a b : Memory) where
 pub fetched_reports : FetchedReportsSame
 fetched_reports old new history memory copy image start ran fetching =
     let agrees = family_agrees copy memory (fetched_agree old new history memory copy image start ran fetching) in
-    record { inventory = same_inventory copy memory agrees; apps = same_apps copy memory agrees; monitors = same_monitors copy memory agrees; flags = same_flags copy memory agrees; details = same_details copy memory agrees; told = same_told copy memory agrees }
+    record { inventory = same_report Inventory copy memory agrees; apps = same_apps copy memory agrees; monitors = same_report Monitors copy memory agrees; flags = same_report Flags copy memory agrees; details = same_details copy memory agrees; told = same_told copy memory agrees }

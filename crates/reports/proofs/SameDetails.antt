@@ -28,7 +28,7 @@ use Rattle.reports.specs.SameReports.{IsSame}
 use Rattle.reports.proofs.SameDetailApps.{same_apps_said}
 use Rattle.reports.proofs.SameDetailRows.{detail_in, details_same}
 use Rattle.reports.proofs.SameFamilies.{CmisAgree, FamilyAgrees, QsfpAgree, SfpAgree, by_detail_family, same_flat, same_pages}
-use Rattle.reports.proofs.SameInventories.{same_qsfp_fault, same_sfp_fault}
+use Rattle.reports.proofs.SameSaid.{same_qsfp_fault, same_sfp_fault}
 use Rattle.reports.proofs.SameRows.{each_same}
 
 -- ---- tables

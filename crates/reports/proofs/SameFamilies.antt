@@ -1,6 +1,6 @@
 -- Memories that agree in the halves that are read of a module are of the same family, and are refused for the same reasons.
-use Rattle.std.proofs.Common.{◌≡◌, inl, inr, ℕ, ◌==◌, ◌&&◌, Bool, true, false, List, [], ◌∷◌, Option, Some, None, refl, sym, ap, ◌∙◌, if◌then◌else◌}
-use Rattle.std.proofs.lemmas.Bool.{cases_Bool, not-false}
+use Rattle.std.proofs.Common.{◌≡◌, ℕ, ◌==◌, ◌&&◌, Bool, true, false, List, [], ◌∷◌, Option, Some, None, refl, sym, ap, ◌∙◌, if◌then◌else◌}
+use Rattle.std.proofs.lemmas.Bool.{not-false}
 use Rattle.std.specs.Prelude.{is_some, not, option_map}
 use Rattle.std.specs.List.{AllByRecursion}
 use Rattle.std.specs.Option.{option_or}
@@ -12,18 +12,21 @@ use Rattle.paged_memory.specs.Images.{Memory}
 use Rattle.paged_memory.specs.Keys.{lower_key, upper_key}
 use Rattle.paged_memory.specs.declared.key.Key.{Key}
 use Rattle.field_tables.specs.declared.field.Field.TheVariants.{CFlatMemory, CIdentifier, CRevision, QFlatMemory}
-use Rattle.field_tables.specs.declared.sff_fault.SffFault.{SffFault}
 use Rattle.field_tables.specs.FirstFault.{first_fault}
 use Rattle.field_tables.specs.Halves.{is_absent}
 use Rattle.field_tables.specs.Readings.{bit, number}
 use Rattle.field_tables.proofs.SameValues.{Agree, same_absent, same_number}
 use Rattle.applications.specs.Refusals.{is_read_revision}
 use Rattle.reports.specs.declared.fault.ReportFault.{ReportFault}
-use Rattle.reports.specs.declared.fault.ReportFault.TheVariants.{Sff}
-use Rattle.reports.specs.Families.{detail_fault, lacks, module_fault, of_sff, unread}
+use Rattle.reports.specs.Families.{detail_fault, lacks, reported, unread}
+use Rattle.reports.specs.Reports.{report_fault}
 use Rattle.module_decoding.specs.declared.module_family.ModuleFault.{ModuleFault}
 use Rattle.module_decoding.specs.declared.module_family.ModuleFault.TheVariants.{Absent, Unknown, Revision}
-use Rattle.module_decoding.specs.CmisPages.{absent_page, is_flat, unless_flat}
+use Rattle.module_decoding.specs.declared.report.DecodeFault.{DecodeFault}
+use Rattle.module_decoding.specs.declared.report.DecodeFault.TheVariants.{Module}
+use Rattle.module_decoding.specs.declared.report.Report.{Report}
+use Rattle.module_decoding.specs.CmisPages.{absent_page, is_flat}
+use Rattle.module_decoding.specs.Reports.{fault_in, fault_of}
 use Rattle.module_decoding.specs.ModuleFamilies as families
 use Rattle.module_decoding.specs.ModuleFamilies.{detail_family_of, family_of, identifier, known}
 use Rattle.module_reading.specs.Regions.{has_diagnostics}
@@ -51,9 +54,6 @@ none_before (Some fault) y e = absurd cc
 pub none_mapped : {A B : Type 0} (f : A → B) (x : Option A) → option_map f x ≡ None → x ≡ None
 none_mapped f None e = refl
 none_mapped f (Some x) e = absurd cc
-
-pub no_sff : (fault : Option SffFault) → of_sff fault ≡ None → fault ≡ None
-no_sff fault e = none_mapped (λ (f : SffFault). Sff f) fault e
 
 pub same_if : {A : Type 0} (f x y : Bool) (u v w : A) → x ≡ f → y ≡ f → (f ≡ false → v ≡ w) → (if x then u else v) ≡ (if y then u else w)
 same_if true x y u v w p q same = (λ i. if p i then u else v) ∙ sym (λ i. if q i then u else w)
@@ -119,11 +119,10 @@ module _ (a b : Memory) (low : Agree a b (lower_key A0)) where
       ∷ (is_family Cmis (same i) && not (both i), Revision (same_revision i))
       ∷ [])
 
-  pub same_module_fault : module_fault a ≡ module_fault b
-  unfolding module_fault families.module_fault
+  pub same_module_fault : families.module_fault a ≡ families.module_fault b
+  unfolding families.module_fault
   same_module_fault =
-      ap (option_map (λ (fault : ModuleFault). unread fault))
-      (same_fault (family_by (identifier a)) (family_by (identifier b)) (is_read_revision (number a CRevision)) (is_read_revision (number b CRevision)) (ap family_by same_identifier) (ap is_read_revision same_revision))
+      same_fault (family_by (identifier a)) (family_by (identifier b)) (is_read_revision (number a CRevision)) (is_read_revision (number b CRevision)) (ap family_by same_identifier) (ap is_read_revision same_revision)
 
   pub same_detail_fault : detail_fault a ≡ detail_fault b
   unfolding detail_fault families.detail_fault
@@ -141,7 +140,7 @@ module _ (a b : Memory) (low : Agree a b (lower_key A0)) where
 
 -- ---- pages
 
-same_absences : (a b : Memory) (pages : List ℕ) → AllByRecursion (λ page. Agree a b (upper_key A0 0 page)) pages → absent_page pages a ≡ absent_page pages b
+pub same_absences : (a b : Memory) (pages : List ℕ) → AllByRecursion (λ page. Agree a b (upper_key A0 0 page)) pages → absent_page pages a ≡ absent_page pages b
 unfolding absent_page
 same_absences a b [] all = refl
 same_absences a b (page ∷ pages) all =
@@ -152,28 +151,12 @@ same_absences a b (page ∷ pages) all =
 pub same_pages : (a b : Memory) (pages : List ℕ) → AllByRecursion (λ page. Agree a b (upper_key A0 0 page)) pages → lacks (absent_page pages a) ≡ lacks (absent_page pages b)
 same_pages a b pages agree = ap (λ (page : Option Key). lacks page) (same_absences a b pages agree)
 
-none_needed : (a : Memory) (pages : List ℕ) → is_flat a ≡ true → lacks (absent_page (unless_flat a pages) a) ≡ None
-unfolding absent_page
-none_needed a pages flat = ap (λ (f : Bool). lacks (absent_page (if f then [] else pages) a)) flat
-
-some_needed : (a : Memory) (pages : List ℕ) → is_flat a ≡ false → lacks (absent_page (unless_flat a pages) a) ≡ lacks (absent_page pages a)
-some_needed a pages paged = ap (λ (f : Bool). lacks (absent_page (if f then [] else pages) a)) paged
-
-pub same_unless_flat : (a b : Memory) (pages : List ℕ) → is_flat a ≡ is_flat b → (is_flat a ≡ false → AllByRecursion (λ page. Agree a b (upper_key A0 0 page)) pages) →
-    lacks (absent_page (unless_flat a pages) a) ≡ lacks (absent_page (unless_flat b pages) b)
-same_unless_flat a b pages same agree =
-    elim (cases_Bool (is_flat a)) [
-      | inl flat ↦ none_needed a pages flat ∙ sym (none_needed b pages (sym same ∙ flat))
-      | inr paged ↦ some_needed a pages paged ∙ same_pages a b pages (agree paged) ∙ sym (some_needed b pages (sym same ∙ paged))
-    ]
-
 -- ---- by family
 
 -- where no fault applies a family was found
-is_known : (a : Memory) (family : Option Family) (is_read : Bool) → option_map (λ (fault : ModuleFault). unread fault) (families.fault_in family is_read a) ≡ None → is_some family ≡ true
+is_known : (a : Memory) (family : Option Family) (is_read : Bool) → families.fault_in family is_read a ≡ None → is_some family ≡ true
 unfolding families.fault_in
-is_known a family is_read none =
-    not-false (is_some family) (none_applies (families.faults_in family is_read a) (none_mapped (λ (fault : ModuleFault). unread fault) (families.fault_in family is_read a) none)).1.0
+is_known a family is_read none = not-false (is_some family) (none_applies (families.faults_in family is_read a) none).1.0
 
 -- what holds in each family holds in the one that was found
 in_family : (P : Family → Type 0) (a b : Memory) → FamilyAgrees a b → (CmisAgree a b → P Cmis) → (QsfpAgree a b → P Sff8636) → (SfpAgree a b → P Sff8472)
@@ -184,10 +167,10 @@ in_family P a b agrees cmis qsfp sfp (Some Sff8472) managed some = sfp (agrees.s
 in_family P a b agrees cmis qsfp sfp None managed some = absurd cc
 
 -- a report that is the same in the family that was found is the same
-in_found : {A : Type 0} (fault : Memory → Option ReportFault) (found : Memory → Family) (fault_in : Family → Memory → Option ReportFault) (said_in : Family → Memory → A) (a b : Memory)
+in_found : {F A : Type 0} (fault : Memory → Option F) (found : Memory → Family) (fault_in : Family → Memory → Option F) (said_in : Family → Memory → A) (a b : Memory)
     → fault a ≡ fault b → found a ≡ found b → (fault a ≡ None → IsSame (fault_in (found a)) (said_in (found a)) a b)
     → IsSame (λ m. option_or (fault m) (fault_in (found m) m)) (λ m. said_in (found m) m) a b
-in_found {A} fault found fault_in said_in a b same_fault same_found same = record {
+in_found {F} {A} fault found fault_in said_in a b same_fault same_found same = record {
   fault = same_later (fault a) (fault b) (fault_in (found a) a) (fault_in (found b) b) same_fault
       (λ none. (same none).fault ∙ ap (λ (family : Family). fault_in family b) same_found);
   said = λ e.
@@ -196,16 +179,23 @@ in_found {A} fault found fault_in said_in a b same_fault same_found same = recor
 }
 
 -- a report that is the same in each family is the same
-pub by_family : {A : Type 0} (fault_in : Family → Memory → Option ReportFault) (said_in : Family → Memory → A) (a b : Memory) → FamilyAgrees a b →
-    (CmisAgree a b → IsSame (fault_in Cmis) (said_in Cmis) a b) → (QsfpAgree a b → IsSame (fault_in Sff8636) (said_in Sff8636) a b) → (SfpAgree a b → IsSame (fault_in Sff8472) (said_in Sff8472) a b) →
-    IsSame (λ m. option_or (module_fault m) (fault_in (family_of m) m)) (λ m. said_in (family_of m) m) a b
-unfolding module_fault families.module_fault family_of
-by_family {A} fault_in said_in a b agrees cmis qsfp sfp =
-    in_found module_fault family_of fault_in said_in a b (same_module_fault a b agrees.low) (same_family a b agrees.low) same where
-      same : module_fault a ≡ None → IsSame (fault_in (family_of a)) (said_in (family_of a)) a b
-      same none =
-          let found = family_by (identifier a) in
-          in_family (λ (family : Family). IsSame (fault_in family) (said_in family) a b) a b agrees cmis qsfp sfp found (is_managed (identifier a)) (is_known a found (is_read_revision (number a CRevision)) none)
+pub by_family : {A : Type 0} (report : Report) (said_in : Family → Memory → A) (a b : Memory) → FamilyAgrees a b →
+    (CmisAgree a b → IsSame (fault_in report Cmis) (said_in Cmis) a b) → (QsfpAgree a b → IsSame (fault_in report Sff8636) (said_in Sff8636) a b) → (SfpAgree a b → IsSame (fault_in report Sff8472) (said_in Sff8472) a b) →
+    IsSame (report_fault report) (λ m. said_in (family_of m) m) a b
+unfolding report_fault fault_of families.module_fault family_of
+by_family {A} report said_in a b agrees cmis qsfp sfp = record { fault = ap (option_map (λ (fault : DecodeFault). reported fault)) decoded.fault; said = λ none. decoded.said (none_mapped (λ (fault : DecodeFault). reported fault) (fault_of report a) none) } where
+  abbrev unread_of : Memory → Option DecodeFault
+  unread_of m = option_map (λ (fault : ModuleFault). Module fault) (families.module_fault m)
+
+  same : unread_of a ≡ None → IsSame (fault_in report (family_of a)) (said_in (family_of a)) a b
+  same none =
+      let found = family_by (identifier a) in
+      let is_read = is_read_revision (number a CRevision) in
+      in_family (λ (family : Family). IsSame (fault_in report family) (said_in family) a b) a b agrees cmis qsfp sfp found (is_managed (identifier a))
+      (is_known a found is_read (none_mapped (λ (fault : ModuleFault). Module fault) (families.fault_in found is_read a) none))
+
+  decoded : IsSame (fault_of report) (λ m. said_in (family_of m) m) a b
+  decoded = in_found unread_of family_of (fault_in report) said_in a b (ap (option_map (λ (fault : ModuleFault). Module fault)) (same_module_fault a b agrees.low)) (same_family a b agrees.low) same
 
 -- so are details
 pub by_detail_family : {A : Type 0} (fault_in : Family → Memory → Option ReportFault) (said_in : Family → Memory → A) (a b : Memory) → FamilyAgrees a b →
@@ -217,4 +207,5 @@ by_detail_family {A} fault_in said_in a b agrees cmis qsfp sfp =
       same : detail_fault a ≡ None → IsSame (fault_in (detail_family_of a)) (said_in (detail_family_of a)) a b
       same none =
           let found = managed_by (identifier a) in
-          in_family (λ (family : Family). IsSame (fault_in family) (said_in family) a b) a b agrees cmis qsfp sfp found (λ family is. is) (is_known a found (families.is_detail_revision (number a CRevision)) none)
+          in_family (λ (family : Family). IsSame (fault_in family) (said_in family) a b) a b agrees cmis qsfp sfp found (λ family is. is) 
+          (is_known a found (families.is_detail_revision (number a CRevision)) (none_mapped (λ (fault : ModuleFault). unread fault) (families.fault_in found (families.is_detail_revision (number a CRevision)) a) none))

@@ -5,6 +5,9 @@ use Rattle.paged_memory.specs.Images.{Memory}
 use Rattle.field_tables.specs.declared.sff_fault.SffFault.{SffFault}
 use Rattle.module_decoding.specs.declared.module_family.ModuleFault.{ModuleFault}
 use Rattle.module_decoding.specs.declared.module_family.ModuleFault.TheVariants as unread_module
+use Rattle.module_decoding.specs.declared.report.DecodeFault.{DecodeFault}
+use Rattle.module_decoding.specs.declared.report.DecodeFault.TheVariants.{Module}
+use Rattle.module_decoding.specs.declared.report.DecodeFault.TheVariants as not_read
 use Rattle.module_decoding.specs.ModuleFamilies as families
 use Rattle.reports.specs.declared.fault.ReportFault.{ReportFault}
 use Rattle.reports.specs.declared.fault.ReportFault.TheVariants.{Absent, Unknown, Revision, Sff}
@@ -15,8 +18,9 @@ unread (unread_module.Absent key) = Absent key
 unread (unread_module.Unknown identifier) = Unknown identifier
 unread (unread_module.Revision revision) = Revision revision
 
-unfoldable pub module_fault : Memory → Option ReportFault
-module_fault memory = option_map (λ fault. unread fault) (families.module_fault memory)
+abbrev pub reported : DecodeFault → ReportFault
+reported (Module fault) = unread fault
+reported (not_read.Sff fault) = Sff fault
 
 -- not even details
 unfoldable pub detail_fault : Memory → Option ReportFault

@@ -9,16 +9,13 @@ use Rattle.paged_memory.specs.ImageText.{IsImage}
 use Rattle.paged_memory.specs.PageAddressing.{History}
 use Rattle.paged_memory.specs.Windows.{Windowed, started, window_conduct}
 use Rattle.applications.specs.Advertised.{advertised_by}
-use Rattle.reports.specs.declared.fault.ReportFault.{ReportFault}
 use Rattle.reports.specs.Apps.{apps_entries, apps_fault}
 use Rattle.reports.specs.Details.{details_entries, details_fault}
 use Rattle.reports.specs.FetchedImages.{IsFetching}
-use Rattle.reports.specs.Inventory.{inventory_entries, inventory_fault}
-use Rattle.reports.specs.MonitorsByFamily.{monitors_entries, monitors_fault}
-use Rattle.reports.specs.FlagsByFamily.{flags_entries, flags_fault, flags_told}
+use Rattle.reports.specs.Reports.{flags_entries, flags_fault, flags_told, inventory_entries, inventory_fault, monitors_entries, monitors_fault}
 
 -- the report has the same fault for both memories, and if it has none, it says the same
-pub record IsSame {A : Type 0} (fault_of : Memory → Option ReportFault) (said_of : Memory → A) (memory other : Memory) : Type 0 where
+pub record IsSame {F A : Type 0} (fault_of : Memory → Option F) (said_of : Memory → A) (memory other : Memory) : Type 0 where
   pub fault : fault_of memory ≡ fault_of other
   pub said : fault_of memory ≡ None → said_of memory ≡ said_of other
 

@@ -1,23 +1,25 @@
 ghost use Rattle.std.specs.Prelude.{◌≡◌, MatchOption, Ok, Err};
 ghost use Rattle.module_decoding.specs.ModuleFamilies.{detail_family_of, family_of};
-ghost use Rattle.reports.specs.Families.{detail_fault, module_fault, unread};
+ghost use Rattle.reports.specs.Families.{detail_fault, unread};
+ghost use Rattle.reports.specs.Reports.{report_fault};
 
 use crate::fault::ReportFault;
-use module_decoding::ModuleFault;
+use module_decoding::{DecodeFault, ModuleFault, Report};
 use paged_memory::{Family, Image};
 
-/// The family of the module of an image, or why no report speaks of it.
-#[tactic(auto, unfolding(crate::specs::Families::module_fault))]
-pub fn family_of(image: &Image) -> Result<Family, ReportFault>
-    ensures { MatchOption (module_fault image.now) (result ≡ Ok (family_of image.now)) (λ fault. result ≡ Err fault) }
+/// The family of the module of an image, or why it has no such report.
+#[tactic(auto, unfolding(crate::specs::Reports::report_fault))]
+pub fn family_with(report: Report, image: &Image) -> Result<Family, ReportFault>
+    ensures { MatchOption (report_fault report image.now) (result ≡ Ok (family_of image.now)) (λ fault. result ≡ Err fault) }
 {
-    match module_decoding::family_of(image) {
+    match module_decoding::family_with(report, image) {
         Ok(family) => Ok(family),
-        Err(fault) => Err(unread(fault)),
+        Err(DecodeFault::Module(fault)) => Err(unread(fault)),
+        Err(DecodeFault::Sff(fault)) => Err(ReportFault::Sff(fault)),
     }
 }
 
-/// The same, or why not even its details are told.
+/// The family, or why not even the module's details are told.
 #[tactic(auto, unfolding(crate::specs::Families::detail_fault))]
 pub fn detail_family_of(image: &Image) -> Result<Family, ReportFault>
     ensures { MatchOption (detail_fault image.now) (result ≡ Ok (detail_family_of image.now)) (λ fault. result ≡ Err fault) }

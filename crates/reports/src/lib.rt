@@ -6,17 +6,16 @@ mod detail_report;
 mod family;
 mod fault;
 mod fetching;
-mod flag_report;
-mod inventory_report;
 pub mod laws;
-mod monitor_report;
+mod report;
 mod tables;
 
 pub use cmis_apps::{apps, apps_json};
 pub use detail_report::{details, details_json};
 pub use fault::ReportFault;
 pub use fetching::fetch_image;
-pub use flag_report::{flags, flags_entries, flags_json, flags_told};
-pub use inventory_report::{inventory, inventory_entries, inventory_json};
-pub use monitor_report::{monitors, monitors_entries, monitors_json};
+pub use report::{
+    flags, flags_entries, flags_json, flags_told, inventory, inventory_entries, inventory_json,
+    monitors, monitors_entries, monitors_json,
+};
 pub use tables::{cmis_inventory_lines, qsfp_inventory_lines, sfp_inventory_lines};

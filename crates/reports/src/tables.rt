@@ -2,20 +2,50 @@
 // The definitions have each table in their own words; each table's contract says that the two are equal.
 ghost use Rattle.std.specs.Prelude.{◌≡◌, IsTrue};
 ghost use Rattle.std.specs.List.{list_all};
-ghost use Rattle.reports.specs.CmisFlags as spec_cmis_flags;
-ghost use Rattle.reports.specs.CmisInventory as spec_cmis_inventory;
-ghost use Rattle.reports.specs.CmisMonitors as spec_cmis_monitors;
 ghost use Rattle.report_entries.specs.FlagRows.{flag_row_fits};
 ghost use Rattle.report_entries.specs.RowTables.{rows_in};
 ghost use Rattle.report_entries.specs.Rows.{row_fits};
-ghost use Rattle.reports.specs.SffFlags as spec_sff_flags;
-ghost use Rattle.reports.specs.SffInventory as spec_sff_inventory;
-ghost use Rattle.reports.specs.SffMonitors as spec_sff_monitors;
+ghost use Rattle.reports.specs.FlagRows as spec_flags;
+ghost use Rattle.reports.specs.InventoryRows as spec_inventory;
+ghost use Rattle.reports.specs.MonitorRows as spec_monitors;
+ghost use Rattle.reports.specs.Reports.{flag_rows_of, rows_of};
 
 use field_tables::{Field, Sum, TextField};
+use module_decoding::Report;
+use paged_memory::Family;
 use report_entries::{
     Condition, FlagName, FlagPlace, FlagRow, Instead, LimitKind, Line, Quantity, Row, Source,
 };
+
+/// The lines of a report of a module of this family; of flags, those before them.
+pub fn rows(report: Report, family: Family) -> &'static [Line]
+    ensures rows { rows_in result.now ≡ rows_of report family }
+    ensures fit { IsTrue (list_all row_fits (rows_in result.now)) }
+{
+    match (report, family) {
+        (Report::Inventory, Family::Cmis) => cmis_inventory_lines(),
+        (Report::Inventory, Family::Sff8636) => qsfp_inventory_lines(),
+        (Report::Inventory, Family::Sff8472) => sfp_inventory_lines(),
+        (Report::Monitors, Family::Cmis) => cmis_monitors(),
+        (Report::Monitors, Family::Sff8636) => qsfp_monitors(),
+        (Report::Monitors, Family::Sff8472) => sfp_monitors(),
+        (Report::Flags, Family::Cmis) => cmis_states(),
+        (Report::Flags, Family::Sff8636) => &[],
+        (Report::Flags, Family::Sff8472) => &[],
+    }
+}
+
+/// The flags of a module of this family.
+pub fn flag_rows(family: Family) -> &'static [FlagRow]
+    ensures rows { result.now ≡ flag_rows_of family }
+    ensures fit { IsTrue (list_all flag_row_fits result.now) }
+{
+    match family {
+        Family::Cmis => cmis_flags(),
+        Family::Sff8636 => qsfp_flags(),
+        Family::Sff8472 => sfp_flags(),
+    }
+}
 
 macro_rules! source {
     (Word $word:literal) => { Source::Word($word) };
@@ -73,9 +103,9 @@ const CMIS_INVENTORY: &[Line] = line_table! {
 };
 
 /// What a CMIS module is.
-#[tactic(auto, unfolding(crate::specs::CmisInventory::inventory_rows))]
+#[tactic(auto, unfolding(crate::specs::InventoryRows::cmis_rows))]
 pub fn cmis_inventory_lines() -> &'static [Line]
-    ensures rows { rows_in result.now ≡ spec_cmis_inventory.inventory_rows }
+    ensures rows { rows_in result.now ≡ spec_inventory.cmis_rows }
     ensures fit { IsTrue (list_all row_fits (rows_in result.now)) }
 {
     CMIS_INVENTORY
@@ -95,10 +125,10 @@ const CMIS_MONITORS: &[Line] = line_table! {
     "sum-02h": [Right CSum02] paged;
 };
 
-/// What a CMIS module measures.
-#[tactic(auto, unfolding(crate::specs::CmisMonitors::monitor_rows))]
-pub fn cmis_monitors() -> &'static [Line]
-    ensures rows { rows_in result.now ≡ spec_cmis_monitors.monitor_rows }
+// What a CMIS module measures.
+#[tactic(auto, unfolding(crate::specs::MonitorRows::cmis_rows))]
+fn cmis_monitors() -> &'static [Line]
+    ensures rows { rows_in result.now ≡ spec_monitors.cmis_rows }
     ensures fit { IsTrue (list_all row_fits (rows_in result.now)) }
 {
     CMIS_MONITORS
@@ -119,9 +149,9 @@ const QSFP_INVENTORY: &[Line] = line_table! {
 };
 
 /// What a module of SFF-8636 is.
-#[tactic(auto, unfolding(crate::specs::SffInventory::qsfp_rows))]
+#[tactic(auto, unfolding(crate::specs::InventoryRows::qsfp_rows))]
 pub fn qsfp_inventory_lines() -> &'static [Line]
-    ensures rows { rows_in result.now ≡ spec_sff_inventory.qsfp_rows }
+    ensures rows { rows_in result.now ≡ spec_inventory.qsfp_rows }
     ensures fit { IsTrue (list_all row_fits (rows_in result.now)) }
 {
     QSFP_INVENTORY
@@ -140,10 +170,10 @@ const QSFP_MONITORS: &[Line] = line_table! {
     "rx-power-limits": [Limits QRxPowerLimits] paged;
 };
 
-/// What a module of SFF-8636 measures.
-#[tactic(auto, unfolding(crate::specs::SffMonitors::qsfp_rows))]
-pub fn qsfp_monitors() -> &'static [Line]
-    ensures rows { rows_in result.now ≡ spec_sff_monitors.qsfp_rows }
+// What a module of SFF-8636 measures.
+#[tactic(auto, unfolding(crate::specs::MonitorRows::qsfp_rows))]
+fn qsfp_monitors() -> &'static [Line]
+    ensures rows { rows_in result.now ≡ spec_monitors.qsfp_rows }
     ensures fit { IsTrue (list_all row_fits (rows_in result.now)) }
 {
     QSFP_MONITORS
@@ -164,9 +194,9 @@ const SFP_INVENTORY: &[Line] = line_table! {
 };
 
 /// What a module of SFF-8472 is.
-#[tactic(auto, unfolding(crate::specs::SffInventory::sfp_rows))]
+#[tactic(auto, unfolding(crate::specs::InventoryRows::sfp_rows))]
 pub fn sfp_inventory_lines() -> &'static [Line]
-    ensures rows { rows_in result.now ≡ spec_sff_inventory.sfp_rows }
+    ensures rows { rows_in result.now ≡ spec_inventory.sfp_rows }
     ensures fit { IsTrue (list_all row_fits (rows_in result.now)) }
 {
     SFP_INVENTORY
@@ -186,10 +216,10 @@ const SFP_MONITORS: &[Line] = line_table! {
     "sum-a2": [Right SSumDmi];
 };
 
-/// What a module of SFF-8472 measures.
-#[tactic(auto, unfolding(crate::specs::SffMonitors::sfp_rows))]
-pub fn sfp_monitors() -> &'static [Line]
-    ensures rows { rows_in result.now ≡ spec_sff_monitors.sfp_rows }
+// What a module of SFF-8472 measures.
+#[tactic(auto, unfolding(crate::specs::MonitorRows::sfp_rows))]
+fn sfp_monitors() -> &'static [Line]
+    ensures rows { rows_in result.now ≡ spec_monitors.sfp_rows }
     ensures fit { IsTrue (list_all row_fits (rows_in result.now)) }
 {
     SFP_MONITORS
@@ -200,10 +230,10 @@ const CMIS_STATES: &[Line] = line_table! {
     "lane": [LaneStates CPathStates CConfigStatus] paged;
 };
 
-/// The states of a CMIS module and of its lanes.
-#[tactic(auto, unfolding(crate::specs::CmisFlags::state_rows))]
-pub fn cmis_states() -> &'static [Line]
-    ensures rows { rows_in result.now ≡ spec_cmis_flags.state_rows }
+// The states of a CMIS module and of its lanes.
+#[tactic(auto, unfolding(crate::specs::FlagRows::state_rows))]
+fn cmis_states() -> &'static [Line]
+    ensures rows { rows_in result.now ≡ spec_flags.state_rows }
     ensures fit { IsTrue (list_all row_fits (rows_in result.now)) }
 {
     CMIS_STATES
@@ -261,10 +291,10 @@ const CMIS_FLAGS: &[FlagRow] = flag_table! {
     RxPower LowWarning: [CRxPowerLowWarning lanes] paged;
 };
 
-/// What a CMIS module warns of.
-#[tactic(auto, unfolding(crate::specs::CmisFlags::flag_rows))]
-pub fn cmis_flags() -> &'static [FlagRow]
-    ensures rows { result.now ≡ spec_cmis_flags.flag_rows }
+// What a CMIS module warns of.
+#[tactic(auto, unfolding(crate::specs::FlagRows::cmis_rows))]
+fn cmis_flags() -> &'static [FlagRow]
+    ensures rows { result.now ≡ spec_flags.cmis_rows }
     ensures fit { IsTrue (list_all flag_row_fits result.now) }
 {
     CMIS_FLAGS
@@ -298,10 +328,10 @@ const QSFP_FLAGS: &[FlagRow] = flag_table! {
     TxPower LowWarning: [QTxPowerLowWarning lanes];
 };
 
-/// What a module of SFF-8636 warns of.
-#[tactic(auto, unfolding(crate::specs::SffFlags::qsfp_rows))]
-pub fn qsfp_flags() -> &'static [FlagRow]
-    ensures rows { result.now ≡ spec_sff_flags.qsfp_rows }
+// What a module of SFF-8636 warns of.
+#[tactic(auto, unfolding(crate::specs::FlagRows::qsfp_rows))]
+fn qsfp_flags() -> &'static [FlagRow]
+    ensures rows { result.now ≡ spec_flags.qsfp_rows }
     ensures fit { IsTrue (list_all flag_row_fits result.now) }
 {
     QSFP_FLAGS
@@ -332,10 +362,10 @@ const SFP_FLAGS: &[FlagRow] = flag_table! {
     RxLos: [SRxLos 1 lane 1];
 };
 
-/// What a module of SFF-8472 warns of.
-#[tactic(auto, unfolding(crate::specs::SffFlags::sfp_rows))]
-pub fn sfp_flags() -> &'static [FlagRow]
-    ensures rows { result.now ≡ spec_sff_flags.sfp_rows }
+// What a module of SFF-8472 warns of.
+#[tactic(auto, unfolding(crate::specs::FlagRows::sfp_rows))]
+fn sfp_flags() -> &'static [FlagRow]
+    ensures rows { result.now ≡ spec_flags.sfp_rows }
     ensures fit { IsTrue (list_all flag_row_fits result.now) }
 {
     SFP_FLAGS

@@ -67,7 +67,7 @@ fn printed(
     }
 }
 
-#[tactic(auto, unfolding(reports::specs::Inventory::inventory_lines, reports::specs::MonitorsByFamily::monitors_lines, reports::specs::FlagsByFamily::flags_lines, reports::specs::Details::details_lines))]
+#[tactic(auto, unfolding(reports::specs::Reports::report_lines, reports::specs::Details::details_lines))]
 fn text(alloc: Global, name: ReportName, image: &Image) -> Result<Vec<u8>, ReportFault>
     ensures { Reports (refusal_of name image.now) (entries_lines (entries_of name image.now)) result }
 {

@@ -3,6 +3,7 @@ use Rattle.applications.specs.Advertised.{Advertised}
 use Rattle.applications.specs.declared.conventions.Conventions.{Conventions}
 use Rattle.firmware_api.specs.Checks.{IsJudged, IsShownBest, IsTextShownBest, IsTold}
 use Rattle.firmware_api.specs.Halves.{advert_of, refusal_under}
+use Rattle.firmware_api.specs.Plans.{path_weights}
 use Rattle.firmware_api.specs.Statuses.{done}
 use Rattle.firmware_api.proofs.StatusLaws.{same_value}
 use Rattle.firmware_api.proofs.ToldJudgements.{told_if_read, told_if_refused}
@@ -22,7 +23,7 @@ returns-in-Ok c =
       refused = c.judge.ensures.refused;
       best =
           subst (λ (conventions : Conventions). c.judge.result ≡ done → c.judge.new.judgement.reason ≡ 0 → IsShownBest halves conventions weights stay text) c.conventions_of.ensures
-          (subst (λ (advert : Advertised). c.judge.result ≡ done → c.judge.new.judgement.reason ≡ 0 → IsTextShownBest advert weights stay text) same c.judge.ensures.best);
+          (subst (λ (advert : Advertised). c.judge.result ≡ done → c.judge.new.judgement.reason ≡ 0 → IsTextShownBest advert (path_weights advert weights stay) text) same c.judge.ensures.best);
     }
 
 pub returns-in-Err-clause-told : goal.returns-in-Err-clause-told

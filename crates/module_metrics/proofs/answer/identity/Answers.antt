@@ -1,4 +1,4 @@
-use Rattle.reports.specs.Inventory.{inventory_entries, inventory_fault}
+use Rattle.reports.specs.Reports.{inventory_entries, inventory_fault}
 use Rattle.module_metrics.proofs.answer.identity.Goals as goal
 
 pub returns-clause-entries : goal.returns-clause-entries

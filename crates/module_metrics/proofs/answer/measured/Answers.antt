@@ -1,4 +1,4 @@
-use Rattle.reports.specs.MonitorsByFamily.{monitors_entries, monitors_fault}
+use Rattle.reports.specs.Reports.{monitors_entries, monitors_fault}
 use Rattle.module_metrics.proofs.answer.measured.Goals as goal
 
 pub returns-clause-entries : goal.returns-clause-entries

@@ -1,4 +1,4 @@
-use Rattle.reports.specs.FlagsByFamily.{flags_entries, flags_fault}
+use Rattle.reports.specs.Reports.{flags_entries, flags_fault}
 use Rattle.module_metrics.proofs.answer.warned.Goals as goal
 
 pub returns-clause-entries : goal.returns-clause-entries

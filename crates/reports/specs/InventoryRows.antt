@@ -1,12 +1,31 @@
--- What a module of SFF-8636 or SFF-8472 is. (docs/formats.md, "inventory"; SFF-8636, "Upper Page 00h"; SFF-8472, "Serial
--- ID: Data Fields")
-use Rattle.std.specs.Prelude.{false, List, [], ◌∷◌, codes}
-use Rattle.paged_memory.specs.Images.{Memory}
+-- What a module is, line by line. (docs/formats.md, "inventory"; OIF-CMIS-05.0, "Lower Memory" and "Administrative Information (Page
+-- 00h)"; SFF-8636, "Upper Page 00h"; SFF-8472, "Serial ID: Data Fields")
+use Rattle.std.specs.Prelude.{List, [], ◌∷◌, codes}
 use Rattle.field_tables.specs.declared.field.Field.TheVariants as fields
 use Rattle.field_tables.specs.declared.field.Sum.TheVariants as sums
 use Rattle.field_tables.specs.declared.field.TextField.TheVariants as texts
-use Rattle.report_entries.specs.Entries.{Entry}
-use Rattle.report_entries.specs.Rows.{Row, Word, Code, Text, Oui, Right, always, rows_entries}
+use Rattle.report_entries.specs.Rows.{Row, Word, Either, Code, Revision, Next, Text, Oui, Right, Amount, Length, always}
+
+unfoldable pub cmis_rows : List Row
+cmis_rows =
+    always (codes "family") (Word (codes "CMIS"))
+    ∷ always (codes "identifier") (Code fields.CIdentifier)
+    ∷ always (codes "revision") (Revision fields.CRevision)
+    ∷ always (codes "memory") (Either fields.CFlatMemory (codes "flat") (codes "paged"))
+    ∷ always (codes "media-type") (Code fields.CMediaType)
+    ∷ always (codes "vendor") (Text texts.CVendor)
+    ∷ always (codes "oui") (Oui fields.COui)
+    ∷ always (codes "part") (Text texts.CPart)
+    ∷ always (codes "part-revision") (Text texts.CPartRevision)
+    ∷ always (codes "serial") (Text texts.CSerial)
+    ∷ always (codes "date") (Text texts.CDate)
+    ∷ always (codes "power-class") (Next fields.CPowerClass)
+    ∷ always (codes "max-power") (Amount fields.CMaxPower)
+    ∷ always (codes "length") (Length fields.CLengthBase fields.CLengthMultiplier)
+    ∷ always (codes "connector") (Code fields.CConnector)
+    ∷ always (codes "technology") (Code fields.CTechnology)
+    ∷ always (codes "sum-00h") (Right sums.CSum00)
+    ∷ []
 
 unfoldable pub qsfp_rows : List Row
 qsfp_rows =
@@ -23,9 +42,6 @@ qsfp_rows =
     ∷ always (codes "sum-ext") (Right sums.QSumExt)
     ∷ []
 
-unfoldable pub qsfp_entries : Memory → List Entry
-qsfp_entries memory = rows_entries memory false qsfp_rows
-
 unfoldable pub sfp_rows : List Row
 sfp_rows =
     always (codes "family") (Word (codes "SFF-8472"))
@@ -40,6 +56,3 @@ sfp_rows =
     ∷ always (codes "sum-base") (Right sums.SSumBase)
     ∷ always (codes "sum-ext") (Right sums.SSumExt)
     ∷ []
-
-unfoldable pub sfp_entries : Memory → List Entry
-sfp_entries memory = rows_entries memory false sfp_rows

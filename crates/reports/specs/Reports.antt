@@ -1,0 +1,96 @@
+-- What a module is, what it measures and what it warns of: what the rows of its family say. (docs/formats.md, "inventory", "monitors" and
+-- "flags"; this project's own)
+use Rattle.std.specs.Prelude.{ℕ, Bool, false, List, [], ◌∷◌, ◌++◌, Option, option_map}
+use Rattle.paged_memory.specs.declared.family.Family.{Family}
+use Rattle.paged_memory.specs.declared.family.Family.TheVariants.{Cmis, Sff8636, Sff8472}
+use Rattle.paged_memory.specs.Images.{Memory}
+use Rattle.field_tables.specs.declared.field.Field.TheVariants.{QFlatMemory}
+use Rattle.field_tables.specs.Readings.{bit}
+use Rattle.module_decoding.specs.declared.report.Report.{Report}
+use Rattle.module_decoding.specs.declared.report.Report.TheVariants.{Inventory, Monitors, Flags}
+use Rattle.module_decoding.specs.CmisPages.{is_flat}
+use Rattle.module_decoding.specs.ModuleFamilies.{family_of}
+use Rattle.module_decoding.specs.Reports.{fault_of}
+use Rattle.report_entries.specs.declared.flag.Flag.{Flag}
+use Rattle.report_entries.specs.declared.flag_rows.FlagRow.{FlagRow}
+use Rattle.report_entries.specs.Entries.{Entry}
+use Rattle.report_entries.specs.EntryText.{entries_lines}
+use Rattle.report_entries.specs.FlagRows.{flags_entry, rows_flags}
+use Rattle.report_entries.specs.Flags.{raised}
+use Rattle.report_entries.specs.Rows.{Row, rows_entries}
+use Rattle.reports.specs.declared.fault.ReportFault.{ReportFault}
+use Rattle.reports.specs.Families.{reported}
+use Rattle.reports.specs.FlagRows as flags
+use Rattle.reports.specs.InventoryRows as inventory
+use Rattle.reports.specs.MonitorRows as monitors
+
+-- ---- the rows
+
+abbrev pub rows_of : Report → Family → List Row
+rows_of Inventory Cmis = inventory.cmis_rows
+rows_of Inventory Sff8636 = inventory.qsfp_rows
+rows_of Inventory Sff8472 = inventory.sfp_rows
+rows_of Monitors Cmis = monitors.cmis_rows
+rows_of Monitors Sff8636 = monitors.qsfp_rows
+rows_of Monitors Sff8472 = monitors.sfp_rows
+rows_of Flags Cmis = flags.state_rows
+rows_of Flags Sff8636 = []
+rows_of Flags Sff8472 = []
+
+abbrev pub flag_rows_of : Family → List FlagRow
+flag_rows_of Cmis = flags.cmis_rows
+flag_rows_of Sff8636 = flags.qsfp_rows
+flag_rows_of Sff8472 = flags.sfp_rows
+
+-- ---- of a module of this family
+
+abbrev pub is_flat_in : Family → Memory → Bool
+is_flat_in Cmis memory = is_flat memory
+is_flat_in Sff8636 memory = bit memory QFlatMemory
+is_flat_in Sff8472 memory = false
+
+abbrev pub said_in : Report → Family → Memory → List Entry
+said_in report family memory = rows_entries memory (is_flat_in family memory) (rows_of report family)
+
+-- all flags that it has, each with whether it is raised
+abbrev pub told_in : Family → Memory → List (Flag × Bool)
+told_in family memory = rows_flags memory (is_flat_in family memory) (flag_rows_of family)
+
+abbrev pub entries_in : Report → Family → Memory → List Entry
+entries_in Inventory family memory = said_in Inventory family memory
+entries_in Monitors family memory = said_in Monitors family memory
+entries_in Flags family memory = said_in Flags family memory ++ flags_entry (raised (told_in family memory)) ∷ []
+
+-- ---- by its family
+
+unfoldable pub report_fault : Report → Memory → Option ReportFault
+report_fault report memory = option_map (λ fault. reported fault) (fault_of report memory)
+
+unfoldable pub entries_of : Report → Memory → List Entry
+entries_of report memory = entries_in report (family_of memory) memory
+
+unfoldable pub report_lines : Report → Memory → List (List ℕ)
+report_lines report memory = entries_lines (entries_of report memory)
+
+unfoldable pub flags_told : Memory → List (Flag × Bool)
+flags_told memory = told_in (family_of memory) memory
+
+-- ---- each of them
+
+abbrev pub inventory_fault : Memory → Option ReportFault
+inventory_fault memory = report_fault Inventory memory
+
+abbrev pub inventory_entries : Memory → List Entry
+inventory_entries memory = entries_of Inventory memory
+
+abbrev pub monitors_fault : Memory → Option ReportFault
+monitors_fault memory = report_fault Monitors memory
+
+abbrev pub monitors_entries : Memory → List Entry
+monitors_entries memory = entries_of Monitors memory
+
+abbrev pub flags_fault : Memory → Option ReportFault
+flags_fault memory = report_fault Flags memory
+
+abbrev pub flags_entries : Memory → List Entry
+flags_entries memory = entries_of Flags memory

@@ -1,0 +1,157 @@
+// What a module is, what it measures, and what it warns of.
+ghost use Rattle.std.specs.Prelude.{◌≡◌, ◌∷◌, ◌++◌, [], IfOk};
+ghost use Rattle.module_decoding.specs.declared.report.Report.TheVariants.{Flags, Inventory, Monitors};
+ghost use Rattle.report_entries.specs.Entries.{said_in};
+ghost use Rattle.report_entries.specs.FlagRows.{flags_entry};
+ghost use Rattle.report_entries.specs.Flags.{raised};
+ghost use Rattle.reports.specs.Answered.{Reports, ReportsJson, Says, Tells};
+ghost use Rattle.reports.specs.Reports as spec;
+ghost use Rattle.reports.specs.Reports.{entries_of, flags_entries, flags_fault, flags_told, inventory_entries, inventory_fault, monitors_entries, monitors_fault, report_fault, report_lines, told_in};
+
+use crate::family::family_with;
+use crate::fault::ReportFault;
+use crate::tables;
+use field_tables::{Field, bit};
+use module_decoding::{Report, is_flat};
+use paged_memory::{Family, Image};
+use report_entries::{Entry, Flag, Said, json, raised_flags, said_by, say, text, told_flags};
+use std::alloc::{AllocError, Global};
+
+/// What the module is, line by line.
+pub fn inventory(alloc: Global, image: &Image) -> Result<Vec<u8>, ReportFault>
+    ensures { Reports (inventory_fault image.now) (report_lines Inventory image.now) result }
+{
+    as_text(alloc, Report::Inventory, image)
+}
+
+/// The same as JSON.
+pub fn inventory_json(alloc: Global, image: &Image) -> Result<Vec<u8>, ReportFault>
+    ensures { ReportsJson (inventory_fault image.now) (inventory_entries image.now) result }
+{
+    as_json(alloc, Report::Inventory, image)
+}
+
+/// The same as entries.
+pub fn inventory_entries(alloc: Global, image: &Image) -> Result<Vec<Entry>, ReportFault>
+    ensures { Says (inventory_fault image.now) (inventory_entries image.now) result }
+{
+    entries(alloc, Report::Inventory, image)
+}
+
+/// What the module measures, line by line.
+pub fn monitors(alloc: Global, image: &Image) -> Result<Vec<u8>, ReportFault>
+    ensures { Reports (monitors_fault image.now) (report_lines Monitors image.now) result }
+{
+    as_text(alloc, Report::Monitors, image)
+}
+
+/// The same as JSON.
+pub fn monitors_json(alloc: Global, image: &Image) -> Result<Vec<u8>, ReportFault>
+    ensures { ReportsJson (monitors_fault image.now) (monitors_entries image.now) result }
+{
+    as_json(alloc, Report::Monitors, image)
+}
+
+/// The same as entries.
+pub fn monitors_entries(alloc: Global, image: &Image) -> Result<Vec<Entry>, ReportFault>
+    ensures { Says (monitors_fault image.now) (monitors_entries image.now) result }
+{
+    entries(alloc, Report::Monitors, image)
+}
+
+/// The flags that are raised, for a CMIS module after its states, line by line.
+pub fn flags(alloc: Global, image: &Image) -> Result<Vec<u8>, ReportFault>
+    ensures { Reports (flags_fault image.now) (report_lines Flags image.now) result }
+{
+    as_text(alloc, Report::Flags, image)
+}
+
+/// The same as JSON.
+pub fn flags_json(alloc: Global, image: &Image) -> Result<Vec<u8>, ReportFault>
+    ensures { ReportsJson (flags_fault image.now) (flags_entries image.now) result }
+{
+    as_json(alloc, Report::Flags, image)
+}
+
+/// The same as entries.
+pub fn flags_entries(alloc: Global, image: &Image) -> Result<Vec<Entry>, ReportFault>
+    ensures { Says (flags_fault image.now) (flags_entries image.now) result }
+{
+    entries(alloc, Report::Flags, image)
+}
+
+/// All flags that such a module has, each with whether it is raised.
+#[tactic(auto, unfolding(crate::specs::Reports::flags_told))]
+pub fn flags_told(alloc: Global, image: &Image) -> Result<Vec<(Flag, bool)>, ReportFault>
+    ensures { Tells (flags_fault image.now) (flags_told image.now) result }
+{
+    let family = family_with(Report::Flags, image)?;
+    let flat = is_flat_in(family, image);
+    Ok(told_flags(alloc, image, flat, tables::flag_rows(family))?)
+}
+
+#[tactic(auto, unfolding(report_entries::specs::Entries::said_in, crate::specs::Reports::report_lines))]
+fn as_text(alloc: Global, report: Report, image: &Image) -> Result<Vec<u8>, ReportFault>
+    ensures { Reports (report_fault report image.now) (report_lines report image.now) result }
+{
+    Ok(text(alloc, &entries(alloc, report, image)?)?)
+}
+
+#[tactic(auto, unfolding(report_entries::specs::Entries::said_in))]
+fn as_json(alloc: Global, report: Report, image: &Image) -> Result<Vec<u8>, ReportFault>
+    ensures { ReportsJson (report_fault report image.now) (entries_of report image.now) result }
+{
+    Ok(json(alloc, &entries(alloc, report, image)?)?)
+}
+
+#[tactic(auto, unfolding(crate::specs::Reports::entries_of))]
+fn entries(alloc: Global, report: Report, image: &Image) -> Result<Vec<Entry>, ReportFault>
+    ensures { Says (report_fault report image.now) (entries_of report image.now) result }
+{
+    let family = family_with(report, image)?;
+    Ok(entries_in(alloc, report, family, image)?)
+}
+
+fn entries_in(
+    alloc: Global,
+    report: Report,
+    family: Family,
+    image: &Image,
+) -> Result<Vec<Entry>, AllocError>
+    ensures { IfOk result (λ entries. said_in entries ≡ spec.entries_in report family image.now) }
+{
+    let flat = is_flat_in(family, image);
+    let entries = said_by(alloc, image, flat, tables::rows(report, family))?;
+    match report {
+        Report::Inventory => Ok(entries),
+        Report::Monitors => Ok(entries),
+        Report::Flags => with_flags(alloc, family, image, entries),
+    }
+}
+
+// The line of the flags that are raised comes last.
+fn with_flags(
+    alloc: Global,
+    family: Family,
+    image: &Image,
+    entries: Vec<Entry>,
+) -> Result<Vec<Entry>, AllocError>
+    ensures { IfOk result (λ all. said_in all ≡ said_in entries ++ flags_entry (raised (told_in family image.now)) ∷ []) }
+{
+    let mut all = entries;
+    let flat = is_flat_in(family, image);
+    let raised = raised_flags(alloc, image, flat, tables::flag_rows(family))?;
+    say(&mut all, "flag", Said::Flags(raised))?;
+    Ok(all)
+}
+
+// A module with flat memory has no lines of paged memory.
+fn is_flat_in(family: Family, image: &Image) -> bool
+    ensures { result ≡ spec.is_flat_in family image.now }
+{
+    match family {
+        Family::Cmis => is_flat(image),
+        Family::Sff8636 => bit(image, Field::QFlatMemory),
+        Family::Sff8472 => false,
+    }
+}
