@@ -19,6 +19,7 @@ use Rattle.conversations.specs.Events.{Events, made}
 use Rattle.conversations.specs.Pieces.{after_told, whole_reply}
 use Rattle.conversations.specs.Selecting.{chosen}
 use Rattle.paged_memory.specs.declared.page_addressing.PageAddressing.TheVariants.{BankAndPage}
+use Rattle.control_sets.specs.PatientProcedures.{WatchfulProcedure}
 use Rattle.control_sets.specs.declared.fault.ProvisionFault.{ProvisionFault}
 use Rattle.control_sets.specs.declared.procedures.power.PowerChange.{PowerChange}
 use Rattle.control_sets.specs.declared.procedures.power.PowerStage.{PowerStage}
@@ -32,7 +33,7 @@ use Rattle.firmware_api.specs.declared.conversation.numbers.SavedConversation.{S
 use Rattle.firmware_api.specs.declared.half.HalfBytes.{HalfBytes}
 use Rattle.firmware_api.specs.declared.kept.Kept.{Kept}
 use Rattle.firmware_api.specs.declared.kept.Kept.TheVariants.{OfTasks, OfPower, OfReading}
-use Rattle.firmware_api.specs.KeptConversations.{Bringing, Ending, Fetching, InHand, Subject, Turning, WasTold, Watchful, about, after, after_pause, halves_after, halves_want, needed, next_of, patience_of}
+use Rattle.firmware_api.specs.KeptConversations.{Bringing, Ending, Fetching, InHand, Subject, Turning, WasTold, about, after, after_pause, halves_after, halves_want, needed, next_of, patience_of}
 use Rattle.firmware_api.specs.SavedConversations.{IsReplyFor, IsSavedAt, conversation_in, wanted}
 use Rattle.firmware_api.proofs.PauseLaws.{told_after_pause}
 use Rattle.firmware_api.proofs.ReadingRoom.{same_piece}
@@ -62,7 +63,7 @@ pub same_about : (kept : Kept) (reply : Reply) → about (after kept reply) ≡ 
 same_about (OfTasks procedure) reply =
     let on = procedure.conversation.conversation.conversation in
     let page = tasks.page_by (tasks.hand on.conversation) in
-    watchful_by procedure reply (λ (it : Watchful). about (OfTasks it) ≡ about (OfTasks procedure)) (λ look. refl) (λ r look.
+    watchful_by procedure reply (λ (it : WatchfulProcedure). about (OfTasks it) ≡ about (OfTasks procedure)) (λ look. refl) (λ r look.
     let work = on_page_by tasks.after_reply (λ (list : TaskList) (number : ℕ). list) false BankAndPage page on r (λ (list : TaskList). list.work ≡ on.conversation.work) refl refl (λ number. refl) in
     let doubts = keeps_doubts tasks.after_reply (λ (list : TaskList) (number : ℕ). list) false BankAndPage page on r in
     (λ i. Bringing (work i) (doubts i) procedure.watches))
@@ -77,7 +78,7 @@ same_about (OfReading read) reply =
     (λ i. Fetching (request i) (piece i) (doubts i))
 
 same_patience : (kept : Kept) (reply : Reply) → patience_of (after kept reply) ≡ patience_of kept
-same_patience (OfTasks procedure) reply = watchful_by procedure reply (λ (it : Watchful). patience_of (OfTasks it) ≡ patience_of (OfTasks procedure)) (λ look. refl) (λ r look. refl)
+same_patience (OfTasks procedure) reply = watchful_by procedure reply (λ (it : WatchfulProcedure). patience_of (OfTasks it) ≡ patience_of (OfTasks procedure)) (λ look. refl) (λ r look. refl)
 same_patience (OfPower change) reply = refl
 same_patience (OfReading read) reply = refl
 

@@ -2,6 +2,7 @@
 use Rattle.std.proofs.Common.{◌≡◌, ◌<◌, ℕ, List, Option, Some, refl, ap, sym, subst, ◌∙◌}
 use Rattle.bus_model.specs.declared.operation.Reply.{Reply}
 use Rattle.conversations.specs.Wanted.{IsReplyTo}
+use Rattle.control_sets.specs.PatientProcedures.{WatchfulProcedure}
 use Rattle.control_sets.specs.OutcomeAnswers.{most_steps}
 use Rattle.control_sets.specs.PowerProgress.{PatientPower}
 use Rattle.firmware_api.specs.declared.conversation.numbers.SavedConversation.{SavedConversation}
@@ -9,7 +10,7 @@ use Rattle.firmware_api.specs.declared.half.HalfBytes.{HalfBytes}
 use Rattle.firmware_api.specs.declared.kept.Kept.{Kept}
 use Rattle.firmware_api.specs.declared.kept.Kept.TheVariants.{OfTasks, OfPower, OfReading}
 use Rattle.conversations.specs.Patiently.{Patient, wants_patiently}
-use Rattle.firmware_api.specs.KeptConversations.{InHand, Watchful, after, next_of, pieces_want}
+use Rattle.firmware_api.specs.KeptConversations.{InHand, after, next_of, pieces_want}
 use Rattle.firmware_api.specs.SavedConversations.{IsInFront, conversation_in}
 use Rattle.firmware_api.specs.WholeHalves.{HasFewHalves, IsHalfBy}
 use Rattle.firmware_api.proofs.FitLaws.{fits}
@@ -22,7 +23,7 @@ limit_of (OfPower change) = change.limit
 limit_of (OfReading read) = read.limit
 
 same_limit : (kept : Kept) (reply : Reply) → limit_of (after kept reply) ≡ limit_of kept
-same_limit (OfTasks procedure) reply = watchful_by procedure reply (λ (it : Watchful). it.conversation.limit ≡ procedure.conversation.limit) (λ look. refl) (λ r look. refl)
+same_limit (OfTasks procedure) reply = watchful_by procedure reply (λ (it : WatchfulProcedure). it.conversation.limit ≡ procedure.conversation.limit) (λ look. refl) (λ r look. refl)
 same_limit (OfPower change) reply = refl
 same_limit (OfReading read) reply = refl
 
@@ -41,7 +42,7 @@ module _ (saved : SavedConversation) (halves : List HalfBytes) (reply : Reply) w
   few (OfReading read) is = (fits saved halves (OfReading read) is).2
 
   -- it may make as many steps as before
-  pub tasks_limit : (kept : Kept) (procedure : Watchful) → conversation_in saved halves ≡ Some kept → OfTasks procedure ≡ after kept reply → procedure.conversation.limit ≡ most_steps
+  pub tasks_limit : (kept : Kept) (procedure : WatchfulProcedure) → conversation_in saved halves ≡ Some kept → OfTasks procedure ≡ after kept reply → procedure.conversation.limit ≡ most_steps
   tasks_limit kept procedure is same = ap limit_of same ∙ same_limit kept reply ∙ has_limit kept is
 
   pub power_limit : (kept : Kept) (change : PatientPower) → conversation_in saved halves ≡ Some kept → OfPower change ≡ after kept reply → change.limit ≡ most_steps
@@ -64,7 +65,7 @@ module _ (saved : SavedConversation) (halves : List HalfBytes) (reply : Reply) w
       (later_by old reply (ending_reply (wants_patiently pieces_want old) reply answers) saved.halves fit.0 half number halves new by fit.1 front)
 
   -- only a reading is told of halves
-  pub is_no_reading : (procedure : Watchful) (read : Patient InHand) → OfTasks procedure ≡ after (OfReading read) reply → ⊥
+  pub is_no_reading : (procedure : WatchfulProcedure) (read : Patient InHand) → OfTasks procedure ≡ after (OfReading read) reply → ⊥
   is_no_reading procedure read same = cc
 
   pub is_no_power : (change : PatientPower) (read : Patient InHand) → OfPower change ≡ after (OfReading read) reply → ⊥

@@ -17,7 +17,7 @@ use Rattle.control_sets.specs.declared.procedures.power.Power.{Power}
 use Rattle.control_sets.specs.declared.procedures.power.PowerStage.TheVariants.{Unread}
 use Rattle.control_sets.specs.declared.procedures.procedure.Work.{Work}
 use Rattle.control_sets.specs.OutcomeAnswers.{most_steps}
-use Rattle.control_sets.specs.PatientProcedures.{watchful_of}
+use Rattle.control_sets.specs.PatientProcedures.{WatchfulProcedure, watchful_of}
 use Rattle.control_sets.specs.PowerProgress.{PatientPower}
 use Rattle.control_sets.specs.Progress.{list_at, on_page_of, patient_of, tasks_told}
 use Rattle.module_reading.specs.declared.request.Request.{Request}
@@ -27,7 +27,7 @@ use Rattle.firmware_api.specs.declared.conversation.numbers.SavedConversation.{S
 use Rattle.firmware_api.specs.declared.half.HalfBytes.{HalfBytes}
 use Rattle.firmware_api.specs.declared.kept.Kept.{Kept}
 use Rattle.firmware_api.specs.declared.kept.Kept.TheVariants.{OfTasks, OfPower, OfReading}
-use Rattle.firmware_api.specs.KeptConversations.{Bringing, Fetching, InHand, Turning, WasTold, Watchful, about, patience_of, pieces_told}
+use Rattle.firmware_api.specs.KeptConversations.{Bringing, Fetching, InHand, Turning, WasTold, about, patience_of, pieces_told}
 use Rattle.firmware_api.specs.Halves.{memory_of}
 use Rattle.firmware_api.specs.SavedConversations.{HasRead, IsSavedAt, conversation_in}
 
@@ -49,25 +49,25 @@ knows_nothing doubts = subst (λ (h : History). Knows false (Some BankAndPage) U
 tasks_told_nothing : (work : Work) (doubts : Bool) → tasks_told [] (on_page_of (list_at work (0, None)) Unknown doubts)
 tasks_told_nothing work doubts = (knows_nothing doubts, ([], refl, record { stands = refl; each = tt }))
 
-abbrev pub watchful_begun : Work → Bool → Patience → Watchful
+abbrev pub watchful_begun : Work → Bool → Patience → WatchfulProcedure
 watchful_begun work doubts patience = record { conversation = begun_patiently (on_page_of (list_at work (0, None)) Unknown doubts) patience most_steps; watches = doubts; look = Seen }
 
-abbrev pub with_doubts : Bool → Watchful → Watchful
+abbrev pub with_doubts : Bool → WatchfulProcedure → WatchfulProcedure
 with_doubts doubts it =
     let procedure = it.conversation in
     let pausing = procedure.conversation in
     let on = pausing.conversation in
     record it { conversation = record procedure { conversation = record pausing { conversation = record on { doubts = doubts } } }; watches = doubts }
 
-pub tasks_put : (work : Work) (doubts : Bool) (patience : Patience) (procedure made : Watchful) (saved : SavedConversation) (halves : List HalfBytes) →
+pub tasks_put : (work : Work) (doubts : Bool) (patience : Patience) (procedure made : WatchfulProcedure) (saved : SavedConversation) (halves : List HalfBytes) →
     made ≡ watchful_of (patient_of (list_at work (0, None)) Unknown patience false 0 0) → procedure ≡ with_doubts doubts made →
     ((events : Events) (halves : List HalfBytes) → WasTold events (OfTasks procedure) → procedure.conversation.limit ≡ most_steps → conversation_in saved halves ≡ Some (OfTasks procedure)) →
     IsSavedAt (Bringing work doubts doubts) patience [] saved halves
 tasks_put work doubts patience procedure made saved halves is has put =
     let begun : procedure ≡ watchful_begun work doubts patience = has ∙ ap (with_doubts doubts) is in
     let told : WasTold [] (OfTasks (watchful_begun work doubts patience)) = ([], (refl, refl), (([], (refl, refl, refl), tasks_told_nothing work doubts), refl, omega arith)) in
-    begins (OfTasks (watchful_begun work doubts patience)) (OfTasks procedure) saved halves (ap (λ (p : Watchful). OfTasks p) begun)
-    (put [] halves (subst (λ (p : Watchful). WasTold [] (OfTasks p)) (sym begun) told) (ap (λ (p : Watchful). p.conversation.limit) begun)) told
+    begins (OfTasks (watchful_begun work doubts patience)) (OfTasks procedure) saved halves (ap (λ (p : WatchfulProcedure). OfTasks p) begun)
+    (put [] halves (subst (λ (p : WatchfulProcedure). WasTold [] (OfTasks p)) (sym begun) told) (ap (λ (p : WatchfulProcedure). p.conversation.limit) begun)) told
 
 -- ---- changes of power
 

@@ -91,14 +91,11 @@ module _ (it : InHand) (reply : Reply) (was_short : length it.part.items < 128) 
 
 -- ---- the halves
 
-front : (half : HalfBytes) (copied halves : List HalfBytes) (n : ℕ) → copied ≡ take 4 halves → n < 5 → take (n + 1) (half ∷ (copied ++ [])) ≡ half ∷ take n halves
-front half copied halves n is few =
+pub in_front : (half : HalfBytes) (copied halves : List HalfBytes) (n : ℕ) → copied ≡ take 4 halves → n < 5 → take (n + 1) (half ∷ (copied ++ [])) ≡ half ∷ take n halves
+in_front half copied halves n is few =
     let one : suc n ≡ n + 1 = omega arith in
     let rest : take n (copied ++ []) ≡ take n halves = ap (λ (l : List HalfBytes). take n l) (append-nil copied ∙ is) ∙ take-take n 4 halves (omega (arith, few)) in
     subst (λ (k : ℕ). take k (half ∷ (copied ++ [])) ≡ half ∷ take n halves) one (ap (λ (l : List HalfBytes). half ∷ l) rest)
-
-pub in_front : (half : HalfBytes) (copied halves : List HalfBytes) (n : ℕ) → copied ≡ take 4 halves → n < 5 → take (n + 1) (half ∷ (copied ++ [])) ≡ half ∷ take n halves
-in_front half copied halves n is few = front half copied halves n is few
 
 both : (a b : Bool) → IsTrue a → IsTrue b → IsTrue (a && b)
 both true b one other = other

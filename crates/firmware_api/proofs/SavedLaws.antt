@@ -14,6 +14,7 @@ use Rattle.conversations.specs.Watching.{look_after_wait}
 use Rattle.module_states.specs.declared.state.ModuleState.{ModuleState as State}
 use Rattle.module_states.specs.Codes.{state_at}
 use Rattle.paged_memory.specs.declared.page_addressing.KnownPage.{KnownPage}
+use Rattle.control_sets.specs.PatientProcedures.{WatchfulProcedure}
 use Rattle.control_sets.specs.declared.fault.ProvisionFault.{ProvisionFault}
 use Rattle.control_sets.specs.declared.procedures.power.Power.{Power}
 use Rattle.control_sets.specs.declared.procedures.power.Power.TheVariants.{Awake, Asleep}
@@ -32,9 +33,9 @@ use Rattle.firmware_api.specs.declared.kept.Kept.{Kept}
 use Rattle.firmware_api.specs.declared.kept.Kept.TheVariants.{OfTasks, OfPower, OfReading}
 use Rattle.firmware_api.specs.Halves.{has_place, memory_of}
 use Rattle.conversations.specs.Patiently.{Patient, paused}
-use Rattle.firmware_api.specs.KeptConversations.{InHand, Watchful, after_pause, halves_of}
-use Rattle.firmware_api.specs.ReadModules.{number_of}
+use Rattle.firmware_api.specs.KeptConversations.{InHand, after_pause, halves_of}
 use Rattle.firmware_api.specs.SavedConversations.{AreOfReading, HasNumbers, HasRead, code_in, conversation_in, fault_of_look, is_reading, is_sound, fault_at, look_by, look_in, number_of_look, paused_look, paused_numbers, paused_procedure, procedure_by, procedure_numbers, reading_by, reading_in, reading_with, tasks_in, work_of_reading}
+use Rattle.firmware_api.specs.Statuses.{number_of}
 
 pub same_some : {A : Type 0} (a b : A) → Some a ≡ Some b → a ≡ b
 same_some a b same = cc
@@ -114,7 +115,7 @@ sound_procedure saved true false look = refl
 sound_procedure saved false true look = refl
 sound_procedure saved false false look = refl
 
-watches_back : (saved : SavedProcedure) (it : Watchful) →
+watches_back : (saved : SavedProcedure) (it : WatchfulProcedure) →
     tasks_in (procedure_numbers saved it.conversation.conversation.conversation.doubts it.watches it.look) it.conversation it.look ≡ OfTasks it
 watches_back saved it = rw (yes_back it.watches) refl
 
@@ -126,7 +127,7 @@ look_back (Left code) = by (state_at code) refl where
   by (Some state) is = ap (λ (s : Option State). option_map Left (if is_some s then Some code else None)) is
   by None is = ap (λ (s : Option State). option_map Left (if is_some s then None else Some code)) is
 
-pub tasks_back : (it : Watchful) (saved : SavedProcedure) (halves : List HalfBytes) → restored saved it.conversation.conversation.conversation.doubts ≡ Some it.conversation →
+pub tasks_back : (it : WatchfulProcedure) (saved : SavedProcedure) (halves : List HalfBytes) → restored saved it.conversation.conversation.conversation.doubts ≡ Some it.conversation →
     conversation_in (procedure_numbers saved it.conversation.conversation.conversation.doubts it.watches it.look) halves ≡ Some (OfTasks it)
 tasks_back it saved halves is =
     let doubts = it.conversation.conversation.conversation.doubts in

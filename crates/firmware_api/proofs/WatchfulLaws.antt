@@ -6,10 +6,11 @@ use Rattle.conversations.specs.declared.watching.Look.{Look}
 use Rattle.conversations.specs.declared.watching.Look.TheVariants.{Seen}
 use Rattle.conversations.specs.Patiently.{after_patiently, wants_patiently}
 use Rattle.conversations.specs.Watching.{is_looking, look_at, looked, shown}
+use Rattle.control_sets.specs.PatientProcedures.{WatchfulProcedure}
 use Rattle.control_sets.specs.Progress.{tasks_want}
-use Rattle.firmware_api.specs.KeptConversations.{Watchful, tasks_after, watchful_after}
+use Rattle.firmware_api.specs.KeptConversations.{tasks_after, watchful_after}
 
-module _ (it : Watchful) (reply : Reply) (P : Watchful → Type 0)
+module _ (it : WatchfulProcedure) (reply : Reply) (P : WatchfulProcedure → Type 0)
     (same : (look : Look) → P (record { conversation = it.conversation; watches = it.watches; look = look }))
     (told : (r : Reply) (look : Look) → P (record { conversation = after_patiently tasks_want tasks_after it.conversation r; watches = it.watches; look = look })) where
   looked_by : (found : Option ℕ) → P (looked (after_patiently tasks_want tasks_after) it found)

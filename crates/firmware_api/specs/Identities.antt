@@ -18,8 +18,8 @@ use Rattle.firmware_api.specs.declared.identity.ModuleIdentity.{ModuleIdentity}
 use Rattle.firmware_api.specs.declared.identity.SharedFields.{SharedFields}
 use Rattle.firmware_api.specs.declared.status.Refusal.{Refusal}
 use Rattle.firmware_api.specs.declared.status.Refusal.TheVariants.{Decode}
-use Rattle.firmware_api.specs.ReadModules.{family_number, number_of}
 use Rattle.firmware_api.specs.ShownTexts.{shown_text}
+use Rattle.firmware_api.specs.Statuses.{family_number, number_of}
 
 -- what modules of every family say, by the fields that have it; what only some say is 0
 abbrev pub shared_identity : Memory → Family → SharedFields → ModuleIdentity

@@ -12,7 +12,6 @@ use Rattle.conversations.specs.declared.pausing.Timed.{Timed}
 use Rattle.conversations.specs.declared.pausing.Timed.TheVariants.{InTime, Overdue}
 use Rattle.conversations.specs.declared.watching.Watched.{Watched}
 use Rattle.conversations.specs.declared.watching.Watched.TheVariants.{InOrder}
-use Rattle.conversations.specs.declared.watching.Watching.{Watching}
 use Rattle.conversations.specs.declared.within.Spent.{Spent}
 use Rattle.conversations.specs.Events.{Events, steps_of}
 use Rattle.conversations.specs.Patiently.{EndsPatiently, GoesOnPatiently, Patient, ToldPatiently, after_patiently, paused, wants_patiently}
@@ -24,6 +23,7 @@ use Rattle.paged_memory.specs.declared.page_addressing.PageAddressing.TheVariant
 use Rattle.control_sets.specs.declared.fault.ProvisionFault.{ProvisionFault}
 use Rattle.control_sets.specs.declared.procedures.power.Power.{Power}
 use Rattle.control_sets.specs.declared.procedures.procedure.Work.{Work}
+use Rattle.control_sets.specs.PatientProcedures.{WatchfulProcedure}
 use Rattle.control_sets.specs.PowerProgress.{GoesOnAt, IsEndedIn, PatientPower, ToldPower, change_after, power_wants}
 use Rattle.control_sets.specs.Progress as tasks
 use Rattle.module_reading.specs.declared.halves.Halves.{Halves}
@@ -40,10 +40,7 @@ tasks_after on reply = on_after tasks.after_reply (λ list number. list) false B
 
 -- ---- and with looks at the module's state
 
-abbrev pub Watchful : Type 0
-Watchful = Watching tasks.PatientProcedure
-
-abbrev pub watchful_after : Watchful → Reply → Watchful
+abbrev pub watchful_after : WatchfulProcedure → Reply → WatchfulProcedure
 watchful_after it reply = after_watching (wants_patiently tasks.tasks_want) (after_patiently tasks.tasks_want tasks_after) it reply
 
 -- ---- halves on confirmed pages, in pieces

@@ -13,7 +13,6 @@ pub mod WholeHalves
 pub mod Durations
 pub mod Texts
 pub mod WrittenCertificates
-pub mod ReadModules
 pub mod ShownTexts
 pub mod Identities
 pub mod RaisedFlags

@@ -19,7 +19,7 @@ use Rattle.firmware_api.specs.declared.monitors.ModuleMonitors.{ModuleMonitors}
 use Rattle.firmware_api.specs.declared.status.Refusal.{Refusal}
 use Rattle.firmware_api.specs.declared.status.Refusal.TheVariants.{Decode}
 use Rattle.firmware_api.specs.MeasuredValues.{lane_values, module_value, no_lane_values, supported_values, unsupported}
-use Rattle.firmware_api.specs.ReadModules.{family_number, number_of}
+use Rattle.firmware_api.specs.Statuses.{family_number, number_of}
 
 -- a CMIS module itself, which has limits or has none
 abbrev pub own_monitors : Memory → Bool → ModuleMonitors

@@ -17,7 +17,7 @@ use Rattle.firmware_api.specs.declared.flags.ModuleFlags.{ModuleFlags}
 use Rattle.firmware_api.specs.declared.flags.LevelFlags.{LevelFlags}
 use Rattle.firmware_api.specs.declared.status.Refusal.{Refusal}
 use Rattle.firmware_api.specs.declared.status.Refusal.TheVariants.{Decode}
-use Rattle.firmware_api.specs.ReadModules.{family_number}
+use Rattle.firmware_api.specs.Statuses.{family_number}
 
 -- a bit of a byte of lanes
 abbrev pub lane_bit : Memory → Field → ℕ → ℕ → ℕ

@@ -46,8 +46,7 @@ use Rattle.firmware_api.specs.declared.status.Refusal.TheVariants as refusals
 use Rattle.firmware_api.specs.Halves.{has_place, key_of, memory_of}
 use Rattle.firmware_api.specs.KeptConversations.{Ending, InHand, Subject, WasTold, about, after, halves_of, next_of, patience_of}
 use Rattle.firmware_api.specs.Operations.{operation_of, waited, waiting}
-use Rattle.firmware_api.specs.ReadModules.{number_of}
-use Rattle.firmware_api.specs.Statuses.{done, status_of}
+use Rattle.firmware_api.specs.Statuses.{done, number_of, status_of}
 
 -- ---- the numbers
 

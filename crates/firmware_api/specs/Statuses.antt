@@ -1,10 +1,12 @@
--- The numbers by which C knows refusals. In those of faults the last digit is the number in the fault's code.
--- (docs/firmware.md, "Statuses"; this project's own)
-use Rattle.std.specs.Prelude.{ℕ, Bool, true, false, Option, Some, None, Result, Ok, Err}
+-- The numbers by which C knows families, yes and no, and refusals. In those of faults the last digit is the number in the fault's code.
+-- (docs/firmware.md, "Decoders" and "Statuses"; this project's own)
+use Rattle.std.specs.Prelude.{ℕ, Bool, true, false, if◌then◌else◌, Option, Some, None, Result, Ok, Err}
 use Rattle.applications.specs.declared.fault.AdvertFault.{AdvertFault}
 use Rattle.applications.specs.declared.fault.AdvertFault.TheVariants.{NotCmis, Revision, NotEightLanes, FlatMemory, Absent, BadSum}
 use Rattle.applications.specs.declared.weights.lines.WeightLinesFault.{WeightLinesFault}
 use Rattle.applications.specs.declared.weights.lines.WeightLinesFault.TheVariants as weights_fault
+use Rattle.paged_memory.specs.declared.family.Family.{Family}
+use Rattle.paged_memory.specs.declared.family.Family.TheVariants.{Cmis, Sff8636, Sff8472}
 use Rattle.field_tables.specs.declared.sff_fault.SffFault.{SffFault}
 use Rattle.field_tables.specs.declared.sff_fault.SffFault.TheVariants as sff_fault
 use Rattle.module_decoding.specs.declared.module_family.ModuleFault.{ModuleFault}
@@ -17,6 +19,15 @@ use Rattle.sim_module.specs.declared.fault.SimFault.{SimFault}
 use Rattle.sim_module.specs.declared.fault.SimFault.TheVariants as sim_fault
 use Rattle.firmware_api.specs.declared.status.Refusal.{Refusal}
 use Rattle.firmware_api.specs.declared.status.Refusal.TheVariants.{TooManyHalves, NoPlace, NoText, TooSmall, Advert, Certificate, TooManyKept, KeptNotAdmissible, NoConversation, Ended, NotEnded, NoReply, TooFewBytes, NoStart, NoModule, NoRange, NotTaken, Decode, Weights}
+
+abbrev pub family_number : Family → ℕ
+family_number Cmis = 1
+family_number Sff8636 = 2
+family_number Sff8472 = 3
+
+-- C knows no Bool
+abbrev pub number_of : Bool → ℕ
+number_of flag = if flag then 1 else 0
 
 -- of a call that did what it is for
 abbrev pub done : ℕ

@@ -1,5 +1,5 @@
 ghost use Rattle.std.specs.Prelude.{◌≡◌};
-ghost use Rattle.firmware_api.specs.ReadModules.{family_number, number_of};
+ghost use Rattle.firmware_api.specs.Statuses.{family_number, number_of};
 
 use paged_memory::Family;
 

@@ -5,6 +5,7 @@ ghost use Rattle.std.specs.Prelude.{◌≡◌, ◌<◌, ℕ, Bool, []};
 ghost use Rattle.control_sets.specs.OutcomeAnswers.{most_steps};
 ghost use Rattle.conversations.specs.declared.in_pieces.InPieces.{InPieces};
 ghost use Rattle.conversations.specs.Events.{Events, steps_of};
+ghost use Rattle.conversations.specs.Pauses.{AreSpaced};
 ghost use Rattle.conversations.specs.Pieces.{InHalvesSoFar};
 ghost use Rattle.module_reading.specs.declared.request.Request.{Request};
 ghost use Rattle.module_reading.specs.ImageReading.{PatientReading, Reading, begun_by};
@@ -36,4 +37,11 @@ pub fn pieces_have_their_outcomes()
 pub fn patient_readings_have_their_outcomes()
     ensures { (events : Events) (reading : PatientReading) → ⟦<PatientReading as Conversation>⟧.told events reading → reading.limit ≡ most_steps →
         HasPatientOutcome reading.conversation.conversation.conversation.doubts events reading.conversation.conversation.conversation.conversation }
+{}
+
+/// Whatever a bus answers to such a reading: between a fruitless transaction and the next one there is a wait, and no wait is shorter than
+/// the pause.
+pub fn readings_pause()
+    ensures { (events : Events) (reading : PatientReading) → ⟦<PatientReading as Conversation>⟧.told events reading →
+        AreSpaced reading.conversation.patience.pause events }
 {}

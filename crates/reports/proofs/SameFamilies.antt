@@ -183,11 +183,11 @@ pub by_family : {A : Type 0} (report : Report) (said_in : Family → Memory → 
     (CmisAgree a b → IsSame (fault_in report Cmis) (said_in Cmis) a b) → (QsfpAgree a b → IsSame (fault_in report Sff8636) (said_in Sff8636) a b) → (SfpAgree a b → IsSame (fault_in report Sff8472) (said_in Sff8472) a b) →
     IsSame (report_fault report) (λ m. said_in (family_of m) m) a b
 unfolding report_fault fault_of families.module_fault family_of
-by_family {A} report said_in a b agrees cmis qsfp sfp = record { fault = ap (option_map (λ (fault : DecodeFault). reported fault)) decoded.fault; said = λ none. decoded.said (none_mapped (λ (fault : DecodeFault). reported fault) (fault_of report a) none) } where
-  abbrev unread_of : Memory → Option DecodeFault
-  unread_of m = option_map (λ (fault : ModuleFault). Module fault) (families.module_fault m)
-
-  same : unread_of a ≡ None → IsSame (fault_in report (family_of a)) (said_in (family_of a)) a b
+by_family {A} report said_in a b agrees cmis qsfp sfp = record {
+  fault = ap (option_map (λ (fault : DecodeFault). reported fault)) decoded.fault;
+  said = λ none. decoded.said (none_mapped (λ (fault : DecodeFault). reported fault) (fault_of report a) none);
+} where
+  same : option_map (λ (fault : ModuleFault). Module fault) (families.module_fault a) ≡ None → IsSame (fault_in report (family_of a)) (said_in (family_of a)) a b
   same none =
       let found = family_by (identifier a) in
       let is_read = is_read_revision (number a CRevision) in
@@ -195,7 +195,7 @@ by_family {A} report said_in a b agrees cmis qsfp sfp = record { fault = ap (opt
       (is_known a found is_read (none_mapped (λ (fault : ModuleFault). Module fault) (families.fault_in found is_read a) none))
 
   decoded : IsSame (fault_of report) (λ m. said_in (family_of m) m) a b
-  decoded = in_found unread_of family_of (fault_in report) said_in a b (ap (option_map (λ (fault : ModuleFault). Module fault)) (same_module_fault a b agrees.low)) (same_family a b agrees.low) same
+  decoded = in_found (λ (m : Memory). option_map (λ (fault : ModuleFault). Module fault) (families.module_fault m)) family_of (fault_in report) said_in a b (ap (option_map (λ (fault : ModuleFault). Module fault)) (same_module_fault a b agrees.low)) (same_family a b agrees.low) same
 
 -- so are details
 pub by_detail_family : {A : Type 0} (fault_in : Family → Memory → Option ReportFault) (said_in : Family → Memory → A) (a b : Memory) → FamilyAgrees a b →
@@ -207,5 +207,5 @@ by_detail_family {A} fault_in said_in a b agrees cmis qsfp sfp =
       same : detail_fault a ≡ None → IsSame (fault_in (detail_family_of a)) (said_in (detail_family_of a)) a b
       same none =
           let found = managed_by (identifier a) in
-          in_family (λ (family : Family). IsSame (fault_in family) (said_in family) a b) a b agrees cmis qsfp sfp found (λ family is. is) 
+          in_family (λ (family : Family). IsSame (fault_in family) (said_in family) a b) a b agrees cmis qsfp sfp found (λ family is. is)
           (is_known a found (families.is_detail_revision (number a CRevision)) (none_mapped (λ (fault : ModuleFault). unread fault) (families.fault_in found (families.is_detail_revision (number a CRevision)) a) none))
