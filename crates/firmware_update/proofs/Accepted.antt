@@ -17,7 +17,7 @@ use Rattle.firmware_update.proofs.Told.{tested}
 
 -- ---- room
 
-start_room : (size header : ℕ) (reply : List ℕ) → start_size size reply ≡ Some header → header ≤ 112
+pub start_room : (size header : ℕ) (reply : List ℕ) → start_size size reply ≡ Some header → header ≤ 112
 start_room size header reply e =
     let got = tested (nat_lt (length reply) 18) (takes_blocks (get_or reply 5 0) && nat_le (get_or reply 2 0) 112 && nat_lt (get_or reply 2 0) size) (get_or reply 2 0) header e in
     let few : get_or reply 2 0 ≤ 112 = leb-true (get_or reply 2 0) 112 (and_parts _ _ (and_parts _ _ got.0).0).1 in

@@ -7,3 +7,4 @@ pub mod Accepted
 pub mod OnBus
 pub mod Turns
 pub mod Over
+pub mod Room

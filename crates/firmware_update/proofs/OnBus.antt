@@ -231,11 +231,3 @@ module _ (file : List ℕ) where
   -- at each moment what happened is a course of what may be sent, in the midst of a command too
   pub moment : (events : Events) (session : Session) → IsOnBus file events session → (history : History) × IsCourse file history events × IsSafe (length file) history
   moment events session at = moment_by events session session.delivery at at.hand
-
-  -- ---- what the code owes
-
-  pub room_on : (events : Events) (session : Session) (delivery : Delivery) (outcome : Outcome) (command : Command) → IsOnBus file events session → session.delivery ≡ Some delivery
-      → next (taken session.update outcome) ≡ Send command → HasRoom command
-  room_on events session delivery outcome command at is asks =
-      let (sent, way) = subst (λ (o : Option Delivery). IsInHand file session.durations session.update at.own o) is at.hand in
-      room_of (length file) (exchange_of sent outcome ∷ at.history) (taken session.update outcome) command (told_sized (length file) at.history sent session.update outcome at.come way.sends) asks

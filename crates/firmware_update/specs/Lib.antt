@@ -9,3 +9,4 @@ pub mod Durations
 pub mod Courses
 pub mod Turned
 pub mod Runs
+pub mod Sessions

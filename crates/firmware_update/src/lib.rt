@@ -18,6 +18,7 @@ pub use durations::Durations;
 pub use exchange::Exchange;
 pub use judgement::Judgement;
 pub use known::Known;
+pub use replies::{is_committed, is_invalid, runs, runs_alone};
 pub use runner::{UpdateRun, run_update};
 pub use session::{DELAY, Session};
 pub use update::{Cause, Closing, MAX_TRIES, Stage, Update, UpdateNext};

@@ -33,7 +33,8 @@ fn has_bit(weight: u8, byte: u8) -> bool
     byte / weight % 2 == 1
 }
 
-fn runs(bank: Bank, byte: u8) -> bool
+/// Whether the bank's image runs, by the first byte of the reply.
+pub fn runs(bank: Bank, byte: u8) -> bool
     ensures { result ≡ runs bank byte }
 {
     match bank {
@@ -42,7 +43,8 @@ fn runs(bank: Bank, byte: u8) -> bool
     }
 }
 
-fn is_committed(bank: Bank, byte: u8) -> bool
+/// Whether the bank's image runs after each reset.
+pub fn is_committed(bank: Bank, byte: u8) -> bool
     ensures { result ≡ is_committed bank byte }
 {
     match bank {
@@ -51,7 +53,8 @@ fn is_committed(bank: Bank, byte: u8) -> bool
     }
 }
 
-fn is_invalid(bank: Bank, byte: u8) -> bool
+/// Whether the bank's image can't run.
+pub fn is_invalid(bank: Bank, byte: u8) -> bool
     ensures { result ≡ is_invalid bank byte }
 {
     match bank {
@@ -69,7 +72,8 @@ fn other_bank(bank: Bank) -> Bank
     }
 }
 
-fn runs_alone(bank: Bank, byte: u8) -> bool
+/// Whether the bank's image runs, the other's doesn't, and it is valid.
+pub fn runs_alone(bank: Bank, byte: u8) -> bool
     ensures { result ≡ runs_alone bank byte }
 {
     runs(bank, byte) && !runs(other_bank(bank), byte) && !is_invalid(bank, byte)

@@ -15,6 +15,7 @@ ghost use Rattle.firmware_update.specs.declared.update.UpdateNext.TheVariants.{S
 ghost use Rattle.firmware_update.specs.Courses.{IsOnBus, IsSafeOnBus, IsWhole, delay_for, delivery_at, going_on, learned_by, turns_left, wanted};
 ghost use Rattle.firmware_update.specs.Payloads.{HasRoom};
 ghost use Rattle.firmware_update.specs.Progress.{next, taken};
+ghost use Rattle.firmware_update.specs.Sessions.{IsAbout};
 ghost use Rattle.firmware_update.specs.Turned.{HasRested, begun_session, replied};
 
 use crate::durations::Durations;
@@ -41,6 +42,7 @@ impl Session {
         requires { length file.now < 2 ^ 32 }
         ensures value { result ≡ begun_session file.now }
         ensures begins { IsOnBus file.now [] result }
+        ensures about { IsAbout file.now result }
     {
         let update = Update::of(file.len() as u32);
         let durations = Durations::new();
@@ -83,13 +85,14 @@ impl Session {
     /// Takes the reply to the operation that was to be made; the file is the same each time.
     pub fn take(&mut self, file: &[u8], reply: &Reply)
         requires short { length file.now < 2 ^ 32 }
-        requires begun { (events : Events) × IsOnBus file.now events self.old }
+        requires about { IsAbout file.now self.old }
         requires answers { IsReplyTo (wanted self.old) reply.now }
         ensures value { self.new ≡ replied file.now self.old reply.now }
         ensures told { (events : Events) (op : Op) → IsOnBus file.now events self.old → wanted self.old ≡ Do op →
             IsOnBus file.now (made op reply.now ∷ events) self.new }
         ensures fewer { (events : Events) (op : Op) → IsOnBus file.now events self.old → wanted self.old ≡ Do op →
             turns_left self.new < turns_left self.old }
+        ensures about { IsAbout file.now self.new }
     {
         if let Some(mut delivery) = self.delivery.take() {
             delivery.take(reply);
@@ -100,13 +103,14 @@ impl Session {
     /// So long as was asked for has passed.
     pub fn waited(&mut self, file: &[u8])
         requires short { length file.now < 2 ^ 32 }
-        requires begun { (events : Events) × IsOnBus file.now events self.old }
+        requires about { IsAbout file.now self.old }
         requires waits { IsWait (wanted self.old) }
         ensures rests { HasRested file.now self.old self.new }
         ensures told { (events : Events) (time : ℕ) → IsOnBus file.now events self.old → wanted self.old ≡ Wait time →
             IsOnBus file.now (Waited time ∷ events) self.new }
         ensures fewer { (events : Events) (time : ℕ) → IsOnBus file.now events self.old → wanted self.old ≡ Wait time →
             turns_left self.new < turns_left self.old }
+        ensures about { IsAbout file.now self.new }
     {
         if let Some(mut delivery) = self.delivery.take() {
             delivery.waited();
