@@ -1,0 +1,5 @@
+pub mod Banks
+pub mod Endings
+pub mod SavedDeliveries
+pub mod SavedUpdates
+pub mod Works
