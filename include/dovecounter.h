@@ -6,11 +6,12 @@
      What a module is             decode a module's memory
      Plans                        weights, plans, certificates
      Conversations with a module  read, provision, activate, wake, sleep
+     A module's firmware          look at it, update it
      A port's manager             keep the module in a port as wanted
      A simulated module           a module without hardware
 
-   Every function except dovecounter_run is proved to return and to do what this file says, except where it says
-   "tested". Nothing is proved about real modules. No function allocates, prints, waits, keeps a pointer or has state
+   Every function except dovecounter_run and dovecounter_update_run is proved to return and to do what this file says,
+   except where it says "tested". Nothing is proved about real modules. No function allocates, prints, waits, keeps a pointer or has state
    of its own, so calls may run in parallel unless one writes what another uses.
 
    You have to ensure what no function can check:
@@ -54,9 +55,13 @@ extern "C" {
      next                                    31 32
      reply                                   31 32 34
      end                                     31 33
-     run                                     31 34
+     run, update_run                         31 34
      port_plug to port_next                  31
      port_take                               31 34
+     update_next                             31 32
+     update_reply                            31 32 34
+     update_end                              31 33
+     update_progress                         31
      module_begin                            1 2 51, then as advertisement, then 53 54
      module_fetch, module_store              as advertisement, then 61 62 63
      module_tick, module_pin, module_active  61
@@ -88,7 +93,7 @@ enum dovecounter_status {
     DOVECOUNTER_NO_END = 24,       /* CT4: the line `end` is missing */
 
     /* conversations */
-    DOVECOUNTER_NO_CONVERSATION = 31, /* not the numbers of a conversation, or all zero */
+    DOVECOUNTER_NO_CONVERSATION = 31, /* not the numbers of a conversation, or all zero; or the file has another size */
     DOVECOUNTER_ENDED = 32,           /* it has ended: there is no operation to make */
     DOVECOUNTER_NOT_ENDED = 33,       /* it goes on: there is an operation to make */
     DOVECOUNTER_NO_REPLY = 34,        /* the operation can't have this reply */
@@ -560,6 +565,183 @@ static inline uint32_t dovecounter_run(struct dovecounter_conversation *conversa
         else
             outcome = transact(context, &operation, bytes);
         status = dovecounter_reply(conversation, halves, outcome, bytes, operation.count);
+        if (status != DOVECOUNTER_DONE) return status;
+    }
+    return status == DOVECOUNTER_ENDED ? (uint32_t)DOVECOUNTER_DONE : status;
+}
+
+/* ---- A module's firmware ----
+
+   An update, or a single command about the firmware, under way (docs/firmware_update.md). It touches no bus:
+   dovecounter_update_next names the operation to make, and dovecounter_update_reply takes its outcome, until
+   dovecounter_update_end says how it ended; dovecounter_update_run is that loop. Pass the file, of at most 4 GiB, to each
+   call; with a single command any pointer and a size of 0. Nobody else may use the module meanwhile. */
+
+/* What bytes 163 to 166 of page 01h advertise. */
+struct dovecounter_command_block {
+    uint32_t max_busy_time; /* milliseconds for which the module may refuse transactions */
+    uint8_t instances;      /* commands at once; 0: no command data block, so no updates; 3 is reserved */
+    uint8_t background_mode;
+    uint8_t auto_paging;
+    uint8_t epl_pages;
+    uint8_t length_extension;
+};
+
+void dovecounter_command_block(const uint8_t bytes[4], struct dovecounter_command_block *block);
+
+struct dovecounter_update_durations {
+    uint32_t start;
+    uint32_t abort;
+    uint32_t block;
+    uint32_t complete;
+};
+
+struct dovecounter_update_stage {
+    uint32_t address;
+    uint8_t stage;
+    uint8_t header;
+    uint8_t old;
+};
+
+struct dovecounter_update_delivery {
+    uint32_t idle;
+    uint16_t steps;
+    uint8_t phase;
+    uint8_t at;
+    uint8_t check;
+    uint8_t due;
+    uint8_t selection;
+    uint8_t page;
+    uint8_t taken;
+    uint8_t taken_page;
+    uint8_t outcome;
+    uint8_t status;
+    uint8_t count;
+    uint8_t reply[128];
+};
+
+/* An update or a single command under way. Copy it and save it; change nothing. Changed numbers are refused, or taken for
+   another one: never write them by hand, since a Commit or a Start may come of it. */
+struct dovecounter_update {
+    uint32_t magic;
+    uint32_t size;
+    struct dovecounter_update_durations durations;
+    struct dovecounter_update_stage stage;
+    uint32_t password;
+    uint8_t work;
+    uint8_t held;
+    uint8_t tries;
+    uint8_t fault;
+    uint8_t status;
+    uint8_t closing;
+    struct dovecounter_update_delivery delivery;
+};
+
+/* Begins an update to a file of this size, which writes the bank that doesn't run, runs it by a reset, which takes all data
+   paths down, and commits it once it runs. With hold other than 0 it ends before the commit. */
+void dovecounter_update_begin(uint32_t size, uint8_t hold, struct dovecounter_update *update);
+
+/* Begins the question what the banks hold; dovecounter_banks reads its reply. */
+void dovecounter_banks_begin(struct dovecounter_update *update);
+
+/* Begins to commit the image that runs. First ask whether `running` is that bank. */
+void dovecounter_commit_begin(struct dovecounter_update *update);
+
+/* Begins to give an open download up. */
+void dovecounter_abort_begin(struct dovecounter_update *update);
+
+/* Begins to give the module this password, which the bytes of the message have with the highest first. */
+void dovecounter_password_begin(uint32_t password, struct dovecounter_update *update);
+
+/* Writes what to do now. */
+uint32_t dovecounter_update_next(const struct dovecounter_update *update, const uint8_t *file, size_t file_size,
+                                 struct dovecounter_operation *operation);
+
+/* Takes the outcome of that operation, as dovecounter_reply does. */
+uint32_t dovecounter_update_reply(struct dovecounter_update *update, const uint8_t *file, size_t file_size,
+                                  uint8_t outcome, const uint8_t *bytes, size_t byte_count);
+
+enum dovecounter_update_fault {
+    DOVECOUNTER_UPDATE_DONE = 0,
+    DOVECOUNTER_UPDATE_REFUSED = 1,      /* by the module, with a status */
+    DOVECOUNTER_UPDATE_UNSENT = 2,       /* a command could not be sent */
+    DOVECOUNTER_UPDATE_UNKNOWN = 3,      /* what came of a command is not known */
+    DOVECOUNTER_UPDATE_UNSUPPORTED = 4,  /* the module takes no blocks of the local payload, or too much at the Start */
+    DOVECOUNTER_UPDATE_NOT_STANDING = 5, /* no bank alone runs, is committed and valid: none may be overwritten */
+    DOVECOUNTER_UPDATE_GAVE_UP = 6       /* asked or sent as often as may be */
+};
+
+/* What is known of the firmware, from what came of each command. */
+enum dovecounter_update_known {
+    DOVECOUNTER_FIRMWARE_UNTOUCHED = 1,
+    DOVECOUNTER_FIRMWARE_BEGUN = 2,
+    DOVECOUNTER_FIRMWARE_ABORTED = 3,
+    DOVECOUNTER_FIRMWARE_MAY_BE_COMPLETE = 4,
+    DOVECOUNTER_FIRMWARE_COMPLETE = 5,
+    DOVECOUNTER_FIRMWARE_MAY_RUN = 6,
+    DOVECOUNTER_FIRMWARE_RUNS = 7, /* also the end of an update that holds the commit back */
+    DOVECOUNTER_FIRMWARE_MAY_BE_COMMITTED = 8,
+    DOVECOUNTER_FIRMWARE_COMMITTED = 9
+};
+
+struct dovecounter_update_ending {
+    uint8_t fault;      /* enum dovecounter_update_fault */
+    uint8_t status;     /* of the module, with DOVECOUNTER_UPDATE_REFUSED; else 0 */
+    uint8_t known;      /* enum dovecounter_update_known; 0 of a single command */
+    uint8_t count;      /* bytes of the reply to a single command */
+    uint8_t reply[128]; /* zeros after them */
+};
+
+/* Writes how it ended. */
+uint32_t dovecounter_update_end(const struct dovecounter_update *update, const uint8_t *file, size_t file_size,
+                                struct dovecounter_update_ending *ending);
+
+struct dovecounter_update_progress {
+    uint32_t sent; /* bytes of the file that the module has taken */
+    uint32_t all;  /* of the file; both 0 of a single command */
+    uint8_t
+        known; /* as in dovecounter_update_ending, if nothing more is done, whatever comes of the command on its way */
+};
+
+/* Writes how far an update has come. */
+uint32_t dovecounter_update_progress(const struct dovecounter_update *update, const uint8_t *file, size_t file_size,
+                                     struct dovecounter_update_progress *progress);
+
+struct dovecounter_bank {
+    uint16_t build;
+    uint8_t runs;        /* 1 if its image runs, else 0; so the next three */
+    uint8_t committed;   /* it runs after each reset */
+    uint8_t valid;       /* it can run */
+    uint8_t has_version; /* 0: build, major and minor are 0 */
+    uint8_t major;
+    uint8_t minor;
+};
+
+struct dovecounter_banks {
+    struct dovecounter_bank banks[2]; /* A and B */
+    uint8_t running;                  /* the one that runs alone and is valid: 1 or 2; 0 if none */
+    uint8_t committed;                /* the one that is committed alone: 1 or 2; 0 if none */
+};
+
+/* Reads the reply to the question what the banks hold. */
+void dovecounter_banks(const uint8_t *reply, size_t reply_size, struct dovecounter_banks *banks);
+
+/* Carries an update or a single command out, as dovecounter_run does. */
+static inline uint32_t dovecounter_update_run(struct dovecounter_update *update, const uint8_t *file, size_t file_size,
+                                              uint8_t (*transact)(void *context,
+                                                                  const struct dovecounter_operation *operation,
+                                                                  uint8_t bytes[128]),
+                                              void (*pause)(void *context, uint32_t milliseconds), void *context) {
+    struct dovecounter_operation operation;
+    uint8_t bytes[128];
+    uint32_t status;
+    while ((status = dovecounter_update_next(update, file, file_size, &operation)) == DOVECOUNTER_DONE) {
+        uint8_t outcome = DOVECOUNTER_WAITED;
+        if (operation.kind == DOVECOUNTER_WAIT)
+            pause(context, operation.milliseconds);
+        else
+            outcome = transact(context, &operation, bytes);
+        status = dovecounter_update_reply(update, file, file_size, outcome, bytes, operation.count);
         if (status != DOVECOUNTER_DONE) return status;
     }
     return status == DOVECOUNTER_ENDED ? (uint32_t)DOVECOUNTER_DONE : status;

@@ -286,3 +286,79 @@ AT(module, deinit, 24);
 AT(module, module_flags, 25);
 AT(module, lane_flags, 26);
 AT(module, lanes, 46);
+
+SIZE(command_block, 12);
+AT(command_block, max_busy_time, 0);
+AT(command_block, instances, 4);
+AT(command_block, background_mode, 5);
+AT(command_block, auto_paging, 6);
+AT(command_block, epl_pages, 7);
+AT(command_block, length_extension, 8);
+
+SIZE(update_durations, 16);
+AT(update_durations, start, 0);
+AT(update_durations, abort, 4);
+AT(update_durations, block, 8);
+AT(update_durations, complete, 12);
+
+SIZE(update_stage, 8);
+AT(update_stage, address, 0);
+AT(update_stage, stage, 4);
+AT(update_stage, header, 5);
+AT(update_stage, old, 6);
+
+SIZE(update_delivery, 148);
+AT(update_delivery, idle, 0);
+AT(update_delivery, steps, 4);
+AT(update_delivery, phase, 6);
+AT(update_delivery, at, 7);
+AT(update_delivery, check, 8);
+AT(update_delivery, due, 9);
+AT(update_delivery, selection, 10);
+AT(update_delivery, page, 11);
+AT(update_delivery, taken, 12);
+AT(update_delivery, taken_page, 13);
+AT(update_delivery, outcome, 14);
+AT(update_delivery, status, 15);
+AT(update_delivery, count, 16);
+AT(update_delivery, reply, 17);
+
+SIZE(update, 192);
+AT(update, magic, 0);
+AT(update, size, 4);
+AT(update, durations, 8);
+AT(update, stage, 24);
+AT(update, password, 32);
+AT(update, work, 36);
+AT(update, held, 37);
+AT(update, tries, 38);
+AT(update, fault, 39);
+AT(update, status, 40);
+AT(update, closing, 41);
+AT(update, delivery, 44);
+
+SIZE(update_ending, 132);
+AT(update_ending, fault, 0);
+AT(update_ending, status, 1);
+AT(update_ending, known, 2);
+AT(update_ending, count, 3);
+AT(update_ending, reply, 4);
+
+SIZE(update_progress, 12);
+AT(update_progress, sent, 0);
+AT(update_progress, all, 4);
+AT(update_progress, known, 8);
+
+SIZE(bank, 8);
+AT(bank, build, 0);
+AT(bank, runs, 2);
+AT(bank, committed, 3);
+AT(bank, valid, 4);
+AT(bank, has_version, 5);
+AT(bank, major, 6);
+AT(bank, minor, 7);
+
+SIZE(banks, 18);
+AT(banks, banks, 0);
+AT(banks, running, 16);
+AT(banks, committed, 17);

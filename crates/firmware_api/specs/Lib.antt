@@ -21,3 +21,4 @@ pub mod Monitors
 pub mod ReadWeights
 pub mod PortsTold
 pub mod KeptPorts
+pub mod Updates
