@@ -67,11 +67,29 @@ static void read_rare_word(const char *word, unsigned value) {
     if (strncmp(word, "unstaged=", 9) == 0) shim.module.unstaged = value;
 }
 
+/* Words of the firmware. */
+static void read_firmware_word(const char *word, unsigned value) {
+    struct two_banks *firmware = &shim.firmware;
+    sscanf(word, "keep=%255s", shim.keep);
+    if (strcmp(word, "banks") == 0) shim.banks = true;
+    if (strcmp(word, "deaf") == 0) firmware->background = false;
+    if (strcmp(word, "fallen-back") == 0) firmware->boots = false;
+    if (strcmp(word, "uncommitted") == 0) firmware->running = 1, load_bank(firmware, 1, (const uint8_t *)"\2\1\0\7", 4);
+    if (strcmp(word, "both-run") == 0) firmware->valid[0] = false;
+    if (strncmp(word, "instances=", 10) == 0) firmware->instances = (uint8_t)value;
+    if (strncmp(word, "start=", 6) == 0) firmware->start_size = (uint8_t)value;
+    if (strncmp(word, "mechanism=", 10) == 0) firmware->mechanism = (uint8_t)value;
+    if (strncmp(word, "lasts=", 6) == 0) firmware->slowest = value;
+    if (strncmp(word, "late=", 5) == 0) firmware->late = value;
+    if (strncmp(word, "password=", 9) == 0) firmware->password = value;
+}
+
 static void read_word(const char *word) {
     unsigned value = 0;
     const char *after = strchr(word, '=');
     if (after != NULL) value = (unsigned)strtoul(after + 1, NULL, 0);
     read_rare_word(word, value);
+    read_firmware_word(word, value);
     sscanf(word, "image=%255s", shim.image);
     sscanf(word, "out=%255s", shim.out);
     sscanf(word, "driver=%31s", shim.driver);
@@ -109,6 +127,13 @@ static void advertise_durations(void) {
     write_sum(1);
 }
 
+/* A module with a command data block has page 9Fh, and advertises its instances in byte 163 of page 01h. */
+static void advertise_firmware(void) {
+    shim.module.present[0x9F] = true;
+    shim.module.pages[1][163 - 128] = (uint8_t)(shim.firmware.instances << 6);
+    write_sum(1);
+}
+
 /* A sum is right again after each byte but itself. */
 static void change_bytes(void) {
     for (const struct shim_byte *each = shim.bytes; each < shim.bytes + shim.byte_count; each++) {
@@ -132,11 +157,14 @@ static void begin(void) {
     char *copy = strdup(words != NULL ? words : ""), *rest = NULL;
     if (copy == NULL) abort();
     begin_emulator(&shim.module, 1);
+    begin_two_banks(&shim.firmware, 1);
+    load_bank(&shim.firmware, 0, (const uint8_t *)"\1\2\0\3", 4);
     for (char *word = strtok_r(copy, " ", &rest); word != NULL; word = strtok_r(NULL, " ", &rest)) read_word(word);
     free(copy);
     shim.module.random += shim.random;
     load_image(&shim.module, shim.image);
     if (shim.durations != 0) advertise_durations();
+    if (shim.banks) advertise_firmware();
     change_bytes();
     power_up(&shim.module);
     shim.fresh = shim.module;
@@ -145,11 +173,23 @@ static void begin(void) {
     shim.lived = microseconds() / 1000;
 }
 
+static void tell_firmware(FILE *out) {
+    const struct two_banks *it = &shim.firmware;
+    FILE *kept = shim.keep[0] != 0 ? fopen(shim.keep, "w") : NULL;
+    fprintf(out, "running %c committed %s%s starts %u runs %u commits %u aborts %u without %u\n", "AB"[it->running],
+            it -> committed[0] ? "A" : "", it->committed[1] ? "B" : "", it->starts, it->runs, it->commits, it->aborts,
+            it->moments_without);
+    if (kept == NULL) return;
+    fwrite(it->images[it->running], 1, it->lengths[it->running], kept);
+    fclose(kept);
+}
+
 __attribute__((destructor)) static void tell(void) {
     char text[256];
     FILE *out = shim.out[0] != 0 ? fopen(shim.out, "w") : NULL;
     if (out == NULL) return;
     fwrite(text, 1, describe(&shim.module, text, sizeof text), out);
+    if (shim.banks) tell_firmware(out);
     fclose(out);
 }
 
@@ -176,8 +216,13 @@ static bool reaches(void) {
     if (shim.made == shim.interrupt) kill(getpid(), shim.signal != 0 ? (int)shim.signal : SIGINT);
     if (shim.made == shim.fault) enter_state(&shim.module, 5);
     if (shim.made == shim.lose) shim.module.present[0x11] = false;
-    for (int64_t until = microseconds() / 1000; shim.lived < until; shim.lived++) pass_millisecond(&shim.module);
+    for (int64_t until = microseconds() / 1000; shim.lived < until; shim.lived++) {
+        pass_millisecond(&shim.module);
+        if (shim.banks) pass_time(&shim.firmware, 1);
+        if (shim.firmware.off_left > 0) store_byte(&shim.module, 127, 0); /* a reset selects page 00h */
+    }
     errno = shim.error;
+    if (shim.banks && is_deaf(&shim.firmware)) return false;
     if (shim.unplug != 0 && shim.made > shim.unplug)
         errno = ENXIO;
     else if (!is_muted() && next_random(&shim.random) % 100 >= shim.refuse)
@@ -186,12 +231,26 @@ static bool reaches(void) {
     return false;
 }
 
+static bool is_of_block(uint8_t address) { return shim.banks && address >= 128 && shim.module.page == 0x9F; }
+
+static uint8_t fetch_one(uint8_t address) {
+    if (shim.banks && address == 37) return fetch_status(&shim.firmware);
+    return is_of_block(address) ? fetch_of_block(&shim.firmware, address) : fetch_byte(&shim.module, address);
+}
+
+static void store_one(uint8_t address, uint8_t byte) {
+    if (is_of_block(address))
+        store_to_block(&shim.firmware, address, byte);
+    else
+        store_byte(&shim.module, address, byte);
+}
+
 static void fetch_bytes(uint8_t address, size_t count, uint8_t *bytes) {
-    for (size_t i = 0; i < count; i++) bytes[i] = fetch_byte(&shim.module, (uint8_t)(address + i));
+    for (size_t i = 0; i < count; i++) bytes[i] = fetch_one((uint8_t)(address + i));
 }
 
 static void store_bytes(uint8_t address, size_t count, const uint8_t *bytes) {
-    for (size_t i = 0; i < count; i++) store_byte(&shim.module, (uint8_t)(address + i), bytes[i]);
+    for (size_t i = 0; i < count; i++) store_one((uint8_t)(address + i), bytes[i]);
 }
 
 /* ---- /dev/i2c-99 ---- */

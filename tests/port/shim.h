@@ -4,6 +4,7 @@
 #ifndef SHIM_H
 #define SHIM_H
 #include "emulator.h"
+#include "two_banks.h"
 
 struct shim {
     struct emulator module, fresh; /* the second comes in place of the first */
@@ -39,6 +40,11 @@ struct shim {
         unsigned page, address, byte;
     } bytes[64]; /* in place of those of the memory; an address below 80h is in the lower half */
     size_t byte_count;
+
+    /* its firmware, if it has a command data block */
+    struct two_banks firmware;
+    bool banks;
+    char keep[256]; /* a file for the image that runs at the end */
 };
 
 extern struct shim shim;

@@ -4,11 +4,13 @@
 #include <err.h>
 #include <getopt.h>
 #include <signal.h>
+#include <stdlib.h>
 #include <string.h>
 #include <unistd.h>
 
 static const char usage[] =
     "usage: cmis-port BUS image | state | plan WEIGHTS | provision WEIGHTS | wake | sleep\n"
+    "       cmis-port BUS firmware [commit | abort | update FILE]\n"
     "  BUS             /dev/i2c-N, the eeprom file of the driver optoe, or sim:IMAGE[,SCRIPT] to simulate a module\n"
     "  WEIGHTS         a file with a line [host] and lines such as 0Dh = 101\n"
     "  image           print the module's memory, for cmisctl\n"
@@ -17,6 +19,10 @@ static const char usage[] =
     "  provision       write the best plan to the module\n"
     "  wake            take the module out of low power\n"
     "  sleep           put it into low power\n"
+    "  firmware        print what the module's firmware banks hold\n"
+    "    commit        have the image that runs run after each reset\n"
+    "    abort         give an open download up\n"
+    "    update        write FILE to the bank that doesn't run, run it, and commit it\n"
     "  --keep A,H,M    keep a data path that is active: its Application, first host lane, first media lane\n"
     "  --unpaired      let any first host lane go with any first media lane\n"
     "  --counts-by-id  look up lane counts of 0 by interface ID\n"
@@ -24,6 +30,9 @@ static const char usage[] =
     "  --ensure        take down what is in the way, but no active path that the plan has too\n"
     "  --force         take down whatever is up; accept a plan without paths\n"
     "  --wake          take the module out of low power first\n"
+    "  --reset         let an update restart the module, which takes its lanes down\n"
+    "  --no-commit     end an update once the new image runs\n"
+    "  --json          print of firmware, and of the progress of an update, a line of JSON each\n"
     "  --log FILE      write each transaction to FILE\n"
     "Examples:\n"
     "  cmis-port /dev/i2c-7 image | cmisctl inventory\n"
@@ -48,18 +57,28 @@ static bool take_flag(struct port *port, int flag) {
     case 'e': return port->ensure = true;
     case 'f': return port->force = true;
     case 'w': return port->wake = true;
+    case 'r': return port->reset = true;
+    case 'n': return port->no_commit = true;
+    case 'j': return port->json = true;
     case 'h': return port->help = true;
     default: return false;
     }
 }
 
 static bool read_flags(int count, char **words, struct port *port) {
-    static const struct option flags[] = {
-        {"keep", required_argument, NULL, 'k'},   {"log", required_argument, NULL, 'l'},
-        {"activate", no_argument, NULL, 'a'},     {"force", no_argument, NULL, 'f'},
-        {"ensure", no_argument, NULL, 'e'},       {"wake", no_argument, NULL, 'w'},
-        {"help", no_argument, NULL, 'h'},         {"unpaired", no_argument, NULL, 'u'},
-        {"counts-by-id", no_argument, NULL, 'c'}, {0}};
+    static const struct option flags[] = {{"keep", required_argument, NULL, 'k'},
+                                          {"log", required_argument, NULL, 'l'},
+                                          {"activate", no_argument, NULL, 'a'},
+                                          {"force", no_argument, NULL, 'f'},
+                                          {"ensure", no_argument, NULL, 'e'},
+                                          {"wake", no_argument, NULL, 'w'},
+                                          {"help", no_argument, NULL, 'h'},
+                                          {"unpaired", no_argument, NULL, 'u'},
+                                          {"counts-by-id", no_argument, NULL, 'c'},
+                                          {"reset", no_argument, NULL, 'r'},
+                                          {"no-commit", no_argument, NULL, 'n'},
+                                          {"json", no_argument, NULL, 'j'},
+                                          {0}};
     int flag;
     optind = 0;
     while ((flag = getopt_long(count, words, "h", flags, NULL)) != -1)
@@ -68,27 +87,48 @@ static bool read_flags(int count, char **words, struct port *port) {
 }
 
 struct command {
-    const char *name;
+    const char *name, *second; /* its words; the second is NULL if it has one */
     enum status (*run)(struct port *port);
-    bool plans;          /* it takes weights, --keep, --unpaired and --counts-by-id */
-    bool stores, forces; /* it takes --activate, --ensure and --wake; it takes --force */
+    bool (*read)(struct port *port, const char *name); /* the file that it takes, or NULL */
+    bool plans;                                        /* it takes --keep, --unpaired and --counts-by-id */
+    bool stores, forces;                               /* it takes --activate, --ensure and --wake; it takes --force */
+    bool resets, shows;                                /* it takes --reset and --no-commit; it takes --json */
 };
 
-/* The command that the words name, if all flags are its own; else NULL. The word after it is `weights`, or NULL. */
-static const struct command *read_words(int count, char **words, struct port *port, const char **weights) {
+static bool read_host(struct port *port, const char *name) { return read_weights(name, port->weights); }
+
+static bool is_stray(const struct port *port, const struct command *command) {
+    bool asks = port->kept_count > 0 || port->unpaired || port->counts_by_id;
+    bool changes = port->activate || port->ensure || port->wake;
+    return (asks && !command->plans) || (changes && !command->stores) || (port->force && !command->forces) ||
+           ((port->reset || port->no_commit) && !command->resets) || (port->json && !command->shows);
+}
+
+/* The command that the words name, if all flags are its own; else NULL. The last word is that of the file that it takes. */
+static const struct command *read_words(int count, char **words, struct port *port) {
     static const struct command commands[] = {
-        {"image", image, false, false, false}, {"state", state, false, false, false},
-        {"plan", plan, true, false, false},    {"provision", provision, true, true, true},
-        {"wake", wake, false, false, false},   {"sleep", put_to_sleep, false, false, true}};
+        {.name = "image", .run = image},
+        {.name = "state", .run = state},
+        {.name = "plan", .run = plan, .read = read_host, .plans = true},
+        {.name = "provision", .run = provision, .read = read_host, .plans = true, .stores = true, .forces = true},
+        {.name = "wake", .run = wake},
+        {.name = "sleep", .run = put_to_sleep, .forces = true},
+        {.name = "firmware", .run = firmware, .shows = true},
+        {.name = "firmware", .second = "commit", .run = firmware_commit, .shows = true},
+        {.name = "firmware", .second = "abort", .run = firmware_abort},
+        {.name = "firmware",
+         .second = "update",
+         .run = firmware_update,
+         .read = read_file,
+         .resets = true,
+         .shows = true}};
     if (!read_flags(count, words, port) || port->help || optind + 1 >= count) return NULL;
     port->bus.name = words[optind];
-    *weights = words[optind + 2];
-    for (const struct command *each = commands; each < commands + 6; each++) {
-        if (strcmp(words[optind + 1], each->name) != 0) continue;
-        bool asks = port->kept_count > 0 || port->unpaired || port->counts_by_id;
-        bool changes = port->activate || port->ensure || port->wake;
-        bool stray = (asks && !each->plans) || (changes && !each->stores) || (port->force && !each->forces);
-        return !stray && count - optind == (each->plans ? 3 : 2) ? each : NULL;
+    for (const struct command *each = commands; each < commands + sizeof commands / sizeof *commands; each++) {
+        int length = 2 + (each->second != NULL) + (each->read != NULL);
+        if (count - optind != length || strcmp(words[optind + 1], each->name) != 0) continue;
+        if (each->second != NULL && strcmp(words[optind + 2], each->second) != 0) continue;
+        return is_stray(port, each) ? NULL : each;
     }
     return NULL;
 }
@@ -99,28 +139,28 @@ static void close_log(struct port *port) {
 }
 
 /* Whatever may keep the program waiting is read before signals are held back, and before the module is touched. */
-static enum status run(const struct command *command, struct port *port, const char *weights) {
-    bool ready = (!command->plans || read_weights(weights, port->weights)) && open_port(port);
+static enum status run(const struct command *command, struct port *port, const char *name) {
+    bool ready = (command->read == NULL || command->read(port, name)) && open_port(port);
     hold_signals(&port->signals);
     enum status status = ready ? command->run(port) : REFUSED;
     unlock_bus(&port->bus);
     release_signals(port);
     if (port->log != NULL) close_log(port);
     close_bus(&port->bus);
+    free(port->file);
     return status;
 }
 
 int main(int count, char **words) {
     static char output[1 << 14]; /* holds all of it, to be written where a signal may end the program */
     struct port port = {.bus = {.file = -1, .lock.file = -1}, .most = 128, .least = 8};
-    const char *weights = NULL;
     fill_streams();
     signal(SIGPIPE, SIG_IGN); /* writes fail instead, */
     signal(SIGXFSZ, SIG_IGN); /* also those above a limit of the file's size */
     setvbuf(stdout, output, _IOFBF, sizeof output);
-    const struct command *command = read_words(count, words, &port, &weights);
+    const struct command *command = read_words(count, words, &port);
     if (command == NULL) fputs(usage, port.help ? stdout : stderr);
-    enum status status = command != NULL ? run(command, &port, weights) : port.help ? DONE : COMMAND_LINE;
+    enum status status = command != NULL ? run(command, &port, words[count - 1]) : port.help ? DONE : COMMAND_LINE;
     if (fflush(stdout) == 0 && !ferror(stdout)) return (int)status;
     warn("standard output");
     return status == DONE ? NOT_WRITTEN : (int)status;

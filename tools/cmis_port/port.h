@@ -11,10 +11,12 @@ enum work { PROVISION, ACTIVATE, WAKE, SLEEP };
 struct port {
     /* what is asked for */
     const char *log_name;
-    bool activate, ensure, force, wake, help, unpaired, counts_by_id;
+    bool activate, ensure, force, wake, help, unpaired, counts_by_id, reset, no_commit, json;
     uint32_t weights[256];
     struct dovecounter_path kept[9];
     size_t kept_count;
+    uint8_t *file; /* the firmware */
+    size_t file_size;
 
     /* the bus */
     struct bus bus;
@@ -27,6 +29,7 @@ struct port {
     int64_t refused_at, given_up;             /* when the first of these began, and how long they took */
     enum { GOES_ON, STOPPED, SILENT } ending; /* whether no further operation is to be made */
     bool stored;                              /* or tried to, but for page selections */
+    bool patient;                             /* a module that does not answer may be back */
     unsigned steps[4];                        /* of each work that was done */
     struct dovecounter_half halves[DOVECOUNTER_MOST_READ];
     uint8_t half_count; /* of those, as many as were read */
@@ -67,6 +70,13 @@ enum status state(struct port *port);
 /* power.c */
 enum status wake(struct port *port);
 enum status put_to_sleep(struct port *port);
+
+/* firmware.c */
+bool read_file(struct port *port, const char *name);
+enum status firmware(struct port *port);
+enum status firmware_commit(struct port *port);
+enum status firmware_abort(struct port *port);
+enum status firmware_update(struct port *port);
 
 /* lanes.c */
 struct hindrance {

@@ -102,7 +102,7 @@ static void take_refusal(struct port *port, const struct dovecounter_operation *
     }
     if (port->refused++ == 0) port->refused_at = began, port->given_up = 0;
     port->given_up += now() - began;
-    if (port->ending != GOES_ON || !is_silent(port)) return;
+    if (port->ending != GOES_ON || port->patient || !is_silent(port)) return;
     clear_progress();
     warnx("%s: the module does not answer: %s", port->bus.name, strerror(error));
     port->ending = SILENT;
