@@ -4,6 +4,19 @@ those of CMIS, and simulates them; by Dovecounter's library for C.
 docs/python.md has a first page. The package touches no bus by itself; only `Image.from_port` and
 `Image.from_file` open files."""
 from .faults import Fault, LeftModuleReady
+from .firmware import (
+    Bank,
+    Banks,
+    BanksReading,
+    CommandBlock,
+    FirmwareAbort,
+    FirmwareCommit,
+    FirmwareFailure,
+    FirmwareFault,
+    FirmwareKnown,
+    FirmwarePassword,
+    FirmwareUpdate,
+)
 from .image import LOWER, Image, Key, page
 from .planning import (
     DataPath,
@@ -64,12 +77,23 @@ __all__ = [
     "Activation",
     "Advertisement",
     "Application",
+    "Bank",
+    "Banks",
+    "BanksReading",
+    "CommandBlock",
     "ConfigStatus",
     "DataPath",
     "Delays",
     "Durations",
     "Family",
     "Fault",
+    "FirmwareAbort",
+    "FirmwareCommit",
+    "FirmwareFailure",
+    "FirmwareFault",
+    "FirmwareKnown",
+    "FirmwarePassword",
+    "FirmwareUpdate",
     "Flags",
     "Idle",
     "Image",

@@ -166,6 +166,61 @@ class Ending(Structure):
     _fields_ = [("steps", c_uint16), ("fault", Fault)]
 
 
+class CommandBlock(Structure):
+    _fields_ = [
+        ("max_busy_time", c_uint32),
+        *_members(c_uint8, "instances background_mode auto_paging epl_pages length_extension"),
+    ]
+
+
+class UpdateDurations(Structure):
+    _fields_ = _members(c_uint32, "start abort block complete")
+
+
+class UpdateStage(Structure):
+    _fields_ = [("address", c_uint32), *_members(c_uint8, "stage header old")]
+
+
+class UpdateDelivery(Structure):
+    _fields_ = [
+        ("idle", c_uint32),
+        ("steps", c_uint16),
+        *_members(c_uint8, "phase at check due selection page taken taken_page"),
+        *_members(c_uint8, "outcome status count"),
+        ("reply", c_uint8 * 128),
+    ]
+
+
+class Update(Structure):
+    _fields_ = [
+        *_members(c_uint32, "magic size"),
+        ("durations", UpdateDurations),
+        ("stage", UpdateStage),
+        ("password", c_uint32),
+        *_members(c_uint8, "work held tries fault status closing"),
+        ("delivery", UpdateDelivery),
+    ]
+
+
+class UpdateEnding(Structure):
+    _fields_ = [*_members(c_uint8, "fault status known count"), ("reply", c_uint8 * 128)]
+
+
+class UpdateProgress(Structure):
+    _fields_ = [*_members(c_uint32, "sent all"), ("known", c_uint8)]
+
+
+class Bank(Structure):
+    _fields_ = [
+        ("build", c_uint16),
+        *_members(c_uint8, "runs committed valid has_version major minor"),
+    ]
+
+
+class Banks(Structure):
+    _fields_ = [("banks", Bank * 2), *_members(c_uint8, "running committed")]
+
+
 class Times(Structure):
     _fields_ = _members(c_uint32, "settle period first most")
 
@@ -299,6 +354,17 @@ FUNCTIONS: Dict[str, Tuple[Any, Tuple[Any, ...]]] = {
     "next": (c_uint32, (POINTER(Conversation), POINTER(Half), POINTER(Operation))),
     "reply": (c_uint32, (POINTER(Conversation), POINTER(Half), c_uint8, *_BYTES)),
     "end": (c_uint32, (POINTER(Conversation), POINTER(Half), POINTER(Ending))),
+    "command_block": (None, (c_char_p, POINTER(CommandBlock))),
+    "update_begin": (None, (c_uint32, c_uint8, POINTER(Update))),
+    "banks_begin": (None, (POINTER(Update),)),
+    "commit_begin": (None, (POINTER(Update),)),
+    "abort_begin": (None, (POINTER(Update),)),
+    "password_begin": (None, (c_uint32, POINTER(Update))),
+    "update_next": (c_uint32, (POINTER(Update), *_BYTES, POINTER(Operation))),
+    "update_reply": (c_uint32, (POINTER(Update), *_BYTES, c_uint8, *_BYTES)),
+    "update_end": (c_uint32, (POINTER(Update), *_BYTES, POINTER(UpdateEnding))),
+    "update_progress": (c_uint32, (POINTER(Update), *_BYTES, POINTER(UpdateProgress))),
+    "banks": (None, (*_BYTES, POINTER(Banks))),
     "port_new": (None, (POINTER(Times), POINTER(Port))),
     "port_plug": (c_uint32, (POINTER(Port), c_uint64)),
     "port_pull": (c_uint32, (POINTER(Port),)),

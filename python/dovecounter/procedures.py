@@ -113,7 +113,7 @@ class Procedure:
 
     def __init__(self, patience: Patience) -> None:
         given = look_at_type("the patience", patience, Patience)
-        self._saved = library.Conversation()
+        self._saved: Any = library.Conversation()
         self._halves = (library.Half * library.MOST_READ)()
         self._patience = library.Patience(
             look_at("the pause", given.pause, library.UNBOUNDED),
@@ -136,7 +136,7 @@ class Procedure:
 
     def __next__(self) -> Union[Operation, Wait]:
         found = library.Operation()
-        status = _next(byref(self._saved), self._halves, byref(found))
+        status = self._ask(found)
         if status == _ENDED:
             self._has_ended()
             raise StopIteration
@@ -156,8 +156,14 @@ class Procedure:
         """Tells once that a wait is over. Raises ValueError if none was asked for."""
         self._tell(_WAITED, b"", "no wait was asked for")
 
+    def _ask(self, found: library.Operation) -> int:
+        return int(_next(byref(self._saved), self._halves, byref(found)))
+
+    def _take(self, outcome: int, data: bytes) -> int:
+        return int(_reply(byref(self._saved), self._halves, outcome, data, len(data)))
+
     def _tell(self, outcome: int, data: bytes, why: str) -> None:
-        status = _reply(byref(self._saved), self._halves, outcome, data, len(data))
+        status = self._take(outcome, data)
         if status == _ENDED:
             raise ValueError("it has ended, and no operation is to be made")
         if status == _NO_REPLY:
