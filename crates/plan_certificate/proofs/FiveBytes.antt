@@ -1,5 +1,5 @@
 -- Bounds that are kept in five bytes.
-use Rattle.std.proofs.Common.{◌≡◌, ◌≢◌, ℕ, ◌+◌, ◌*◌, ◌/◌, ◌%◌, ◌<◌, ◌≤◌, ◌==◌, Bool, true, false, cond, eqb, List, [], Option, Some, None, length, map, replicate, set, get_or, refl, sym, subst, ap, ◌∙◌, inl, inr, arith}
+use Rattle.std.proofs.Common.{◌≡◌, ◌≢◌, ℕ, ◌+◌, ◌-◌, ◌*◌, ◌/◌, ◌%◌, ◌<◌, ◌≤◌, ◌==◌, Bool, true, false, cond, eqb, List, [], Option, Some, None, length, map, replicate, set, get_or, refl, sym, subst, ap, ◌∙◌, inl, inr, arith}
 use Rattle.std.proofs.Common.{get_or-set_same, get_or-set_other}
 use Rattle.std.proofs.Math.ListN.{length-replicate, length-set}
 use Rattle.std.proofs.lemmas.Bool.{cases_eq, eq-eqb, ne_eqb}
@@ -12,26 +12,26 @@ Bound = Option ℕ
 
 -- ---- one of them
 
-pub none_by : (text : List ℕ) (low high : ℕ) → high ≡ 255 → bound_of text low high ≡ None
-none_by text low high is = ap (λ (b : Bool). cond b None (cond (eqb high 254) (Some (potential_at text low)) (Some (low + 4294967296 * high)))) (eq-eqb high 255 is)
+pub none_by : (text : List ℕ) (low high : ℕ) → high ≡ 0 → bound_of text low high ≡ None
+none_by text low high is = ap (λ (b : Bool). cond b None (cond (eqb high 1) (Some (potential_at text low)) (Some (low + 4294967296 * (high - 2))))) (eq-eqb high 0 is)
 
-pub stated_by : (text : List ℕ) (low high : ℕ) → high ≡ 254 → bound_of text low high ≡ Some (potential_at text low)
+pub stated_by : (text : List ℕ) (low high : ℕ) → high ≡ 1 → bound_of text low high ≡ Some (potential_at text low)
 stated_by text low high is =
-    ap (λ (b : Bool). cond b None (cond (eqb high 254) (Some (potential_at text low)) (Some (low + 4294967296 * high)))) (ne_eqb high 255 (λ other. omega (arith, is, other)))
-    ∙ ap (λ (b : Bool). cond b (Some (potential_at text low)) (Some (low + 4294967296 * high))) (eq-eqb high 254 is)
+    ap (λ (b : Bool). cond b None (cond (eqb high 1) (Some (potential_at text low)) (Some (low + 4294967296 * (high - 2))))) (ne_eqb high 0 (λ other. omega (arith, is, other)))
+    ∙ ap (λ (b : Bool). cond b (Some (potential_at text low)) (Some (low + 4294967296 * (high - 2)))) (eq-eqb high 1 is)
 
-pub number_by : (text : List ℕ) (low high : ℕ) → high ≢ 255 → high ≢ 254 → bound_of text low high ≡ Some (low + 4294967296 * high)
+pub number_by : (text : List ℕ) (low high : ℕ) → high ≢ 0 → high ≢ 1 → bound_of text low high ≡ Some (low + 4294967296 * (high - 2))
 number_by text low high some small =
-    ap (λ (b : Bool). cond b None (cond (eqb high 254) (Some (potential_at text low)) (Some (low + 4294967296 * high)))) (ne_eqb high 255 some)
-    ∙ ap (λ (b : Bool). cond b (Some (potential_at text low)) (Some (low + 4294967296 * high))) (ne_eqb high 254 small)
+    ap (λ (b : Bool). cond b None (cond (eqb high 1) (Some (potential_at text low)) (Some (low + 4294967296 * (high - 2))))) (ne_eqb high 0 some)
+    ∙ ap (λ (b : Bool). cond b (Some (potential_at text low)) (Some (low + 4294967296 * (high - 2)))) (ne_eqb high 1 small)
 
 -- where there is none, the upper byte says so
-none_says : (text : List ℕ) (low high : ℕ) → bound_of text low high ≡ None → high ≡ 255
-none_says text low high none = elim (cases_eq high 255) [
+none_says : (text : List ℕ) (low high : ℕ) → bound_of text low high ≡ None → high ≡ 0
+none_says text low high none = elim (cases_eq high 0) [
   | inl is ↦ is
-  | inr other ↦ elim (cases_eq high 254) [
+  | inr other ↦ elim (cases_eq high 1) [
     | inl large ↦ absurd (let wrong : Some (potential_at text low) ≡ None = sym (stated_by text low high large) ∙ none in cc)
-    | inr small ↦ absurd (let wrong : Some (low + 4294967296 * high) ≡ None = sym (number_by text low high other small) ∙ none in cc)
+    | inr small ↦ absurd (let wrong : Some (low + 4294967296 * (high - 2)) ≡ None = sym (number_by text low high other small) ∙ none in cc)
   ]
 ]
 
@@ -46,7 +46,7 @@ unfolding bounds_of
 bound_is text lows highs place below = get_or-map-range_with_len (bound_at text lows highs) 0 2304 place place None below (omega arith)
 
 abbrev NoneIn : List ℕ → Type 0
-NoneIn highs = (place : ℕ) → place < 2304 → get_or highs place 0 ≡ 255
+NoneIn highs = (place : ℕ) → place < 2304 → get_or highs place 0 ≡ 0
 
 no_bounds : (text lows highs : List ℕ) → NoneIn highs → bounds_of text lows highs ≡ replicate 2304 None
 no_bounds text lows highs none =
@@ -62,20 +62,20 @@ none_there text lows highs nothing place below =
     none_says text (get_or lows place 0) (get_or highs place 0)
     (sym (bound_is text lows highs place below) ∙ ap (λ (bounds : List Bound). get_or bounds place None) nothing ∙ get_or-replicate {A = Bound} 2304 place None None below)
 
-none_stated : (text lows highs : List ℕ) → NoneIn highs → (place : ℕ) → place < 2304 → get_or highs place 0 ≡ 254 → IsStated text (get_or lows place 0)
+none_stated : (text lows highs : List ℕ) → NoneIn highs → (place : ℕ) → place < 2304 → get_or highs place 0 ≡ 1 → IsStated text (get_or lows place 0)
 none_stated text lows highs none place below is = absurd (omega (arith, none place below, is))
 
-blank_highs : NoneIn (replicate 2304 255)
-blank_highs place below = get_or-replicate {A = ℕ} 2304 place 255 0 below
+blank_highs : NoneIn (replicate 2304 0)
+blank_highs place below = get_or-replicate {A = ℕ} 2304 place 0 0 below
 
-pub blank_bounds : bounds_of [] (replicate 2304 0) (replicate 2304 255) ≡ replicate 2304 None
-blank_bounds = no_bounds [] (replicate 2304 0) (replicate 2304 255) blank_highs
+pub blank_bounds : bounds_of [] (replicate 2304 0) (replicate 2304 0) ≡ replicate 2304 None
+blank_bounds = no_bounds [] (replicate 2304 0) (replicate 2304 0) blank_highs
 
-pub blank_are : AreBounds [] (replicate 2304 0) (replicate 2304 255)
+pub blank_are : AreBounds [] (replicate 2304 0) (replicate 2304 0)
 blank_are = record {
   low = length-replicate {A = ℕ} 2304 0;
-  high = length-replicate {A = ℕ} 2304 255;
-  stated = none_stated [] (replicate 2304 0) (replicate 2304 255) blank_highs;
+  high = length-replicate {A = ℕ} 2304 0;
+  stated = none_stated [] (replicate 2304 0) (replicate 2304 0) blank_highs;
 }
 
 -- with another text
@@ -120,13 +120,13 @@ module _ (text lows highs : List ℕ) (place low high : ℕ) (are : AreBounds te
             ∙ sym (get_or-set_other old place i (Some potential) None differs)
       ])
 
-  pub are_set : (high ≡ 254 → IsStated text low) → AreBounds text new_lows new_highs
+  pub are_set : (high ≡ 1 → IsStated text low) → AreBounds text new_lows new_highs
   are_set stated = record {
     low = length-set lows place low ∙ are.low;
     high = length-set highs place high ∙ are.high;
     stated = λ other within is. elim (cases_eq other place) [
       | inl same ↦
-          let here : high ≡ 254 = sym high_there ∙ ap (λ (n : ℕ). get_or new_highs n 0) (sym same) ∙ is in
+          let here : high ≡ 1 = sym high_there ∙ ap (λ (n : ℕ). get_or new_highs n 0) (sym same) ∙ is in
           subst (IsStated text) (sym low_there ∙ ap (λ (n : ℕ). get_or new_lows n 0) (sym same)) (stated here)
       | inr differs ↦
           let before = sym (get_or-set_other highs place other high 0 differs) ∙ is in

@@ -1,5 +1,5 @@
 -- A bound for each state that has one, in five bytes: a number, or where in a text it stands. (This project's own.)
-use Rattle.std.specs.Prelude.{◌≡◌, ℕ, ◌+◌, ◌*◌, ◌<◌, ◌==◌, if◌then◌else◌, List, [], Option, Some, None, drop, length, map, slice_index, slice_index_or}
+use Rattle.std.specs.Prelude.{◌≡◌, ℕ, ◌+◌, ◌-◌, ◌*◌, ◌<◌, ◌==◌, if◌then◌else◌, List, [], Option, Some, None, drop, length, map, slice_index, slice_index_or}
 use Rattle.std.specs.List.{range_with_len}
 use Rattle.std.specs.Str.Parse.{digits_value}
 use Rattle.text_lines.specs.Lines.{lines_of}
@@ -32,12 +32,12 @@ potential_in (Some (PathLine path)) = 0
 potential_in (Some (StateLine entry)) = entry.potential
 potential_in (Some End) = 0
 
--- the upper byte says 255 for no bound, and 254 for one in the text
+-- the upper byte is 0 for no bound, 1 for one in the text, and else two more than that of the number
 abbrev pub bound_of : List ℕ → ℕ → ℕ → Option ℕ
 bound_of text low high =
-    if high == 255 then None
-    else if high == 254 then Some (potential_at text low)
-    else Some (low + 4294967296 * high)
+    if high == 0 then None
+    else if high == 1 then Some (potential_at text low)
+    else Some (low + 4294967296 * (high - 2))
 
 abbrev pub bound_at : List ℕ → List ℕ → List ℕ → ℕ → Option ℕ
 bound_at text lows highs place = bound_of text (slice_index lows place) (slice_index highs place)
@@ -56,4 +56,4 @@ pub record IsStated (text : List ℕ) (at : ℕ) : Type 0 where
 pub record AreBounds (text lows highs : List ℕ) : Type 0 where
   pub low : length lows ≡ most_states
   pub high : length highs ≡ most_states
-  pub stated : (place : ℕ) → place < most_states → slice_index highs place ≡ 254 → IsStated text (slice_index lows place)
+  pub stated : (place : ℕ) → place < most_states → slice_index highs place ≡ 1 → IsStated text (slice_index lows place)

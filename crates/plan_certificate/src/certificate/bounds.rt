@@ -8,10 +8,10 @@ use std::marker::Model;
 use text_lines::split_line;
 
 /// The upper byte of a state that has none.
-const NONE: u8 = 255;
+const NONE: u8 = 0;
 
 /// The upper byte of one that stands in the text.
-const IN_TEXT: u8 = 254;
+const IN_TEXT: u8 = 1;
 
 /// From here on a potential stands in the text alone. From what decisions reach, less can be gained: eight paths weigh less.
 pub const LARGE_POTENTIAL: u64 = 1090921693184;
@@ -43,7 +43,7 @@ impl<'text> Bounds<'text> {
         Bounds {
             text: b"",
             low: [0; STATES],
-            high: [NONE; STATES],
+            high: [0; STATES],
         }
     }
 
@@ -67,7 +67,7 @@ impl<'text> Bounds<'text> {
         } else if high == IN_TEXT {
             Some(potential_at(text, low as usize))
         } else {
-            Some(u64::from(low) + 4294967296 * u64::from(high))
+            Some(u64::from(low) + 4294967296 * (u64::from(high) - 2))
         }
     }
 
@@ -81,7 +81,7 @@ impl<'text> Bounds<'text> {
     {
         if potential < LARGE_POTENTIAL {
             self.low[place] = (potential % 4294967296) as u32;
-            self.high[place] = (potential / 4294967296) as u8;
+            self.high[place] = (potential / 4294967296) as u8 + 2;
         } else {
             self.low[place] = at as u32;
             self.high[place] = IN_TEXT;
