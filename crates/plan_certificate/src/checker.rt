@@ -109,7 +109,8 @@ fn entries_flaw<const ROOM: usize>(
     requires { AreAllowed advert.now kept.now }
     ensures { result ≡ first_fault (spec.entries_flaws advert.now weights.now kept.now entries.now.entries) }
 {
-    let mut moves = Moves::at(advert, weights, kept, 0);
+    let mut moves = Moves::none();
+    moves.list(advert, weights, kept, 0);
     let (mut number, mut from) = (0, 0);
     while let Some(entry) = entries.first_from(from) {
         number += 1;

@@ -54,18 +54,25 @@ pub struct Moves {
 }
 
 impl Moves {
-    pub fn at(advert: &Advert, weights: &AppWeights, kept: &[Path], boundary: u8) -> Self
-        requires open { boundary < 8 }
-        requires kept { AreAllowed advert.now kept.now }
-        ensures boundary { result.boundary ≡ boundary }
-        ensures moves { IsFollowed advert.now weights.now kept.now result }
+    /// No moves, for others to be listed in their place, since what a call returns is moved: firmware has little stack.
+    pub fn none() -> Self
+        ensures { result ≡ record { boundary = 0; followed = record { may_stay_free = false; moves = record { items = [] } } } }
     {
-        let mut moves = Moves {
-            boundary,
+        Moves {
+            boundary: 0,
             followed: FollowedMoves::none(),
-        };
-        moves.followed.list(advert, weights, kept, boundary);
-        moves
+        }
+    }
+
+    /// Lists those at the host lane after a boundary, in the place of others.
+    pub fn list(&mut self, advert: &Advert, weights: &AppWeights, kept: &[Path], boundary: u8)
+        requires boundary { boundary < 8 }
+        requires kept { AreAllowed advert.now kept.now }
+        ensures boundary { self.new.boundary ≡ boundary }
+        ensures moves { IsFollowed advert.now weights.now kept.now self.new }
+    {
+        self.boundary = boundary;
+        self.followed.list(advert, weights, kept, boundary);
     }
 
     /// Turns to the host lane after another boundary.
@@ -77,8 +84,7 @@ impl Moves {
         ensures moves { IsFollowed advert.now weights.now kept.now self.new }
     {
         if self.boundary != boundary {
-            self.boundary = boundary;
-            self.followed.list(advert, weights, kept, boundary);
+            self.list(advert, weights, kept, boundary);
         }
     }
 }

@@ -15,8 +15,8 @@ unfolding entries_flaws
 loop-entry-init g c = record {
   none = refl;
   next = begin_next c.args.entries.now.entries;
-  below = omega (arith, c.at-moves.ensures.boundary);
-  moves = c.at-moves.ensures.moves;
+  below = omega (arith, c.list.ensures.boundary);
+  moves = c.list.ensures.moves;
 }
 
 pub returns-then-has_flaw : goal.returns-then-has_flaw
