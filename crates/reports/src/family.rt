@@ -1,6 +1,6 @@
 ghost use Rattle.std.specs.Prelude.{◌≡◌, MatchOption, Ok, Err};
 ghost use Rattle.module_decoding.specs.ModuleFamilies.{detail_family_of, family_of};
-ghost use Rattle.reports.specs.Families.{detail_fault, unread};
+ghost use Rattle.reports.specs.Families.{detail_fault, reported, unread};
 ghost use Rattle.reports.specs.Reports.{report_fault};
 
 use crate::fault::ReportFault;
@@ -14,8 +14,7 @@ pub fn family_with(report: Report, image: &Image) -> Result<Family, ReportFault>
 {
     match module_decoding::family_with(report, image) {
         Ok(family) => Ok(family),
-        Err(DecodeFault::Module(fault)) => Err(unread(fault)),
-        Err(DecodeFault::Sff(fault)) => Err(ReportFault::Sff(fault)),
+        Err(fault) => Err(reported(fault)),
     }
 }
 
@@ -27,6 +26,15 @@ pub fn detail_family_of(image: &Image) -> Result<Family, ReportFault>
     match module_decoding::detail_family_of(image) {
         Ok(family) => Ok(family),
         Err(fault) => Err(unread(fault)),
+    }
+}
+
+fn reported(fault: DecodeFault) -> ReportFault
+    ensures { result ≡ reported fault }
+{
+    match fault {
+        DecodeFault::Module(fault) => unread(fault),
+        DecodeFault::Sff(fault) => ReportFault::Sff(fault),
     }
 }
 
