@@ -17,7 +17,7 @@ use Rattle.observable_reports.specs.declared.amount_text.ShownAmount.{ShownAmoun
 use Rattle.observable_reports.specs.declared.amount_text.ShownAmount.TheVariants as shown
 use Rattle.observable_reports.specs.AmountTexts.{exact_of, is_float, is_small, places_by, places_of, rounded_of, scientific_of, text_of}
 use Rattle.observable_reports.specs.WrittenAmounts.{EachAmountIsWritten, IsWritten}
-use Rattle.observable_reports.proofs.Floors.{rounds}
+use Rattle.observables.proofs.Floors.{rounds}
 
 -- ---- the shortest digits
 

@@ -15,7 +15,7 @@ use Rattle.report_entries.specs.JsonTrees.{Member, members_of, object_of}
 use Rattle.report_entries.proofs.JsonTokens.{all_deep, count_depth, deep, form_depth}
 use Rattle.observable_reports.specs.declared.amount_text.ShownAmount.{ShownAmount}
 use Rattle.observable_reports.specs.AmountTexts.{text_of}
-use Rattle.observable_reports.specs.Names.{number_of, unit_name}
+use Rattle.observables.specs.Names.{lane_of, unit_name}
 use Rattle.observable_reports.specs.ObservationJson.{absent_members, advert_members, alarm_members, amount_members, array_members, bound_members, bounded_members, flag_alarms, flag_members, flag_warnings, flags_json, flags_members, known_members, level_members, limits_json, list_members, measured_members, numbered_members, observation_json, observations_json, place_members, said_members, warning_members, what_members}
 use Rattle.observable_reports.specs.ObservationText.{format_of}
 
@@ -64,7 +64,7 @@ numbered_depth (Some number) = omega (arith, count_depth (codes "number") number
 
 place_depth : (seen : Observation) → members_depth (members_of (place_members seen)) ≤ 1
 unfolding place_members string_members
-place_depth seen = omega (arith, numbered_depth (number_of seen.subject))
+place_depth seen = omega (arith, numbered_depth (lane_of seen.subject))
 
 unit_depth : (unit : List ℕ) → members_depth (members_of (string_members (codes "unit") unit)) ≤ 1
 unfolding string_members

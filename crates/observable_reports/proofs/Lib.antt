@@ -1,4 +1,3 @@
-pub mod Floors
 pub mod ExactTexts
 pub mod JsonDepths
 pub mod WordNumbers

@@ -1,5 +1,4 @@
 pub mod AmountTexts
-pub mod Names
 pub mod ObservationText
 pub mod ObservationJson
 pub mod Answered

@@ -9,13 +9,13 @@ use Rattle.observables.specs.declared.amount.Amount.{Amount}
 use Rattle.observables.specs.declared.observation.Observation.{Observation}
 use Rattle.observables.specs.declared.observation.Subject.{Subject}
 use Rattle.observables.specs.declared.quantity.Format.{Format}
+use Rattle.observables.specs.Names.{figure_name, lane_of, quantity_name, scope_name, unit_name}
 use Rattle.report_entries.specs.EntryJson.{count_members, form_members, string_members}
 use Rattle.report_entries.specs.JsonScalars.{scalar_json}
 use Rattle.report_entries.specs.JsonTrees.{Member, array_of, object_of}
 use Rattle.observable_reports.specs.declared.amount_text.ShownAmount.{ShownAmount}
 use Rattle.observable_reports.specs.AmountTexts as amounts
 use Rattle.observable_reports.specs.AmountTexts.{shown_as}
-use Rattle.observable_reports.specs.Names.{figure_name, number_of, quantity_name, scope_name, unit_name}
 use Rattle.observable_reports.specs.ObservationText.{format_of}
 
 -- ---- amounts and flags
@@ -68,7 +68,7 @@ numbered_members None = []
 numbered_members (Some number) = count_members (codes "number") number
 
 abbrev pub number_members : Subject → List Member
-number_members subject = numbered_members (number_of subject)
+number_members subject = numbered_members (lane_of subject)
 
 unfoldable pub place_members : Observation → List Member
 place_members seen = string_members (codes "scope") (scope_name seen.subject seen.observable.side) ++ number_members seen.subject

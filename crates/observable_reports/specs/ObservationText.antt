@@ -11,6 +11,7 @@ use Rattle.observables.specs.declared.observable.Side.{Side}
 use Rattle.observables.specs.declared.observation.Observation.{Observation}
 use Rattle.observables.specs.declared.observation.Subject.{Subject}
 use Rattle.observables.specs.declared.quantity.Format.{Format}
+use Rattle.observables.specs.Names.{figure_name, lane_of, quantity_name, scope_name, unit_name}
 use Rattle.observables.specs.Observations.{observations_before}
 use Rattle.observables.specs.Pages.{absent_page}
 use Rattle.observables.specs.Quantities.{quantity_row}
@@ -19,7 +20,6 @@ use Rattle.report_entries.specs.Shown.{byte_code}
 use Rattle.observable_reports.specs.declared.amount_text.ShownAmount.{ShownAmount}
 use Rattle.observable_reports.specs.AmountTexts as amounts
 use Rattle.observable_reports.specs.AmountTexts.{shown_as}
-use Rattle.observable_reports.specs.Names.{advert_word, figure_name, number_of, quantity_name, scope_name, unit_name}
 
 -- ---- the words of a line
 
@@ -28,7 +28,7 @@ known_text None = codes "unknown"
 known_text (Some amount) = amounts.text_of amount
 
 unfoldable pub place_text : Subject → Side → List ℕ
-place_text subject side = option_map_or (λ number. scope_name subject side ++ 45 ∷ decimal number) (number_of subject) (scope_name subject side)
+place_text subject side = option_map_or (λ number. scope_name subject side ++ 45 ∷ decimal number) (lane_of subject) (scope_name subject side)
 
 abbrev pub level_text : Format → Option Amount → List ℕ
 level_text format level = known_text (option_map (shown_as format) level)
@@ -51,6 +51,10 @@ flags_text (Some flags) =
 -- how its words count
 unfoldable pub format_of : Observation → Format
 format_of seen = (quantity_row seen.observable.quantity).format
+
+-- whether the module says that it measures something
+unfoldable pub advert_word : Bool → List ℕ
+advert_word advertised = if advertised then codes "advertised" else codes "unadvertised"
 
 -- what is measured, where and how much
 unfoldable pub measured_text : Observation → List ℕ

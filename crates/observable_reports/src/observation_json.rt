@@ -6,10 +6,12 @@ ghost use Rattle.report_entries.specs.JsonTrees.{all_member_tokens, all_tokens};
 ghost use Rattle.observable_reports.specs.ObservationJson.{absent_members, advert_members, alarm_members, amount_members, array_members, bound_members, bounded_members, flag_alarms, flag_members, flag_warnings, flags_json, flags_members, known_members, limits_json, list_members, measured_members, number_members, observables_json, observation_json, observations_json, place_members, said_members, warning_members, what_members};
 
 use crate::amount_text::ShownAmount;
-use crate::names::{figure_name, number_of, quantity_name, scope_name, unit_name};
 use crate::observation_text::{format_of, shown};
 use field_tables::PerLimit;
-use observables::{Amount, Format, Observation, Subject};
+use observables::{
+    Amount, Format, Observation, Subject, figure_name, lane_of, quantity_name, scope_name,
+    unit_name,
+};
 use paged_memory::Key;
 use report_entries::json_document::{begin, end};
 use report_entries::{JsonWriter, put_count, put_shown};
@@ -121,7 +123,7 @@ fn put_place(out: &mut JsonWriter, seen: Observation) -> Result<(), AllocError>
 fn put_number(out: &mut JsonWriter, subject: Subject) -> Result<(), AllocError>
     ensures { OnOk result (out.new ≡ out.old ++ all_member_tokens (number_members subject)) }
 {
-    match number_of(subject) {
+    match lane_of(subject) {
         None => Ok(()),
         Some(number) => put_count(out, "number", number),
     }

@@ -1,12 +1,14 @@
 // An observation as a line of text.
 ghost use Rattle.std.specs.Prelude.{◌≡◌, Some, option_map};
 ghost use Rattle.observable_reports.specs.AmountTexts.{shown_as};
-ghost use Rattle.observable_reports.specs.ObservationText.{bounds_text, flag_word, flags_text, format_of, known_text, levels_text, measured_text, observation_text, place_text};
+ghost use Rattle.observable_reports.specs.ObservationText.{advert_word, bounds_text, flag_word, flags_text, format_of, known_text, levels_text, measured_text, observation_text, place_text};
 
 use crate::amount_text::{ShownAmount, shown_as};
-use crate::names::{advert_word, figure_name, number_of, scope_name, unit_name};
 use field_tables::PerLimit;
-use observables::{Amount, Format, Observation, Side, Subject, quantity_row};
+use observables::{
+    Amount, Format, Observation, Side, Subject, figure_name, lane_of, quantity_row, scope_name,
+    unit_name,
+};
 use std::fmt;
 
 /// What stands behind the name of its quantity.
@@ -98,7 +100,7 @@ impl fmt::Display for PlaceText {
     #[tactic(auto, unfolding(crate::specs::ObservationText::place_text))]
     fn fmt<W: fmt::Write>(&self, f: &mut fmt::Formatter<W>) -> fmt::Result {
         let scope = scope_name(self.0, self.1);
-        match number_of(self.0) {
+        match lane_of(self.0) {
             None => f.write_str(scope),
             Some(number) => write!(f, "{scope}-{number}"),
         }
@@ -152,4 +154,16 @@ fn flag_word(raised: bool) -> &'static str
     ensures { result.now ≡ flag_word raised }
 {
     if raised { "yes" } else { "no" }
+}
+
+// Whether the module says that it measures something.
+#[tactic(auto, unfolding(crate::specs::ObservationText::advert_word))]
+fn advert_word(advertised: bool) -> &'static str
+    ensures { result.now ≡ advert_word advertised }
+{
+    if advertised {
+        "advertised"
+    } else {
+        "unadvertised"
+    }
 }

@@ -6,11 +6,10 @@ ghost use Rattle.reports.specs.Answered.{Reports};
 ghost use Rattle.observable_reports.specs.Answered.{AnswersJson, json_of};
 ghost use Rattle.observable_reports.specs.ObservationText.{absent_line, absent_lines, count_line, lines_with, observables_lines, observation_line};
 
-use crate::names::quantity_name;
 use crate::observation_json::json;
 use crate::observation_text::ObservationText;
 use module_decoding::{ModuleFault, detail_family_of};
-use observables::{Observation, absent_page, all_observations};
+use observables::{Observation, absent_page, all_observations, quantity_name};
 use paged_memory::{Image, Key};
 use report_entries::{Code, ReportText};
 use reports::ReportFault;

@@ -9,3 +9,4 @@ pub mod NextObservations
 pub mod OneMoreObservation
 pub mod Times
 pub mod PlacesOfList
+pub mod Floors

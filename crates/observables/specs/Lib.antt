@@ -8,10 +8,11 @@ pub mod Instances
 pub mod Scientific
 pub mod Pages
 pub mod Fixed
-pub mod Frozen
 pub mod Monitors
 pub mod CmisMonitors
 pub mod QsfpMonitors
 pub mod SfpMonitors
 pub mod Monitored
 pub mod Observations
+pub mod Names
+pub mod Numbers

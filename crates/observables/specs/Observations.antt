@@ -103,9 +103,18 @@ with_instance memory bank instance observable = record {
 }
 
 -- if the instance is used and its type is decoded
-abbrev pub observed : Memory → ℕ → ℕ → Option Observation
-observed memory bank n =
+abbrev pub decoded : Memory → ℕ → ℕ → Option Observation
+decoded memory bank n =
     option_and_then (λ instance. option_map (with_instance memory bank instance) (observable_of instance.descriptor.kind)) (instance_at memory bank n)
+
+-- modules of other families have other things on these pages
+abbrev pub observed_by : Memory → ℕ → ℕ → Family → Option Observation
+observed_by memory bank n Cmis = decoded memory bank n
+observed_by memory bank n Sff8636 = None
+observed_by memory bank n Sff8472 = None
+
+abbrev pub observed : Memory → ℕ → ℕ → Option Observation
+observed memory bank n = option_and_then (observed_by memory bank n) (managed_by (number memory CIdentifier))
 
 -- ---- the list
 

@@ -6,13 +6,14 @@ mod amount;
 mod cmis_monitors;
 mod descriptor;
 mod fixed;
-mod frozen;
 mod instance;
 mod instances;
 mod laws;
 mod limits;
 mod monitor;
 mod monitored;
+mod names;
+mod numbers;
 mod observable;
 mod observation;
 mod observations;
@@ -26,7 +27,6 @@ mod words;
 pub use amount::{Amount, steps};
 pub use descriptor::Descriptor;
 pub use fixed::{Fixed, Places};
-pub use frozen::{End, MOST_POLLS, Outcome, Stage, Task};
 pub use instance::{INSTANCES, Instance, instance_at, next_instance};
 pub use instances::all_instances;
 pub use laws::{
@@ -34,6 +34,8 @@ pub use laws::{
     scientific_is_exact,
 };
 pub use limits::{flags_of, limits_in_set};
+pub use names::{figure_name, lane_of, quantity_name, scope_name, unit_name};
+pub use numbers::{figure_number, quantity_number, side_number, unit_number};
 pub use observable::{Figure, Observable, Side, observable_of};
 pub use observation::{Observation, PLACES, Subject, next_observation, observation_at};
 pub use observations::all_observations;

@@ -6,19 +6,19 @@ use crate::quantity::Quantity;
 /// Which figure of a quantity is meant: its value now, or one of the statistics of an interval.
 #[derive(Clone, Copy, Debug, PartialEq, Eq)]
 pub enum Figure {
-    Now,
-    Minimum,
-    Maximum,
-    Average,
+    Now = 1,
+    Minimum = 2,
+    Maximum = 3,
+    Average = 4,
     /// The sample that came last.
-    Current,
+    Current = 5,
 }
 
 /// Whose signal is observed.
 #[derive(Clone, Copy, Debug, PartialEq, Eq)]
 pub enum Side {
-    Media,
-    Host,
+    Media = 1,
+    Host = 2,
 }
 
 /// What is observed.

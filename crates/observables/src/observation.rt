@@ -65,7 +65,8 @@ pub fn observation_at(image: &Image, place: u16) -> Option<Observation>
 /// The first observation from a place on, with its place. The next one begins at the place after that.
 #[tactic(auto, using(crate::proofs::NextObservations::next))]
 pub fn next_observation(image: &Image, from: u16) -> Option<(u16, Observation)>
-    ensures { MatchOption result ((k : ℕ) → from ≤ k → k < 1088 → spec.observation_at image.now k ≡ None) (IsNextObservation image.now from) }
+    ensures first { MatchOption result ((k : ℕ) → from ≤ k → k < 1088 → spec.observation_at image.now k ≡ None) (IsNextObservation image.now from) }
+    ensures within { IfSome result (λ found. found.0 < 1088) }
 {
     for place in from..PLACES {
         if let Some(observation) = observation_at(image, place) {
@@ -121,10 +122,20 @@ fn measured(image: &Image, monitor: Monitor, lane: u8) -> Option<Observation>
     })
 }
 
-// What an instance observes, if it is used and its type is decoded.
-fn observed(image: &Image, bank: u8, number: u8) -> Option<Observation>
+// What an instance of a CMIS module observes, if it is used and its type is decoded.
+fn observed(image: &Image, bank: u8, instance: u8) -> Option<Observation>
     requires { bank < 4 }
-    ensures { result ≡ spec.observed image.now bank number }
+    ensures { result ≡ spec.observed image.now bank instance }
+{
+    match Family::managing(number(image, Field::CIdentifier))? {
+        Family::Cmis => decoded(image, bank, instance),
+        Family::Sff8636 | Family::Sff8472 => None,
+    }
+}
+
+fn decoded(image: &Image, bank: u8, number: u8) -> Option<Observation>
+    requires { bank < 4 }
+    ensures { result ≡ spec.decoded image.now bank number }
 {
     let instance = instance_at(image, bank, number)?;
     let observable = observable_of(instance.descriptor.kind)?;

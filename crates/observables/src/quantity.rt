@@ -5,79 +5,79 @@ ghost use Rattle.observables.specs.Quantities as spec;
 #[derive(Clone, Copy, Debug, PartialEq, Eq)]
 pub enum Quantity {
     /// Of its life; 0 is its beginning.
-    LaserAge,
+    LaserAge = 1,
     /// The current of the thermoelectric cooler, of its greatest.
-    TecCurrentShare,
-    LaserFrequencyError,
-    LaserTemperature,
+    TecCurrentShare = 2,
+    LaserFrequencyError = 3,
+    LaserTemperature = 4,
     /// The effective ratio at the decision of a symbol.
-    SignalToNoise,
+    SignalToNoise = 5,
     /// The level transition parameter of PAM4.
-    LevelTransition,
+    LevelTransition = 6,
     /// Bit errors to bits, before forward error correction.
-    PreFecBer,
+    PreFecBer = 7,
     /// Frames that forward error correction could not correct.
-    ErroredFrames,
-    ModulatorBiasXI,
-    ModulatorBiasXQ,
-    ModulatorBiasYI,
-    ModulatorBiasYQ,
-    ModulatorBiasXPhase,
-    ModulatorBiasYPhase,
+    ErroredFrames = 8,
+    ModulatorBiasXI = 9,
+    ModulatorBiasXQ = 10,
+    ModulatorBiasYI = 11,
+    ModulatorBiasYQ = 12,
+    ModulatorBiasXPhase = 13,
+    ModulatorBiasYPhase = 14,
     /// Chromatic dispersion, in fine steps.
-    DispersionShortLink,
+    DispersionShortLink = 15,
     /// Chromatic dispersion, in coarse steps.
-    DispersionLongLink,
+    DispersionLongLink = 16,
     /// Differential group delay.
-    GroupDelay,
+    GroupDelay = 17,
     /// Polarization mode dispersion of second order.
-    SecondOrderPmd,
+    SecondOrderPmd = 18,
     /// Polarization dependent loss.
-    PolarizationLoss,
-    OpticalSignalToNoise,
-    ElectricalSignalToNoise,
-    CarrierFrequencyOffset,
+    PolarizationLoss = 19,
+    OpticalSignalToNoise = 20,
+    ElectricalSignalToNoise = 21,
+    CarrierFrequencyOffset = 22,
     /// The magnitude of the error vector.
-    ErrorVector,
-    TransmittedLevel,
-    ReceivedTotalLevel,
-    ReceivedSignalLevel,
+    ErrorVector = 23,
+    TransmittedLevel = 24,
+    ReceivedTotalLevel = 25,
+    ReceivedSignalLevel = 26,
     /// How fast the state of polarization changes.
-    PolarizationChange,
-    ModulationErrorRatio,
+    PolarizationChange = 27,
+    ModulationErrorRatio = 28,
     /// Of the module.
-    Temperature,
-    SupplyVoltage,
-    SecondSupplyVoltage,
-    TransmittedPower,
-    ReceivedPower,
+    Temperature = 29,
+    SupplyVoltage = 30,
+    SecondSupplyVoltage = 31,
+    TransmittedPower = 32,
+    ReceivedPower = 33,
     /// The bias current of the laser.
-    LaserBias,
+    LaserBias = 34,
     /// The current of the thermoelectric cooler.
-    TecCurrent,
+    TecCurrent = 35,
 }
 
 /// What amounts are counted in.
 #[derive(Clone, Copy, Debug, PartialEq, Eq)]
 pub enum Unit {
-    Percent,
+    Percent = 1,
     /// A number without a unit.
-    Ratio,
+    Ratio = 2,
     /// So many frames.
-    Frames,
+    Frames = 3,
     /// Degrees Celsius.
-    Celsius,
-    Volts,
-    Milliamperes,
-    Milliwatts,
+    Celsius = 4,
+    Volts = 5,
+    Milliamperes = 6,
+    Milliwatts = 7,
     /// Decibels above a milliwatt.
-    DecibelMilliwatts,
-    Decibel,
-    Megahertz,
-    Picoseconds,
-    SquarePicoseconds,
-    PicosecondsPerNanometre,
-    KiloradiansPerSecond,
+    DecibelMilliwatts = 8,
+    Decibel = 9,
+    Megahertz = 10,
+    Picoseconds = 11,
+    SquarePicoseconds = 12,
+    PicosecondsPerNanometre = 13,
+    KiloradiansPerSecond = 14,
 }
 
 /// How the words of values and limits count.

@@ -1,5 +1,5 @@
--- The words of reports for what is measured, where, and in what unit. (docs/formats.md, "observables"; this project's own)
-use Rattle.std.specs.Prelude.{ℕ, Bool, if◌then◌else◌, List, Option, Some, None, codes}
+-- Words for what is measured, where, and in what unit. (docs/formats.md, "observables"; this project's own)
+use Rattle.std.specs.Prelude.{ℕ, List, Option, Some, None, codes}
 use Rattle.observables.specs.declared.observable.Figure.{Figure}
 use Rattle.observables.specs.declared.observable.Figure.TheVariants as figures
 use Rattle.observables.specs.declared.observable.Side.{Side}
@@ -84,12 +84,8 @@ scope_name (MediaLane lane) side = codes "media-lane"
 scope_name (DataPath lane) side = path_name side
 
 -- the number of the lane, or of the first lane of the data path
-abbrev pub number_of : Subject → Option ℕ
-number_of Module = None
-number_of (HostLane lane) = Some lane
-number_of (MediaLane lane) = Some lane
-number_of (DataPath lane) = Some lane
-
--- whether the module says that it measures something
-unfoldable pub advert_word : Bool → List ℕ
-advert_word advertised = if advertised then codes "advertised" else codes "unadvertised"
+abbrev pub lane_of : Subject → Option ℕ
+lane_of Module = None
+lane_of (HostLane lane) = Some lane
+lane_of (MediaLane lane) = Some lane
+lane_of (DataPath lane) = Some lane

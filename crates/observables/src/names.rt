@@ -1,8 +1,10 @@
-// The words of reports for what is measured, where, and in what unit.
+// Words for what is measured, where, and in what unit.
 ghost use Rattle.std.specs.Prelude.{◌≡◌};
-ghost use Rattle.observable_reports.specs.Names as spec;
+ghost use Rattle.observables.specs.Names as spec;
 
-use observables::{Figure, Quantity, Side, Subject, Unit};
+use crate::observable::{Figure, Side};
+use crate::observation::Subject;
+use crate::quantity::{Quantity, Unit};
 
 /// The name of a quantity.
 #[tactic(auto, unfolding(crate::specs::Names::quantity_name))]
@@ -109,23 +111,11 @@ fn path_name(side: Side) -> &'static str
 }
 
 /// The number of the lane, or of the first lane of the data path.
-pub fn number_of(subject: Subject) -> Option<u8>
-    ensures { result ≡ spec.number_of subject }
+pub fn lane_of(subject: Subject) -> Option<u8>
+    ensures { result ≡ spec.lane_of subject }
 {
     match subject {
         Subject::Module => None,
         Subject::HostLane(lane) | Subject::MediaLane(lane) | Subject::DataPath(lane) => Some(lane),
-    }
-}
-
-/// Whether the module says that it measures something.
-#[tactic(auto, unfolding(crate::specs::Names::advert_word))]
-pub fn advert_word(advertised: bool) -> &'static str
-    ensures { result.now ≡ spec.advert_word advertised }
-{
-    if advertised {
-        "advertised"
-    } else {
-        "unadvertised"
     }
 }
