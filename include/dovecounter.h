@@ -4,6 +4,7 @@
      Statuses                     the return values of all functions
      Texts for people             sentences for statuses, faults and verdicts
      What a module is             decode a module's memory
+     What a module measures       as one list
      Plans                        weights, plans, certificates
      Conversations with a module  read, provision, activate, wake, sleep
      A module's firmware          look at it, update it
@@ -47,6 +48,7 @@ extern "C" {
      identity                                1 2 76 (lower half) 71 74 76 (page) 83
      flags                                   1 2 76 (lower half) 71 74 76 (page) 84 86 83
      monitors                                1 2 76 (lower half) 71 74 76 (page) 84 86 85 83
+     observables                             1 2 76 (lower half) 71 74
      weights                                 91 or 94, of the first faulty line; 92
      plan                                    as advertisement, then 14 (page 11h, if stay is not 0) 42 43
      certificate                             as plan, then 4
@@ -114,7 +116,7 @@ enum dovecounter_status {
     /* decoders */
     DOVECOUNTER_LACKS_HALF = 76,           /* RP6: device 0xA0 has no lower half, or a CMIS module lacks a page */
     DOVECOUNTER_UNKNOWN_MODULE = 71,       /* RP1: the identifier, byte 0, belongs to no family that can be read */
-    DOVECOUNTER_UNREAD_REVISION = 74,      /* RP4: the major CMIS revision, byte 1, is neither 4 nor 5 */
+    DOVECOUNTER_UNREAD_REVISION = 74,      /* RP4: the major CMIS revision, byte 1, is neither 4 nor 5 (nor 3, for observables) */
     DOVECOUNTER_NO_DIAGNOSTICS = 84,       /* SF4: an SFF-8472 module has no diagnostics */
     DOVECOUNTER_ADDRESS_CHANGE = 86,       /* SF6: it wants an address change before its diagnostics are read */
     DOVECOUNTER_EXTERNAL_CALIBRATION = 85, /* SF5: the host has to calibrate what it measures */
@@ -290,6 +292,123 @@ struct dovecounter_monitors {
    or 03h (SFF-8636), or the lower half of 0xA2 (SFF-8472). */
 uint32_t dovecounter_monitors(const struct dovecounter_half *halves, size_t half_count,
                               struct dovecounter_monitors *monitors);
+
+/* ---- What a module measures ---- */
+
+/* What is measured. `cmisctl observables` has the same names (docs/observables.md). */
+enum dovecounter_quantity {
+    DOVECOUNTER_QUANTITY_LASER_AGE = 1,
+    DOVECOUNTER_QUANTITY_TEC_CURRENT_SHARE = 2,
+    DOVECOUNTER_QUANTITY_LASER_FREQUENCY_ERROR = 3,
+    DOVECOUNTER_QUANTITY_LASER_TEMPERATURE = 4,
+    DOVECOUNTER_QUANTITY_SNR = 5,
+    DOVECOUNTER_QUANTITY_LEVEL_TRANSITION = 6,
+    DOVECOUNTER_QUANTITY_PRE_FEC_BER = 7,
+    DOVECOUNTER_QUANTITY_ERRORED_FRAMES = 8,
+    DOVECOUNTER_QUANTITY_MODULATOR_BIAS_XI = 9,
+    DOVECOUNTER_QUANTITY_MODULATOR_BIAS_XQ = 10,
+    DOVECOUNTER_QUANTITY_MODULATOR_BIAS_YI = 11,
+    DOVECOUNTER_QUANTITY_MODULATOR_BIAS_YQ = 12,
+    DOVECOUNTER_QUANTITY_MODULATOR_BIAS_X_PHASE = 13,
+    DOVECOUNTER_QUANTITY_MODULATOR_BIAS_Y_PHASE = 14,
+    DOVECOUNTER_QUANTITY_DISPERSION_SHORT_LINK = 15,
+    DOVECOUNTER_QUANTITY_DISPERSION_LONG_LINK = 16,
+    DOVECOUNTER_QUANTITY_DIFFERENTIAL_GROUP_DELAY = 17,
+    DOVECOUNTER_QUANTITY_SECOND_ORDER_PMD = 18,
+    DOVECOUNTER_QUANTITY_POLARIZATION_DEPENDENT_LOSS = 19,
+    DOVECOUNTER_QUANTITY_OSNR = 20,
+    DOVECOUNTER_QUANTITY_ELECTRICAL_SNR = 21,
+    DOVECOUNTER_QUANTITY_CARRIER_FREQUENCY_OFFSET = 22,
+    DOVECOUNTER_QUANTITY_ERROR_VECTOR_MAGNITUDE = 23,
+    DOVECOUNTER_QUANTITY_TX_LEVEL = 24,
+    DOVECOUNTER_QUANTITY_RX_TOTAL_LEVEL = 25,
+    DOVECOUNTER_QUANTITY_RX_SIGNAL_LEVEL = 26,
+    DOVECOUNTER_QUANTITY_POLARIZATION_CHANGE_RATE = 27,
+    DOVECOUNTER_QUANTITY_MODULATION_ERROR_RATIO = 28,
+    DOVECOUNTER_QUANTITY_TEMPERATURE = 29,
+    DOVECOUNTER_QUANTITY_VCC = 30,
+    DOVECOUNTER_QUANTITY_VCC_2 = 31,
+    DOVECOUNTER_QUANTITY_TX_POWER = 32,
+    DOVECOUNTER_QUANTITY_RX_POWER = 33,
+    DOVECOUNTER_QUANTITY_TX_BIAS = 34,
+    DOVECOUNTER_QUANTITY_TEC_CURRENT = 35
+};
+
+/* Its value now, or one of the statistics of an interval. */
+enum dovecounter_figure {
+    DOVECOUNTER_FIGURE_NOW = 1,
+    DOVECOUNTER_FIGURE_MINIMUM = 2,
+    DOVECOUNTER_FIGURE_MAXIMUM = 3,
+    DOVECOUNTER_FIGURE_AVERAGE = 4,
+    DOVECOUNTER_FIGURE_LAST = 5
+};
+
+enum dovecounter_side { DOVECOUNTER_SIDE_MEDIA = 1, DOVECOUNTER_SIDE_HOST = 2 };
+
+enum dovecounter_scope {
+    DOVECOUNTER_SCOPE_MODULE = 1,
+    DOVECOUNTER_SCOPE_HOST_LANE = 2,
+    DOVECOUNTER_SCOPE_MEDIA_LANE = 3,
+    DOVECOUNTER_SCOPE_HOST_PATH = 4,
+    DOVECOUNTER_SCOPE_MEDIA_PATH = 5
+};
+
+enum dovecounter_unit {
+    DOVECOUNTER_UNIT_PERCENT = 1,
+    DOVECOUNTER_UNIT_RATIO = 2,
+    DOVECOUNTER_UNIT_FRAMES = 3,
+    DOVECOUNTER_UNIT_CELSIUS = 4,
+    DOVECOUNTER_UNIT_VOLTS = 5,
+    DOVECOUNTER_UNIT_MILLIAMPERES = 6,
+    DOVECOUNTER_UNIT_MILLIWATTS = 7,
+    DOVECOUNTER_UNIT_DBM = 8,
+    DOVECOUNTER_UNIT_DECIBELS = 9,
+    DOVECOUNTER_UNIT_MEGAHERTZ = 10,
+    DOVECOUNTER_UNIT_PICOSECONDS = 11,
+    DOVECOUNTER_UNIT_SQUARE_PICOSECONDS = 12,
+    DOVECOUNTER_UNIT_PICOSECONDS_PER_NANOMETRE = 13,
+    DOVECOUNTER_UNIT_KILORADIANS_PER_SECOND = 14
+};
+
+/* mantissa * 10^exponent / divisor, exactly. Zeros if it isn't known. */
+struct dovecounter_amount {
+    int64_t mantissa;
+    uint16_t divisor;
+    int8_t exponent;
+    uint8_t is_known;
+};
+
+struct dovecounter_amounts {
+    struct dovecounter_amount high_alarm;
+    struct dovecounter_amount low_alarm;
+    struct dovecounter_amount high_warning;
+    struct dovecounter_amount low_warning;
+};
+
+/* Names are the words of `cmisctl observables`, each with a NUL. */
+struct dovecounter_observable {
+    struct dovecounter_amount amount;
+    struct dovecounter_amounts limits;
+    uint8_t quantity;                /* enum dovecounter_quantity */
+    uint8_t figure;                  /* enum dovecounter_figure */
+    uint8_t side;                    /* enum dovecounter_side */
+    uint8_t scope;                   /* enum dovecounter_scope */
+    uint8_t lane;                    /* or the first lane of the data path, from 1 on; 0 for the module */
+    uint8_t unit;                    /* enum dovecounter_unit */
+    uint8_t advertised;              /* 1 if the module says that it measures this, or each module of its family does */
+    uint8_t has_flags;               /* 0 if the page of the flags is missing */
+    struct dovecounter_levels flags; /* 1 if the limit was passed since the flags were last read */
+    char quantity_name[28];
+    char figure_name[28];
+    char scope_name[28];
+    char unit_name[28];
+};
+
+/* Writes what the module measures at the first place of its list from *place on, and to *place the place after it, or 0
+   if nothing is left; then observable stays as it is. Begin with 0. Needs the lower half of 0xA0; what is in another
+   half that is missing is left out, or not known. */
+uint32_t dovecounter_observables(const struct dovecounter_half *halves, size_t half_count, uint16_t *place,
+                                 struct dovecounter_observable *observable);
 
 /* How long states last at most, in milliseconds: the upper end of the advertised range, or DOVECOUNTER_UNBOUNDED if
    it has none or its code is reserved. */

@@ -18,6 +18,7 @@ from .firmware import (
     FirmwareUpdate,
 )
 from .image import LOWER, Image, Key, page
+from .observables import Amount, AmountLimits, Observable, PassedLimits, Side
 from .planning import (
     DataPath,
     Judgement,
@@ -76,6 +77,8 @@ __all__ = [
     "LOWER",
     "Activation",
     "Advertisement",
+    "Amount",
+    "AmountLimits",
     "Application",
     "Bank",
     "Banks",
@@ -109,7 +112,9 @@ __all__ = [
     "Limits",
     "ModuleState",
     "Monitors",
+    "Observable",
     "Operation",
+    "PassedLimits",
     "PathState",
     "Patience",
     "Plan",
@@ -121,6 +126,7 @@ __all__ = [
     "Reading",
     "Reply",
     "Request",
+    "Side",
     "SimulatedModule",
     "Sleeping",
     "Stage",

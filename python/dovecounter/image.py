@@ -4,7 +4,7 @@ from __future__ import annotations
 import os
 import re
 import warnings
-from ctypes import Array, byref, c_uint8
+from ctypes import Array, byref, c_uint8, c_uint16
 from dataclasses import dataclass
 from typing import Callable, Dict, Iterable, List, Mapping, Tuple, Union
 
@@ -19,6 +19,7 @@ from .faults import (
     look_at_text,
     look_at_type,
 )
+from .observables import Observable, observable_of
 from .reports import (
     Advertisement,
     Application,
@@ -47,6 +48,7 @@ _durations = library.function("durations")
 _identity = library.function("identity")
 _flags = library.function("flags")
 _monitors = library.function("monitors")
+_observables = library.function("observables")
 
 
 @dataclass(frozen=True, order=True)
@@ -98,6 +100,7 @@ _OF_APPLICATIONS: _Needed = {
 _OF_INVENTORY: _Needed = {"RP6": (LOWER, page(0x00)), "SF3": (page(0x00),)}
 _OF_FLAGS: _Needed = {"RP6": (LOWER, page(0x11)), "SF3": (LOWER_A2,)}
 _OF_MONITORS: _Needed = {"RP6": (LOWER, page(0x01), page(0x02), page(0x11)), "SF3": (LOWER_A2,)}
+_OF_OBSERVABLES: _Needed = {"RP6": (LOWER,)}
 _OF_QSFP_MONITORS: _Needed = {"SF3": (page(0x03),)}
 
 
@@ -280,6 +283,20 @@ class Image:
         is_qsfp = CODES.get(status) == "SF3" and self._halves[LOWER][0] in dumps.SFF_8636
         self.take(status, _OF_QSFP_MONITORS if is_qsfp else _OF_MONITORS)
         return monitors_of(found)
+
+    def observables(self) -> Tuple[Observable, ...]:
+        """All that the module measures, with exact amounts, limits and flags, in the order of
+        `cmisctl observables`; of CMIS also what it lists itself (VDM). Needs the lower half of 0xA0
+        alone; what is in another half that is missing is left out, or None. Raises a Fault of RP1, RP4
+        or RP6."""
+        halves, count = self.arguments()
+        observed: List[Observable] = []
+        place, found = c_uint16(0), library.Observable()
+        while True:
+            self.take(_observables(halves, count, byref(place), byref(found)), _OF_OBSERVABLES)
+            if place.value == 0:
+                return tuple(observed)
+            observed.append(observable_of(found))
 
     def arguments(self) -> Tuple[Array[library.Half], int]:
         """The halves as the library takes them, and their number."""

@@ -15,6 +15,7 @@ from ctypes import (
     byref,
     c_char,
     c_char_p,
+    c_int8,
     c_int64,
     c_size_t,
     c_uint8,
@@ -95,6 +96,29 @@ class Monitors(Structure):
         *_members(Value, "temperature vcc"),
         *_members(LaneValues, "tx_power tx_bias rx_power"),
         *_members(c_uint8, "family lanes has_limits sum"),
+    ]
+
+
+class Amount(Structure):
+    _fields_ = [
+        ("mantissa", c_int64),
+        ("divisor", c_uint16),
+        ("exponent", c_int8),
+        ("is_known", c_uint8),
+    ]
+
+
+class Amounts(Structure):
+    _fields_ = _members(Amount, "high_alarm low_alarm high_warning low_warning")
+
+
+class Observable(Structure):
+    _fields_ = [
+        ("amount", Amount),
+        ("limits", Amounts),
+        *_members(c_uint8, "quantity figure side scope lane unit advertised has_flags"),
+        ("flags", Levels),
+        *_members(c_char * 28, "quantity_name figure_name scope_name unit_name"),
     ]
 
 
@@ -328,6 +352,7 @@ FUNCTIONS: Dict[str, Tuple[Any, Tuple[Any, ...]]] = {
     "identity": (c_uint32, (*_HALVES, POINTER(Identity))),
     "flags": (c_uint32, (*_HALVES, POINTER(Flags))),
     "monitors": (c_uint32, (*_HALVES, POINTER(Monitors))),
+    "observables": (c_uint32, (*_HALVES, POINTER(c_uint16), POINTER(Observable))),
     "durations": (c_uint32, (*_HALVES, POINTER(Durations))),
     "plan": (
         c_uint32,

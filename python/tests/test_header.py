@@ -14,7 +14,7 @@ from typing import Any, Dict, List
 import pytest
 
 from shared import ROOT
-from dovecounter import Family, Request, library, procedures, simulated
+from dovecounter import Family, Request, Side, library, procedures, simulated
 from dovecounter.faults import CODES
 
 HEADER = re.sub(r"/\*.*?\*/", "", (ROOT / "include/dovecounter.h").read_text(), flags=re.DOTALL)
@@ -33,6 +33,7 @@ PROTOTYPES = {
 NUMBERS = {
     "void": None,
     "uint8_t": ctypes.c_uint8,
+    "uint16_t": ctypes.c_uint16,
     "uint32_t": ctypes.c_uint32,
     "uint64_t": ctypes.c_uint64,
     "size_t": ctypes.c_size_t,
@@ -117,6 +118,8 @@ def test_numbers_are_those_of_the_header() -> None:
     assert library.UNBOUNDED == ctypes.c_uint32(-1).value
     for family in Family:
         assert STATUSES[family.name] == family
+    for side in Side:
+        assert STATUSES[f"SIDE_{side.name}"] == side
     requested = re.search(r"enum dovecounter_requested \{(.*?)\}", HEADER, re.DOTALL)
     assert requested is not None
     bits = {name: int(bit) for name, bit in re.findall(r"DOVECOUNTER_(\w+) = (\d+)", requested[1])}

@@ -100,6 +100,35 @@ AT(monitors, lanes, 393);
 AT(monitors, has_limits, 394);
 AT(monitors, sum, 395);
 
+SIZE(amount, 16);
+AT(amount, mantissa, 0);
+AT(amount, divisor, 8);
+AT(amount, exponent, 10);
+AT(amount, is_known, 11);
+
+SIZE(amounts, 64);
+AT(amounts, high_alarm, 0);
+AT(amounts, low_alarm, 16);
+AT(amounts, high_warning, 32);
+AT(amounts, low_warning, 48);
+
+SIZE(observable, 208);
+AT(observable, amount, 0);
+AT(observable, limits, 16);
+AT(observable, quantity, 80);
+AT(observable, figure, 81);
+AT(observable, side, 82);
+AT(observable, scope, 83);
+AT(observable, lane, 84);
+AT(observable, unit, 85);
+AT(observable, advertised, 86);
+AT(observable, has_flags, 87);
+AT(observable, flags, 88);
+AT(observable, quantity_name, 92);
+AT(observable, figure_name, 120);
+AT(observable, scope_name, 148);
+AT(observable, unit_name, 176);
+
 SIZE(durations, 24);
 AT(durations, module_power_up, 0);
 AT(durations, module_power_down, 4);

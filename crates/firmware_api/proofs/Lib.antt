@@ -19,3 +19,4 @@ mod ShortTexts
 mod DecodersRefuse
 mod WatchfulLaws
 mod KeptLaws
+pub mod NextObservables

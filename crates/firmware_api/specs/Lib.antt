@@ -22,3 +22,4 @@ pub mod ReadWeights
 pub mod PortsTold
 pub mod KeptPorts
 pub mod Updates
+pub mod ObservableNumbers

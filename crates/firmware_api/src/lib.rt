@@ -15,6 +15,7 @@ mod kept;
 pub mod laws;
 mod measured_values;
 mod monitors;
+mod observable_numbers;
 mod operation;
 mod patience;
 mod planning;

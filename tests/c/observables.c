@@ -1,0 +1,119 @@
+/* Prints what the library says that a module measures as the command `observables` prints it, but for the page that is absent, of the
+   image whose text is on standard input, so that both can be compared. Of a fault it prints the code alone. First it looks at what the
+   text does not tell: that nothing is written on a refusal and at the end, and that numbers and names agree. */
+#include "dovecounter.h"
+#include "image.h"
+
+#include <inttypes.h>
+#include <stdlib.h>
+#include <string.h>
+
+static struct dovecounter_observable one, before;
+
+static void expect(const char *what, int holds) {
+    if (holds) return;
+    printf("observables: %s\n", what);
+    exit(1);
+}
+
+/* Digits with a point after the first, and the power of ten of the first. */
+static void print_float(int64_t mantissa, int exponent) {
+    char digits[24];
+    if (mantissa == 0) exponent = 0;
+    for (; mantissa != 0 && mantissa % 10 == 0; mantissa /= 10) exponent++;
+    int length = snprintf(digits, sizeof digits, "%" PRId64, mantissa);
+    printf(" %c%s%se%d", digits[0], length > 1 ? "." : "", digits + 1, exponent + length - 1);
+}
+
+static void print_places(int64_t mantissa, int places) {
+    uint64_t size = mantissa < 0 ? 0 - (uint64_t)mantissa : (uint64_t)mantissa, one_is = 1;
+    for (int i = 0; i < places; i++) one_is *= 10;
+    printf(" %s%" PRIu64, mantissa < 0 ? "-" : "", size / one_is);
+    if (places > 0) printf(".%0*" PRIu64, places, size % one_is);
+}
+
+static void print_amount(const struct dovecounter_amount *amount) {
+    int is_float = one.unit == DOVECOUNTER_UNIT_RATIO || one.unit == DOVECOUNTER_UNIT_FRAMES;
+    if (!amount->is_known)
+        printf(" unknown");
+    else if (amount->divisor != 1) {
+        int64_t scaled = amount->mantissa * 1000, shared = scaled / amount->divisor;
+        print_places(shared - (scaled % amount->divisor < 0), 3);
+    } else if (is_float)
+        print_float(amount->mantissa, amount->exponent);
+    else
+        print_places(amount->mantissa, -amount->exponent);
+}
+
+static void print_flag(uint8_t flag) {
+    expect("a flag is neither 0 nor 1", flag <= 1 && (one.has_flags || !flag));
+    printf(" %s", one.has_flags ? flag ? "yes" : "no" : "unknown");
+}
+
+static void print_one(void) {
+    printf("%s %s %s", one.quantity_name, one.figure_name, one.scope_name);
+    if (one.lane != 0) printf("-%d", one.lane);
+    print_amount(&one.amount);
+    printf(" %s limits", one.unit_name);
+    print_amount(&one.limits.high_alarm);
+    print_amount(&one.limits.low_alarm);
+    print_amount(&one.limits.high_warning);
+    print_amount(&one.limits.low_warning);
+    printf(" flags");
+    print_flag(one.flags.high_alarm);
+    print_flag(one.flags.low_alarm);
+    print_flag(one.flags.high_warning);
+    print_flag(one.flags.low_warning);
+    printf(" %s\n", one.advertised ? "advertised" : "unadvertised");
+}
+
+static void look_at_numbers(void) {
+    static const char *const quantities[] = {[DOVECOUNTER_QUANTITY_TEMPERATURE] = "temperature",
+                                             [DOVECOUNTER_QUANTITY_TX_BIAS] = "tx-bias",
+                                             [DOVECOUNTER_QUANTITY_PRE_FEC_BER] = "pre-fec-ber",
+                                             [DOVECOUNTER_QUANTITY_SNR] = "snr",
+                                             [DOVECOUNTER_QUANTITY_TEC_CURRENT] = "tec-current"};
+    static const char *const figures[] = {"", "now", "minimum", "maximum", "average", "last"};
+    static const char *const scopes[] = {"", "module", "host-lane", "media-lane", "host-path", "media-path"};
+    const char *quantity = quantities[one.quantity];
+    expect("another quantity", quantity == NULL || strcmp(quantity, one.quantity_name) == 0);
+    expect("another figure", strcmp(figures[one.figure], one.figure_name) == 0);
+    expect("another scope", strcmp(scopes[one.scope], one.scope_name) == 0);
+    int is_of_host = one.scope == DOVECOUNTER_SCOPE_HOST_LANE || one.scope == DOVECOUNTER_SCOPE_HOST_PATH;
+    expect("another side", one.scope == DOVECOUNTER_SCOPE_MODULE || is_of_host == (one.side == DOVECOUNTER_SIDE_HOST));
+    expect("a lane of the module", (one.scope == DOVECOUNTER_SCOPE_MODULE) == (one.lane == 0));
+}
+
+static const char *code_of(uint32_t status) {
+    switch (status) {
+    case DOVECOUNTER_UNKNOWN_MODULE: return "RP1";
+    case DOVECOUNTER_UNREAD_REVISION: return "RP4";
+    case DOVECOUNTER_LACKS_HALF: return "RP6";
+    default: return "of the caller";
+    }
+}
+
+int main(void) {
+    uint16_t place = 0;
+    int count = 0;
+    read_halves();
+    memset(&one, 0x5A, sizeof one);
+    before = one;
+    uint32_t status = dovecounter_observables(halves, half_count, &place, &one);
+    if (status != DOVECOUNTER_DONE) {
+        expect("something is written on a refusal", place == 0 && memcmp(&one, &before, sizeof one) == 0);
+        printf("fault %s\n", code_of(status));
+        return 0;
+    }
+    for (; place != 0; count++) {
+        before = one;
+        expect("a later one is refused", dovecounter_observables(halves, half_count, &place, &one) == DOVECOUNTER_DONE);
+    }
+    expect("something is written at the end", memcmp(&one, &before, sizeof one) == 0);
+    printf("observables %d\n", count);
+    while (dovecounter_observables(halves, half_count, &place, &one) == DOVECOUNTER_DONE && place != 0) {
+        look_at_numbers();
+        print_one();
+    }
+    return 0;
+}
