@@ -890,15 +890,17 @@ enum dovecounter_port_stage {
     DOVECOUNTER_PORT_WAKING = 3,       /* it is woken up */
     DOVECOUNTER_PORT_PROVISIONING = 4, /* the plan's control bytes become active */
     DOVECOUNTER_PORT_ACTIVATING = 5,   /* the plan's lanes come up */
-    DOVECOUNTER_PORT_WATCHING = 6      /* it is as wanted, and looked at every period */
+    DOVECOUNTER_PORT_WATCHING = 6,     /* it is as wanted, and looked at every period */
+    DOVECOUNTER_PORT_SLEEPING = 7      /* it is put to sleep */
 };
 
 /* Why a module is left alone; or, if nothing can be planned, a status of dovecounter_advertisement, 11 to 16. */
 enum dovecounter_left_reason {
-    DOVECOUNTER_LEFT_NO_LANES = 1,        /* it has no page 11h */
-    DOVECOUNTER_LEFT_NO_PLAN = 2,         /* none of its paths is wanted */
-    DOVECOUNTER_LEFT_NEEDS_POWER = 3,     /* it is not ready, and needs more power than it may draw */
-    DOVECOUNTER_LEFT_NEEDS_PERMISSION = 4 /* lanes that are up would go down, and may not */
+    DOVECOUNTER_LEFT_NO_LANES = 1,         /* it has no page 11h */
+    DOVECOUNTER_LEFT_NO_PLAN = 2,          /* none of its paths is wanted */
+    DOVECOUNTER_LEFT_NEEDS_POWER = 3,      /* it is not ready, and needs more power than it may draw */
+    DOVECOUNTER_LEFT_NEEDS_PERMISSION = 4, /* lanes that are up would go down, and may not */
+    DOVECOUNTER_LEFT_ASLEEP = 5            /* it is in low power, as was asked */
 };
 
 struct dovecounter_left {
@@ -938,15 +940,18 @@ struct dovecounter_work {
     uint8_t found;
 };
 
-/* A port. You may copy it, save it, and read flags, due, stage, held, goal (from PROVISIONING to WATCHING) and left,
-   but change nothing: changed numbers are refused, or taken for another port, perhaps one that no events lead to. */
+/* A port. You may copy it, save it, and read flags, due, stage, held, goal (from PROVISIONING to WATCHING), left,
+   request and request_lanes, but change nothing: changed numbers are refused, or taken for another port, perhaps one
+   that no events lead to. */
 struct dovecounter_port {
     struct dovecounter_flag_counts flags;
     uint64_t due; /* no operation is named before this moment */
+    uint64_t silent_since;
     struct dovecounter_work work;
     struct dovecounter_times times;
     uint32_t magic;
     uint32_t back_off;
+    uint32_t refusals;
     uint16_t half_count;
     uint8_t stage; /* enum dovecounter_port_stage */
     uint8_t held;  /* 1 if the port holds still */
@@ -956,6 +961,9 @@ struct dovecounter_port {
     uint8_t page;
     struct dovecounter_goal goal;
     struct dovecounter_left left;
+    uint8_t request;       /* what was asked: enum dovecounter_request */
+    uint8_t request_lanes; /* and of which lanes */
+    uint8_t spare[2];
     struct dovecounter_half halves[DOVECOUNTER_MOST_READ];
 };
 
@@ -974,6 +982,28 @@ uint32_t dovecounter_port_reconsider(struct dovecounter_port *port);
 /* Holds the port still if held is other than 0: it names no operation. With 0 it goes on, as after reconsider. */
 uint32_t dovecounter_port_hold(struct dovecounter_port *port, uint8_t held);
 
+enum dovecounter_request {
+    DOVECOUNTER_REQUEST_WAKE = 0,      /* the module is to be awake, and as wanted; so at first */
+    DOVECOUNTER_REQUEST_SLEEP = 1,     /* it is to be in low power; these lanes may go down for that */
+    DOVECOUNTER_REQUEST_PROVISION = 2, /* these lanes may go down, until it is up or left alone */
+    DOVECOUNTER_REQUEST_DEACTIVATE = 3 /* no data path may have one of these lanes, and they may go down */
+};
+
+/* Replaces what was requested before, until a pull. The module is read and judged anew. Other numbers count as WAKE. */
+uint32_t dovecounter_port_request(struct dovecounter_port *port, uint8_t request, uint8_t lanes);
+
+enum dovecounter_presence {
+    DOVECOUNTER_SAME = 0,    /* a module is there as before, or none is */
+    DOVECOUNTER_PLUGGED = 1, /* it answers, so it was plugged, as by dovecounter_port_plug */
+    DOVECOUNTER_PULLED = 2   /* it was silent for too long, so it was pulled, as by dovecounter_port_pull */
+};
+
+/* For a port without a presence pin: call it after each transaction, once its reply was taken. Those are what the port
+   names, and a fetch of byte 0 once in a while. `answered` is 0 if the transaction was refused; it began at one moment,
+   and ended now. A module that refused more than three times in a row, over more than a second, counts as pulled. */
+uint32_t dovecounter_port_hear(struct dovecounter_port *port, uint8_t answered, uint64_t began, uint64_t now,
+                               uint8_t *presence);
+
 /* Flags that were last read as raised at this moment or before count from 0 again. */
 uint32_t dovecounter_port_acknowledge(struct dovecounter_port *port, uint64_t moment);
 
@@ -981,7 +1011,7 @@ enum dovecounter_port_do {
     DOVECOUNTER_PORT_DO = 0,    /* make the operation, and pass its reply to dovecounter_port_take */
     DOVECOUNTER_PORT_UNTIL = 1, /* nothing before the moment */
     DOVECOUNTER_PORT_BUSY = 2,  /* nothing before the outstanding reply is passed */
-    DOVECOUNTER_PORT_IDLE = 3   /* nothing before plug, reconsider or hold is called */
+    DOVECOUNTER_PORT_IDLE = 3   /* nothing before plug, reconsider, request or hold is called */
 };
 
 /* What is to be done now. */
@@ -1032,7 +1062,8 @@ enum dovecounter_port_failure {
     DOVECOUNTER_PORT_NOT_PROVISIONED = 4, /* by fault */
     DOVECOUNTER_PORT_NOT_ACTIVATED = 5,   /* by fault */
     DOVECOUNTER_PORT_UNSEEN = 6,          /* the module could not be looked at */
-    DOVECOUNTER_PORT_CHANGED = 7          /* it is no longer as wanted */
+    DOVECOUNTER_PORT_CHANGED = 7,         /* it is no longer as wanted */
+    DOVECOUNTER_PORT_NOT_ASLEEP = 8       /* by fault */
 };
 
 /* What a reply led to. */
@@ -1041,7 +1072,7 @@ struct dovecounter_port_outcome {
     uint8_t kind;                   /* enum dovecounter_port_led_to */
     uint8_t note;                   /* WENT: enum dovecounter_port_note; else 0 */
     uint8_t failure;                /* FAILED: enum dovecounter_port_failure; else 0 */
-    struct dovecounter_fault fault; /* failures 3 to 5: codes 1 to 8; else zeros */
+    struct dovecounter_fault fault; /* failures 3 to 5, and 8: codes 1 to 8; else zeros */
     struct dovecounter_left left;   /* LEAVES; else zeros */
 };
 

@@ -277,14 +277,16 @@ class Work(Structure):
 class Port(Structure):
     _fields_ = [
         ("flags", FlagCounts),
-        ("due", c_uint64),
+        *_members(c_uint64, "due silent_since"),
         ("work", Work),
         ("times", Times),
-        *_members(c_uint32, "magic back_off"),
+        *_members(c_uint32, "magic back_off refusals"),
         ("half_count", c_uint16),
         *_members(c_uint8, "stage held outstanding vain selection page"),
         ("goal", Goal),
         ("left", Left),
+        *_members(c_uint8, "request request_lanes"),
+        ("spare", c_uint8 * 2),
         ("halves", Half * MOST_READ),
     ]
 
@@ -395,6 +397,8 @@ FUNCTIONS: Dict[str, Tuple[Any, Tuple[Any, ...]]] = {
     "port_pull": (c_uint32, (POINTER(Port),)),
     "port_reconsider": (c_uint32, (POINTER(Port),)),
     "port_hold": (c_uint32, (POINTER(Port), c_uint8)),
+    "port_request": (c_uint32, (POINTER(Port), c_uint8, c_uint8)),
+    "port_hear": (c_uint32, (POINTER(Port), c_uint8, c_uint64, c_uint64, POINTER(c_uint8))),
     "port_acknowledge": (c_uint32, (POINTER(Port), c_uint64)),
     "port_next": (c_uint32, (POINTER(Port), c_uint64, POINTER(PortNext))),
     "port_take": (

@@ -4,7 +4,7 @@ from __future__ import annotations
 import asyncio
 import copy
 import time
-from ctypes import byref
+from ctypes import byref, c_uint8
 from dataclasses import astuple, dataclass
 from enum import Enum, IntEnum
 from typing import (
@@ -30,7 +30,7 @@ from .showing import Record
 _DO, _UNTIL, _BUSY = 0, 1, 2
 _NO_REPLY = 34
 _STORE = 1
-_LEFT = {1: "no page 11h", 2: "no plan", 3: "needs power", 4: "needs permission"}
+_LEFT = {1: "no page 11h", 2: "no plan", 3: "needs power", 4: "needs permission", 5: "asleep"}
 _OVERDUE = 8
 _LONGEST_PAUSE = 1000  # after which it is looked whether somebody has called the port meanwhile
 
@@ -39,6 +39,8 @@ _plug = library.function("port_plug")
 _pull = library.function("port_pull")
 _reconsider = library.function("port_reconsider")
 _hold = library.function("port_hold")
+_request = library.function("port_request")
+_hear = library.function("port_hear")
 _acknowledge = library.function("port_acknowledge")
 _next = library.function("port_next")
 _take = library.function("port_take")
@@ -68,6 +70,7 @@ class Stage(IntEnum):
     PROVISIONING = 4
     ACTIVATING = 5
     WATCHING = 6
+    SLEEPING = 7
 
 
 class Kind(IntEnum):
@@ -101,6 +104,28 @@ class Failure(IntEnum):
     NOT_ACTIVATED = 5
     UNSEEN = 6
     CHANGED = 7
+    NOT_ASLEEP = 8
+
+
+class PortRequest(IntEnum):
+    """What somebody asks of a port."""
+
+    WAKE = 0
+    """nothing: the module is to be awake, and as it is wanted"""
+    SLEEP = 1
+    """the module is to be in low power, for which the lanes may go down"""
+    PROVISION = 2
+    """the lanes may go down, until the module is up or left alone"""
+    DEACTIVATE = 3
+    """no data path is to have one of the lanes, which may go down"""
+
+
+class Presence(IntEnum):
+    """What was heard of a module."""
+
+    SAME = 0
+    PLUGGED = 1
+    PULLED = 2
 
 
 class Idle(Enum):
@@ -198,6 +223,22 @@ class Port:
         """The port is to hold still, or not any longer."""
         _expect_done(_hold(byref(self._saved), look_at_choice("whether it is held", held)))
 
+    def request(self, request: PortRequest, lanes: int = 0) -> None:
+        """Somebody asks this, in place of what was asked before, until a pull; of the lanes whose bits
+        are 1."""
+        look_at_type("the request", request, PortRequest)
+        _expect_done(_request(byref(self._saved), request, look_at("the lanes", lanes, 255)))
+
+    def hear(self, answered: bool, began: int, now: int) -> Presence:
+        """A transaction was answered or refused, which began at a moment: so a port without a pin
+        learns whether a module is there. To be called after each, once its reply was taken."""
+        presence = c_uint8()
+        alive = look_at_choice("whether it was answered", answered)
+        _expect_done(
+            _hear(byref(self._saved), alive, _moment(began), _moment(now), byref(presence))
+        )
+        return Presence(presence.value)
+
     def acknowledge(self, moment: int) -> None:
         """The flags that were last read as raised at this moment or before it are known."""
         _expect_done(_acknowledge(byref(self._saved), _moment(moment)))
@@ -270,6 +311,11 @@ class Port:
         return bool(self._saved.held)
 
     @property
+    def requested(self) -> Tuple[PortRequest, int]:
+        """What was asked, and of which lanes."""
+        return PortRequest(self._saved.request), int(self._saved.request_lanes)
+
+    @property
     def due(self) -> int:
         """Nothing is to be done before this moment."""
         return int(self._saved.due)
@@ -297,6 +343,7 @@ class Port:
             "stage": self.stage.name,
             "left": self.left,
             "held": self.held,
+            "requested": [self.requested[0].name, self.requested[1]],
             "due": self.due,
             "goal": None if goal is None else {"control": goal[0].hex(), "lanes": goal[1]},
             "flags": [flag.to_dict() for flag in self.flags],

@@ -12,11 +12,14 @@ from dovecounter import (
     Idle,
     Image,
     Key,
+    ModuleState,
     Operation,
     PathState,
     Port,
     PortOutcome,
     Reply,
+    PortRequest,
+    Presence,
     SimulatedModule,
     Stage,
     Times,
@@ -235,3 +238,45 @@ def test_an_operation_of_a_cancelled_task_counts_as_refused() -> None:
 
     asyncio.run(cancelled())
     assert machine.port.stage is Stage.WATCHING
+def test_a_module_is_put_to_sleep_and_woken_up_again() -> None:
+    machine = Machine(SimulatedModule(DR4))
+    machine.port.plug(0)
+    machine.comes_up()
+    machine.port.request(PortRequest.SLEEP)
+    left = machine.drive(lambda outcome: outcome.kind is Kind.LEAVES)
+    assert left is not None and left.left == "needs permission"
+    machine.port.request(PortRequest.SLEEP, 0xFF)
+    assert machine.port.requested == (PortRequest.SLEEP, 0xFF)
+    left = machine.drive(lambda outcome: outcome.kind is Kind.LEAVES)
+    assert left is not None and left.left == machine.port.left == "asleep"
+    assert machine.module.state is ModuleState.ModuleLowPwr
+    machine.port.request(PortRequest.WAKE)
+    machine.comes_up()
+    assert machine.module.state is ModuleState.ModuleReady
+
+
+def test_lanes_are_deactivated() -> None:
+    machine = Machine(SimulatedModule(DR4))
+    machine.port.plug(0)
+    machine.comes_up()
+    machine.port.request(PortRequest.DEACTIVATE, 0xFF)
+    machine.comes_up()
+    assert (
+        machine.module.active == bytes(8)
+        and PathState.DPActivated not in machine.module.path_states
+    )
+    machine.port.request(PortRequest.PROVISION)
+    machine.comes_up()
+    assert PathState.DPActivated in machine.module.path_states
+    assert machine.port.requested == (PortRequest.WAKE, 0)
+
+
+def test_a_module_is_there_while_it_answers() -> None:
+    port = Port()
+    assert port.hear(False, 0, 5000) is Presence.SAME and port.stage is Stage.ABSENT
+    assert port.hear(True, 5000, 5001) is Presence.PLUGGED and port.stage is Stage.READING
+    heard = [port.hear(False, now, now + 1) for now in (6000, 6500, 7000, 7002)]
+    assert heard == [Presence.SAME, Presence.SAME, Presence.SAME, Presence.PULLED]
+    assert port.stage is Stage.ABSENT
+    with pytest.raises(TypeError):
+        port.request(1)  # type: ignore[arg-type]

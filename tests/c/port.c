@@ -292,6 +292,103 @@ static void try_permission(void) {
     expect_same("are the goal's", port.goal.control, active, sizeof active);
 }
 
+/* ---- what somebody asks ---- */
+
+static void request(uint8_t what, uint8_t lanes) {
+    expect("asked", 0, dovecounter_port_request(&port, what, lanes));
+    expect("as is said", what > 3 ? DOVECOUNTER_REQUEST_WAKE : what, port.request);
+    stores = 0;
+}
+
+static void try_sleep(void) {
+    begin();
+    plug_in();
+    expect("a module comes up", 1, (unsigned long)comes_up());
+    request(DOVECOUNTER_REQUEST_SLEEP, 0x7F);
+    expect("lane 8 may not go down", 1, (unsigned long)is_left(DOVECOUNTER_LEFT_NEEDS_PERMISSION));
+    expect("nothing was stored", 0, stores);
+    request(DOVECOUNTER_REQUEST_SLEEP, ALL_LANES);
+    expect("it goes to sleep", 1, (unsigned long)is_left(DOVECOUNTER_LEFT_ASLEEP));
+    expect("by one store", 1, stores);
+    expect("it is in low power", 1, module.state);
+    expect("asked", 0, dovecounter_port_reconsider(&port));
+    expect("it stays asleep", 1, (unsigned long)is_left(DOVECOUNTER_LEFT_ASLEEP));
+    request(DOVECOUNTER_REQUEST_WAKE, 0);
+    expect("it comes up", 1, (unsigned long)comes_up());
+    expect("all lanes are up", ALL_LANES, lanes_up());
+    is_stuck = 1;
+    request(DOVECOUNTER_REQUEST_SLEEP, ALL_LANES);
+    expect("it doesn't sleep", 1, (unsigned long)drive_to(DOVECOUNTER_PORT_FAILED, 0));
+    expect("not asleep", DOVECOUNTER_PORT_NOT_ASLEEP, outcome.failure);
+    expect("overdue", DOVECOUNTER_OVERDUE, outcome.fault.code);
+    is_stuck = 0;
+    expect("pulled", 0, dovecounter_port_pull(&port));
+    plug_in();
+    expect("another one comes up", 1, (unsigned long)comes_up());
+}
+
+static void try_provision(void) {
+    begin();
+    plug_in();
+    expect("a module comes up", 1, (unsigned long)comes_up());
+    want(101, 100);
+    request(DOVECOUNTER_REQUEST_PROVISION, ALL_LANES);
+    expect("it comes up otherwise", 1, (unsigned long)comes_up());
+    expect("permission has ended", DOVECOUNTER_REQUEST_WAKE, port.request);
+    want(101, 10);
+    expect("asked", 0, dovecounter_port_reconsider(&port));
+    expect("it is left alone", 1, (unsigned long)is_left(DOVECOUNTER_LEFT_NEEDS_PERMISSION));
+    request(DOVECOUNTER_REQUEST_PROVISION, 0x0F);
+    expect("not all may go down", 1, (unsigned long)is_left(DOVECOUNTER_LEFT_NEEDS_PERMISSION));
+    expect("permission has ended", DOVECOUNTER_REQUEST_WAKE, port.request);
+    expect("nothing was stored", 0, stores);
+    request(9, ALL_LANES);
+    expect("other numbers permit nothing", 1, (unsigned long)is_left(DOVECOUNTER_LEFT_NEEDS_PERMISSION));
+}
+
+static void try_deactivation(void) {
+    begin();
+    want(101, 100);
+    plug_in();
+    expect("a module comes up", 1, (unsigned long)comes_up());
+    request(DOVECOUNTER_REQUEST_DEACTIVATE, 0x01);
+    expect("lanes 2 to 4 may not go down", 1, (unsigned long)is_left(DOVECOUNTER_LEFT_NEEDS_PERMISSION));
+    expect("nothing was stored", 0, stores);
+    request(DOVECOUNTER_REQUEST_DEACTIVATE, 0x0F);
+    expect("the rest is up", 1, (unsigned long)comes_up());
+    expect("lanes 5 to 8", 0xF0, lanes_up());
+    expect("the goal's lanes", 0xF0, port.goal.lanes);
+    expect("it stays so", 1, (unsigned long)drive_to(DOVECOUNTER_PORT_WENT, DOVECOUNTER_PORT_HELD));
+    request(DOVECOUNTER_REQUEST_DEACTIVATE, ALL_LANES);
+    expect("nothing is to be up", 1, (unsigned long)comes_up());
+    expect("no lane is", 0, lanes_up());
+    request(DOVECOUNTER_REQUEST_WAKE, 0);
+    expect("it comes up", 1, (unsigned long)comes_up());
+    expect("all lanes are up", ALL_LANES, lanes_up());
+}
+
+/* ---- whether a module is there ---- */
+
+static uint8_t hear(uint8_t answered, uint64_t took) {
+    uint8_t presence = 0x5A;
+    uint64_t began = now;
+    now += took;
+    expect("heard", 0, dovecounter_port_hear(&port, answered, began, now, &presence));
+    return presence;
+}
+
+static void try_silence(void) {
+    begin();
+    for (int i = 0; i < 9; i++) expect("nothing is there", DOVECOUNTER_SAME, hear(0, 1000));
+    expect("it answers", DOVECOUNTER_PLUGGED, hear(7, 1));
+    expect("as after a plug", (unsigned long)(now + times.settle), (unsigned long)port.due);
+    for (int i = 0; i < 3; i++) expect("three refusals", DOVECOUNTER_SAME, hear(0, 1000));
+    expect("it answers again", DOVECOUNTER_SAME, hear(1, 1));
+    for (int i = 0; i < 5; i++) expect("no second", DOVECOUNTER_SAME, hear(0, 200));
+    expect("a second and more", DOVECOUNTER_PULLED, hear(0, 1));
+    expect("nothing is there", DOVECOUNTER_PORT_ABSENT, port.stage);
+}
+
 /* ---- why a module is left alone ---- */
 
 static void try_left(void) {
@@ -331,6 +428,10 @@ static void refuse_all(const char *what, uint32_t wanted_status) {
     expect(what, wanted_status, dovecounter_port_reconsider(&port));
     expect(what, wanted_status, dovecounter_port_hold(&port, 1));
     expect(what, wanted_status, dovecounter_port_acknowledge(&port, 1));
+    expect(what, wanted_status, dovecounter_port_request(&port, 1, 1));
+    uint8_t presence = 0x5A;
+    expect(what, wanted_status, dovecounter_port_hear(&port, 1, 0, 1, &presence));
+    expect(what, 0x5A, presence);
     expect(what, wanted_status, dovecounter_port_next(&port, 1, &next));
     expect(what, wanted_status, dovecounter_port_take(&port, DOVECOUNTER_REFUSED, &none, 0, &wanted, 1, &outcome));
     expect_same(what, &before, &port, sizeof port);
@@ -353,7 +454,7 @@ static void try_refusals(void) {
     memset(&port, 0, sizeof port);
     refuse_all("zeros", DOVECOUNTER_NO_CONVERSATION);
     begin();
-    port.stage = 7;
+    port.stage = 8;
     refuse_all("no stage", DOVECOUNTER_NO_CONVERSATION);
     port.stage = DOVECOUNTER_PORT_LEFT;
     refuse_all("left for no reason", DOVECOUNTER_NO_CONVERSATION);
@@ -390,6 +491,10 @@ int main(void) {
     try_hold();
     try_flags();
     try_permission();
+    try_sleep();
+    try_provision();
+    try_deactivation();
+    try_silence();
     try_left();
     try_refusals();
     return judged("port");

@@ -12,7 +12,7 @@ use Rattle.conversations.specs.Wanted as conversations
 use Rattle.paged_memory.specs.Images.{Memory}
 use Rattle.module_reading.specs.declared.halves.Halves.{Halves}
 use Rattle.port_manager.specs.declared.job.Job.{Job}
-use Rattle.port_manager.specs.declared.job.Job.TheVariants.{Reading, Waking, Provisioning, Activating, Watching}
+use Rattle.port_manager.specs.declared.job.Job.TheVariants.{Reading, Waking, Sleeping, Provisioning, Activating, Watching}
 use Rattle.port_manager.specs.declared.port.Outstanding.{Outstanding}
 use Rattle.port_manager.specs.declared.port.Outstanding.TheVariants as outstanding
 use Rattle.port_manager.specs.declared.port.Port.{Port}
@@ -20,9 +20,11 @@ use Rattle.port_manager.specs.declared.port.PortNext.{PortNext}
 use Rattle.port_manager.specs.declared.port.PortNext.TheVariants as ports
 use Rattle.port_manager.specs.declared.port.Stage.{Stage}
 use Rattle.port_manager.specs.declared.port.Stage.TheVariants.{Absent, Left, Working}
+use Rattle.port_manager.specs.declared.silence.Presence.{Presence}
+use Rattle.port_manager.specs.declared.silence.Presence.TheVariants as presences
 use Rattle.port_manager.specs.Jobs.{IsReplyTo, paged_halves, reading, reading_after, reading_wants}
 use Rattle.port_manager.specs.Patients.{Patient, after_on, wants_on}
-use Rattle.port_manager.specs.Ports.{IfWorking, asking, begun_in, reconsidered_by}
+use Rattle.port_manager.specs.Ports.{IfWorking, asking, begun_in, heard_as, reconsidered_by}
 use Rattle.port_manager.proofs.PatientLaws.{kept_within}
 use Rattle.saved_port.specs.SavedPorts.{port_in}
 use Rattle.saved_port.specs.Known.{HasRead, IsKnown, IsKnownJob, IsReadingAfter, ReadsOn, halves_of}
@@ -56,6 +58,7 @@ few_read (Reading job woken) count halves few read =
     let len = subst (λ (m : Memory). map.len m ≤ length (take count halves)) (sym read) most in
     omega (arith, few, len, taken)
 few_read (Waking job) count halves few read = tt
+few_read (Sleeping job) count halves few read = tt
 few_read (Provisioning job goal) count halves few read = tt
 few_read (Activating job goal) count halves few read = tt
 few_read (Watching job) count halves few read = tt
@@ -80,6 +83,7 @@ stays (Left reason) count halves fits = record { few = omega arith; read = tt; c
 stays (Working (Reading job woken)) count halves fits =
     subst (λ (n : ℕ). Fits (Working (Reading job woken)) n halves) (sym (same_count (halves_of job).settled count fits.counted)) fits
 stays (Working (Waking job)) count halves fits = record { few = omega arith; read = tt; counted = tt }
+stays (Working (Sleeping job)) count halves fits = record { few = omega arith; read = tt; counted = tt }
 stays (Working (Provisioning job goal)) count halves fits = record { few = omega arith; read = tt; counted = tt }
 stays (Working (Activating job goal)) count halves fits = record { few = omega arith; read = tt; counted = tt }
 stays (Working (Watching job)) count halves fits = record { few = omega arith; read = tt; counted = tt }
@@ -115,6 +119,19 @@ reconsidered_known outstanding.Stale port known = known
 reconsidered_known outstanding.Nothing port known = restarted_known port.stage
 reconsidered_known outstanding.Forsaken port known = restarted_known port.stage
 
+-- ---- where a module is heard
+
+pub heard_fits : (presence : Presence) (port : Port) (alive : Bool) (began now count : ℕ) (halves : List HalfBytes) → Fits port.stage count halves →
+    Fits (heard_as presence port alive began now).stage (count_of (heard_as presence port alive began now) count) halves
+heard_fits presences.Plugged port alive began now count halves fits = begins false count halves
+heard_fits presences.Pulled port alive began now count halves fits = absent count halves
+heard_fits presences.Same port alive began now count halves fits = stays port.stage count halves fits
+
+pub heard_known : (presence : Presence) (port : Port) (alive : Bool) (began now : ℕ) → IsKnown port → IsKnown (heard_as presence port alive began now)
+heard_known presences.Plugged port alive began now known = tt
+heard_known presences.Pulled port alive began now known = tt
+heard_known presences.Same port alive began now known = known
+
 -- ---- where a reading goes on
 
 goes_on : (job : Patient (OnPage Halves)) (reply : Reply) (half : Option HalfBytes) → HasHalf half (halves_of job) (halves_after job.conversation.conversation reply).conversation →
@@ -147,6 +164,7 @@ module _ (before : Stage) (reply : Reply) (half : Option HalfBytes) (count : ℕ
       let had : count ≤ (halves_of job).settled = fit.counted in
       omega (arith, short, had)
   room_in (Working (Waking job)) fit by room some = absurd (some by)
+  room_in (Working (Sleeping job)) fit by room some = absurd (some by)
   room_in (Working (Provisioning job goal)) fit by room some = absurd (some by)
   room_in (Working (Activating job goal)) fit by room some = absurd (some by)
   room_in (Working (Watching job)) fit by room some = absurd (some by)
@@ -184,6 +202,7 @@ module _ (before : Stage) (reply : Reply) (half : Option HalfBytes) (count numbe
   fits_after o (Left reason) by is = record { few = omega arith; read = tt; counted = tt }
   fits_after o (Working (Reading job woken)) by is = taken_reading o job woken by is
   fits_after o (Working (Waking job)) by is = record { few = omega arith; read = tt; counted = tt }
+  fits_after o (Working (Sleeping job)) by is = record { few = omega arith; read = tt; counted = tt }
   fits_after o (Working (Provisioning job goal)) by is = record { few = omega arith; read = tt; counted = tt }
   fits_after o (Working (Activating job goal)) by is = record { few = omega arith; read = tt; counted = tt }
   fits_after o (Working (Watching job)) by is = record { few = omega arith; read = tt; counted = tt }

@@ -3,7 +3,7 @@ use Rattle.std.specs.Prelude.{◌≡◌, ◌≤◌, ◌<◌, ◌==◌, ℕ, nat_
 use Rattle.std.specs.FinMap as map
 use Rattle.bus_model.specs.declared.operation.Reply.{Reply}
 use Rattle.port_manager.specs.declared.job.Job.{Job}
-use Rattle.port_manager.specs.declared.job.Job.TheVariants.{Reading, Waking, Provisioning, Activating, Watching}
+use Rattle.port_manager.specs.declared.job.Job.TheVariants.{Reading, Waking, Sleeping, Provisioning, Activating, Watching}
 use Rattle.port_manager.specs.declared.port.Outstanding.{Outstanding}
 use Rattle.port_manager.specs.declared.port.Outstanding.TheVariants.{Nothing, Awaited, Stale, Forsaken}
 use Rattle.port_manager.specs.declared.port.Port.{Port}
@@ -30,6 +30,7 @@ kept_in kept =
 abbrev pub IsCounted : ℕ → Job → Type 0
 IsCounted count (Reading job woken) = count ≤ (halves_of job).settled
 IsCounted count (Waking job) = Unit {0}
+IsCounted count (Sleeping job) = Unit {0}
 IsCounted count (Provisioning job goal) = Unit {0}
 IsCounted count (Activating job goal) = Unit {0}
 IsCounted count (Watching job) = Unit {0}
@@ -57,6 +58,7 @@ count_by settled count = if settled == 0 then 0 else count
 abbrev pub count_at : Job → ℕ → ℕ
 count_at (Reading job woken) count = count_by (halves_of job).settled count
 count_at (Waking job) count = 0
+count_at (Sleeping job) count = 0
 count_at (Provisioning job goal) count = 0
 count_at (Activating job goal) count = 0
 count_at (Watching job) count = 0
@@ -73,6 +75,7 @@ count_of port count = count_in port.stage count
 abbrev pub HasFewHalves : Job → Type 0
 HasFewHalves (Reading job woken) = map.len (halves_of job).image ≤ 5
 HasFewHalves (Waking job) = Unit {0}
+HasFewHalves (Sleeping job) = Unit {0}
 HasFewHalves (Provisioning job goal) = Unit {0}
 HasFewHalves (Activating job goal) = Unit {0}
 HasFewHalves (Watching job) = Unit {0}
@@ -81,6 +84,7 @@ HasFewHalves (Watching job) = Unit {0}
 abbrev pub HasRoom : Job → Type 0
 HasRoom (Reading job woken) = (halves_of job).settled < 5
 HasRoom (Waking job) = ⊥
+HasRoom (Sleeping job) = ⊥
 HasRoom (Provisioning job goal) = ⊥
 HasRoom (Activating job goal) = ⊥
 HasRoom (Watching job) = ⊥
@@ -89,6 +93,7 @@ HasRoom (Watching job) = ⊥
 abbrev pub IsHalfAt : Job → Reply → Option HalfBytes → Type 0
 IsHalfAt (Reading job woken) reply half = HasHalf half (halves_of job) (halves_after job.conversation.conversation reply).conversation
 IsHalfAt (Waking job) reply half = half ≡ None
+IsHalfAt (Sleeping job) reply half = half ≡ None
 IsHalfAt (Provisioning job goal) reply half = half ≡ None
 IsHalfAt (Activating job goal) reply half = half ≡ None
 IsHalfAt (Watching job) reply half = half ≡ None

@@ -1,5 +1,6 @@
 -- What C is told of a port, and tells of what is wanted. (docs/manager.md, "From C"; this project's own)
-use Rattle.std.specs.Prelude.{◌==◌, ℕ, not, Option, Some, None, replicate}
+use Rattle.std.specs.Prelude.{◌==◌, ℕ, false, not, Option, Some, None, replicate}
+use Rattle.std.specs.FinSet as set
 use Rattle.field_tables.specs.LaneSets.{lanes_in}
 use Rattle.paged_memory.specs.declared.key.Half.{Half}
 use Rattle.paged_memory.specs.declared.key.Half.TheVariants.{Lower, Upper}
@@ -8,6 +9,8 @@ use Rattle.port_manager.specs.declared.deciding.Wanted.{Wanted}
 use Rattle.port_manager.specs.declared.port.Port.{Port}
 use Rattle.port_manager.specs.declared.port.PortNext.{PortNext}
 use Rattle.port_manager.specs.declared.port.PortNext.TheVariants.{Do, Until, Busy, Idle}
+use Rattle.port_manager.specs.declared.silence.Presence.{Presence}
+use Rattle.port_manager.specs.declared.silence.Presence.TheVariants.{Same, Plugged, Pulled}
 use Rattle.saved_port.specs.Places.{place_of}
 use Rattle.firmware_api.specs.declared.operation.Operation.{Operation}
 use Rattle.firmware_api.specs.declared.port.next.NextOfPort.{NextOfPort}
@@ -23,7 +26,14 @@ wanted_in wanted = record {
   counts_by_id = not (wanted.counts_by_id == 0);
   max_power = wanted.most_power;
   may_take_down = lanes_in wanted.may_take_down;
+  asleep = false;
+  down = set.empty;
 }
+
+abbrev pub number_of_presence : Presence → ℕ
+number_of_presence Same = 0
+number_of_presence Plugged = 1
+number_of_presence Pulled = 2
 
 abbrev pub no_operation : Operation
 no_operation = record { milliseconds = 0; kind = 0; device = 0; offset = 0; count = 0; bytes = replicate most_stored 0 }

@@ -6,12 +6,12 @@ ghost use Rattle.port_manager.specs.declared.port.Outstanding.TheVariants.{Nothi
 ghost use Rattle.port_manager.specs.declared.port.Port.{Port as Held};
 ghost use Rattle.port_manager.specs.Flags.{no_flags};
 ghost use Rattle.port_manager.specs.Jobs.{IsReplyTo};
-ghost use Rattle.port_manager.specs.Ports.{IsAwaited, IsTaken, absent, acknowledged_to, asked_in, asking, holding, next_at, plugged, pulled, reconsidered};
+ghost use Rattle.port_manager.specs.Ports.{IsAwaited, IsTaken, absent, acknowledged_to, asked_for, asked_in, asking, heard, holding, next_at, plugged, presence_by, pulled, reconsidered};
 ghost use Rattle.saved_port.specs.Outcomes.{AreNumbersOf};
-ghost use Rattle.saved_port.specs.SavedPorts.{times_in};
+ghost use Rattle.saved_port.specs.SavedPorts.{request_in, times_in};
 ghost use Rattle.firmware_api.specs.KeptPorts.{IsKept, IsTakeTold, kept_in, refusal_in};
 ghost use Rattle.firmware_api.specs.Operations.{reply_of};
-ghost use Rattle.firmware_api.specs.PortsTold.{next_told, wanted_in};
+ghost use Rattle.firmware_api.specs.PortsTold.{next_told, number_of_presence, wanted_in};
 ghost use Rattle.firmware_api.specs.SimulatedModules.{is_on};
 ghost use Rattle.firmware_api.specs.Statuses.{done, status_by};
 
@@ -25,8 +25,8 @@ use bus_model::Reply;
 use conversations::can_have;
 use kept::KeptPort;
 use next::NextOfPort;
-use port_manager::{Outstanding, Port, Stage, Times};
-use saved_port::{SavedOutcome, SavedTimes};
+use port_manager::{Outstanding, Port, Presence, Stage, Times};
+use saved_port::{SavedOutcome, SavedTimes, request_in};
 use wanted::PortWanted;
 
 /// Puts an empty port into `port`.
@@ -101,6 +101,55 @@ pub extern "C" fn dovecounter_port_hold(port: &mut KeptPort, hold: u8) -> u32
     held.hold(hold != 0);
     kept::put(&held, port);
     DONE
+}
+
+/// Somebody asks something of the port, by its number and lanes, in place of what was asked before.
+#[unsafe(no_mangle)]
+pub extern "C" fn dovecounter_port_request(port: &mut KeptPort, request: u8, lanes: u8) -> u32
+    ensures status { result ≡ status_by (refusal_in (kept_in port.old)) }
+    ensures asked { (held : Held) → IsKept port.old held → IsKept port.new (asked_for (request_in request lanes) held) }
+    ensures refused { result ≢ done → port.new ≡ port.old }
+{
+    let Some(mut held) = kept::restore(port) else {
+        return NO_CONVERSATION;
+    };
+    held.ask(request_in(request, lanes));
+    kept::put(&held, port);
+    DONE
+}
+
+/// A transaction at the port, which began at a moment, was answered or refused at this one. Puts into `presence` whether the module was
+/// plugged or pulled by that.
+#[unsafe(no_mangle)]
+pub extern "C" fn dovecounter_port_hear(
+    port: &mut KeptPort,
+    answered: u8,
+    began: u64,
+    now: u64,
+    presence: &mut u8,
+) -> u32
+    ensures status { result ≡ status_by (refusal_in (kept_in port.old)) }
+    ensures told { (held : Held) → kept_in port.old ≡ Some held → presence.new ≡ number_of_presence (presence_by held (is_on answered) began now) }
+    ensures heard { (held : Held) → IsKept port.old held → IsKept port.new (heard held (is_on answered) began now) }
+    ensures refused { result ≢ done → (port.new ≡ port.old) × (presence.new ≡ presence.old) }
+{
+    let Some(mut held) = kept::restore(port) else {
+        return NO_CONVERSATION;
+    };
+    let heard = held.hear(answered != 0, began, now);
+    tell(heard, presence);
+    kept::put(&held, port);
+    DONE
+}
+
+fn tell(presence: Presence, number: &mut u8)
+    ensures { number.new ≡ number_of_presence presence }
+{
+    *number = match presence {
+        Presence::Same => 0,
+        Presence::Plugged => 1,
+        Presence::Pulled => 2,
+    };
 }
 
 /// The flags that were last read as raised at this moment or before it are known.

@@ -8,7 +8,7 @@ use Rattle.bus_model.specs.ScriptedBus.{passed_on, ticked_times}
 use Rattle.conversations.specs.declared.on_page.OnPage.{OnPage}
 use Rattle.conversations.specs.declared.pausing.Patience.{Patience}
 use Rattle.port_manager.specs.declared.deciding.Decision.{Decision}
-use Rattle.port_manager.specs.declared.deciding.Decision.TheVariants.{Leave, Wake, Hold, Activate, Provision}
+use Rattle.port_manager.specs.declared.deciding.Decision.TheVariants.{Leave, Wake, Sleep, Hold, Activate, Provision}
 use Rattle.port_manager.specs.declared.deciding.Wanted.{Wanted}
 use Rattle.port_manager.specs.declared.job.Job.{Job}
 use Rattle.port_manager.specs.declared.job.Job.TheVariants as jobs
@@ -23,8 +23,9 @@ use Rattle.port_manager.specs.declared.turn.Turn.TheVariants as turns
 use Rattle.port_manager.specs.Jobs.{IsReplyTo, asked}
 use Rattle.port_manager.specs.Patients.{Paged}
 use Rattle.port_manager.specs.Ports.{IsAwaitedBy, IsTakenBy, IsTurnedIn, answered, asked_in, awaited, noting, outcome_of, plugged, turned}
+use Rattle.port_manager.specs.Requests.{granted}
 use Rattle.port_manager.specs.Progress.{IsGoing, IsGoingOn, IsUpStage, made_in, pauses_by}
-use Rattle.port_manager.specs.Stories.{Story, ask, drop, make, plug, pull, reconsider, acknowledge, hold}
+use Rattle.port_manager.specs.Stories.{Story, ask, drop, make, plug, pull, reconsider, acknowledge, hold, demand, hear}
 use Rattle.port_manager.specs.Standing.{IsWatching}
 use Rattle.port_manager.specs.Turns.{IsTurn, decided, going}
 use Rattle.port_manager.proofs.TurnCases.{Follows, later, pause_of, turn_all}
@@ -45,6 +46,7 @@ decided_linked : (sim : SimModule) (woken : Bool) (patience : Patience) (decisio
 decided_linked sim woken patience (Leave reason) = tt
 decided_linked sim true patience Wake = tt
 decided_linked sim false patience Wake = tt
+decided_linked sim woken patience Sleep = tt
 decided_linked sim woken patience (Hold goal) = tt
 decided_linked sim woken patience (Activate goal) = λ opened. absurd (let same : false ≡ true = opened in cc)
 decided_linked sim woken patience (Provision goal) = λ opened. absurd (let same : false ≡ true = opened in cc)
@@ -52,6 +54,7 @@ decided_linked sim woken patience (Provision goal) = λ opened. absurd (let same
 follows_linked : (sim : SimModule) (wanted : Wanted) (job : Job) (reply : Reply) → Follows (λ turn. IfOn turn (λ job. LinkedJob job sim)) wanted job reply
 follows_linked sim wanted (jobs.Reading job woken) reply = λ decision whole judged. decided_linked sim woken _ decision
 follows_linked sim wanted (jobs.Waking job) reply = λ opened. absurd (let same : false ≡ true = opened in cc)
+follows_linked sim wanted (jobs.Sleeping job) reply = tt
 follows_linked sim wanted (jobs.Provisioning job goal) reply = λ opened. absurd (let same : false ≡ true = opened in cc)
 follows_linked sim wanted (jobs.Activating job goal) reply = tt
 follows_linked sim wanted (jobs.Watching job) reply = tt
@@ -79,6 +82,7 @@ decided_waits : (before : ℕ) (op : Op) (woken : Bool) (patience : Patience) (d
 decided_waits before op woken patience (Leave reason) = tt
 decided_waits before op true patience Wake = tt
 decided_waits before op false patience Wake = tt
+decided_waits before op woken patience Sleep = tt
 decided_waits before op woken patience (Hold goal) = tt
 decided_waits before op woken patience (Activate goal) = tt
 decided_waits before op woken patience (Provision goal) = tt
@@ -86,6 +90,7 @@ decided_waits before op woken patience (Provision goal) = tt
 follows_waits : (before : ℕ) (op : Op) (wanted : Wanted) (job : Job) (reply : Reply) → Follows (Waits before op) wanted job reply
 follows_waits before op wanted (jobs.Reading job woken) reply = λ decision whole judged. decided_waits before op woken _ decision
 follows_waits before op wanted (jobs.Waking job) reply = tt
+follows_waits before op wanted (jobs.Sleeping job) reply = tt
 follows_waits before op wanted (jobs.Provisioning job goal) reply = tt
 follows_waits before op wanted (jobs.Activating job goal) reply = tt
 follows_waits before op wanted (jobs.Watching job) reply = tt
@@ -111,6 +116,7 @@ link_paused paged on count sim link = λ opened.
 job_paused : (job : Job) (count : ℕ) (sim : SimModule) → LinkedJob job sim → LinkedJob job (ticked_times conduct count sim)
 job_paused (jobs.Reading job woken) count sim link = link_paused _ job.conversation.conversation count sim link
 job_paused (jobs.Waking job) count sim link = tt
+job_paused (jobs.Sleeping job) count sim link = tt
 job_paused (jobs.Provisioning job goal) count sim link = link_paused _ job.conversation.conversation count sim link
 job_paused (jobs.Activating job goal) count sim link = link_paused _ job.conversation.conversation count sim link
 job_paused (jobs.Watching job) count sim link = tt
@@ -172,7 +178,7 @@ stage_step : (stage : Stage) (sim : SimModule) (port after : Port) (op : Op) (re
 stage_step stages.Absent sim port after op reply wanted now result has cmis link asks answers gives goes is = absurd (let same = asks in cc)
 stage_step (stages.Left reason) sim port after op reply wanted now result has cmis link asks answers gives goes is = absurd (let same = asks in cc)
 stage_step (stages.Working job) sim port after op reply wanted now result has cmis link asks answers gives goes (turn, leads, outcome, becomes) =
-    turn_step sim wanted job op reply now has cmis link asks answers gives port after turn result leads outcome goes becomes
+    turn_step sim (granted port.request wanted) job op reply now has cmis link asks answers gives port after turn result leads outcome goes becomes
 
 taken_step : (o : Outstanding) (sim : SimModule) (port after : Port) (op : Op) (reply : Reply) (wanted : Wanted) (now : ℕ) (result : Outcome) → HasHalves sim → IsCmisStage port.stage → LinkedStage port.stage sim → awaited port ≡ Some op
     → IsAwaitedBy o port reply → reply ≡ (passed_on conduct op sim).0 → IsGoing result → IsTakenBy o port reply wanted now result after
@@ -205,10 +211,15 @@ runs_reached port later sim after (plug now ∷ before) holds ran goes = absurd 
 runs_reached port later sim after (pull ∷ before) holds ran goes = absurd goes
 runs_reached port later sim after (reconsider ∷ before) holds ran goes = absurd goes
 runs_reached port later sim after (hold held ∷ before) holds ran goes = absurd goes
+runs_reached port later sim after (demand request ∷ before) holds ran goes = absurd goes
 runs_reached port later sim after (acknowledge past ∷ before) holds (between, then_sim, ran, cmis, is, same) goes =
     let reached = runs_reached port between sim then_sim before holds ran goes in
     let e = ap (λ (port : Port). port.stage) is in
     idle_reached port between later before (acknowledge past ∷ before) then_sim after reached e (same_holds between.stage later.stage then_sim after e same reached.0) refl refl
+runs_reached port later sim after (hear alive began ∷ before) holds (between, then_sim, ran, cmis, is, same) goes =
+    let reached = runs_reached port between sim then_sim before holds ran goes in
+    let e = ap (λ (port : Port). port.stage) is in
+    idle_reached port between later before (hear alive began ∷ before) then_sim after reached e (same_holds between.stage later.stage then_sim after e same reached.0) refl refl
 runs_reached port later sim after (ask op moment ∷ before) holds (between, then_sim, ran, cmis, (asks, is), (count, same)) goes =
     let reached = runs_reached port between sim then_sim before holds ran goes in
     let e = ap (λ (port : Port). port.stage) is in

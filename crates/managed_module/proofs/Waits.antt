@@ -52,7 +52,7 @@ use Rattle.port_manager.specs.declared.job.Job.{Job}
 use Rattle.port_manager.specs.declared.job.Job.TheVariants as jobs
 use Rattle.port_manager.specs.Jobs.{asked, paged_halves, paged_tasks, procedure_after, procedure_wants, reading_after, reading_wants, waking_after, waking_wants}
 use Rattle.port_manager.specs.Patients.{Patient, after_on, wants_on}
-use Rattle.port_manager.proofs.LeftLaws.{halves_counted, left_at_stage, left_of_halves, left_of_power, left_of_tasks, region_wanted, task_wanted, tasks_counted}
+use Rattle.port_manager.proofs.LeftLaws.{halves_counted, left_at_stage, left_of_halves, left_of_power, left_of_tasks, left_of_waking, region_wanted, task_wanted, tasks_counted}
 use Rattle.port_manager.specs.Standing.{IsWatching}
 use Rattle.port_manager.proofs.PageProgress.{InVain, left_of, patient_or_vain}
 use Rattle.port_manager.proofs.PatientLaws.{asked_on, asked_within, kept_within}
@@ -326,13 +326,13 @@ power_a0 power (stage.Found byte) None op wants = let same : set_controls (wante
 power_a0 power stage.Stored None op wants = let same : read_module_state ≡ op = cc in subst IsOnA0 same tt
 
 pub waking_waits : (sim : SimModule) (job : PatientPower) (op : Op) (reply : Reply) → HasHalves sim → op_of (waking_wants job) ≡ Some op → Answers op reply → reply ≡ reply_of sim op
-    → (left (jobs.Waking (waking_after job reply)) + 1 ≤ left (jobs.Waking job)) ⊎ (reads_state op ≡ true)
+    → (left_of_waking (waking_after job reply) + 1 ≤ left_of_waking job) ⊎ (reads_state op ≡ true)
 waking_waits sim job op reply has asks answers gives =
     let change = job.conversation.conversation in
     let wants = asked_within power_wants job op asks in
     let answered : reply ≡ Refused → ⊥ = λ is. not_refused sim op has (power_a0 change.power change.stage change.fault op wants) (sym gives ∙ is) in
     by (power_reads change.power change.stage change.fault op reply wants answers answered) where
-      by : (left_of_power (change_after job.conversation.conversation reply) + 1 ≤ left_of_power job.conversation.conversation) ⊎ (reads_state op ≡ true) → (left (jobs.Waking (waking_after job reply)) + 1 ≤ left (jobs.Waking job)) ⊎ (reads_state op ≡ true)
+      by : (left_of_power (change_after job.conversation.conversation reply) + 1 ≤ left_of_power job.conversation.conversation) ⊎ (reads_state op ≡ true) → (left_of_waking (waking_after job reply) + 1 ≤ left_of_waking job) ⊎ (reads_state op ≡ true)
       by (inl nearer) =
           let same : left_of_power (waking_after job reply).conversation.conversation ≡ left_of_power (change_after job.conversation.conversation reply) =
           kept_within (λ after. left_of_power after ≡ left_of_power (change_after job.conversation.conversation reply)) power_wants change_after job reply refl in
@@ -344,6 +344,7 @@ waking_waits sim job op reply has asks answers gives =
 abbrev pub LinkedJob : Job → SimModule → Type 0
 LinkedJob (jobs.Reading job woken) sim = Link paged_halves job.conversation.conversation sim
 LinkedJob (jobs.Waking job) sim = Unit {0}
+LinkedJob (jobs.Sleeping job) sim = Unit {0}
 LinkedJob (jobs.Provisioning job goal) sim = Link paged_tasks job.conversation.conversation sim
 LinkedJob (jobs.Activating job goal) sim = Link paged_tasks job.conversation.conversation sim
 LinkedJob (jobs.Watching job) sim = Unit {0}
@@ -352,12 +353,17 @@ none_more : (more before : ℕ) (P : Type 0) → (more + 0 + 1 ≤ before + 0) �
 none_more more before P (inl nearer) = inl (omega (arith, nearer))
 none_more more before P (inr p) = inr p
 
+some_more : (more before n : ℕ) (P : Type 0) → (more + 1 ≤ before) ⊎ P → (more + n + 1 ≤ before + n) ⊎ P
+some_more more before n P (inl nearer) = inl (omega (arith, nearer))
+some_more more before n P (inr p) = inr p
+
 -- it comes nearer to its end, or reads a state
 pub job_waits : (sim : SimModule) (job : Job) (op : Op) (reply : Reply) → HasHalves sim → IsCmisJob job → LinkedJob job sim → ¬ (IsWatching job) → asked job ≡ Some op → Answers op reply → reply ≡ reply_of sim op
     → (left (later job reply) + 1 ≤ left job) ⊎ (reads_state op ≡ true)
 job_waits sim (jobs.Reading job true) op reply has cmis link stays asks answers gives = inl (reading_nearer sim has job op reply asks answers gives cmis link)
 job_waits sim (jobs.Reading job false) op reply has cmis link stays asks answers gives = inl (omega (arith, reading_nearer sim has job op reply asks answers gives cmis link))
-job_waits sim (jobs.Waking job) op reply has cmis link stays asks answers gives = waking_waits sim job op reply has asks answers gives
+job_waits sim (jobs.Waking job) op reply has cmis link stays asks answers gives = some_more _ _ 45 (reads_state op ≡ true) (waking_waits sim job op reply has asks answers gives)
+job_waits sim (jobs.Sleeping job) op reply has cmis link stays asks answers gives = waking_waits sim job op reply has asks answers gives
 job_waits sim (jobs.Provisioning job goal) op reply has cmis link stays asks answers gives = procedure_waits sim has job op reply asks answers gives link 10
 job_waits sim (jobs.Activating job goal) op reply has cmis link stays asks answers gives = none_more _ _ (reads_state op ≡ true) (procedure_waits sim has job op reply asks answers gives link 0)
 job_waits sim (jobs.Watching job) op reply has cmis link stays asks answers gives = absurd (stays tt)
@@ -366,6 +372,7 @@ pub job_linked : (sim : SimModule) (job : Job) (op : Op) (reply : Reply) → Has
     → LinkedJob (later job reply) (ticked (passed_on conduct op sim).1)
 job_linked sim (jobs.Reading job woken) op reply has cmis link asks answers gives = reading_linked sim has job op reply asks answers gives cmis link
 job_linked sim (jobs.Waking job) op reply has cmis link asks answers gives = tt
+job_linked sim (jobs.Sleeping job) op reply has cmis link asks answers gives = tt
 job_linked sim (jobs.Provisioning job goal) op reply has cmis link asks answers gives = procedure_linked sim has job op reply asks answers gives link
 job_linked sim (jobs.Activating job goal) op reply has cmis link asks answers gives = procedure_linked sim has job op reply asks answers gives link
 job_linked sim (jobs.Watching job) op reply has cmis link asks answers gives = tt

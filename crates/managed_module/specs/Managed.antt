@@ -14,7 +14,7 @@ use Rattle.paged_memory.specs.Keys.{lower_key, upper_key}
 use Rattle.control_sets.specs.OutcomeOperations.{read_module_state, read_path_states, read_statuses}
 use Rattle.module_reading.specs.Regions.{identifier}
 use Rattle.port_manager.specs.declared.job.Job.{Job}
-use Rattle.port_manager.specs.declared.job.Job.TheVariants.{Reading, Waking, Provisioning, Activating, Watching}
+use Rattle.port_manager.specs.declared.job.Job.TheVariants.{Reading, Waking, Sleeping, Provisioning, Activating, Watching}
 use Rattle.port_manager.specs.declared.port.Outcome.{Outcome}
 use Rattle.port_manager.specs.declared.port.Port.{Port}
 use Rattle.port_manager.specs.declared.port.Stage.{Stage}
@@ -22,7 +22,7 @@ use Rattle.port_manager.specs.declared.port.Stage.TheVariants as stages
 use Rattle.port_manager.specs.Ports.{plugged}
 use Rattle.port_manager.specs.Progress.{IsGoingOn, IsUpStage, made_in, pauses_by}
 use Rattle.port_manager.specs.Runs.{Becomes}
-use Rattle.port_manager.specs.Stories.{Event, Story, plug, pull, reconsider, acknowledge, ask, make, drop, hold}
+use Rattle.port_manager.specs.Stories.{Event, Story, plug, pull, reconsider, acknowledge, ask, make, drop, hold, demand, hear}
 use Rattle.sim_module.specs.declared.module.SimModule.{SimModule}
 use Rattle.sim_module.specs.Modules.{conduct}
 use Rattle.sim_module.specs.Ticks.{ticked}
@@ -43,7 +43,9 @@ waits_in (plug now ∷ before) = waits_in before
 waits_in (pull ∷ before) = waits_in before
 waits_in (reconsider ∷ before) = waits_in before
 waits_in (hold held ∷ before) = waits_in before
+waits_in (demand request ∷ before) = waits_in before
 waits_in (acknowledge past ∷ before) = waits_in before
+waits_in (hear alive began ∷ before) = waits_in before
 waits_in (ask op moment ∷ before) = waits_in before
 waits_in (make op reply wanted now result ∷ before) = waits_in before + waits_by op result
 waits_in (drop ∷ before) = waits_in before
@@ -67,7 +69,9 @@ Answered (plug now) sim after = after ≡ sim
 Answered pull sim after = after ≡ sim
 Answered reconsider sim after = after ≡ sim
 Answered (hold held) sim after = after ≡ sim
+Answered (demand request) sim after = after ≡ sim
 Answered (acknowledge past) sim after = after ≡ sim
+Answered (hear alive began) sim after = after ≡ sim
 Answered (ask op moment) sim after = (count : ℕ) × (after ≡ ticked_times conduct count sim)
 Answered (make op reply wanted now result) sim after = (reply ≡ (passed_on conduct op sim).0) × (after ≡ ticked (passed_on conduct op sim).1)
 Answered drop sim after = after ≡ sim
@@ -82,6 +86,7 @@ IsCmisFamily (Some Sff8472) = ⊥
 abbrev pub IsCmisJob : Job → Type 0
 IsCmisJob (Reading job woken) = IsCmisFamily (managed_by (identifier job.conversation.conversation.conversation.image))
 IsCmisJob (Waking job) = Unit {0}
+IsCmisJob (Sleeping job) = Unit {0}
 IsCmisJob (Provisioning job goal) = Unit {0}
 IsCmisJob (Activating job goal) = Unit {0}
 IsCmisJob (Watching job) = Unit {0}

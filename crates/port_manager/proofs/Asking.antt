@@ -20,7 +20,7 @@ use Rattle.module_reading.specs.ImageReading as reader
 use Rattle.module_reading.specs.Regions.{everything}
 use Rattle.module_reading.proofs.RegionLaws.{asked_of_nothing}
 use Rattle.port_manager.specs.declared.deciding.Decision.{Decision}
-use Rattle.port_manager.specs.declared.deciding.Decision.TheVariants.{Leave, Wake, Hold, Activate, Provision}
+use Rattle.port_manager.specs.declared.deciding.Decision.TheVariants.{Leave, Wake, Sleep, Hold, Activate, Provision}
 use Rattle.port_manager.specs.declared.deciding.Wanted.{Wanted}
 use Rattle.port_manager.specs.declared.job.Job.{Job}
 use Rattle.port_manager.specs.declared.job.Job.TheVariants as jobs
@@ -37,8 +37,9 @@ use Rattle.port_manager.specs.Flags.{no_flags}
 use Rattle.port_manager.specs.Jobs.{asked, reading}
 use Rattle.port_manager.specs.Ports.{IfWorking, IsRestartedIn, IsTakenBy, IsTurnedIn, absent, answered, begun_in, next_in, next_of, next_when, noting, reconsidered_by, turned, vain_after}
 use Rattle.port_manager.specs.Progress.{NeverStops}
+use Rattle.port_manager.specs.Requests.{granted}
 use Rattle.port_manager.specs.Runs.{Becomes, Runs}
-use Rattle.port_manager.specs.Stories.{Event, Story, ask, drop, make, plug, pull, reconsider, acknowledge, hold}
+use Rattle.port_manager.specs.Stories.{Event, Story, ask, drop, make, plug, pull, reconsider, acknowledge, hold, demand, hear}
 use Rattle.port_manager.specs.Turns.{IsTurn, decided}
 use Rattle.port_manager.proofs.TurnCases.{Follows, later, pause_of, turn_all}
 use Rattle.port_manager.proofs.TurnLaws.{IfOn, on_going}
@@ -61,6 +62,7 @@ decided_asks : (woken : Bool) (patience : Patience) (decision : Decision) → If
 decided_asks woken patience (Leave reason) = tt
 decided_asks true patience Wake = tt
 decided_asks false patience Wake = (_, refl)
+decided_asks woken patience Sleep = (_, refl)
 decided_asks woken patience (Hold goal) = (_, refl)
 decided_asks woken patience (Activate goal) = (_, refl)
 decided_asks woken patience (Provision goal) = (_, refl)
@@ -68,6 +70,7 @@ decided_asks woken patience (Provision goal) = (_, refl)
 follows_asks : (wanted : Wanted) (job : Job) (reply : Reply) → Follows (λ turn. IfOn turn Asks) wanted job reply
 follows_asks wanted (jobs.Reading job woken) reply = λ decision whole judged. decided_asks woken _ decision
 follows_asks wanted (jobs.Waking job) reply = begun_asks true
+follows_asks wanted (jobs.Sleeping job) reply = tt
 follows_asks wanted (jobs.Provisioning job goal) reply = (_, refl)
 follows_asks wanted (jobs.Activating job goal) reply = (_, refl)
 follows_asks wanted (jobs.Watching job) reply = (_, refl)
@@ -91,7 +94,7 @@ turned_in_asks : (stage : Stage) (port : Port) (reply : Reply) (wanted : Wanted)
 turned_in_asks stages.Absent port reply wanted now result after asks (gives, is) = subst (λ (after : Port). StageAsks after.stage) (sym is) asks
 turned_in_asks (stages.Left reason) port reply wanted now result after asks (gives, is) = subst (λ (after : Port). StageAsks after.stage) (sym is) asks
 turned_in_asks (stages.Working job) port reply wanted now result after asks (turn, leads, gives, is) =
-    subst (λ (after : Port). StageAsks after.stage) (sym is) (turned_asks (noting (answered port) (asked job) reply now) turn now (turn_asks wanted reply job turn leads))
+    subst (λ (after : Port). StageAsks after.stage) (sym is) (turned_asks (noting (answered port) (asked job) reply now) turn now (turn_asks (granted port.request wanted) reply job turn leads))
 
 restarted_in_asks : (stage : Stage) (port : Port) (reply : Reply) (now : ℕ) (result : Outcome) (after : Port) → StageAsks port.stage → IsRestartedIn stage port reply now result after → StageAsks after.stage
 restarted_in_asks stages.Absent port reply now result after asks (gives, is) = subst (λ (after : Port). StageAsks after.stage) (sym is) asks
@@ -120,7 +123,9 @@ event_asks port after (plug now) asks is = subst (λ (after : Port). StageAsks a
 event_asks port after pull asks is = subst (λ (after : Port). StageAsks after.stage) (sym is) tt
 event_asks port after reconsider asks is = subst (λ (after : Port). StageAsks after.stage) (sym is) (reconsidered_asks port.outstanding (record port { vain = false }) asks)
 event_asks port after (hold held) asks is = subst (λ (after : Port). StageAsks after.stage) (sym is) (reconsidered_asks port.outstanding (record port { vain = false; held = held }) asks)
+event_asks port after (demand request) asks is = subst (λ (after : Port). StageAsks after.stage) (sym is) (reconsidered_asks port.outstanding (record port { vain = false; request = request }) asks)
 event_asks port after (acknowledge past) asks is = subst (λ (after : Port). StageAsks after.stage) (sym is) asks
+event_asks port after (hear alive began) asks is = subst (λ (after : Port). StageAsks after.stage) (sym is) asks
 event_asks port after (ask op moment) asks (does, is) = subst (λ (after : Port). StageAsks after.stage) (sym is) asks
 event_asks port after (make op reply wanted now result) asks (waited, wants, answers, is) = taken_asks port.outstanding port reply wanted now result after asks is
 event_asks port after drop asks (forsaken, is) = subst (λ (after : Port). StageAsks after.stage) (sym is) asks

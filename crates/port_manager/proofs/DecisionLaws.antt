@@ -22,7 +22,7 @@ is_three : (code : ℕ) → code ≡ 3 → (code == 3) ≡ true
 is_three code e = ap (λ (code : ℕ). code == 3) e
 
 pub ready_judged : (wanted : Wanted) (image : Memory) (page : List ℕ) (goal : Goal) (decision : Decision) → number image CModuleState ≡ 3 → page_of_lanes image ≡ Some page
-    → HasGoal (advert_of wanted image) wanted page goal → decision ≡ judged_by wanted.may_take_down page goal → IsDecisionIn wanted image (number image CModuleState == 3) decision
+    → HasGoal (advert_of wanted image) wanted page goal → decision ≡ judged_by wanted page goal → IsDecisionIn wanted image (number image CModuleState == 3) decision
 ready_judged wanted image page goal decision ready there has is =
     subst (λ (ready : Bool). IsDecisionIn wanted image ready decision) (sym (is_three (number image CModuleState) ready))
     (subst (λ (found : Option (List ℕ)). IsJudged wanted image found decision) (sym there) (goal, has, is))

@@ -16,7 +16,7 @@ use Rattle.port_manager.specs.declared.flags.FlagKeeper.{FlagKeeper}
 use Rattle.port_manager.specs.declared.port.Outcome.{Outcome}
 use Rattle.port_manager.specs.Flags.{counted, counted_at, counts_since, dated, dated_at, flags_by, is_raised, last_since, noted, since_at}
 use Rattle.port_manager.specs.KeptFlags.{IsHeld, IsUnacknowledged, NoFlagIsLost, ShowsLane, ShowsModule}
-use Rattle.port_manager.specs.Stories.{Story, acknowledge, ask, drop, keeper_in, make, plug, pull, reconsider, hold}
+use Rattle.port_manager.specs.Stories.{Story, acknowledge, ask, drop, keeper_in, make, plug, pull, reconsider, hold, demand, hear}
 
 -- ---- one list of counts and one of moments
 
@@ -125,6 +125,8 @@ module_held (plug moment ∷ more) before op reply wanted now result place withi
 module_held (pull ∷ more) before op reply wanted now result place within shows unknown = module_held more before op reply wanted now result place within shows unknown
 module_held (reconsider ∷ more) before op reply wanted now result place within shows unknown = module_held more before op reply wanted now result place within shows unknown
 module_held (hold held ∷ more) before op reply wanted now result place within shows unknown = module_held more before op reply wanted now result place within shows unknown
+module_held (hear alive began ∷ more) before op reply wanted now result place within shows unknown = module_held more before op reply wanted now result place within shows unknown
+module_held (demand request ∷ more) before op reply wanted now result place within shows unknown = module_held more before op reply wanted now result place within shows unknown
 module_held (ask asked moment ∷ more) before op reply wanted now result place within shows unknown = module_held more before op reply wanted now result place within shows unknown
 module_held (drop ∷ more) before op reply wanted now result place within shows unknown = module_held more before op reply wanted now result place within shows unknown
 module_held (acknowledge past ∷ more) before op reply wanted now result place within shows unknown =
@@ -140,6 +142,8 @@ lane_held (plug moment ∷ more) before op reply wanted now result place within 
 lane_held (pull ∷ more) before op reply wanted now result place within shows unknown = lane_held more before op reply wanted now result place within shows unknown
 lane_held (reconsider ∷ more) before op reply wanted now result place within shows unknown = lane_held more before op reply wanted now result place within shows unknown
 lane_held (hold held ∷ more) before op reply wanted now result place within shows unknown = lane_held more before op reply wanted now result place within shows unknown
+lane_held (hear alive began ∷ more) before op reply wanted now result place within shows unknown = lane_held more before op reply wanted now result place within shows unknown
+lane_held (demand request ∷ more) before op reply wanted now result place within shows unknown = lane_held more before op reply wanted now result place within shows unknown
 lane_held (ask asked moment ∷ more) before op reply wanted now result place within shows unknown = lane_held more before op reply wanted now result place within shows unknown
 lane_held (drop ∷ more) before op reply wanted now result place within shows unknown = lane_held more before op reply wanted now result place within shows unknown
 lane_held (acknowledge past ∷ more) before op reply wanted now result place within shows unknown =

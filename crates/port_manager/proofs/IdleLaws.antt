@@ -10,7 +10,6 @@ use Rattle.conversations.specs.declared.pausing.Timed.{Timed}
 use Rattle.conversations.specs.declared.within.Spent.{Spent}
 use Rattle.control_sets.specs.Durations.{patience_for}
 use Rattle.field_tables.specs.declared.field.Field.TheVariants.{CModuleState}
-use Rattle.field_tables.specs.LaneSets.{is_empty}
 use Rattle.field_tables.specs.Readings.{number}
 use Rattle.paged_memory.specs.Images.{Memory}
 use Rattle.module_reading.specs.declared.halves.Halves.{Halves}
@@ -29,14 +28,15 @@ use Rattle.port_manager.specs.declared.port.Stage.{Stage}
 use Rattle.port_manager.specs.declared.port.Stage.TheVariants as stages
 use Rattle.port_manager.specs.declared.turn.Turn.{Turn}
 use Rattle.port_manager.specs.declared.turn.Turn.TheVariants as turns
-use Rattle.port_manager.specs.Decisions.{IsDecision, IsDecisionIn, IsJudged, if_permitted}
+use Rattle.port_manager.specs.Decisions.{IsDecision, IsDecisionFor, IsDecisionIn, IsJudged, has_no_plan, if_permitted}
 use Rattle.port_manager.specs.Goals.{are_up, has_all, may_activate, may_provision}
 use Rattle.port_manager.specs.Idle.{IsCalm, IsCalmOutcome, IsUp, LeavesWhatIsUp}
 use Rattle.port_manager.specs.Jobs.{asked, reading_after, reading_wants}
 use Rattle.port_manager.specs.Patients.{Patient}
 use Rattle.port_manager.specs.Ports.{IfWorking, IsTakenBy, IsTurnedIn, answered, noting, outcome_of, turned}
+use Rattle.port_manager.specs.Requests.{granted}
 use Rattle.port_manager.specs.Runs.{Becomes, Runs}
-use Rattle.port_manager.specs.Stories.{Event, Story, ask, drop, make, plug, pull, reconsider, acknowledge, hold}
+use Rattle.port_manager.specs.Stories.{Event, Story, ask, drop, make, plug, pull, reconsider, acknowledge, hold, demand, hear}
 use Rattle.port_manager.specs.Readings.{IsWhole}
 use Rattle.port_manager.specs.Standing.{IsWatching}
 use Rattle.port_manager.specs.Turns.{GoesTo, IsRead, IsTurn, decided, going}
@@ -57,7 +57,7 @@ held_by goal activate provision none has up e f g = ap (λ (none : Bool). if non
 judged_holds : (wanted : Wanted) (image : Memory) (decision : Decision) (up : IsUp wanted image) → IsJudged wanted image (Some up.page) decision → IsHolding decision
 judged_holds wanted image decision up (goal, has, is) =
     let shows = up.each goal has in
-    (goal, is ∙ held_by goal (if_permitted (may_activate up.page goal.lanes wanted.may_take_down) (Activate goal)) (if_permitted (may_provision up.page goal.outside wanted.may_take_down) (Provision goal)) (is_empty goal.lanes) (has_all up.page goal.control) (are_up up.page goal.control goal.lanes) shows.some shows.has shows.up)
+    (goal, is ∙ held_by goal (if_permitted (may_activate up.page goal.lanes wanted.may_take_down) (Activate goal)) (if_permitted (may_provision up.page goal.outside wanted.may_take_down) (Provision goal)) (has_no_plan wanted goal) (has_all up.page goal.control) (are_up up.page goal.control goal.lanes) shows.some shows.has shows.up)
 
 in_holds : (wanted : Wanted) (image : Memory) (decision : Decision) (up : IsUp wanted image) → IsDecisionIn wanted image (number image CModuleState == 3) decision → IsHolding decision
 in_holds wanted image decision up is =
@@ -68,7 +68,8 @@ in_holds wanted image decision up is =
 holds : (wanted : Wanted) (image : Memory) (decision : Decision) → IsUp wanted image → IsDecision wanted image decision → IsHolding decision
 holds wanted image decision up is =
     in_holds wanted image decision up
-    (subst (λ (fault : Option AdvertFault). MatchOption fault (IsDecisionIn wanted image (number image CModuleState == 3) decision) (λ fault. decision ≡ Leave (Advert fault))) up.advertised is)
+    (subst (λ (fault : Option AdvertFault). MatchOption fault (IsDecisionIn wanted image (number image CModuleState == 3) decision) (λ fault. decision ≡ Leave (Advert fault))) up.advertised
+    (subst (λ (asleep : Bool). IsDecisionFor asleep wanted image decision) up.awake is))
 
 abbrev Watches : Turn → Type 0
 Watches (turns.On job note) = IsWatching job
@@ -127,6 +128,7 @@ going_watches port now (Some time) job watches = λ calm. watches
 job_watches : (port : Port) (wanted : Wanted) (job : Job) (reply : Reply) (turn : Turn) (now : ℕ) → IsWatching job → IsTurn wanted job reply turn → CalmWatches port now turn
 job_watches port wanted (jobs.Reading job woken) reply turn now watching is = absurd watching
 job_watches port wanted (jobs.Waking job) reply turn now watching is = absurd watching
+job_watches port wanted (jobs.Sleeping job) reply turn now watching is = absurd watching
 job_watches port wanted (jobs.Provisioning job goal) reply turn now watching is = absurd watching
 job_watches port wanted (jobs.Activating job goal) reply turn now watching is = absurd watching
 job_watches port wanted (jobs.Watching job) reply turn now watching is =
@@ -141,7 +143,7 @@ turned_settles (stages.Left reason) port reply wanted now result after e watchin
     subst IsSettled (sym is) (subst (λ (stage : Stage). IfWorking stage IsWatching) (sym e) tt, tt)
 turned_settles (stages.Working job) port reply wanted now result after e watching calm (turn, leads, gives, is) =
     subst IsSettled (sym is)
-    (settled_by (noting (answered port) (asked job) reply now) turn now refl (job_watches port wanted job reply turn now watching leads (subst IsCalmOutcome gives calm)))
+    (settled_by (noting (answered port) (asked job) reply now) turn now refl (job_watches port (granted port.request wanted) job reply turn now watching leads (subst IsCalmOutcome gives calm)))
 
 taken_settles : (o : Outstanding) (port : Port) (reply : Reply) (wanted : Wanted) (now : ℕ) (result : Outcome) (after : Port) → IfWorking port.stage IsWatching → IsFresh o → IsCalmOutcome result
     → IsTakenBy o port reply wanted now result after → IsSettled after
@@ -155,7 +157,9 @@ becomes_settled port after (plug now) before settled calm is = absurd calm
 becomes_settled port after pull before settled calm is = absurd calm
 becomes_settled port after reconsider before settled calm is = absurd calm
 becomes_settled port after (hold held) before settled calm is = absurd calm
+becomes_settled port after (demand request) before settled calm is = absurd calm
 becomes_settled port after (acknowledge past) before settled calm is = subst IsSettled (sym is) settled
+becomes_settled port after (hear alive began) before settled calm is = subst IsSettled (sym is) settled
 becomes_settled port after (ask op moment) before settled calm (asks, is) = subst IsSettled (sym is) (settled.0, tt)
 becomes_settled port after (make op reply wanted now result) before settled calm (waited, asks, answers, is) =
     taken_settles port.outstanding port reply wanted now result after settled.0 settled.1 calm.0 is
@@ -166,7 +170,9 @@ calm_before (plug now) before calm = absurd calm
 calm_before pull before calm = absurd calm
 calm_before reconsider before calm = absurd calm
 calm_before (hold held) before calm = absurd calm
+calm_before (demand request) before calm = absurd calm
 calm_before (acknowledge past) before calm = calm
+calm_before (hear alive began) before calm = calm
 calm_before (ask op moment) before calm = calm
 calm_before (make op reply wanted now result) before calm = calm.1
 calm_before drop before calm = calm
@@ -177,10 +183,10 @@ runs_settled port after (event ∷ before) settled calm (between, ran, is) =
     becomes_settled between after event before (runs_settled port between before settled (calm_before event before calm) ran) calm is
 
 reading_settles : (port between : Port) (job : Patient (OnPage Halves)) (woken : Bool) (reply : Reply) (wanted : Wanted) (now : ℕ) (result : Outcome) → IsWhole (reading_wants (reading_after job reply))
-    → IsUp wanted (reading_after job reply).conversation.conversation.conversation.image → IsTurnedIn (stages.Working (jobs.Reading job woken)) port reply wanted now result between → IsSettled between
+    → IsUp (granted port.request wanted) (reading_after job reply).conversation.conversation.conversation.image → IsTurnedIn (stages.Working (jobs.Reading job woken)) port reply wanted now result between → IsSettled between
 reading_settles port between job woken reply wanted now result ends up (turn, leads, gives, is) =
     subst IsSettled (sym is)
-    (settled_by (noting (answered port) (asked (jobs.Reading job woken)) reply now) turn now refl (reading_watches wanted woken job reply turn ends up leads))
+    (settled_by (noting (answered port) (asked (jobs.Reading job woken)) reply now) turn now refl (reading_watches (granted port.request wanted) woken job reply turn ends up leads))
 
 pub leaves_what_is_up : LeavesWhatIsUp
 leaves_what_is_up port between after job woken reply wanted now moment result more op waits reads ends up is ran calm asks =

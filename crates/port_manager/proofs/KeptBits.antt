@@ -14,7 +14,7 @@ use Rattle.applications.specs.Advertised.{Advertised}
 use Rattle.plan_certificate.specs.declared.path.Path.{Path}
 use Rattle.port_manager.specs.declared.deciding.Goal.{Goal}
 use Rattle.port_manager.specs.declared.deciding.Wanted.{Wanted}
-use Rattle.port_manager.specs.Goals.{IsGoalBy, is_kept, kept_of}
+use Rattle.port_manager.specs.Goals.{IsGoalBy, is_kept, kept_of, wanted_of}
 use Rattle.port_manager.proofs.ReleasedBits.{in_plan, released}
 use Rattle.port_manager.specs.Stores.{IsStoreOf}
 
@@ -42,15 +42,15 @@ and_false false = refl
 
 -- a lane of a kept path is not among the others
 not_outside : (advert : Advertised) (wanted : Wanted) (page : List ℕ) (plan : List Path) (goal : Goal) (lane : ℕ) → IsGoalBy advert wanted page plan goal
-    → is_taken advert (kept_of advert page goal.control plan) lane ≡ true → set.contains goal.outside lane ≡ false
+    → is_taken advert (kept_of advert page goal.control (wanted_of advert wanted.down plan)) lane ≡ true → set.contains goal.outside lane ≡ false
 not_outside advert wanted page plan goal lane is taken =
     ap (λ (lanes : Lanes). set.contains lanes lane) is.outside
-    ∙ contains_outside advert (kept_of advert page goal.control plan) lane
+    ∙ contains_outside advert (kept_of advert page goal.control (wanted_of advert wanted.down plan)) lane
     ∙ ap (λ (taken : Bool). set.contains every_lane lane && not taken) taken
     ∙ and_false (set.contains every_lane lane)
 
 pub kept_clear : (advert : Advertised) (wanted : Wanted) (page : List ℕ) (plan : List Path) (goal : Goal) (op : Op) (bits lane : ℕ) → IsGoalBy advert wanted page plan goal
-    → is_taken advert (kept_of advert page goal.control plan) lane ≡ true → IsStoreOf goal op → Sets bits op → IsLane lane → Clear goal op bits lane
+    → is_taken advert (kept_of advert page goal.control (wanted_of advert wanted.down plan)) lane ≡ true → IsStoreOf goal op → Sets bits op → IsLane lane → Clear goal op bits lane
 kept_clear advert wanted page plan goal op bits lane is taken (inl deinit) sets within =
     clear_by goal op bits lane (deinit_bits op bits (byte_of goal.outside) deinit sets) within (not_outside advert wanted page plan goal lane is taken)
 kept_clear advert wanted page plan goal op bits lane is taken (inr (inl staged)) sets within = absurd (staged_bits op bits goal.control staged sets)
@@ -58,4 +58,4 @@ kept_clear advert wanted page plan goal op bits lane is taken (inr (inr (inl app
     clear_by goal op bits lane (apply_bits op bits (byte_of goal.outside) applies sets) within (not_outside advert wanted page plan goal lane is taken)
 kept_clear advert wanted page plan goal op bits lane is taken (inr (inr (inr release))) sets within =
     ap (λ (byte : ℕ). set.contains (lanes_in byte) lane) (deinit_bits op bits (255 - byte_of goal.lanes) release sets)
-    ∙ released goal.lanes lane within (in_plan advert (is_kept advert page goal.control) plan goal.lanes lane is.lanes within taken)
+    ∙ released goal.lanes lane within (in_plan advert (is_kept advert page goal.control) (wanted_of advert wanted.down plan) goal.lanes lane is.lanes within taken)

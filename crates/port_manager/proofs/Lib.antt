@@ -17,3 +17,6 @@ pub mod OneDecision
 pub mod ReleasedBits
 pub mod KeptBits
 pub mod PermissionLaws
+pub mod PresenceLaws
+pub mod RestLaws
+pub mod DownLaws

@@ -18,8 +18,8 @@ use Rattle.port_manager.specs.declared.deciding.Decision.TheVariants.{Leave}
 use Rattle.port_manager.specs.declared.deciding.Goal.{Goal}
 use Rattle.port_manager.specs.declared.deciding.LeftBecause.TheVariants.{Advert}
 use Rattle.port_manager.specs.declared.deciding.Wanted.{Wanted}
-use Rattle.port_manager.specs.Decisions.{IsDecision, IsDecisionIn, IsJudged, judged_by, page_of_lanes}
-use Rattle.port_manager.specs.Goals.{HasGoal, IsGoalBy, advert_of, conventions_of, kept_of}
+use Rattle.port_manager.specs.Decisions.{IsDecision, IsDecisionFor, IsDecisionIn, IsJudged, judged_by, page_of_lanes, sleep_within}
+use Rattle.port_manager.specs.Goals.{HasGoal, IsGoalBy, advert_of, conventions_of, kept_of, wanted_of}
 
 one_plan : (advert : Advertised) (wanted : Wanted) (page : List ℕ) (plan other : List Path) (goal also : Goal) → IsGoalBy advert wanted page plan goal → IsGoalBy advert wanted page other also → plan ≡ other
 one_plan advert wanted page plan other goal also is too =
@@ -33,7 +33,7 @@ one_goal_by : (advert : Advertised) (wanted : Wanted) (page : List ℕ) (plan : 
 one_goal_by advert wanted page plan goal also is too =
     let control : goal.control ≡ also.control = is.control ∙ sym too.control in
     same_goal goal also control (is.lanes ∙ sym too.lanes)
-    (is.outside ∙ ap (λ (bytes : List ℕ). lanes_outside advert (kept_of advert page bytes plan)) control ∙ sym too.outside)
+    (is.outside ∙ ap (λ (bytes : List ℕ). lanes_outside advert (kept_of advert page bytes (wanted_of advert wanted.down plan))) control ∙ sym too.outside)
 
 one_goal : (advert : Advertised) (wanted : Wanted) (page : List ℕ) (goal also : Goal) → HasGoal advert wanted page goal → HasGoal advert wanted page also → goal ≡ also
 one_goal advert wanted page goal also (plan, is) (other, too) =
@@ -43,7 +43,7 @@ one_goal advert wanted page goal also (plan, is) (other, too) =
 one_judged : (wanted : Wanted) (image : Memory) (found : Option (List ℕ)) (one other : Decision) → IsJudged wanted image found one → IsJudged wanted image found other → one ≡ other
 one_judged wanted image None one other is too = is ∙ sym too
 one_judged wanted image (Some page) one other (goal, has, is) (also, too, same) =
-    is ∙ ap (judged_by wanted.may_take_down page) (one_goal (advert_of wanted image) wanted page goal also has too) ∙ sym same
+    is ∙ ap (judged_by wanted page) (one_goal (advert_of wanted image) wanted page goal also has too) ∙ sym same
 
 one_in : (wanted : Wanted) (image : Memory) (ready : Bool) (one other : Decision) → IsDecisionIn wanted image ready one → IsDecisionIn wanted image ready other → one ≡ other
 one_in wanted image true one other is too = one_judged wanted image (page_of_lanes image) one other is too
@@ -55,5 +55,14 @@ one_unless : (wanted : Wanted) (image : Memory) (found : Option AdvertFault) (on
 one_unless wanted image None one other is too = one_in wanted image (number image CModuleState == 3) one other is too
 one_unless wanted image (Some fault) one other is too = is ∙ sym too
 
+one_asleep : (wanted : Wanted) (image : Memory) (found : Option AdvertFault) (one other : Decision) → MatchOption found (one ≡ sleep_within wanted.may_take_down image) (λ fault. one ≡ Leave (Advert fault))
+    → MatchOption found (other ≡ sleep_within wanted.may_take_down image) (λ fault. other ≡ Leave (Advert fault)) → one ≡ other
+one_asleep wanted image None one other is too = is ∙ sym too
+one_asleep wanted image (Some fault) one other is too = is ∙ sym too
+
+one_for : (asleep : Bool) (wanted : Wanted) (image : Memory) (one other : Decision) → IsDecisionFor asleep wanted image one → IsDecisionFor asleep wanted image other → one ≡ other
+one_for true wanted image one other is too = one_asleep wanted image (advert_fault_under (conventions_of wanted) image) one other is too
+one_for false wanted image one other is too = one_unless wanted image (advert_fault_under (conventions_of wanted) image) one other is too
+
 pub one_decision : (wanted : Wanted) (image : Memory) (one other : Decision) → IsDecision wanted image one → IsDecision wanted image other → one ≡ other
-one_decision wanted image one other is too = one_unless wanted image (advert_fault_under (conventions_of wanted) image) one other is too
+one_decision wanted image one other is too = one_for wanted.asleep wanted image one other is too

@@ -15,7 +15,8 @@ use Rattle.paged_memory.specs.declared.page_addressing.PageAddressing.TheVariant
 use Rattle.paged_memory.specs.PageAddressing.{History, selection}
 use Rattle.applications.specs.Advertised.{Advertised}
 use Rattle.plan_certificate.specs.declared.path.Path.{Path}
-use Rattle.control_sets.specs.declared.procedures.power.Power.TheVariants.{Awake}
+use Rattle.control_sets.specs.declared.procedures.power.Power.{Power}
+use Rattle.control_sets.specs.declared.procedures.power.Power.TheVariants.{Awake, Asleep}
 use Rattle.control_sets.specs.PlanLanes.{is_taken}
 use Rattle.control_sets.specs.PowerControls.{set_controls, wanted_controls}
 use Rattle.control_sets.specs.RegisterOperations.{store_to}
@@ -31,7 +32,7 @@ use Rattle.port_manager.specs.declared.port.Port.{Port}
 use Rattle.port_manager.specs.declared.port.PortNext.TheVariants as nexts
 use Rattle.port_manager.specs.declared.port.Stage.{Stage}
 use Rattle.port_manager.specs.declared.port.Stage.TheVariants.{Absent, Left, Working}
-use Rattle.port_manager.specs.Goals.{HasGoal, IsGoalBy, advert_of, is_kept, is_permitted, kept_of, may_activate, may_provision}
+use Rattle.port_manager.specs.Goals.{HasGoal, IsGoalBy, advert_of, is_kept, is_permitted, kept_of, may_activate, may_provision, wanted_of}
 use Rattle.port_manager.specs.Jobs.{activation_of, asked, provisioning_of}
 use Rattle.port_manager.specs.Ports.{IfWorking, asked_in, next_at}
 use Rattle.port_manager.specs.Stores.{IsStoreOf, May, TakesPermitted}
@@ -41,7 +42,7 @@ use Rattle.port_manager.specs.Standing.{IsAt, IsNamed, UnlessStale}
 use Rattle.port_manager.proofs.KeptBits.{apply_bits, deinit_bits, staged_bits}
 use Rattle.port_manager.proofs.ReleasedBits.{every, in_plan, released}
 use Rattle.port_manager.proofs.SinceLaws.{since_map}
-use Rattle.port_manager.proofs.StoreLaws.{activation_may, look_may, procedure_may, provisioning_may, reading_may, waking_may}
+use Rattle.port_manager.proofs.StoreLaws.{activation_may, look_may, procedure_may, provisioning_may, reading_may, power_may}
 use Rattle.port_manager.proofs.StoryLaws.{asks_in, asks_when}
 
 -- ---- one lane of eight
@@ -67,10 +68,10 @@ plan_permits page plan may lane all within other =
 other_outside : (advert : Advertised) (wanted : Wanted) (page : List ℕ) (plan : List Path) (goal : Goal) (lane : ℕ) → IsGoalBy advert wanted page plan goal → IsLane lane → set.contains goal.lanes lane ≡ false
     → set.contains goal.outside lane ≡ true
 other_outside advert wanted page plan goal lane is within other =
-    let kept = kept_of advert page goal.control plan in
+    let kept = kept_of advert page goal.control (wanted_of advert wanted.down plan) in
     let free : is_taken advert kept lane ≡ false =
     elim (cases_Bool (is_taken advert kept lane)) [
-      | inl taken ↦ absurd (let both : true ≡ false = sym (in_plan advert (is_kept advert page goal.control) plan goal.lanes lane is.lanes within taken) ∙ other in cc)
+      | inl taken ↦ absurd (let both : true ≡ false = sym (in_plan advert (is_kept advert page goal.control) (wanted_of advert wanted.down plan) goal.lanes lane is.lanes within taken) ∙ other in cc)
       | inr free ↦ free
     ] in
     ap (λ (lanes : Lanes). set.contains lanes lane) is.outside ∙ contains_outside advert kept lane ∙ ap (λ (one : Bool). one && not (is_taken advert kept lane)) (every lane within) ∙ ap not free
@@ -115,9 +116,9 @@ activation_takes story goal since = λ bits lane sets within inside.
     since_map (GivesActivation goal) (GivesPermission lane)
     (permits_other goal lane within (not_in_plan goal bits lane (deinit_bits (store_to CDPDeinit ((255 - byte_of goal.lanes) ∷ [])) bits (255 - byte_of goal.lanes) refl sets) within inside)) story since
 
-waking_sets : (byte bits : ℕ) → Sets bits (set_controls (wanted_controls Awake byte)) → ⊥
-waking_sets byte bits (inl sets) = let none : None ≡ Some bits = sets in cc
-waking_sets byte bits (inr sets) = let none : None ≡ Some bits = sets in cc
+power_sets : (power : Power) (byte bits : ℕ) → Sets bits (set_controls (wanted_controls power byte)) → ⊥
+power_sets power byte bits (inl sets) = let none : None ≡ Some bits = sets in cc
+power_sets power byte bits (inr sets) = let none : None ≡ Some bits = sets in cc
 
 fetch_sets : (op : Op) (bits : ℕ) → IsFetch op → Sets bits op → ⊥
 fetch_sets (Fetch dev offset count) bits fetches (inl sets) = let none : None ≡ Some bits = sets in cc
@@ -141,7 +142,9 @@ may_takes story op (inr (inr (inr takes))) = takes
 job_takes : (story : Story) (op : Op) (job : Job) → IsNamed story job → asked job ≡ Some op → May (TakesPermitted story) (TakesPermitted story) op
 job_takes story op (jobs.Reading job woken) named asks = reading_may (TakesPermitted story) (TakesPermitted story) job op asks
 job_takes story op (jobs.Waking job) named asks =
-    waking_may (TakesPermitted story) (TakesPermitted story) job op named.0 (λ byte. λ bits lane sets within inside. absurd (waking_sets byte bits sets)) asks
+    power_may (TakesPermitted story) (TakesPermitted story) Awake job op named.0 (λ byte. λ bits lane sets within inside. absurd (power_sets Awake byte bits sets)) asks
+job_takes story op (jobs.Sleeping job) named asks =
+    power_may (TakesPermitted story) (TakesPermitted story) Asleep job op named.0 (λ byte. λ bits lane sets within inside. absurd (power_sets Asleep byte bits sets)) asks
 job_takes story op (jobs.Provisioning job goal) named asks =
     procedure_may (TakesPermitted story) (TakesPermitted story) (provisioning_of goal) job op named.0
     (provisioning_may (TakesPermitted story) (TakesPermitted story) goal (λ op store. provisioning_takes story goal op named.1 store)) asks

@@ -72,7 +72,7 @@ any_kept f p (path ∷ paths) any =
           ap (λ (one : Bool). one || list_any f paths) lacks ∙ any_kept f p paths rest
     ]
 
-contains_plan : (advert : Advertised) (paths : List Path) (lane : ℕ) → set.contains (plan_lanes advert paths) lane ≡ (set.contains every_lane lane && is_taken advert paths lane)
+pub contains_plan : (advert : Advertised) (paths : List Path) (lane : ℕ) → set.contains (plan_lanes advert paths) lane ≡ (set.contains every_lane lane && is_taken advert paths lane)
 unfolding plan_lanes
 contains_plan advert paths lane =
     contains-retain every_lane (is_taken advert paths) lane (λ other tie. ap (λ (lane : ℕ). is_taken advert paths lane) (sym (nat_cmp-IsAntisymmetric lane other tie)))

@@ -7,7 +7,8 @@ use Rattle.port_manager.specs.declared.port.Outcome.{Outcome}
 use Rattle.port_manager.specs.declared.port.Outcome.TheVariants as outcome
 use Rattle.port_manager.specs.declared.turn.Note.{Note}
 use Rattle.port_manager.specs.declared.turn.Note.TheVariants as notes
-use Rattle.port_manager.specs.Stories.{Story, acknowledge, ask, drop, make, plug, pull, reconsider, step_with, steps_of, hold}
+use Rattle.port_manager.specs.Requests.{granted}
+use Rattle.port_manager.specs.Stories.{Story, acknowledge, ask, drop, make, plug, pull, reconsider, request_in, step_with, steps_of, hold, demand, hear}
 use Rattle.port_manager.specs.Readings.{GivesActivation, GivesGoal, GivesProvisioning, SinceNote, SinceOutcome, SinceRead}
 
 module _ (P Q : History → Wanted → Type 0) (more : (history : History) (wanted : Wanted) → P history wanted → Q history wanted) where
@@ -33,9 +34,11 @@ module _ (P Q : History → Wanted → Type 0) (more : (history : History) (want
   since_map (pull ∷ before) none = none
   since_map (reconsider ∷ before) none = none
   since_map (hold held ∷ before) none = none
+  since_map (demand request ∷ before) none = none
   since_map (acknowledge past ∷ before) since = since_map before since
+  since_map (hear alive began ∷ before) since = since_map before since
   since_map (ask op moment ∷ before) since = since_map before since
-  since_map (make op reply wanted now result ∷ before) since = outcome_map (step_with op reply ∷ steps_of before) wanted result (SinceRead P before) (SinceRead Q before) (since_map before) since
+  since_map (make op reply wanted now result ∷ before) since = outcome_map (step_with op reply ∷ steps_of before) (granted (request_in before) wanted) result (SinceRead P before) (SinceRead Q before) (since_map before) since
   since_map (drop ∷ before) since = since_map before since
 
 pub provisioned_activates : (goal : Goal) (history : History) (wanted : Wanted) → GivesProvisioning goal history wanted → GivesActivation goal history wanted

@@ -15,7 +15,7 @@ use Rattle.paged_memory.specs.KnownPages.{is_awaited, missing_page, selecting_fi
 use Rattle.paged_memory.specs.PageAddressing.{read_selection}
 use Rattle.control_sets.specs.declared.fault.ProvisionFault.{ProvisionFault}
 use Rattle.control_sets.specs.declared.procedures.power.Power.{Power}
-use Rattle.control_sets.specs.declared.procedures.power.Power.TheVariants.{Awake}
+use Rattle.control_sets.specs.declared.procedures.power.Power.TheVariants.{Awake, Asleep}
 use Rattle.control_sets.specs.declared.procedures.power.PowerStage.{PowerStage}
 use Rattle.control_sets.specs.declared.procedures.power.PowerStage.TheVariants as stage
 use Rattle.control_sets.specs.declared.procedures.procedure.Work.{Work}
@@ -23,7 +23,7 @@ use Rattle.control_sets.specs.declared.procedures.task.Task.{Task}
 use Rattle.control_sets.specs.OutcomeOperations.{read_module_state}
 use Rattle.control_sets.specs.PowerControls.{read_controls, set_controls, wanted_controls}
 use Rattle.control_sets.specs.PowerProgress.{PatientPower, operation_at, power_wants}
-use Rattle.control_sets.specs.PowerProgress as power
+use Rattle.control_sets.specs.PowerProgress as changes
 use Rattle.control_sets.specs.Progress.{PatientProcedure, hand, task_at, tasks_of}
 use Rattle.control_sets.specs.Progress as tasks
 use Rattle.control_sets.specs.RegisterOperations.{store_to}
@@ -50,7 +50,7 @@ use Rattle.port_manager.specs.Jobs.{activation_of, asked, paged_halves, paged_lo
 use Rattle.port_manager.specs.Looks as looks
 use Rattle.port_manager.specs.Patients.{Patient}
 use Rattle.port_manager.specs.Ports.{IfWorking, asked_in, next_at}
-use Rattle.port_manager.specs.Stores.{IsNamedStore, IsStoreOf, IsWakingIn, May, MayMakeIn, StoresNothing}
+use Rattle.port_manager.specs.Stores.{ChangesPowerIn, IsNamedStore, IsStoreOf, May, MayMakeIn, StoresNothing}
 use Rattle.port_manager.specs.Stories.{Story, settled_in, vain_in}
 use Rattle.port_manager.specs.Readings.{GivesActivation, GivesGoal, GivesProvisioning}
 use Rattle.port_manager.specs.Standing.{IfTrue, IsAt, IsNamed, IsTame, IsWatching, UnlessStale}
@@ -95,20 +95,20 @@ module _ (W G : Op → Type 0) where
       let on = job.conversation.conversation in
       asks_may _ on.selection (looks.needed on.conversation) (looks.wants on.conversation) op (asked_on paged_look job op e) (λ inner is. look_at on.conversation.stage inner is)
 
-  -- ---- waking up
+  -- ---- changes of power
 
-  power_may : (fault : Option ProvisionFault) (at : PowerStage) (op : Op) → ((byte : ℕ) → W (set_controls (wanted_controls Awake byte))) → power.wants_by fault (operation_at Awake at) ≡ Do op → May W G op
-  power_may (Some fault) at op was e = absurd cc
-  power_may None stage.Unread op was e = let same : read_controls ≡ op = cc in subst (λ (o : Op). May W G o) same (inl tt)
-  power_may None (stage.Found byte) op was e = let same : set_controls (wanted_controls Awake byte) ≡ op = cc in subst (λ (o : Op). May W G o) same (inr (inr (inl (was byte))))
-  power_may None stage.Stored op was e = let same : read_module_state ≡ op = cc in subst (λ (o : Op). May W G o) same (inl tt)
-  power_may None stage.Met op was e = absurd cc
+  stage_may : (power : Power) (fault : Option ProvisionFault) (at : PowerStage) (op : Op) → ((byte : ℕ) → W (set_controls (wanted_controls power byte))) → changes.wants_by fault (operation_at power at) ≡ Do op → May W G op
+  stage_may power (Some fault) at op was e = absurd cc
+  stage_may power None stage.Unread op was e = let same : read_controls ≡ op = cc in subst (λ (o : Op). May W G o) same (inl tt)
+  stage_may power None (stage.Found byte) op was e = let same : set_controls (wanted_controls power byte) ≡ op = cc in subst (λ (o : Op). May W G o) same (inr (inr (inl (was byte))))
+  stage_may power None stage.Stored op was e = let same : read_module_state ≡ op = cc in subst (λ (o : Op). May W G o) same (inl tt)
+  stage_may power None stage.Met op was e = absurd cc
 
-  pub waking_may : (job : PatientPower) (op : Op) → job.conversation.conversation.power ≡ Awake → ((byte : ℕ) → W (set_controls (wanted_controls Awake byte))) → op_of (waking_wants job) ≡ Some op → May W G op
-  waking_may job op awake was e =
+  pub power_may : (power : Power) (job : PatientPower) (op : Op) → job.conversation.conversation.power ≡ power → ((byte : ℕ) → W (set_controls (wanted_controls power byte))) → op_of (waking_wants job) ≡ Some op → May W G op
+  power_may power job op is was e =
       let change = job.conversation.conversation in
-      power_may change.fault change.stage op was
-      (subst (λ (p : Power). power.wants_by change.fault (operation_at p change.stage) ≡ Do op) awake (asked_within power_wants job op e))
+      stage_may power change.fault change.stage op was
+      (subst (λ (p : Power). changes.wants_by change.fault (operation_at p change.stage) ≡ Do op) is (asked_within power_wants job op e))
 
   -- ---- procedures
 
@@ -150,14 +150,16 @@ not_vain true no_vain = absurd no_vain
 not_vain false no_vain = refl
 
 job_may : (story : Story) (op : Op) (job : Job) (vain : Bool) → vain ≡ vain_in story → IfTrue vain (IsTame job) → IsNamed story job → asked job ≡ Some op → MayMakeIn story op
-job_may story op (jobs.Reading job woken) vain e tame named asks = reading_may (IsWakingIn story) (IsNamedStore story) job op asks
+job_may story op (jobs.Reading job woken) vain e tame named asks = reading_may (ChangesPowerIn story) (IsNamedStore story) job op asks
 job_may story op (jobs.Waking job) vain e tame named asks =
-    waking_may (IsWakingIn story) (IsNamedStore story) job op named.0 (λ byte. (sym e ∙ not_vain vain tame, named.1, (byte, refl))) asks
+    power_may (ChangesPowerIn story) (IsNamedStore story) Awake job op named.0 (λ byte. inl (sym e ∙ not_vain vain tame, named.1, (byte, refl))) asks
+job_may story op (jobs.Sleeping job) vain e tame named asks =
+    power_may (ChangesPowerIn story) (IsNamedStore story) Asleep job op named.0 (λ byte. inr (named.1, (byte, refl))) asks
 job_may story op (jobs.Provisioning job goal) vain e tame named asks =
-    procedure_may (IsWakingIn story) (IsNamedStore story) (provisioning_of goal) job op named.0 (provisioning_may (IsWakingIn story) (IsNamedStore story) goal (λ op store. (goal, since_map (GivesProvisioning goal) (GivesGoal goal) (provisioning_goal goal) story named.1, store))) asks
+    procedure_may (ChangesPowerIn story) (IsNamedStore story) (provisioning_of goal) job op named.0 (provisioning_may (ChangesPowerIn story) (IsNamedStore story) goal (λ op store. (goal, since_map (GivesProvisioning goal) (GivesGoal goal) (provisioning_goal goal) story named.1, store))) asks
 job_may story op (jobs.Activating job goal) vain e tame named asks =
-    procedure_may (IsWakingIn story) (IsNamedStore story) (activation_of goal) job op named.0 (activation_may (IsWakingIn story) (IsNamedStore story) goal (goal, since_map (GivesActivation goal) (GivesGoal goal) (activation_goal goal) story named.1, inr (inr (inr refl)))) asks
-job_may story op (jobs.Watching job) vain e tame named asks = look_may (IsWakingIn story) (IsNamedStore story) job op asks
+    procedure_may (ChangesPowerIn story) (IsNamedStore story) (activation_of goal) job op named.0 (activation_may (ChangesPowerIn story) (IsNamedStore story) goal (goal, since_map (GivesActivation goal) (GivesGoal goal) (activation_goal goal) story named.1, inr (inr (inr refl)))) asks
+job_may story op (jobs.Watching job) vain e tame named asks = look_may (ChangesPowerIn story) (IsNamedStore story) job op asks
 
 tame_in : (vain : Bool) (job : Job) → IfTrue vain (IfWorking (Working job) IsTame) → IfTrue vain (IsTame job)
 tame_in vain job tame = tame
@@ -183,6 +185,7 @@ nothing_else op (inr (inr (inr never))) = absurd never
 watching_only : (job : Job) (op : Op) → IsWatching job → asked job ≡ Some op → StoresNothing op
 watching_only (jobs.Reading job woken) op watches asks = absurd watches
 watching_only (jobs.Waking job) op watches asks = absurd watches
+watching_only (jobs.Sleeping job) op watches asks = absurd watches
 watching_only (jobs.Provisioning job goal) op watches asks = absurd watches
 watching_only (jobs.Activating job goal) op watches asks = absurd watches
 watching_only (jobs.Watching job) op watches asks = nothing_else op (look_may (λ op. ⊥) (λ op. ⊥) job op asks)

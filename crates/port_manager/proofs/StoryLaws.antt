@@ -24,10 +24,14 @@ use Rattle.port_manager.specs.declared.turn.Turn.{Turn}
 use Rattle.port_manager.specs.declared.turn.Turn.TheVariants as turns
 use Rattle.port_manager.specs.Flags.{acknowledged, no_flags, noted, unread}
 use Rattle.port_manager.specs.Jobs.{IsReplyTo, asked, reading}
-use Rattle.port_manager.specs.Ports.{acknowledged_to, IfWorking, IsAwaitedBy, IsRestartedIn, IsTakenBy, IsTurnedIn, absent, answered, asked_in, asking, awaited, begun_in, forsaken, holding, is_vain, next_at, next_in, next_of, next_when, noted_of, noting, outcome_of, plugged, pulled, reconsidered, reconsidered_by, restarted, turned, vain_after}
+use Rattle.port_manager.specs.declared.request.Request.{Request}
+use Rattle.port_manager.specs.declared.silence.Silence.{Silence}
+use Rattle.port_manager.specs.Requests.{ended, granted}
+use Rattle.port_manager.specs.Silences as silences
+use Rattle.port_manager.specs.Ports.{acknowledged_to, asked_for, request_after, silent, IfWorking, IsAwaitedBy, IsRestartedIn, IsTakenBy, IsTurnedIn, absent, answered, asked_in, asking, awaited, begun_in, forsaken, holding, is_vain, next_at, next_in, next_of, next_when, noted_of, noting, outcome_of, plugged, pulled, reconsidered, reconsidered_by, restarted, turned, vain_after}
 use Rattle.port_manager.specs.Runs.{Becomes, Reaches, Runs}
-use Rattle.port_manager.specs.Stories.{Event, Story, ask, drop, keeper_in, make, outstanding_in, plug, pull, reconsider, acknowledge, settled_in, staled, step_with, steps_of, hold, held_in}
-use Rattle.port_manager.specs.Readings.{GivesActivation, GivesGoal, GivesProvisioning, GivesWaking, SinceRead}
+use Rattle.port_manager.specs.Stories.{Event, Story, ask, drop, keeper_in, make, outstanding_in, plug, pull, reconsider, acknowledge, request_in, settled_in, staled, step_with, steps_of, hold, demand, hear, held_in}
+use Rattle.port_manager.specs.Readings.{GivesActivation, GivesGoal, GivesProvisioning, GivesSleep, GivesWaking, SinceRead}
 use Rattle.port_manager.specs.Standing.{IfTrue, IsAt, IsFounded, IsNamed, IsTame, IsWatching, UnlessStale}
 use Rattle.port_manager.specs.Turns.{IsTurn}
 use Rattle.port_manager.specs.Waits.{later}
@@ -55,6 +59,7 @@ unless_at o at P e p = subst (λ (o : Outstanding). UnlessStale o P) e p
 named_over : (story more : Story) (job : Job) → ((P : History → Wanted → Type 0) → SinceRead P story → SinceRead P more) → IsNamed story job → IsNamed more job
 named_over story more (jobs.Reading reading woken) over named = tt
 named_over story more (jobs.Waking change) over named = (named.0, over GivesWaking named.1)
+named_over story more (jobs.Sleeping change) over named = (named.0, over GivesSleep named.1)
 named_over story more (jobs.Provisioning procedure goal) over named = (named.0, over (GivesProvisioning goal) named.1)
 named_over story more (jobs.Activating procedure goal) over named = (named.0, over (GivesActivation goal) named.1)
 named_over story more (jobs.Watching look) over named = over (GivesGoal look.conversation.conversation.conversation.goal) named
@@ -89,13 +94,13 @@ if_itself false = tt
 -- ---- each event
 
 pub new_at : (times : Times) → IsAt [] (absent times outstanding.Nothing no_flags false)
-new_at times = record { lawful = tt; outstanding = refl; waits = arith_le; held = refl; founded = tt; vain = refl; tame = tt; settled = tt; kept = refl; named = tt } where
+new_at times = record { lawful = tt; outstanding = refl; waits = arith_le; held = refl; request = refl; silence = refl; founded = tt; vain = refl; tame = tt; settled = tt; kept = refl; named = tt } where
   arith_le : 0 ≤ 0
   arith_le = omega arith
 
 pub pull_at : (story : Story) (port : Port) → IsAt story port → IsAt (pull ∷ story) (pulled port)
 pull_at story port at =
-    record { lawful = at.lawful; outstanding = ap forsaken at.outstanding; waits = omega arith; held = at.held; founded = tt; vain = refl; tame = tt; settled = tt; kept = ap (λ (keeper : FlagKeeper). unread keeper.flags) at.kept; named = fresh (forsaken port.outstanding) (Unit {0}) tt }
+    record { lawful = at.lawful; outstanding = ap forsaken at.outstanding; waits = omega arith; held = at.held; request = refl; silence = refl; founded = tt; vain = refl; tame = tt; settled = tt; kept = ap (λ (keeper : FlagKeeper). unread keeper.flags) at.kept; named = fresh (forsaken port.outstanding) (Unit {0}) tt }
 
 pub plug_at : (story : Story) (port : Port) (now : ℕ) → IsAt story port → IsAt (plug now ∷ story) (plugged now port)
 plug_at story port now at =
@@ -104,6 +109,8 @@ plug_at story port now at =
       outstanding = ap forsaken at.outstanding;
       waits = omega arith;
       held = at.held;
+      request = refl;
+      silence = refl;
       founded = begun_founded [] false;
       vain = refl;
       tame = tt;
@@ -119,6 +126,8 @@ restart_at story port at is =
       outstanding = is;
       waits = at.waits;
       held = at.held;
+      request = at.request;
+      silence = at.silence;
       founded = restarted_founded port.stage (steps_of story);
       vain = refl;
       tame = tt;
@@ -129,7 +138,7 @@ restart_at story port at is =
 
 stale_at : (story : Story) (port : Port) → IsAt story port → outstanding.Stale ≡ staled (outstanding_in story) → IsAt (reconsider ∷ story) (record port { outstanding = outstanding.Stale; vain = false })
 stale_at story port at is =
-    record { lawful = at.lawful; outstanding = is; waits = at.waits; held = at.held; founded = at.founded; vain = refl; tame = tt; settled = tt; kept = at.kept; named = tt }
+    record { lawful = at.lawful; outstanding = is; waits = at.waits; held = at.held; request = at.request; silence = at.silence; founded = at.founded; vain = refl; tame = tt; settled = tt; kept = at.kept; named = tt }
 
 reconsider_by : (o : Outstanding) (story : Story) (port : Port) → port.outstanding ≡ o → IsAt story port → IsAt (reconsider ∷ story) (reconsidered_by o (record port { vain = false }))
 reconsider_by outstanding.Nothing story port e at = restart_at story port at (e ∙ ap staled (sym e ∙ at.outstanding))
@@ -147,6 +156,8 @@ held_restart held story port at is =
       outstanding = is;
       waits = at.waits;
       held = refl;
+      request = at.request;
+      silence = at.silence;
       founded = restarted_founded port.stage (steps_of story);
       vain = refl;
       tame = tt;
@@ -157,7 +168,7 @@ held_restart held story port at is =
 
 held_stale : (held : Bool) (story : Story) (port : Port) → IsAt story port → outstanding.Stale ≡ staled (outstanding_in story) → IsAt (hold held ∷ story) (record port { outstanding = outstanding.Stale; vain = false; held = held })
 held_stale held story port at is =
-    record { lawful = at.lawful; outstanding = is; waits = at.waits; held = refl; founded = at.founded; vain = refl; tame = tt; settled = tt; kept = at.kept; named = tt }
+    record { lawful = at.lawful; outstanding = is; waits = at.waits; held = refl; request = at.request; silence = at.silence; founded = at.founded; vain = refl; tame = tt; settled = tt; kept = at.kept; named = tt }
 
 hold_by : (o : Outstanding) (held : Bool) (story : Story) (port : Port) → port.outstanding ≡ o → IsAt story port → IsAt (hold held ∷ story) (reconsidered_by o (record port { vain = false; held = held }))
 hold_by outstanding.Nothing held story port e at = held_restart held story port at (e ∙ ap staled (sym e ∙ at.outstanding))
@@ -168,6 +179,54 @@ hold_by outstanding.Stale held story port e at = held_stale held story port at (
 pub hold_at : (held : Bool) (story : Story) (port : Port) → IsAt story port → IsAt (hold held ∷ story) (holding held port)
 hold_at held story port at = hold_by port.outstanding held story port refl at
 
+demand_restart : (request : Request) (story : Story) (port : Port) → IsAt story port → port.outstanding ≡ staled (outstanding_in story) → IsAt (demand request ∷ story) (restarted (record port { vain = false; request = request }))
+demand_restart request story port at is =
+    record {
+      lawful = at.lawful;
+      outstanding = is;
+      waits = at.waits;
+      held = at.held;
+      request = refl;
+      silence = at.silence;
+      founded = restarted_founded port.stage (steps_of story);
+      vain = refl;
+      tame = tt;
+      settled = tt;
+      kept = at.kept;
+      named = fresh port.outstanding (IfWorking (begun_in port.stage) (IsNamed (demand request ∷ story))) (begun_named port.stage (demand request ∷ story));
+    }
+
+demand_stale : (request : Request) (story : Story) (port : Port) → IsAt story port → outstanding.Stale ≡ staled (outstanding_in story)
+    → IsAt (demand request ∷ story) (record port { outstanding = outstanding.Stale; vain = false; request = request })
+demand_stale request story port at is =
+    record { lawful = at.lawful; outstanding = is; waits = at.waits; held = at.held; request = refl; silence = at.silence; founded = at.founded; vain = refl; tame = tt; settled = tt; kept = at.kept; named = tt }
+
+demand_by : (o : Outstanding) (request : Request) (story : Story) (port : Port) → port.outstanding ≡ o → IsAt story port → IsAt (demand request ∷ story) (reconsidered_by o (record port { vain = false; request = request }))
+demand_by outstanding.Nothing request story port e at = demand_restart request story port at (e ∙ ap staled (sym e ∙ at.outstanding))
+demand_by outstanding.Forsaken request story port e at = demand_restart request story port at (e ∙ ap staled (sym e ∙ at.outstanding))
+demand_by outstanding.Awaited request story port e at = demand_stale request story port at (ap staled (sym e ∙ at.outstanding))
+demand_by outstanding.Stale request story port e at = demand_stale request story port at (ap staled (sym e ∙ at.outstanding))
+
+pub demand_at : (request : Request) (story : Story) (port : Port) → IsAt story port → IsAt (demand request ∷ story) (asked_for request port)
+demand_at request story port at = demand_by port.outstanding request story port refl at
+
+pub hear_at : (story : Story) (port : Port) (alive : Bool) (began : ℕ) → IsAt story port → IsAt (hear alive began ∷ story) (silent alive began port)
+hear_at story port alive began at =
+    record {
+      lawful = at.lawful;
+      outstanding = at.outstanding;
+      waits = at.waits;
+      held = at.held;
+      request = at.request;
+      silence = ap (λ (silence : Silence). silences.after silence alive began) at.silence;
+      founded = at.founded;
+      vain = at.vain;
+      tame = at.tame;
+      settled = at.settled;
+      kept = at.kept;
+      named = port_named story (hear alive began ∷ story) port (λ P since. since) at.named;
+    }
+
 pub acknowledge_at : (story : Story) (port : Port) (past : ℕ) → IsAt story port → IsAt (acknowledge past ∷ story) (acknowledged_to past port)
 acknowledge_at story port past at =
     record {
@@ -175,6 +234,8 @@ acknowledge_at story port past at =
       outstanding = at.outstanding;
       waits = at.waits;
       held = at.held;
+      request = at.request;
+      silence = at.silence;
       founded = at.founded;
       vain = at.vain;
       tame = at.tame;
@@ -238,6 +299,8 @@ ask_at story port op now is at =
       outstanding = refl;
       waits = at.waits;
       held = at.held;
+      request = at.request;
+      silence = at.silence;
       founded = at.founded;
       vain = at.vain;
       tame = at.tame;
@@ -253,6 +316,8 @@ drop_at story port named at =
       outstanding = refl;
       waits = at.waits;
       held = at.held;
+      request = at.request;
+      silence = at.silence;
       founded = at.founded;
       vain = at.vain;
       tame = at.tame;
@@ -277,8 +342,11 @@ module _ (story : Story) (port : Port) (job : Job) (op : Op) (reply : Reply) (wa
   noted_is : noted_of port.keeper (asked job) reply now ≡ noted (keeper_in story) op reply now
   noted_is = ap (λ (found : Option Op). noted_of port.keeper found reply now) w.asks ∙ ap (λ (keeper : FlagKeeper). noted keeper op reply now) w.at.kept
 
-  tame_after : (vain : Bool) (turn : Turn) → IfTrue vain (IsTame job) → IsTurn wanted job reply turn → IfTrue vain (IfOn turn IsTame)
-  tame_after true turn tame is = turn_tame wanted reply job turn tame is
+  abbrev wishes : Wanted
+  wishes = granted (request_in story) wanted
+
+  tame_after : (vain : Bool) (turn : Turn) → IfTrue vain (IsTame job) → IsTurn wishes job reply turn → IfTrue vain (IfOn turn IsTame)
+  tame_after true turn tame is = turn_tame wishes reply job turn tame is
   tame_after false turn tame is = tt
 
   watches : (settled : Bool) → IfTrue settled (IfWorking port.stage IsWatching) → IfTrue settled (IsWatching job)
@@ -298,6 +366,8 @@ module _ (story : Story) (port : Port) (job : Job) (op : Op) (reply : Reply) (wa
         outstanding = refl;
         waits = omega (arith, w.at.waits);
         held = w.at.held;
+        request = ap (λ (request : Request). request_after request note) w.at.request;
+        silence = w.at.silence;
         founded = founded;
         vain = w.at.vain;
         tame = tame;
@@ -311,6 +381,8 @@ module _ (story : Story) (port : Port) (job : Job) (op : Op) (reply : Reply) (wa
         outstanding = refl;
         waits = omega (arith, w.at.waits);
         held = w.at.held;
+        request = w.at.request;
+        silence = w.at.silence;
         founded = founded;
         vain = w.at.vain;
         tame = tame;
@@ -324,6 +396,8 @@ module _ (story : Story) (port : Port) (job : Job) (op : Op) (reply : Reply) (wa
         outstanding = refl;
         waits = omega (arith, w.at.waits);
         held = w.at.held;
+        request = w.at.request;
+        silence = w.at.silence;
         founded = begun_founded (step_with op reply ∷ steps_of story) (vain_after port why);
         vain = ap (λ (vain : Bool). vain || is_vain why) w.at.vain;
         tame = if_itself (vain_after port why);
@@ -337,6 +411,8 @@ module _ (story : Story) (port : Port) (job : Job) (op : Op) (reply : Reply) (wa
         outstanding = refl;
         waits = w.at.waits;
         held = w.at.held;
+        request = ap ended w.at.request;
+        silence = w.at.silence;
         founded = tt;
         vain = w.at.vain;
         tame = if_any port.vain;
@@ -345,13 +421,13 @@ module _ (story : Story) (port : Port) (job : Job) (op : Op) (reply : Reply) (wa
         named = tt;
       }
 
-  turned_at : (turn : Turn) → port.outstanding ≡ outstanding.Awaited → IsTurn wanted job reply turn → IsAt (make op reply wanted now (outcome_of port turn now) ∷ story) (turned (noting (answered port) (asked job) reply now) turn now)
+  turned_at : (turn : Turn) → port.outstanding ≡ outstanding.Awaited → IsTurn wishes job reply turn → IsAt (make op reply wanted now (outcome_of port turn now) ∷ story) (turned (noting (answered port) (asked job) reply now) turn now)
   turned_at turn asked_for is =
       let founded = stage_is (IsFounded (steps_of story)) w.at.founded in
       make_at turn
-      (turn_founded (steps_of story) wanted op reply job turn founded w.asks w.answers is)
+      (turn_founded (steps_of story) wishes op reply job turn founded w.asks w.answers is)
       (tame_after port.vain turn (tames port.vain w.at.tame) is)
-      (turn_settles (settled_in story) wanted reply job turn (watches (settled_in story) w.at.settled) is)
+      (turn_settles (settled_in story) wishes reply job turn (watches (settled_in story) w.at.settled) is)
       (turn_names story op reply wanted now job turn w.answers w.asks founded
       (stage_is (IsNamed story) (unless_at port.outstanding outstanding.Awaited (IfWorking port.stage (IsNamed story)) asked_for w.at.named)) is)
 
@@ -362,6 +438,8 @@ module _ (story : Story) (port : Port) (job : Job) (op : Op) (reply : Reply) (wa
         outstanding = refl;
         waits = w.at.waits;
         held = w.at.held;
+        request = w.at.request;
+        silence = w.at.silence;
         founded = begun_founded (step_with op reply ∷ steps_of story) port.vain;
         vain = w.at.vain;
         tame = if_itself port.vain;
@@ -389,7 +467,8 @@ take_by outstanding.Awaited story op reply wanted now result port after waits e 
     let (turn, leads, gives, becomes) = subst (λ (stage : Stage). IsTurnedIn stage port reply wanted now result after) works is in
     subst (λ (after : Port). IsAt (make op reply wanted now result ∷ story) after) (sym becomes)
     (subst (λ (result : Outcome). IsAt (make op reply wanted now result ∷ story) (turned (noting (answered port) (asked job) reply now) turn now)) (sym gives)
-    (turned_at story port job op reply wanted now (works_of story port job op reply at works wants answers) turn e leads))
+    (turned_at story port job op reply wanted now (works_of story port job op reply at works wants answers) turn e
+    (subst (λ (request : Request). IsTurn (granted request wanted) job reply turn) at.request leads)))
 take_by outstanding.Stale story op reply wanted now result port after waits e at asks answers is =
     let (job, works, wants) = asks_job port.stage op asks in
     let (gives, becomes) = subst (λ (stage : Stage). IsRestartedIn stage port reply now result after) works is in
@@ -407,7 +486,9 @@ becomes_at story port after (plug now) at is = subst (IsAt (plug now ∷ story))
 becomes_at story port after pull at is = subst (IsAt (pull ∷ story)) (sym is) (pull_at story port at)
 becomes_at story port after reconsider at is = subst (IsAt (reconsider ∷ story)) (sym is) (reconsider_at story port at)
 becomes_at story port after (hold held) at is = subst (IsAt (hold held ∷ story)) (sym is) (hold_at held story port at)
+becomes_at story port after (demand request) at is = subst (IsAt (demand request ∷ story)) (sym is) (demand_at request story port at)
 becomes_at story port after (acknowledge past) at is = subst (IsAt (acknowledge past ∷ story)) (sym is) (acknowledge_at story port past at)
+becomes_at story port after (hear alive began) at is = subst (IsAt (hear alive began ∷ story)) (sym is) (hear_at story port alive began at)
 becomes_at story port after (ask op moment) at (asks, is) = subst (IsAt (ask op moment ∷ story)) (sym is) (ask_at story port op moment asks at)
 becomes_at story port after (make op reply wanted now result) at (waited, asks, answers, is) =
     take_by port.outstanding story op reply wanted now result port after waited refl at asks answers is

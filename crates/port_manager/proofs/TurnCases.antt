@@ -21,10 +21,11 @@ use Rattle.module_reading.specs.declared.region.Region.{Region}
 use Rattle.module_reading.specs.ImageReading as reader
 use Rattle.port_manager.specs.declared.deciding.Decision.{Decision}
 use Rattle.port_manager.specs.declared.deciding.Goal.{Goal}
+use Rattle.port_manager.specs.declared.deciding.LeftBecause.TheVariants.{Asleep}
 use Rattle.conversations.specs.declared.pausing.Patience.{Patience}
 use Rattle.port_manager.specs.declared.deciding.Wanted.{Wanted}
 use Rattle.port_manager.specs.declared.job.Job.{Job}
-use Rattle.port_manager.specs.declared.job.Job.TheVariants.{Reading, Waking, Provisioning, Activating, Watching}
+use Rattle.port_manager.specs.declared.job.Job.TheVariants.{Reading, Waking, Sleeping, Provisioning, Activating, Watching}
 use Rattle.port_manager.specs.declared.look.LookStage.{LookStage}
 use Rattle.port_manager.specs.declared.look.LookStage.TheVariants as stages
 use Rattle.port_manager.specs.declared.turn.Note.TheVariants as note
@@ -32,13 +33,13 @@ use Rattle.port_manager.specs.declared.turn.PortFault.{PortFault}
 use Rattle.port_manager.specs.declared.turn.PortFault.TheVariants as fault
 use Rattle.port_manager.specs.declared.turn.ProcedureFault.{ProcedureFault}
 use Rattle.port_manager.specs.declared.turn.Turn.{Turn}
-use Rattle.port_manager.specs.declared.turn.Turn.TheVariants.{On, Failed}
+use Rattle.port_manager.specs.declared.turn.Turn.TheVariants.{On, Failed, Left}
 use Rattle.port_manager.specs.Decisions.{IsDecision}
 use Rattle.port_manager.specs.Jobs.{activating, asked, paged_halves, paged_look, look_after, look_wants, procedure_after, procedure_wants, reading, reading_after, reading_wants, paged_tasks, waking_after, waking_wants, watching}
 use Rattle.port_manager.specs.Looks as looks
 use Rattle.port_manager.specs.Patients.{Patient, after_on, pause_after, wants_on}
 use Rattle.port_manager.specs.Readings.{IsWhole}
-use Rattle.port_manager.specs.Turns.{GoesTo, IsRead, IsTurn, activated, decided, fault_in, going, provisioned, seen, woken_up}
+use Rattle.port_manager.specs.Turns.{GoesTo, IsRead, IsTurn, activated, decided, fault_in, going, provisioned, seen, slept, woken_up}
 use Rattle.port_manager.proofs.PatientLaws.{NeverWaits, never_waits, paged_never}
 
 -- ---- none waits by itself
@@ -78,6 +79,7 @@ look_never look time e = look_by look.stage time e
 abbrev pub later : Job → Reply → Job
 later (Reading job woken) reply = Reading (reading_after job reply) woken
 later (Waking job) reply = Waking (waking_after job reply)
+later (Sleeping job) reply = Sleeping (waking_after job reply)
 later (Provisioning job goal) reply = Provisioning (procedure_after job reply) goal
 later (Activating job goal) reply = Activating (procedure_after job reply) goal
 later (Watching job) reply = Watching (look_after job reply)
@@ -85,6 +87,7 @@ later (Watching job) reply = Watching (look_after job reply)
 abbrev pub pause_of : Job → Reply → Option ℕ
 pause_of (Reading job woken) reply = pause_after (wants_on paged_halves) (after_on paged_halves) job reply
 pause_of (Waking job) reply = pause_after power_wants change_after job reply
+pause_of (Sleeping job) reply = pause_after power_wants change_after job reply
 pause_of (Provisioning job goal) reply = pause_after (wants_on paged_tasks) (after_on paged_tasks) job reply
 pause_of (Activating job goal) reply = pause_after (wants_on paged_tasks) (after_on paged_tasks) job reply
 pause_of (Watching job) reply = pause_after (wants_on paged_look) (after_on paged_look) job reply
@@ -95,6 +98,7 @@ Follows Q wanted (Reading job woken) reply =
     let image = (reading_after job reply).conversation.conversation.conversation.image in
     (decision : Decision) → IsWhole (reading_wants (reading_after job reply)) → IsDecision wanted image decision → Q (decided woken (patience_for image) decision)
 Follows Q wanted (Waking job) reply = Q (On (reading true) note.Woken)
+Follows Q wanted (Sleeping job) reply = Q (Left Asleep)
 Follows Q wanted (Provisioning job goal) reply = Q (On (activating goal (procedure_after job reply).conversation.patience) note.Provisioned)
 Follows Q wanted (Activating job goal) reply = Q (On (watching goal (procedure_after job reply).conversation.patience) note.CameUp)
 Follows Q wanted (Watching job) reply =
@@ -110,6 +114,10 @@ module _ (Q : Turn → Type 0) (failed : (why : PortFault) → Q (Failed why)) w
   after_waking : (because : Option ProcedureFault) → Q (On (reading true) note.Woken) → Q (woken_up because)
   after_waking None q = q
   after_waking (Some because) q = failed (fault.Waking because)
+
+  after_sleeping : (because : Option ProcedureFault) → Q (Left Asleep) → Q (slept because)
+  after_sleeping None q = q
+  after_sleeping (Some because) q = failed (fault.Sleeping because)
 
   after_provisioning : (goal : Goal) (patience : Patience) (because : Option ProcedureFault) → Q (On (activating goal patience) note.Provisioned) → Q (provisioned goal patience because)
   after_provisioning goal patience None q = q
@@ -144,6 +152,11 @@ module _ (Q : Turn → Type 0) (failed : (why : PortFault) → Q (Failed why)) w
       goes (waking_wants after) (pause_of (Waking job) reply) (Waking after) (λ end turn. turn ≡ woken_up (fault_in end)) turn Q is
       (λ op e. goes_on op (ap op_of e)) (λ time e. never_waits power_wants change_after job reply time power_never e)
       (λ spent e ended. subst Q (sym ended) (after_waking (fault_in spent.end) follows))
+  turn_all wanted (Sleeping job) reply turn goes_on follows is =
+      let after = waking_after job reply in
+      goes (waking_wants after) (pause_of (Sleeping job) reply) (Sleeping after) (λ end turn. turn ≡ slept (fault_in end)) turn Q is
+      (λ op e. goes_on op (ap op_of e)) (λ time e. never_waits power_wants change_after job reply time power_never e)
+      (λ spent e ended. subst Q (sym ended) (after_sleeping (fault_in spent.end) follows))
   turn_all wanted (Provisioning job goal) reply turn goes_on follows is =
       let after = procedure_after job reply in
       goes (procedure_wants after) (pause_of (Provisioning job goal) reply) (Provisioning after goal) (λ end turn. turn ≡ provisioned goal after.conversation.patience (fault_in end)) turn Q is

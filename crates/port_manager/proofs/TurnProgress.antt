@@ -11,7 +11,7 @@ use Rattle.module_reading.specs.Regions.{everything}
 use Rattle.module_reading.proofs.RegionLaws.{asked_of_nothing}
 use Rattle.paged_memory.specs.declared.page_addressing.KnownPage.TheVariants.{Unknown}
 use Rattle.port_manager.specs.declared.deciding.Decision.{Decision}
-use Rattle.port_manager.specs.declared.deciding.Decision.TheVariants.{Leave, Wake, Hold, Activate, Provision}
+use Rattle.port_manager.specs.declared.deciding.Decision.TheVariants.{Leave, Wake, Sleep, Hold, Activate, Provision}
 use Rattle.port_manager.specs.declared.deciding.Wanted.{Wanted}
 use Rattle.port_manager.specs.declared.job.Job.{Job}
 use Rattle.port_manager.specs.declared.job.Job.TheVariants as jobs
@@ -26,8 +26,9 @@ use Rattle.port_manager.specs.declared.turn.Turn.TheVariants as turns
 use Rattle.port_manager.specs.Jobs.{IsReplyTo, activating, asked, paged_halves, paged_tasks, procedure_after, provisioning, reading}
 use Rattle.port_manager.specs.Ports.{IsAwaitedBy, IsRestartedIn, IsTakenBy, IsTurnedIn, answered, asked_in, awaited, noting, outcome_of, plugged, turned}
 use Rattle.port_manager.specs.Progress.{IsGoing, IsGoingOn, IsUpStage, made_in, paused_in, pauses_by}
+use Rattle.port_manager.specs.Requests.{granted}
 use Rattle.port_manager.specs.Runs.{Runs}
-use Rattle.port_manager.specs.Stories.{Story, ask, drop, make, plug, pull, reconsider, acknowledge, hold}
+use Rattle.port_manager.specs.Stories.{Story, ask, drop, make, plug, pull, reconsider, acknowledge, hold, demand, hear}
 use Rattle.port_manager.specs.Standing.{IsWatching}
 use Rattle.port_manager.specs.Turns.{IsTurn, decided, going}
 use Rattle.port_manager.proofs.LeftLaws.{halves_counted, left_of_half, left_of_halves, left_of_tasks, left_of_waking, near_waking, some_waking, tasks_counted}
@@ -45,11 +46,12 @@ after_reading false = 48
 abbrev pub left : Job → ℕ
 left (jobs.Reading job woken) = left_of paged_halves left_of_halves halves_counted job + after_reading woken
 left (jobs.Waking job) = left_of_waking job + 45
+left (jobs.Sleeping job) = left_of_waking job
 left (jobs.Provisioning job goal) = left_of paged_tasks left_of_tasks tasks_counted job + 10
 left (jobs.Activating job goal) = left_of paged_tasks left_of_tasks tasks_counted job
 left (jobs.Watching job) = 0
 
-begun_reading : (woken : Bool) → left (reading woken) ≡ 13 + after_reading woken
+pub begun_reading : (woken : Bool) → left (reading woken) ≡ 13 + after_reading woken
 begun_reading woken = ap (λ (list : List Region). 3 * left_of_half 0 (slice_get list 0) - gained Unknown (page_by (slice_get list 0)) + after_reading woken) (asked_of_nothing everything)
 
 abbrev pub IsNearer : ℕ → Turn → Type 0
@@ -69,6 +71,9 @@ later_nearer (jobs.Reading job woken) op next reply not asks answers goes =
 later_nearer (jobs.Waking job) op next reply not asks answers goes =
     let near = near_waking job op next reply asks answers goes in
     going_nearer (left (jobs.Waking job)) (pause_of (jobs.Waking job) reply) (later (jobs.Waking job) reply) (λ none. omega (arith, near.0 none)) (omega (arith, near.1))
+later_nearer (jobs.Sleeping job) op next reply not asks answers goes =
+    let near = near_waking job op next reply asks answers goes in
+    going_nearer (left (jobs.Sleeping job)) (pause_of (jobs.Sleeping job) reply) (later (jobs.Sleeping job) reply) near.0 near.1
 later_nearer (jobs.Provisioning job goal) op next reply not asks answers goes =
     let near = near_patient paged_tasks left_of_tasks tasks_counted job op next reply asks answers goes in
     going_nearer (left (jobs.Provisioning job goal)) (pause_of (jobs.Provisioning job goal) reply) (later (jobs.Provisioning job goal) reply) (λ none. omega (arith, near.0 none)) (omega (arith, near.1))
@@ -89,6 +94,7 @@ most_reading false = omega arith
 decided_nearer : (before : ℕ) (woken : Bool) (patience : Patience) (decision : Decision) → 1 + after_reading woken ≤ before → IsNearer before (decided woken patience decision)
 decided_nearer before woken patience (Leave reason) few = tt
 decided_nearer before woken patience Wake few = wakes_nearer before patience woken few
+decided_nearer before woken patience Sleep few = omega (arith, few, most_reading woken)
 decided_nearer before woken patience (Hold goal) few = omega (arith, few)
 decided_nearer before woken patience (Activate goal) few = let is : left (activating goal patience) ≡ 10 = refl in omega (arith, is, few, most_reading woken)
 decided_nearer before woken patience (Provision goal) few = let is : left (provisioning goal patience) ≡ 32 = refl in omega (arith, is, few, most_reading woken)
@@ -98,6 +104,7 @@ follows_nearer wanted (jobs.Reading job woken) op reply not asks =
     let some = some_patient paged_halves left_of_halves halves_counted job op asks in
     λ decision whole judged. decided_nearer (left (jobs.Reading job woken)) woken _ decision (omega (arith, some))
 follows_nearer wanted (jobs.Waking job) op reply not asks = omega (arith, begun_reading true, some_waking job op asks)
+follows_nearer wanted (jobs.Sleeping job) op reply not asks = tt
 follows_nearer wanted (jobs.Provisioning job goal) op reply not asks =
     let is : left (activating goal (procedure_after job reply).conversation.patience) ≡ 10 = refl in omega (arith, is, some_patient paged_tasks left_of_tasks tasks_counted job op asks)
 follows_nearer wanted (jobs.Activating job goal) op reply not asks = omega (arith, some_patient paged_tasks left_of_tasks tasks_counted job op asks)
@@ -112,6 +119,7 @@ turn_nearer wanted op reply job turn not asks answers is =
 pub turn_up : (wanted : Wanted) (reply : Reply) (job : Job) (turn : Turn) → IsWatching job → IsTurn wanted job reply turn → IfOn turn IsWatching
 turn_up wanted reply (jobs.Reading job woken) turn up is = absurd up
 turn_up wanted reply (jobs.Waking job) turn up is = absurd up
+turn_up wanted reply (jobs.Sleeping job) turn up is = absurd up
 turn_up wanted reply (jobs.Provisioning job goal) turn up is = absurd up
 turn_up wanted reply (jobs.Activating job goal) turn up is = absurd up
 turn_up wanted reply (jobs.Watching job) turn up is =
@@ -156,7 +164,7 @@ turned_step (stages.Working job) port op reply wanted now result after asks answ
     let outcome : result ≡ outcome_of noted turn now = gives ∙ sym (same_outcome port (asked job) reply turn now) in
     subst (λ (after : Port). ¬ (IsUpStage after.stage) → IsStep (stages.Working job) 1 (pauses_by result) after.stage) (sym is)
     (λ not. subst (λ (result : Outcome). IsStep (stages.Working job) 1 (pauses_by result) (turned noted turn now).stage) (sym outcome)
-    (going_step noted wanted job op reply now turn asks answers leads (subst IsGoing outcome goes) not)) not
+    (going_step noted (granted port.request wanted) job op reply now turn asks answers leads (subst IsGoing outcome goes) not)) not
 
 pub dropped_step : (stage : Stage) (port : Port) (reply : Reply) (now : ℕ) (result : Outcome) (after : Port) → IsGoing result → IsRestartedIn stage port reply now result after → ⊥
 dropped_step stages.Absent port reply now result after goes (gives, is) = subst IsGoing gives goes
@@ -177,7 +185,11 @@ runs_nearer port after (plug now ∷ before) ran goes not = absurd goes
 runs_nearer port after (pull ∷ before) ran goes not = absurd goes
 runs_nearer port after (reconsider ∷ before) ran goes not = absurd goes
 runs_nearer port after (hold held ∷ before) ran goes not = absurd goes
+runs_nearer port after (demand request ∷ before) ran goes not = absurd goes
 runs_nearer port after (acknowledge past ∷ before) (between, ran, is) goes not =
+    let step = same_stage between.stage after.stage (ap (λ (port : Port). port.stage) is) not in
+    omega (arith, step.0, runs_nearer port between before ran goes step.1)
+runs_nearer port after (hear alive began ∷ before) (between, ran, is) goes not =
     let step = same_stage between.stage after.stage (ap (λ (port : Port). port.stage) is) not in
     omega (arith, step.0, runs_nearer port between before ran goes step.1)
 runs_nearer port after (ask op moment ∷ before) (between, ran, (asks, is)) goes not =
@@ -195,6 +207,7 @@ is_up_or_not stages.Absent = inr (λ up. up)
 is_up_or_not (stages.Left reason) = inr (λ up. up)
 is_up_or_not (stages.Working (jobs.Reading job woken)) = inr (λ up. up)
 is_up_or_not (stages.Working (jobs.Waking job)) = inr (λ up. up)
+is_up_or_not (stages.Working (jobs.Sleeping job)) = inr (λ up. up)
 is_up_or_not (stages.Working (jobs.Provisioning job goal)) = inr (λ up. up)
 is_up_or_not (stages.Working (jobs.Activating job goal)) = inr (λ up. up)
 is_up_or_not (stages.Working (jobs.Watching job)) = inl tt

@@ -7,7 +7,7 @@ use Rattle.std.specs.FinSet as set
 use Rattle.std.specs.FinMap as map
 use Rattle.bus_model.specs.declared.device.Dev.TheVariants.{A0}
 use Rattle.paged_memory.specs.Keys.{upper_key}
-use Rattle.field_tables.specs.LaneSets.{Lanes}
+use Rattle.field_tables.specs.LaneSets.{Lanes, is_disjoint}
 use Rattle.datapath_states.specs.Lanes.{codes_in}
 use Rattle.paged_memory.specs.Images.{Memory}
 use Rattle.applications.specs.Advertised.{Advertised, advertised_under}
@@ -64,6 +64,13 @@ is_kept advert page control path = are_up page control (host_lanes advert path)
 abbrev pub kept_of : Advertised → List ℕ → List ℕ → List Path → List Path
 kept_of advert page control plan = filter (is_kept advert page control) plan
 
+-- the paths of a plan but those of lanes that are to be down
+abbrev pub stays_up : Advertised → Lanes → Path → Bool
+stays_up advert down path = is_disjoint (host_lanes advert path) down
+
+abbrev pub wanted_of : Advertised → Lanes → List Path → List Path
+wanted_of advert down plan = filter (stays_up advert down) plan
+
 -- what the module advertises to a host with these wishes
 abbrev pub conventions_of : Wanted → Conventions
 conventions_of wanted = record { paired = wanted.paired; counts_by_id = wanted.counts_by_id; now = true }
@@ -71,13 +78,14 @@ conventions_of wanted = record { paired = wanted.paired; counts_by_id = wanted.c
 abbrev pub advert_of : Wanted → Memory → Advertised
 advert_of wanted image = advertised_under (conventions_of wanted) image
 
--- the goal is the first best plan by the weights, and keeps the plan's paths that page 11h shows as up
+-- the goal is the first best plan by the weights, but for paths of lanes that are to be down, and keeps those of its paths that page 11h
+-- shows as up
 pub record IsGoalBy (advert : Advertised) (wanted : Wanted) (page : List ℕ) (plan : List Path) (goal : Goal) : Type 0 where
   pub first : IsFirstBest advert (app_weights advert (weights_of_hosts wanted.hosts wanted.stay)) [] plan
   pub rising : AllPairs (λ path later. path.host < later.host) plan
-  pub control : goal.control ≡ control_bytes advert plan
-  pub lanes : goal.lanes ≡ plan_lanes advert plan
-  pub outside : goal.outside ≡ lanes_outside advert (kept_of advert page goal.control plan)
+  pub control : goal.control ≡ control_bytes advert (wanted_of advert wanted.down plan)
+  pub lanes : goal.lanes ≡ plan_lanes advert (wanted_of advert wanted.down plan)
+  pub outside : goal.outside ≡ lanes_outside advert (kept_of advert page goal.control (wanted_of advert wanted.down plan))
 
 abbrev pub HasGoal : Advertised → Wanted → List ℕ → Goal → Type 0
 HasGoal advert wanted page goal = (plan : List Path) × IsGoalBy advert wanted page plan goal

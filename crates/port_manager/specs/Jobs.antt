@@ -13,7 +13,7 @@ use Rattle.conversations.specs.Wanted.{op_of}
 use Rattle.paged_memory.specs.declared.page_addressing.PageAddressing.TheVariants.{BankAndPage}
 use Rattle.paged_memory.specs.declared.page_addressing.KnownPage.TheVariants.{Unknown}
 use Rattle.control_sets.specs.declared.fault.ProvisionFault.{ProvisionFault}
-use Rattle.control_sets.specs.declared.procedures.power.Power.TheVariants.{Awake}
+use Rattle.control_sets.specs.declared.procedures.power.Power.TheVariants.{Awake, Asleep}
 use Rattle.control_sets.specs.declared.procedures.power.PowerStage.TheVariants.{Unread}
 use Rattle.control_sets.specs.declared.procedures.procedure.TaskList.{TaskList}
 use Rattle.control_sets.specs.declared.procedures.procedure.Work.{Work}
@@ -28,7 +28,7 @@ use Rattle.module_reading.specs.ImageReading as reader
 use Rattle.module_reading.specs.Regions.{everything}
 use Rattle.port_manager.specs.declared.deciding.Goal.{Goal}
 use Rattle.port_manager.specs.declared.job.Job.{Job}
-use Rattle.port_manager.specs.declared.job.Job.TheVariants.{Reading, Waking, Provisioning, Activating, Watching}
+use Rattle.port_manager.specs.declared.job.Job.TheVariants.{Reading, Waking, Sleeping, Provisioning, Activating, Watching}
 use Rattle.port_manager.specs.declared.look.Look.{Look}
 use Rattle.port_manager.specs.Looks as looks
 use Rattle.port_manager.specs.Patients.{Paged, Patient, advanced, after_on, wants_of, wants_on}
@@ -81,6 +81,9 @@ reading woken = Reading (begun_with (doubting (reader.begun everything)) (patien
 abbrev pub waking : Patience → Job
 waking patience = Waking (patient_power (record { power = Awake; stage = Unread; fault = None }) patience false 0 0)
 
+abbrev pub sleeping : Patience → Job
+sleeping patience = Sleeping (patient_power (record { power = Asleep; stage = Unread; fault = None }) patience false 0 0)
+
 abbrev pub procedure_for : Work → Patience → PatientProcedure
 procedure_for work patience = patient_of (list_at work (0, None)) Unknown patience false 0 0
 
@@ -129,6 +132,7 @@ look_after = advanced (wants_on paged_look) (after_on paged_look)
 abbrev pub asked : Job → Option Op
 asked (Reading reading woken) = op_of (reading_wants reading)
 asked (Waking change) = op_of (waking_wants change)
+asked (Sleeping change) = op_of (waking_wants change)
 asked (Provisioning procedure goal) = op_of (procedure_wants procedure)
 asked (Activating procedure goal) = op_of (procedure_wants procedure)
 asked (Watching look) = op_of (look_wants look)

@@ -10,7 +10,7 @@ use Rattle.paged_memory.specs.KnownPages.{is_known}
 use Rattle.port_manager.specs.declared.deciding.Wanted.{Wanted}
 use Rattle.port_manager.specs.declared.port.Outcome.{Outcome}
 use Rattle.port_manager.specs.Flags.{is_raised}
-use Rattle.port_manager.specs.Stories.{Story, acknowledge, keeper_in, plug, pull, reconsider, ask, make, drop, hold}
+use Rattle.port_manager.specs.Stories.{Story, acknowledge, keeper_in, plug, pull, reconsider, ask, make, drop, hold, demand, hear}
 
 -- the reply shows the module's flag in this place as raised
 pub record ShowsModule (op : Op) (reply : Reply) (place : ℕ) : Type 0 where
@@ -38,7 +38,9 @@ IsUnacknowledged now (plug moment ∷ before) = IsUnacknowledged now before
 IsUnacknowledged now (pull ∷ before) = IsUnacknowledged now before
 IsUnacknowledged now (reconsider ∷ before) = IsUnacknowledged now before
 IsUnacknowledged now (hold held ∷ before) = IsUnacknowledged now before
+IsUnacknowledged now (demand request ∷ before) = IsUnacknowledged now before
 IsUnacknowledged now (acknowledge past ∷ before) = (past < now) × IsUnacknowledged now before
+IsUnacknowledged now (hear alive began ∷ before) = IsUnacknowledged now before
 IsUnacknowledged now (ask op moment ∷ before) = IsUnacknowledged now before
 IsUnacknowledged now (make op reply wanted moment result ∷ before) = IsUnacknowledged now before
 IsUnacknowledged now (drop ∷ before) = IsUnacknowledged now before

@@ -1,5 +1,7 @@
 pub mod Waits
 pub mod Flags
+pub mod Requests
+pub mod Silences
 pub mod Goals
 pub mod Decisions
 pub mod Patients
@@ -15,3 +17,5 @@ pub mod Stores
 pub mod Idle
 pub mod KeptFlags
 pub mod Progress
+pub mod Presences
+pub mod Requested

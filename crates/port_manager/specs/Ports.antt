@@ -1,5 +1,5 @@
 -- A port: what is to be done at a moment, and what becomes of it when a module is plugged or pulled. (this project's own)
-use Rattle.std.specs.Prelude.{◌≡◌, ◌*◌, ◌||◌, ℕ, max, min, nat_lt, Bool, true, false, Option, Some, None, if◌then◌else◌}
+use Rattle.std.specs.Prelude.{◌≡◌, ◌*◌, ◌||◌, ◌&&◌, not, ℕ, max, min, nat_lt, Bool, true, false, Option, Some, None, if◌then◌else◌}
 use Rattle.bus_model.specs.declared.operation.Op.{Op}
 use Rattle.bus_model.specs.declared.operation.Reply.{Reply}
 use Rattle.port_manager.specs.declared.port.Outstanding.{Outstanding}
@@ -24,13 +24,30 @@ use Rattle.port_manager.specs.Turns.{IsTurn}
 use Rattle.port_manager.specs.declared.turn.Turn.{Turn}
 use Rattle.port_manager.specs.declared.turn.Turn.TheVariants as turn
 use Rattle.port_manager.specs.declared.job.Job.{Job}
+use Rattle.port_manager.specs.declared.request.Request.{Request}
+use Rattle.port_manager.specs.declared.request.Request.TheVariants.{Wake}
+use Rattle.port_manager.specs.declared.silence.Presence.{Presence}
+use Rattle.port_manager.specs.declared.silence.Presence.TheVariants as presence
+use Rattle.port_manager.specs.Requests.{ended, granted}
+use Rattle.port_manager.specs.Silences as silences
 use Rattle.port_manager.specs.Waits.{later}
 use Rattle.port_manager.specs.Jobs.{IsReplyTo, asked, reading}
 
 -- nothing of a module but flags that were read
 abbrev pub absent : Times → Outstanding → Flags → Bool → Port
 absent times outstanding flags held =
-    record { times = times; stage = Absent; due = 0; back_off = times.first; outstanding = outstanding; vain = false; keeper = unread flags; held = held }
+    record {
+      times = times;
+      stage = Absent;
+      due = 0;
+      back_off = times.first;
+      outstanding = outstanding;
+      vain = false;
+      keeper = unread flags;
+      held = held;
+      request = Wake;
+      silence = silences.none;
+    }
 
 abbrev pub forsaken : Outstanding → Outstanding
 forsaken Nothing = Nothing
@@ -66,6 +83,33 @@ reconsidered port = reconsidered_by port.outstanding (record port { vain = false
 -- nothing is asked for, or the module is read anew
 abbrev pub holding : Bool → Port → Port
 holding held port = reconsidered (record port { held = held })
+
+-- somebody asks something else
+abbrev pub asked_for : Request → Port → Port
+asked_for request port = reconsidered (record port { request = request })
+
+abbrev pub is_there : Stage → Bool
+is_there Absent = false
+is_there (Left reason) = true
+is_there (Working job) = true
+
+-- a module that answers is there, and one that was silent for too long is not
+abbrev pub presence_by : Port → Bool → ℕ → ℕ → Presence
+presence_by port answered began now =
+    if answered && not (is_there port.stage) then presence.Plugged
+    else if is_there port.stage && silences.is_gone (silences.after port.silence answered began) now then presence.Pulled
+    else presence.Same
+
+abbrev pub silent : Bool → ℕ → Port → Port
+silent answered began port = record port { silence = silences.after port.silence answered began }
+
+abbrev pub heard_as : Presence → Port → Bool → ℕ → ℕ → Port
+heard_as presence.Plugged port answered began now = plugged now port
+heard_as presence.Pulled port answered began now = pulled port
+heard_as presence.Same port answered began now = silent answered began port
+
+abbrev pub heard : Port → Bool → ℕ → ℕ → Port
+heard port answered began now = heard_as (presence_by port answered began now) port answered began now
 
 -- flags up to this moment are known to somebody
 abbrev pub acknowledged_to : ℕ → Port → Port
@@ -134,6 +178,7 @@ abbrev pub is_vain : PortFault → Bool
 is_vain faults.Asleep = true
 is_vain (faults.Waking why) = true
 is_vain faults.Unread = false
+is_vain (faults.Sleeping why) = false
 is_vain faults.Unseen = false
 is_vain (faults.Provisioning why) = false
 is_vain (faults.Activating why) = false
@@ -157,8 +202,18 @@ back_off_after port notes.Identified = port.back_off
 back_off_after port notes.Woken = port.back_off
 back_off_after port notes.Provisioned = port.back_off
 
+-- a module that is up is as it was asked
+abbrev pub request_after : Request → Note → Request
+request_after request notes.CameUp = ended request
+request_after request notes.Held = request
+request_after request notes.Quiet = request
+request_after request notes.Identified = request
+request_after request notes.Woken = request
+request_after request notes.Provisioned = request
+
 abbrev pub waiting : Port → Note → ℕ → Port
-waiting port note now = record port { due = max port.due (later now (wait_of port.times note)); back_off = back_off_after port note }
+waiting port note now =
+    record port { due = max port.due (later now (wait_of port.times note)); back_off = back_off_after port note; request = request_after port.request note }
 
 -- when it may be tried again
 abbrev pub again : Port → ℕ → ℕ
@@ -172,7 +227,7 @@ turned port (turn.On job note) now = waiting (record port { stage = Working job 
 turned port (turn.Paused job time) now = record port { stage = Working job; due = max port.due (later now time) }
 turned port (turn.Failed why) now =
     record port { stage = Working (reading (vain_after port why)); due = again port now; back_off = min (2 * port.back_off) port.times.most; vain = vain_after port why }
-turned port (turn.Left reason) now = record port { stage = Left reason }
+turned port (turn.Left reason) now = record port { stage = Left reason; request = ended port.request }
 
 abbrev pub outcome_of : Port → Turn → ℕ → Outcome
 outcome_of port (turn.On job note) now = outcome.Went note
@@ -199,7 +254,7 @@ abbrev pub IsTurnedIn : Stage → Port → Reply → Wanted → ℕ → Outcome 
 IsTurnedIn Absent port reply wanted now result later = IsDropped port result later
 IsTurnedIn (Left reason) port reply wanted now result later = IsDropped port result later
 IsTurnedIn (Working job) port reply wanted now result later =
-    (turn : Turn) × IsTurn wanted job reply turn × (result ≡ outcome_of port turn now) × (later ≡ turned (noting (answered port) (asked job) reply now) turn now)
+    (turn : Turn) × IsTurn (granted port.request wanted) job reply turn × (result ≡ outcome_of port turn now) × (later ≡ turned (noting (answered port) (asked job) reply now) turn now)
 
 -- the module is read anew after the reply
 abbrev pub IsRestartedIn : Stage → Port → Reply → ℕ → Outcome → Port → Type 0

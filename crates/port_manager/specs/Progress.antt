@@ -11,7 +11,7 @@ use Rattle.port_manager.specs.declared.port.Stage.{Stage}
 use Rattle.port_manager.specs.declared.port.Stage.TheVariants as stages
 use Rattle.port_manager.specs.Ports.{next_at, plugged}
 use Rattle.port_manager.specs.Runs.{Reaches, Runs}
-use Rattle.port_manager.specs.Stories.{Story, plug, pull, reconsider, acknowledge, ask, make, drop, hold}
+use Rattle.port_manager.specs.Stories.{Story, plug, pull, reconsider, acknowledge, ask, make, drop, hold, demand, hear}
 use Rattle.port_manager.specs.Standing.{IsWatching}
 
 -- the module was seen as it is wanted, and is looked at
@@ -34,7 +34,9 @@ IsGoingOn (plug now ∷ before) = ⊥
 IsGoingOn (pull ∷ before) = ⊥
 IsGoingOn (reconsider ∷ before) = ⊥
 IsGoingOn (hold held ∷ before) = ⊥
+IsGoingOn (demand request ∷ before) = ⊥
 IsGoingOn (acknowledge past ∷ before) = IsGoingOn before
+IsGoingOn (hear alive began ∷ before) = IsGoingOn before
 IsGoingOn (ask op moment ∷ before) = IsGoingOn before
 IsGoingOn (make op reply wanted now result ∷ before) = IsGoing result × IsGoingOn before
 IsGoingOn (drop ∷ before) = IsGoingOn before
@@ -46,7 +48,9 @@ made_in (plug now ∷ before) = made_in before
 made_in (pull ∷ before) = made_in before
 made_in (reconsider ∷ before) = made_in before
 made_in (hold held ∷ before) = made_in before
+made_in (demand request ∷ before) = made_in before
 made_in (acknowledge past ∷ before) = made_in before
+made_in (hear alive began ∷ before) = made_in before
 made_in (ask op moment ∷ before) = made_in before
 made_in (make op reply wanted now result ∷ before) = made_in before + 1
 made_in (drop ∷ before) = made_in before
@@ -65,7 +69,9 @@ paused_in (plug now ∷ before) = paused_in before
 paused_in (pull ∷ before) = paused_in before
 paused_in (reconsider ∷ before) = paused_in before
 paused_in (hold held ∷ before) = paused_in before
+paused_in (demand request ∷ before) = paused_in before
 paused_in (acknowledge past ∷ before) = paused_in before
+paused_in (hear alive began ∷ before) = paused_in before
 paused_in (ask op moment ∷ before) = paused_in before
 paused_in (make op reply wanted now result ∷ before) = paused_in before + pauses_by result
 paused_in (drop ∷ before) = paused_in before

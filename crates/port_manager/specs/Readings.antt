@@ -1,6 +1,7 @@
 -- What was read of a module, and what the last reading of a story leads to. (this project's own)
 use Rattle.std.specs.Prelude.{◌≡◌, ◌⊎◌, ◌≤◌, ℕ, true, List, [], ◌∷◌, ◌++◌, Some}
 use Rattle.std.specs.FinMap as map
+use Rattle.std.specs.FinSet as set
 use Rattle.bus_model.specs.Operations.{Answers}
 use Rattle.conversations.specs.declared.next.Next.{Next}
 use Rattle.conversations.specs.declared.next.Next.TheVariants as nexts
@@ -27,7 +28,8 @@ use Rattle.port_manager.specs.Decisions.{page_of_lanes}
 use Rattle.port_manager.specs.Goals.{IsGoalOf, is_permitted, may_activate, may_provision}
 use Rattle.port_manager.specs.Jobs.{begun_with, doubting, reading_after, reading_wants}
 use Rattle.port_manager.specs.Patients.{Patient}
-use Rattle.port_manager.specs.Stories.{Story, acknowledge, ask, drop, hold, make, plug, pull, reconsider, step_with, steps_of}
+use Rattle.port_manager.specs.Requests.{granted}
+use Rattle.port_manager.specs.Stories.{Story, acknowledge, ask, drop, hold, demand, hear, make, plug, pull, reconsider, request_in, step_with, steps_of}
 
 -- the reading took the replies of these steps, each of an operation that it wanted
 abbrev pub TookSteps : History → Patient (OnPage Halves) → Type 0
@@ -71,17 +73,19 @@ SinceOutcome P history wanted (outcome.Paused moment) before = before
 SinceOutcome P history wanted (outcome.Failed fault moment) before = ⊥
 SinceOutcome P history wanted (outcome.Left reason) before = ⊥
 
--- of the steps up to the last reading that was judged, and of the weights that were given with its last reply; nothing has failed
--- since, nor were other weights wanted
+-- of the steps up to the last reading that was judged, and of what was wanted with its last reply, and asked by then; nothing has
+-- failed since, nor was anything else wanted or asked
 abbrev pub SinceRead : (History → Wanted → Type 0) → Story → Type 0
 SinceRead P [] = ⊥
 SinceRead P (plug now ∷ before) = ⊥
 SinceRead P (pull ∷ before) = ⊥
 SinceRead P (reconsider ∷ before) = ⊥
 SinceRead P (hold held ∷ before) = ⊥
+SinceRead P (demand request ∷ before) = ⊥
 SinceRead P (acknowledge past ∷ before) = SinceRead P before
+SinceRead P (hear alive began ∷ before) = SinceRead P before
 SinceRead P (ask op moment ∷ before) = SinceRead P before
-SinceRead P (make op reply wanted now result ∷ before) = SinceOutcome P (step_with op reply ∷ steps_of before) wanted result (SinceRead P before)
+SinceRead P (make op reply wanted now result ∷ before) = SinceOutcome P (step_with op reply ∷ steps_of before) (granted (request_in before) wanted) result (SinceRead P before)
 SinceRead P (drop ∷ before) = SinceRead P before
 
 -- the goal is that of the image that was just read, by these weights
@@ -108,9 +112,18 @@ GivesPermission lane history wanted =
 abbrev pub GivesWaking : History → Wanted → Type 0
 GivesWaking history wanted = (image : Memory) × IsJustRead history image × (number image CMaxPower ≤ wanted.max_power)
 
+-- the image that was just read is of a module that is to be in low power, and shows no lane as up that may not be taken down
+abbrev pub GivesSleep : History → Wanted → Type 0
+GivesSleep history wanted =
+    (image : Memory) × IsJustRead history image × (wanted.asleep ≡ true) × (page : List ℕ) × (page_of_lanes image ≡ Some page)
+    × (may_activate page set.empty wanted.may_take_down ≡ true)
+
 -- the goal is that of the last reading
 abbrev pub RestsIn : Story → Goal → Type 0
 RestsIn story goal = SinceRead (GivesGoal goal) story
 
 abbrev pub WakesIn : Story → Type 0
 WakesIn story = SinceRead GivesWaking story
+
+abbrev pub SleepsIn : Story → Type 0
+SleepsIn story = SinceRead GivesSleep story

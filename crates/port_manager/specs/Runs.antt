@@ -4,9 +4,9 @@ use Rattle.port_manager.specs.declared.port.Port.{Port}
 use Rattle.port_manager.specs.declared.port.Outstanding.TheVariants as outstanding
 use Rattle.port_manager.specs.declared.port.PortNext.TheVariants.{Do}
 use Rattle.port_manager.specs.declared.times.Times.{Times}
-use Rattle.port_manager.specs.Ports.{IsAwaited, IsTaken, absent, acknowledged_to, answered, asking, awaited, holding, next_at, plugged, pulled, reconsidered}
+use Rattle.port_manager.specs.Ports.{IsAwaited, IsTaken, absent, acknowledged_to, answered, asked_for, asking, awaited, holding, silent, next_at, plugged, pulled, reconsidered}
 use Rattle.port_manager.specs.Flags.{no_flags}
-use Rattle.port_manager.specs.Stories.{Event, Story, plug, pull, reconsider, acknowledge, ask, make, drop, hold}
+use Rattle.port_manager.specs.Stories.{Event, Story, plug, pull, reconsider, acknowledge, ask, make, drop, hold, demand, hear}
 
 abbrev pub IsWaitedFor : Port → Type 0
 IsWaitedFor port = (port.outstanding ≡ outstanding.Awaited) ⊎ (port.outstanding ≡ outstanding.Stale)
@@ -17,7 +17,9 @@ Becomes port (plug now) later = later ≡ plugged now port
 Becomes port pull later = later ≡ pulled port
 Becomes port reconsider later = later ≡ reconsidered port
 Becomes port (hold held) later = later ≡ holding held port
+Becomes port (demand request) later = later ≡ asked_for request port
 Becomes port (acknowledge past) later = later ≡ acknowledged_to past port
+Becomes port (hear alive began) later = later ≡ silent alive began port
 Becomes port (ask op moment) later = (next_at port moment ≡ Do op) × (later ≡ asking port (Do op))
 Becomes port (make op reply wanted now result) later =
     IsWaitedFor port × (awaited port ≡ Some op) × IsAwaited port reply × IsTaken port reply wanted now result later

@@ -2,24 +2,25 @@
 use Rattle.std.specs.Prelude.{◌≡◌, ◌≤◌, ℕ, Bool, true, false, [], ◌∷◌, ◌++◌}
 use Rattle.bus_model.specs.declared.operation.Op.{Op}
 use Rattle.conversations.specs.declared.on_page.OnPage.{OnPage}
-use Rattle.control_sets.specs.declared.procedures.power.Power.TheVariants.{Awake}
+use Rattle.control_sets.specs.declared.procedures.power.Power.TheVariants.{Awake, Asleep}
 use Rattle.paged_memory.specs.PageAddressing.{History}
 use Rattle.module_reading.specs.declared.halves.Halves.{Halves}
 use Rattle.port_manager.specs.declared.job.Job.{Job}
-use Rattle.port_manager.specs.declared.job.Job.TheVariants.{Reading, Waking, Provisioning, Activating, Watching}
+use Rattle.port_manager.specs.declared.job.Job.TheVariants.{Reading, Waking, Sleeping, Provisioning, Activating, Watching}
 use Rattle.port_manager.specs.declared.port.Outstanding.{Outstanding}
 use Rattle.port_manager.specs.declared.port.Outstanding.TheVariants as outstanding
 use Rattle.port_manager.specs.declared.port.Port.{Port}
 use Rattle.port_manager.specs.Jobs.{activation_of, provisioning_of}
 use Rattle.port_manager.specs.Patients.{Patient}
 use Rattle.port_manager.specs.Ports.{IfWorking}
-use Rattle.port_manager.specs.Stories.{Story, acknowledge, again_in, ask, drop, held_in, hold, keeper_in, make, outstanding_in, plug, pull, reconsider, settled_in, steps_of, vain_in}
-use Rattle.port_manager.specs.Readings.{GivesActivation, GivesProvisioning, RestsIn, SinceRead, TookSteps, WakesIn}
+use Rattle.port_manager.specs.Stories.{Story, acknowledge, again_in, ask, drop, held_in, hold, demand, hear, keeper_in, make, outstanding_in, plug, pull, reconsider, request_in, settled_in, silence_in, steps_of, vain_in}
+use Rattle.port_manager.specs.Readings.{GivesActivation, GivesProvisioning, RestsIn, SinceRead, SleepsIn, TookSteps, WakesIn}
 
--- the job works for the goal of the last reading, or wakes up
+-- the job works for the goal of the last reading, wakes up or goes to low power
 abbrev pub IsNamed : Story → Job → Type 0
 IsNamed story (Reading job woken) = Unit {0}
 IsNamed story (Waking job) = (job.conversation.conversation.power ≡ Awake) × WakesIn story
+IsNamed story (Sleeping job) = (job.conversation.conversation.power ≡ Asleep) × SleepsIn story
 IsNamed story (Provisioning job goal) = (job.conversation.conversation.conversation.work ≡ provisioning_of goal) × SinceRead (GivesProvisioning goal) story
 IsNamed story (Activating job goal) = (job.conversation.conversation.conversation.work ≡ activation_of goal) × SinceRead (GivesActivation goal) story
 IsNamed story (Watching job) = RestsIn story job.conversation.conversation.conversation.goal
@@ -43,6 +44,7 @@ pub record IsReadingOf (history : History) (reading : Patient (OnPage Halves)) :
 abbrev pub IsFounded : History → Job → Type 0
 IsFounded history (Reading job woken) = IsReadingOf history job
 IsFounded history (Waking job) = Unit {0}
+IsFounded history (Sleeping job) = Unit {0}
 IsFounded history (Provisioning job goal) = Unit {0}
 IsFounded history (Activating job goal) = Unit {0}
 IsFounded history (Watching job) = Unit {0}
@@ -51,6 +53,7 @@ IsFounded history (Watching job) = Unit {0}
 abbrev pub IsTame : Job → Type 0
 IsTame (Reading job woken) = woken ≡ true
 IsTame (Waking job) = ⊥
+IsTame (Sleeping job) = Unit {0}
 IsTame (Provisioning job goal) = Unit {0}
 IsTame (Activating job goal) = Unit {0}
 IsTame (Watching job) = Unit {0}
@@ -58,6 +61,7 @@ IsTame (Watching job) = Unit {0}
 abbrev pub IsWatching : Job → Type 0
 IsWatching (Reading job woken) = ⊥
 IsWatching (Waking job) = ⊥
+IsWatching (Sleeping job) = ⊥
 IsWatching (Provisioning job goal) = ⊥
 IsWatching (Activating job goal) = ⊥
 IsWatching (Watching job) = Unit {0}
@@ -78,7 +82,9 @@ IsLawful (plug now ∷ before) = IsLawful before
 IsLawful (pull ∷ before) = IsLawful before
 IsLawful (reconsider ∷ before) = IsLawful before
 IsLawful (hold held ∷ before) = IsLawful before
+IsLawful (demand request ∷ before) = IsLawful before
 IsLawful (acknowledge past ∷ before) = IsLawful before
+IsLawful (hear alive began ∷ before) = IsLawful before
 IsLawful (ask op moment ∷ before) = MayAsk op moment before × IsLawful before
 IsLawful (make op reply wanted now result ∷ before) = IsLawful before
 IsLawful (drop ∷ before) = IsLawful before
@@ -89,6 +95,8 @@ pub record IsAt (story : Story) (port : Port) : Type 0 where
   pub outstanding : port.outstanding ≡ outstanding_in story
   pub waits : again_in story ≤ port.due
   pub held : port.held ≡ held_in story
+  pub request : port.request ≡ request_in story
+  pub silence : port.silence ≡ silence_in story
   pub founded : IfWorking port.stage (IsFounded (steps_of story))
   pub vain : port.vain ≡ vain_in story
   pub tame : IfTrue port.vain (IfWorking port.stage IsTame)

@@ -13,7 +13,12 @@ use Rattle.port_manager.specs.declared.port.Outstanding.TheVariants as outstandi
 use Rattle.port_manager.specs.declared.turn.Note.{Note}
 use Rattle.port_manager.specs.declared.turn.Note.TheVariants as notes
 use Rattle.port_manager.specs.Flags.{acknowledged, no_flags, noted, unread}
-use Rattle.port_manager.specs.Ports.{forsaken, is_vain}
+use Rattle.port_manager.specs.declared.request.Request.{Request}
+use Rattle.port_manager.specs.declared.request.Request.TheVariants.{Wake}
+use Rattle.port_manager.specs.declared.silence.Silence.{Silence}
+use Rattle.port_manager.specs.Ports.{forsaken, is_vain, request_after}
+use Rattle.port_manager.specs.Requests.{ended}
+use Rattle.port_manager.specs.Silences as silences
 
 pub data Event : Type 0 where
   -- a module was plugged at this moment
@@ -23,6 +28,10 @@ pub data Event : Type 0 where
   reconsider : Event
   -- the port is to hold still, or not any longer
   hold : Bool → Event
+  -- somebody asks this, in place of what was asked before
+  demand : Request → Event
+  -- a transaction was answered, or refused, which began at this moment; the module stays
+  hear : Bool → ℕ → Event
   -- flags up to this moment are known to somebody
   acknowledge : ℕ → Event
   -- the operation was asked for at this moment
@@ -45,7 +54,9 @@ steps_of (plug now ∷ before) = []
 steps_of (pull ∷ before) = []
 steps_of (reconsider ∷ before) = steps_of before
 steps_of (hold held ∷ before) = steps_of before
+steps_of (demand request ∷ before) = steps_of before
 steps_of (acknowledge past ∷ before) = steps_of before
+steps_of (hear alive began ∷ before) = steps_of before
 steps_of (ask op moment ∷ before) = steps_of before
 steps_of (make op reply wanted now result ∷ before) = step_with op reply ∷ steps_of before
 steps_of (drop ∷ before) = steps_of before
@@ -63,7 +74,9 @@ outstanding_in (plug now ∷ before) = forsaken (outstanding_in before)
 outstanding_in (pull ∷ before) = forsaken (outstanding_in before)
 outstanding_in (reconsider ∷ before) = staled (outstanding_in before)
 outstanding_in (hold held ∷ before) = staled (outstanding_in before)
+outstanding_in (demand request ∷ before) = staled (outstanding_in before)
 outstanding_in (acknowledge past ∷ before) = outstanding_in before
+outstanding_in (hear alive began ∷ before) = outstanding_in before
 outstanding_in (ask op moment ∷ before) = outstanding.Awaited
 outstanding_in (make op reply wanted now result ∷ before) = outstanding.Nothing
 outstanding_in (drop ∷ before) = outstanding.Nothing
@@ -83,7 +96,9 @@ again_in (plug now ∷ before) = 0
 again_in (pull ∷ before) = 0
 again_in (reconsider ∷ before) = again_in before
 again_in (hold held ∷ before) = again_in before
+again_in (demand request ∷ before) = again_in before
 again_in (acknowledge past ∷ before) = again_in before
+again_in (hear alive began ∷ before) = again_in before
 again_in (ask op moment ∷ before) = again_in before
 again_in (make op reply wanted now result ∷ before) = waits_after result (again_in before)
 again_in (drop ∷ before) = again_in before
@@ -103,7 +118,9 @@ vain_in (plug now ∷ before) = false
 vain_in (pull ∷ before) = false
 vain_in (reconsider ∷ before) = false
 vain_in (hold held ∷ before) = false
+vain_in (demand request ∷ before) = false
 vain_in (acknowledge past ∷ before) = vain_in before
+vain_in (hear alive began ∷ before) = vain_in before
 vain_in (ask op moment ∷ before) = vain_in before
 vain_in (make op reply wanted now result ∷ before) = vain_by result (vain_in before)
 vain_in (drop ∷ before) = vain_in before
@@ -131,7 +148,9 @@ settled_in (plug now ∷ before) = false
 settled_in (pull ∷ before) = false
 settled_in (reconsider ∷ before) = false
 settled_in (hold held ∷ before) = false
+settled_in (demand request ∷ before) = false
 settled_in (acknowledge past ∷ before) = settled_in before
+settled_in (hear alive began ∷ before) = settled_in before
 settled_in (ask op moment ∷ before) = settled_in before
 settled_in (make op reply wanted now result ∷ before) = settled_by result (settled_in before)
 settled_in (drop ∷ before) = settled_in before
@@ -143,7 +162,9 @@ keeper_in (plug now ∷ before) = unread (keeper_in before).flags
 keeper_in (pull ∷ before) = unread (keeper_in before).flags
 keeper_in (reconsider ∷ before) = keeper_in before
 keeper_in (hold held ∷ before) = keeper_in before
+keeper_in (demand request ∷ before) = keeper_in before
 keeper_in (acknowledge past ∷ before) = acknowledged (keeper_in before) past
+keeper_in (hear alive began ∷ before) = keeper_in before
 keeper_in (ask op moment ∷ before) = keeper_in before
 keeper_in (make op reply wanted now result ∷ before) = noted (keeper_in before) op reply now
 keeper_in (drop ∷ before) = keeper_in before
@@ -155,7 +176,44 @@ held_in (plug now ∷ before) = held_in before
 held_in (pull ∷ before) = held_in before
 held_in (reconsider ∷ before) = held_in before
 held_in (hold held ∷ before) = held
+held_in (demand request ∷ before) = held_in before
 held_in (acknowledge past ∷ before) = held_in before
+held_in (hear alive began ∷ before) = held_in before
 held_in (ask op moment ∷ before) = held_in before
 held_in (make op reply wanted now result ∷ before) = held_in before
 held_in (drop ∷ before) = held_in before
+
+abbrev pub request_by : Outcome → Request → Request
+request_by outcome.Dropped before = before
+request_by (outcome.Went note) before = request_after before note
+request_by (outcome.Paused moment) before = before
+request_by (outcome.Failed fault moment) before = before
+request_by (outcome.Left reason) before = ended before
+
+-- what somebody has asked since the module was plugged, and permission until it is up or left alone
+abbrev pub request_in : Story → Request
+request_in [] = Wake
+request_in (plug now ∷ before) = Wake
+request_in (pull ∷ before) = Wake
+request_in (reconsider ∷ before) = request_in before
+request_in (hold held ∷ before) = request_in before
+request_in (demand request ∷ before) = request
+request_in (acknowledge past ∷ before) = request_in before
+request_in (hear alive began ∷ before) = request_in before
+request_in (ask op moment ∷ before) = request_in before
+request_in (make op reply wanted now result ∷ before) = request_by result (request_in before)
+request_in (drop ∷ before) = request_in before
+
+-- how often in a row it was refused since it was plugged, and since when
+abbrev pub silence_in : Story → Silence
+silence_in [] = silences.none
+silence_in (plug now ∷ before) = silences.none
+silence_in (pull ∷ before) = silences.none
+silence_in (reconsider ∷ before) = silence_in before
+silence_in (hold held ∷ before) = silence_in before
+silence_in (demand request ∷ before) = silence_in before
+silence_in (acknowledge past ∷ before) = silence_in before
+silence_in (hear alive began ∷ before) = silences.after (silence_in before) alive began
+silence_in (ask op moment ∷ before) = silence_in before
+silence_in (make op reply wanted now result ∷ before) = silence_in before
+silence_in (drop ∷ before) = silence_in before

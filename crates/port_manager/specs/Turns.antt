@@ -15,11 +15,12 @@ use Rattle.control_sets.specs.Durations.{patience_for}
 use Rattle.control_sets.specs.PowerProgress.{PatientPower, change_after, power_wants}
 use Rattle.control_sets.specs.Progress.{PatientProcedure}
 use Rattle.port_manager.specs.declared.deciding.Decision.{Decision}
-use Rattle.port_manager.specs.declared.deciding.Decision.TheVariants.{Leave, Wake, Hold, Activate, Provision}
+use Rattle.port_manager.specs.declared.deciding.Decision.TheVariants.{Leave, Wake, Sleep, Hold, Activate, Provision}
 use Rattle.port_manager.specs.declared.deciding.Goal.{Goal}
+use Rattle.port_manager.specs.declared.deciding.LeftBecause.TheVariants.{Asleep}
 use Rattle.port_manager.specs.declared.deciding.Wanted.{Wanted}
 use Rattle.port_manager.specs.declared.job.Job.{Job}
-use Rattle.port_manager.specs.declared.job.Job.TheVariants.{Reading, Waking, Provisioning, Activating, Watching}
+use Rattle.port_manager.specs.declared.job.Job.TheVariants.{Reading, Waking, Sleeping, Provisioning, Activating, Watching}
 use Rattle.port_manager.specs.declared.look.Look.{Look}
 use Rattle.module_reading.specs.declared.halves.Halves.{Halves}
 use Rattle.port_manager.specs.declared.turn.Note.TheVariants as note
@@ -29,7 +30,7 @@ use Rattle.port_manager.specs.declared.turn.ProcedureFault.TheVariants as why
 use Rattle.port_manager.specs.declared.turn.Turn.{Turn}
 use Rattle.port_manager.specs.declared.turn.Turn.TheVariants.{On, Paused, Failed, Left}
 use Rattle.port_manager.specs.Decisions.{IsDecision}
-use Rattle.port_manager.specs.Jobs.{activating, paged_halves, paged_look, look_after, look_wants, procedure_after, procedure_wants, provisioning, reading, reading_after, reading_wants, paged_tasks, waking, waking_after, waking_wants, watching}
+use Rattle.port_manager.specs.Jobs.{activating, paged_halves, paged_look, look_after, look_wants, procedure_after, procedure_wants, provisioning, sleeping, reading, reading_after, reading_wants, paged_tasks, waking, waking_after, waking_wants, watching}
 use Rattle.port_manager.specs.Patients.{Patient, after_on, pause_after, wants_on}
 
 -- ---- a job goes on
@@ -55,6 +56,7 @@ woken_again false patience = On (waking patience) note.Identified
 abbrev pub decided : Bool → Patience → Decision → Turn
 decided woken patience (Leave reason) = Left reason
 decided woken patience Wake = woken_again woken patience
+decided woken patience Sleep = On (sleeping patience) note.Identified
 decided woken patience (Hold goal) = On (watching goal patience) note.CameUp
 decided woken patience (Activate goal) = On (activating goal patience) note.Identified
 decided woken patience (Provision goal) = On (provisioning goal patience) note.Identified
@@ -74,6 +76,10 @@ fault_in (Some (InTime (Some because))) = Some (why.Failed because)
 abbrev pub woken_up : Option ProcedureFault → Turn
 woken_up None = On (reading true) note.Woken
 woken_up (Some because) = Failed (fault.Waking because)
+
+abbrev pub slept : Option ProcedureFault → Turn
+slept None = Left Asleep
+slept (Some because) = Failed (fault.Sleeping because)
 
 abbrev pub provisioned : Goal → Patience → Option ProcedureFault → Turn
 provisioned goal patience None = On (activating goal patience) note.Provisioned
@@ -102,6 +108,11 @@ IsWakingTurn job reply turn =
     let later = waking_after job reply in
     GoesTo (waking_wants later) (pause_after power_wants change_after job reply) (Waking later) (λ end turn. turn ≡ woken_up (fault_in end)) turn
 
+abbrev pub IsSleepingTurn : PatientPower → Reply → Turn → Type 0
+IsSleepingTurn job reply turn =
+    let later = waking_after job reply in
+    GoesTo (waking_wants later) (pause_after power_wants change_after job reply) (Sleeping later) (λ end turn. turn ≡ slept (fault_in end)) turn
+
 abbrev pub IsProvisioningTurn : PatientProcedure → Goal → Reply → Turn → Type 0
 IsProvisioningTurn job goal reply turn =
     let later = procedure_after job reply in
@@ -123,6 +134,7 @@ IsWatchingTurn job reply turn =
 abbrev pub IsTurn : Wanted → Job → Reply → Turn → Type 0
 IsTurn wanted (Reading job woken) reply turn = IsReadingTurn wanted job woken reply turn
 IsTurn wanted (Waking job) reply turn = IsWakingTurn job reply turn
+IsTurn wanted (Sleeping job) reply turn = IsSleepingTurn job reply turn
 IsTurn wanted (Provisioning job goal) reply turn = IsProvisioningTurn job goal reply turn
 IsTurn wanted (Activating job goal) reply turn = IsActivatingTurn job goal reply turn
 IsTurn wanted (Watching job) reply turn = IsWatchingTurn job reply turn

@@ -28,6 +28,8 @@ pub enum Job {
     Reading(ReadingJob, bool),
     /// The module is woken up.
     Waking(PatientPower),
+    /// The module goes to low power.
+    Sleeping(PatientPower),
     /// The plan's control bytes become active.
     Provisioning(PatientProcedure, Goal),
     /// The plan's lanes come up.
@@ -57,6 +59,12 @@ impl Job {
         ensures { result ≡ spec.waking patience }
     {
         Job::Waking(PowerChange::patient(Power::Awake, patience))
+    }
+
+    pub fn sleeping(patience: Patience) -> Job
+        ensures { result ≡ spec.sleeping patience }
+    {
+        Job::Sleeping(PowerChange::patient(Power::Asleep, patience))
     }
 
     pub fn provisioning(goal: Goal, patience: Patience) -> Job
@@ -95,7 +103,7 @@ impl Job {
     {
         match self {
             Job::Reading(reading, _) => op_of(reading.next()),
-            Job::Waking(change) => op_of(change.next()),
+            Job::Waking(change) | Job::Sleeping(change) => op_of(change.next()),
             Job::Provisioning(procedure, _) | Job::Activating(procedure, _) => {
                 op_of(procedure.next())
             },

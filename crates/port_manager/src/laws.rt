@@ -14,26 +14,29 @@ ghost use Rattle.port_manager.specs.declared.deciding.Wanted.{Wanted};
 ghost use Rattle.port_manager.specs.declared.port.Port.{Port};
 ghost use Rattle.port_manager.specs.declared.port.PortNext.TheVariants.{Do};
 ghost use Rattle.port_manager.specs.Decisions.{IsDecision};
-ghost use Rattle.port_manager.specs.Goals.{IsGoalBy, kept_of};
+ghost use Rattle.port_manager.specs.Goals.{IsGoalBy, kept_of, wanted_of};
 ghost use Rattle.port_manager.specs.Idle.{LeavesWhatIsUp};
 ghost use Rattle.port_manager.specs.KeptFlags.{NoFlagIsLost};
 ghost use Rattle.port_manager.specs.Ports.{next_at};
+ghost use Rattle.port_manager.specs.Presences.{IsPulledBySilence};
 ghost use Rattle.port_manager.specs.Progress.{ComesUp, NeverStops};
+ghost use Rattle.port_manager.specs.Requested.{IsRequestDone};
 ghost use Rattle.port_manager.specs.Runs.{Reaches};
 ghost use Rattle.port_manager.specs.Stores.{IsStoreOf, MayMakeIn, StoresNothing, TakesPermitted};
 ghost use Rattle.port_manager.specs.Stories.{Story, held_in, settled_in};
 ghost use Rattle.port_manager.specs.Standing.{IsAt};
 
 /// What a port asks for, after any story, names its weights. It fetches, selects a page, or is a store of the first best plan of the
-/// image that the last reading gave since the module was plugged, by the weights that were given with its last reply. Or it wakes
-/// the module up, which the last reading showed to need no more power than it may have, and which was not woken up in vain since
-/// it was plugged or somebody asked.
+/// image that the last reading gave since the module was plugged, by the weights that were given with its last reply, without the
+/// lanes that somebody asked to be down. Or it wakes the module up, which the last reading showed to need no more power than it may
+/// have, and which was not woken up in vain since it was plugged or somebody asked. Or it puts the module to sleep, since somebody
+/// asked, and the last reading showed no lane as up that may not be taken down.
 pub fn stores_name_their_weights()
     ensures { (story : Story) (port : Port) (op : Op) (now : ℕ) → Reaches story port → next_at port now ≡ Do op → MayMakeIn story op }
 {}
 
 /// After any story, no operation takes a lane down, or applies it, that the last reading showed to be up, unless that is permitted by
-/// what was wanted with its last reply.
+/// what was wanted with its last reply, or asked by then.
 pub fn no_lane_goes_down_unpermitted()
     ensures { (story : Story) (port : Port) (op : Op) (now : ℕ) → Reaches story port → next_at port now ≡ Do op → TakesPermitted story op }
 {}
@@ -84,7 +87,26 @@ pub fn no_flag_is_lost()
 /// No store of a goal has a bit of DPDeinit or ApplyDPInit of a lane that a kept path takes.
 pub fn kept_lanes_are_left()
     ensures { (advert : Advertised) (wanted : Wanted) (page : List ℕ) (plan : List Path) (goal : Goal) (op : Op) (bits lane : ℕ) →
-        IsGoalBy advert wanted page plan goal → is_taken advert (kept_of advert page goal.control plan) lane ≡ true →
+        IsGoalBy advert wanted page plan goal → is_taken advert (kept_of advert page goal.control (wanted_of advert wanted.down plan)) lane ≡ true →
         IsStoreOf goal op → Sets bits op → IsLane lane →
         set.contains (lanes_in bits) lane ≡ false }
+{}
+
+/// What is heard of a module is that it was plugged, that it was pulled, or neither. It is pulled if, and only if, more than three
+/// transactions in a row were refused over more than a second, and plugged if it answers and wasn't there.
+pub fn a_silent_module_is_pulled()
+    ensures { IsPulledBySilence }
+{}
+
+/// After somebody asked something of a port with a module and nothing outstanding, unless something fails, it is left alone, pulled or
+/// wanted otherwise: once more operations were made than 61, and 3 for each that was followed by a pause, it is up as it is wanted.
+/// If it was to be in low power, it is left alone before that.
+pub fn what_is_asked_is_done()
+    ensures { IsRequestDone }
+{}
+
+/// No path of a goal has a lane that is to be down.
+pub fn lanes_that_are_to_be_down_have_no_path()
+    ensures { (advert : Advertised) (wanted : Wanted) (page : List ℕ) (plan : List Path) (goal : Goal) (lane : ℕ) →
+        IsGoalBy advert wanted page plan goal → set.contains wanted.down lane ≡ true → set.contains goal.lanes lane ≡ false }
 {}

@@ -11,6 +11,8 @@ pub mod laws;
 mod look;
 mod patient;
 mod port;
+mod request;
+mod silence;
 mod times;
 mod turn;
 
@@ -19,5 +21,7 @@ pub use flags::{FlagKeeper, Flags};
 pub use job::{Job, ReadingJob, WatchingJob};
 pub use look::{Look, LookStage};
 pub use port::{Outcome, Outstanding, Port, PortNext, Stage};
+pub use request::Request;
+pub use silence::{Presence, Silence};
 pub use times::Times;
 pub use turn::{Note, PortFault, ProcedureFault, Turn};

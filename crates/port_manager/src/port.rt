@@ -10,6 +10,8 @@ ghost use Rattle.port_manager.specs.declared.port.Outstanding.TheVariants as out
 use crate::deciding::{LeftBecause, Wanted};
 use crate::flags::{FlagKeeper, Flags};
 use crate::job::Job;
+use crate::request::Request;
+use crate::silence::{Presence, Silence};
 use crate::times::{Times, doubled, later};
 use crate::turn::{Note, PortFault, Turn};
 use bus_model::{Op, Reply};
@@ -84,6 +86,10 @@ pub struct Port {
     pub keeper: FlagKeeper,
     /// Somebody wants it to hold still.
     pub held: bool,
+    /// What somebody has asked of it.
+    pub request: Request,
+    /// For how long its module hasn't answered.
+    pub silence: Silence,
 }
 
 impl Port {
@@ -134,6 +140,43 @@ impl Port {
     {
         self.held = held;
         self.reconsider();
+    }
+
+    /// Somebody asks something of the port, in place of what was asked before; until the module is pulled. It is read and judged anew.
+    pub fn ask(&mut self, request: Request)
+        ensures { self.new ≡ spec.asked_for request self.old }
+    {
+        self.request = request;
+        self.reconsider();
+    }
+
+    /// A transaction at the port, which began at a moment, was answered or refused at this one: where no pin tells whether a module is
+    /// there, that does.
+    pub fn hear(&mut self, answered: bool, began: u64, now: u64) -> Presence
+        ensures presence { result ≡ spec.presence_by self.old answered began now }
+        ensures after { self.new ≡ spec.heard self.old answered began now }
+    {
+        let silence = self.silence.after(answered, began);
+        let is_there = self.is_there();
+        if answered && !is_there {
+            self.plug(now);
+            Presence::Plugged
+        } else if is_there && silence.is_gone(now) {
+            self.pull();
+            Presence::Pulled
+        } else {
+            self.silence = silence;
+            Presence::Same
+        }
+    }
+
+    fn is_there(&self) -> bool
+        ensures { result ≡ spec.is_there self.now.stage }
+    {
+        match self.stage {
+            Stage::Absent => false,
+            Stage::Left(_) | Stage::Working(_) => true,
+        }
     }
 
     fn restart(&mut self)
@@ -192,7 +235,7 @@ impl Port {
         match (due, mem::replace(&mut self.stage, Stage::Absent)) {
             (Outstanding::Awaited, Stage::Working(job)) => {
                 self.note(&job, reply, now);
-                self.turned(job.turn(reply, wanted), now)
+                self.turned(job.turn(reply, &self.request.granted(wanted)), now)
             }
             (Outstanding::Stale, Stage::Working(job)) => {
                 self.note(&job, reply, now);
@@ -242,17 +285,21 @@ impl Port {
             }
             Turn::Left(reason) => {
                 self.stage = Stage::Left(reason);
+                self.request = self.request.ended();
                 Outcome::Left(reason)
             }
         }
     }
 
-    // A look is followed by a pause.
+    // A look is followed by a pause; a module that came up is as it was asked.
     fn wait_for(&mut self, note: Note, now: u64)
         ensures { self.new ≡ spec.waiting self.old note now }
     {
         if note == Note::Held {
             self.back_off = self.times.first;
+        }
+        if note == Note::CameUp {
+            self.request = self.request.ended();
         }
         self.due = self.due.max(later(now, wait_of(self.times, note)));
     }
@@ -274,6 +321,7 @@ fn is_vain(fault: PortFault) -> bool
     match fault {
         PortFault::Asleep | PortFault::Waking(_) => true,
         PortFault::Unread
+        | PortFault::Sleeping(_)
         | PortFault::Provisioning(_)
         | PortFault::Activating(_)
         | PortFault::Unseen
@@ -296,6 +344,8 @@ fn empty(times: Times, outstanding: Outstanding, flags: Flags, held: bool) -> Po
             flags,
         },
         held,
+        request: Request::Wake,
+        silence: Silence::none(),
     }
 }
 

@@ -2,7 +2,7 @@
 ghost use Rattle.std.specs.Prelude.{◌≡◌, Option};
 ghost use Rattle.conversations.specs.Wanted as conversations;
 ghost use Rattle.port_manager.specs.Jobs.{IsReplyTo, asked, look_wants, procedure_wants, reading_wants, waking_wants};
-ghost use Rattle.port_manager.specs.Turns.{IsRead, IsTurn, activated, decided, going, provisioned, seen, woken_up};
+ghost use Rattle.port_manager.specs.Turns.{IsRead, IsTurn, activated, decided, going, provisioned, seen, slept, woken_up};
 ghost use Rattle.port_manager.specs.Turns as spec;
 ghost use Rattle.port_manager.specs.declared.job.Job.TheVariants as jobs;
 
@@ -49,6 +49,8 @@ pub enum PortFault {
     Asleep,
     /// It could not be woken up.
     Waking(ProcedureFault),
+    /// It could not be put to sleep.
+    Sleeping(ProcedureFault),
     /// It could not be provisioned.
     Provisioning(ProcedureFault),
     /// Its lanes did not come up.
@@ -81,6 +83,7 @@ impl Job {
         match self {
             Job::Reading(reading, woken) => reading_turn(reading, woken, reply, wanted),
             Job::Waking(change) => waking_turn(change, reply),
+            Job::Sleeping(change) => sleeping_turn(change, reply),
             Job::Provisioning(procedure, goal) => provisioning_turn(procedure, goal, reply),
             Job::Activating(procedure, goal) => activating_turn(procedure, goal, reply),
             Job::Watching(look) => watching_turn(look, reply),
@@ -130,6 +133,7 @@ fn decided(decision: Decision, woken: bool, patience: Patience) -> Turn
         Decision::Leave(reason) => Turn::Left(reason),
         Decision::Wake if woken => Turn::Failed(PortFault::Asleep),
         Decision::Wake => Turn::On(Job::waking(patience), Note::Identified),
+        Decision::Sleep => Turn::On(Job::sleeping(patience), Note::Identified),
         Decision::Hold(goal) => Turn::On(Job::watching(goal, patience), Note::CameUp),
         Decision::Activate(goal) => Turn::On(Job::activating(goal, patience), Note::Identified),
         Decision::Provision(goal) => Turn::On(Job::provisioning(goal, patience), Note::Identified),
@@ -166,6 +170,27 @@ fn woken_up(fault: Option<ProcedureFault>) -> Turn
     match fault {
         None => Turn::On(Job::reading(true), Note::Woken),
         Some(fault) => Turn::Failed(PortFault::Waking(fault)),
+    }
+}
+
+fn sleeping_turn(mut change: PatientPower, reply: &Reply) -> Turn
+    requires { conversations.IsReplyTo (waking_wants change) reply.now }
+    ensures { spec.IsSleepingTurn change reply.now result }
+{
+    let pause = advance(&mut change, reply);
+    match change.next() {
+        Next::Do(_op) => going(Job::Sleeping(change), pause),
+        Next::Wait(_time) => going(Job::Sleeping(change), pause),
+        Next::End(spent) => slept(fault_in(spent.end)),
+    }
+}
+
+fn slept(fault: Option<ProcedureFault>) -> Turn
+    ensures { result ≡ slept fault }
+{
+    match fault {
+        None => Turn::Left(LeftBecause::Asleep),
+        Some(fault) => Turn::Failed(PortFault::Sleeping(fault)),
     }
 }
 

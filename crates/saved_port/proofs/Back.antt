@@ -18,7 +18,7 @@ use Rattle.control_sets.specs.declared.fault.ProvisionFault.TheVariants.{Bus}
 use Rattle.control_sets.specs.SavedNumbers.{fault_in, restored, saved_fault}
 use Rattle.module_reading.specs.declared.halves.Halves.{Halves}
 use Rattle.port_manager.specs.declared.deciding.Goal.{Goal}
-use Rattle.port_manager.specs.declared.job.Job.TheVariants.{Reading, Waking, Provisioning, Activating, Watching}
+use Rattle.port_manager.specs.declared.job.Job.TheVariants.{Reading, Waking, Sleeping, Provisioning, Activating, Watching}
 use Rattle.port_manager.specs.declared.port.Stage.TheVariants.{Working}
 use Rattle.port_manager.specs.declared.look.Look.{Look}
 use Rattle.port_manager.specs.declared.look.LookStage.{LookStage}
@@ -31,7 +31,7 @@ use Rattle.saved_port.specs.declared.numbers.SavedLeft.{SavedLeft}
 use Rattle.saved_port.specs.declared.numbers.SavedPort.{SavedPort}
 use Rattle.saved_port.specs.declared.numbers.SavedWork.{SavedWork}
 use Rattle.saved_port.specs.Known.{halves_of}
-use Rattle.saved_port.specs.SavedPorts.{change_in, flags_in, goal_in, outstanding_in, port_in, port_magic, port_with, stage_in, times_in, fault_by, halves_in, look_stage_in, number_of, number_of_look, number_of_power, numbers_of_page, numbers_of_stage, on_page_in, page_in, patient_in, power_in, power_stage_in, procedure_in, work_of_look, work_of_power, work_of_procedure, work_of_reading}
+use Rattle.saved_port.specs.SavedPorts.{change_in, flags_in, goal_in, outstanding_in, port_in, port_magic, port_with, stage_in, times_in, fault_by, halves_in, look_stage_in, number_of, number_of_look, number_of_power, numbers_of_page, numbers_of_stage, on_page_in, page_in, patient_in, power_in, power_stage_in, procedure_in, request_in, work_of_look, work_of_power, work_of_procedure, work_of_reading}
 
 fault_back : (fault : Option ProvisionFault) → fault_in (saved_fault fault) ≡ Some fault
 fault_back (Some (Bus TraceFull)) = refl
@@ -134,6 +134,11 @@ pub waking_stage : (job : PatientPower) (image : Memory) (left : SavedLeft) (goa
 waking_stage job image left goal work is =
     ap (λ (w : SavedWork). stage_in 3 left goal w image) is ∙ ap (λ (j : PatientPower). Some (Working (Waking j))) (waking_back job)
 
+pub sleeping_stage : (job : PatientPower) (image : Memory) (left : SavedLeft) (goal : SavedGoal) (work : SavedWork) → work ≡ work_of_power job →
+    stage_in 7 left goal work image ≡ Some (Working (Sleeping job))
+sleeping_stage job image left goal work is =
+    ap (λ (w : SavedWork). stage_in 7 left goal w image) is ∙ ap (λ (j : PatientPower). Some (Working (Sleeping j))) (waking_back job)
+
 pub provisioning_stage : (job : PatientProcedure) (of : Goal) (image : Memory) (left : SavedLeft) (goal : SavedGoal) (work : SavedWork) → goal_in goal ≡ of → procedure_in work ≡ Some job →
     stage_in 4 left goal work image ≡ Some (Working (Provisioning job of))
 provisioning_stage job of image left goal work goals is =
@@ -165,6 +170,9 @@ pub record Stands (saved : SavedPort) (port : Port) : Type 0 where
   pub page : saved.page ≡ (numbers_of_page port.keeper.selected).1
   pub flags : flags_in saved.flags ≡ port.keeper.flags
   pub held : saved.held ≡ number_of port.held
+  pub request : request_in saved.request saved.request_lanes ≡ port.request
+  pub refusals : saved.refusals ≡ port.silence.refusals
+  pub since : saved.silent_since ≡ port.silence.since
 
 with_stage : (saved : SavedPort) (port : Port) → Stands saved port → port_with saved port.stage ≡ port
 with_stage saved port stands =
@@ -183,6 +191,8 @@ with_stage saved port stands =
       vain = vain i;
       keeper = record { selected = selected i; flags = stands.flags i };
       held = held i;
+      request = stands.request i;
+      silence = record { refusals = stands.refusals i; since = stands.since i };
     }
 
 pub saved_back : (saved : SavedPort) (port : Port) (image : Memory) → Stands saved port →

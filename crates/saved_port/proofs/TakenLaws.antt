@@ -3,10 +3,10 @@ use Rattle.std.proofs.Common.{◌≡◌, ℕ, Bool, true, false, refl, sym, ap, 
 use Rattle.bus_model.specs.declared.operation.Reply.{Reply}
 use Rattle.conversations.specs.declared.pausing.Patience.{Patience}
 use Rattle.port_manager.specs.declared.deciding.Decision.{Decision}
-use Rattle.port_manager.specs.declared.deciding.Decision.TheVariants.{Leave, Wake, Hold, Activate, Provision}
+use Rattle.port_manager.specs.declared.deciding.Decision.TheVariants.{Leave, Wake, Sleep, Hold, Activate, Provision}
 use Rattle.port_manager.specs.declared.deciding.Wanted.{Wanted}
 use Rattle.port_manager.specs.declared.job.Job.{Job}
-use Rattle.port_manager.specs.declared.job.Job.TheVariants.{Reading, Waking, Provisioning, Activating, Watching}
+use Rattle.port_manager.specs.declared.job.Job.TheVariants.{Reading, Waking, Sleeping, Provisioning, Activating, Watching}
 use Rattle.port_manager.specs.declared.port.Outcome.{Outcome}
 use Rattle.port_manager.specs.declared.port.Outstanding.{Outstanding}
 use Rattle.port_manager.specs.declared.port.Outstanding.TheVariants as outstanding
@@ -17,6 +17,7 @@ use Rattle.port_manager.specs.declared.turn.Turn.{Turn}
 use Rattle.port_manager.specs.declared.turn.Turn.TheVariants as turns
 use Rattle.port_manager.specs.Jobs.{IsReplyTo, activation_of, asked, provisioning_of, reading}
 use Rattle.port_manager.specs.Ports.{IfWorking, IsAwaitedBy, IsRestartedIn, IsTakenBy, IsTurnedIn, answered, asked_in, noting, turned, vain_after}
+use Rattle.port_manager.specs.Requests.{granted}
 use Rattle.port_manager.specs.Turns.{IsTurn, decided}
 use Rattle.port_manager.proofs.TurnCases.{Follows, later, pause_of, turn_all}
 use Rattle.port_manager.proofs.TurnLaws.{IfOn, on_going}
@@ -37,6 +38,7 @@ module _ (P : Job → Type 0) (begun : (woken : Bool) → P (reading woken)) whe
 later_known : (job : Job) (reply : Reply) → TellsSo reply job → IsReplyTo (asked job) reply → IsKnownJob job → IsKnownJob (later job reply)
 later_known (Reading job woken) reply tells answers known = tt
 later_known (Waking job) reply tells answers known = tt
+later_known (Sleeping job) reply tells answers known = tt
 later_known (Provisioning job goal) reply tells answers known = procedure_told job reply tells answers known
 later_known (Activating job goal) reply tells answers known = procedure_told job reply tells answers known
 later_known (Watching job) reply tells answers known = tt
@@ -45,6 +47,7 @@ decided_known : (woken : Bool) (patience : Patience) (decision : Decision) → I
 decided_known woken patience (Leave reason) = tt
 decided_known true patience Wake = tt
 decided_known false patience Wake = tt
+decided_known woken patience Sleep = tt
 decided_known woken patience (Hold goal) = tt
 decided_known woken patience (Activate goal) = begun_told (activation_of goal) patience
 decided_known woken patience (Provision goal) = begun_told (provisioning_of goal) patience
@@ -52,6 +55,7 @@ decided_known woken patience (Provision goal) = begun_told (provisioning_of goal
 follows_known : (wanted : Wanted) (job : Job) (reply : Reply) → Follows (λ turn. IfOn turn IsKnownJob) wanted job reply
 follows_known wanted (Reading job woken) reply = λ decision whole judged. decided_known woken _ decision
 follows_known wanted (Waking job) reply = tt
+follows_known wanted (Sleeping job) reply = tt
 follows_known wanted (Provisioning job goal) reply = begun_told (activation_of goal) _
 follows_known wanted (Activating job goal) reply = tt
 follows_known wanted (Watching job) reply = tt
@@ -69,7 +73,7 @@ module _ (port : Port) (reply : Reply) (wanted : Wanted) (now : ℕ) (result : O
   turned_known Absent tells holds answers is = same_known is.1
   turned_known (Left reason) tells holds answers is = same_known is.1
   turned_known (Working job) tells holds answers (turn, leads, gives, is) =
-      subst (λ (p : Port). IsKnown p) (sym is) (turned_has IsKnownJob (λ woken. tt) (noting (answered port) (asked job) reply now) turn now (turn_known wanted reply job turn tells answers holds leads))
+      subst (λ (p : Port). IsKnown p) (sym is) (turned_has IsKnownJob (λ woken. tt) (noting (answered port) (asked job) reply now) turn now (turn_known (granted port.request wanted) reply job turn tells answers holds leads))
 
   restarted_known : (stage : Stage) → IsRestartedIn stage port reply now result after → IsKnown after
   restarted_known Absent is = same_known is.1
@@ -88,6 +92,7 @@ module _ (before : Stage) (reply : Reply) where
   later_reads : (job : Job) → before ≡ Working job → ReadsOn before reply (later job reply)
   later_reads (Reading job woken) is = inl (job, woken, is, refl)
   later_reads (Waking job) is = tt
+  later_reads (Sleeping job) is = tt
   later_reads (Provisioning job goal) is = tt
   later_reads (Activating job goal) is = tt
   later_reads (Watching job) is = tt
@@ -96,6 +101,7 @@ module _ (before : Stage) (reply : Reply) where
   decided_reads woken patience (Leave reason) = tt
   decided_reads true patience Wake = tt
   decided_reads false patience Wake = tt
+  decided_reads woken patience Sleep = tt
   decided_reads woken patience (Hold goal) = tt
   decided_reads woken patience (Activate goal) = tt
   decided_reads woken patience (Provision goal) = tt
@@ -103,6 +109,7 @@ module _ (before : Stage) (reply : Reply) where
   follows_reads : (wanted : Wanted) (job : Job) → Follows (λ turn. IfOn turn (ReadsOn before reply)) wanted job reply
   follows_reads wanted (Reading job woken) = λ decision whole judged. decided_reads woken _ decision
   follows_reads wanted (Waking job) = inr refl
+  follows_reads wanted (Sleeping job) = tt
   follows_reads wanted (Provisioning job goal) = tt
   follows_reads wanted (Activating job goal) = tt
   follows_reads wanted (Watching job) = tt
@@ -130,7 +137,7 @@ module _ (port : Port) (reply : Reply) (wanted : Wanted) (now : ℕ) (result : O
   turned_reads (Left reason) at is = idle_still (ReadsOn port.stage reply) (Left reason) after.stage (ap stage_of is.1 ∙ at) tt
   turned_reads (Working job) at (turn, leads, gives, is) =
       subst (λ (p : Port). IfWorking p.stage (ReadsOn port.stage reply)) (sym is)
-      (turned_has (ReadsOn port.stage reply) (λ woken. inr refl) (noting (answered port) (asked job) reply now) turn now (turn_reads port.stage reply wanted job turn at leads))
+      (turned_has (ReadsOn port.stage reply) (λ woken. inr refl) (noting (answered port) (asked job) reply now) turn now (turn_reads port.stage reply (granted port.request wanted) job turn at leads))
 
   restarted_reads : (stage : Stage) → port.stage ≡ stage → IsRestartedIn stage port reply now result after → IfWorking after.stage Begins
   restarted_reads Absent at is = idle_still Begins Absent after.stage (ap stage_of is.1 ∙ at) tt

@@ -12,7 +12,7 @@ use Rattle.conversations.specs.declared.on_page.OnPage.{OnPage}
 use Rattle.paged_memory.specs.Images.{Memory}
 use Rattle.module_reading.specs.declared.halves.Halves.{Halves}
 use Rattle.port_manager.specs.declared.job.Job.{Job}
-use Rattle.port_manager.specs.declared.job.Job.TheVariants.{Reading, Waking, Provisioning, Activating, Watching}
+use Rattle.port_manager.specs.declared.job.Job.TheVariants.{Reading, Waking, Sleeping, Provisioning, Activating, Watching}
 use Rattle.port_manager.specs.declared.port.Outstanding.{Outstanding}
 use Rattle.port_manager.specs.declared.port.Outstanding.TheVariants.{Nothing, Awaited, Stale, Forsaken}
 use Rattle.port_manager.specs.declared.port.Port.{Port}
@@ -31,6 +31,7 @@ pub record IsToldSo (procedure : PatientProcedure) : Type 0 where
 abbrev pub IsKnownJob : Job → Type 0
 IsKnownJob (Reading job woken) = Unit {0}
 IsKnownJob (Waking job) = Unit {0}
+IsKnownJob (Sleeping job) = Unit {0}
 IsKnownJob (Provisioning job goal) = IsToldSo job
 IsKnownJob (Activating job goal) = IsToldSo job
 IsKnownJob (Watching job) = Unit {0}
@@ -46,6 +47,7 @@ halves_of job = job.conversation.conversation.conversation
 abbrev pub HasRead : Memory → Job → Type 0
 HasRead image (Reading job woken) = (halves_of job).image ≡ image
 HasRead image (Waking job) = Unit {0}
+HasRead image (Sleeping job) = Unit {0}
 HasRead image (Provisioning job goal) = Unit {0}
 HasRead image (Activating job goal) = Unit {0}
 HasRead image (Watching job) = Unit {0}
@@ -54,6 +56,7 @@ HasRead image (Watching job) = Unit {0}
 abbrev pub Begins : Job → Type 0
 Begins (Reading job woken) = Reading job woken ≡ reading woken
 Begins (Waking job) = Unit {0}
+Begins (Sleeping job) = Unit {0}
 Begins (Provisioning job goal) = Unit {0}
 Begins (Activating job goal) = Unit {0}
 Begins (Watching job) = Unit {0}
@@ -64,6 +67,7 @@ ReadsOn before reply (Reading job woken) =
     ((earlier : Patient (OnPage Halves)) × (was : Bool) × (before ≡ Working (Reading earlier was)) × (job ≡ reading_after earlier reply))
     ⊎ (Reading job woken ≡ reading woken)
 ReadsOn before reply (Waking job) = Unit {0}
+ReadsOn before reply (Sleeping job) = Unit {0}
 ReadsOn before reply (Provisioning job goal) = Unit {0}
 ReadsOn before reply (Activating job goal) = Unit {0}
 ReadsOn before reply (Watching job) = Unit {0}
@@ -84,6 +88,7 @@ ToldNext reply job =
 abbrev pub TellsSo : Reply → Job → Type 0
 TellsSo reply (Reading job woken) = Unit {0}
 TellsSo reply (Waking job) = Unit {0}
+TellsSo reply (Sleeping job) = Unit {0}
 TellsSo reply (Provisioning job goal) = ToldNext reply job
 TellsSo reply (Activating job goal) = ToldNext reply job
 TellsSo reply (Watching job) = Unit {0}

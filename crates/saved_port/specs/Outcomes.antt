@@ -7,7 +7,7 @@ use Rattle.port_manager.specs.declared.port.Outcome.TheVariants.{Dropped, Went, 
 use Rattle.port_manager.specs.declared.turn.Note.{Note}
 use Rattle.port_manager.specs.declared.turn.Note.TheVariants.{Quiet, Identified, Woken, Provisioned, CameUp, Held}
 use Rattle.port_manager.specs.declared.turn.PortFault.{PortFault}
-use Rattle.port_manager.specs.declared.turn.PortFault.TheVariants.{Unread, Asleep, Waking, Provisioning, Activating, Unseen, Changed}
+use Rattle.port_manager.specs.declared.turn.PortFault.TheVariants.{Unread, Asleep, Waking, Sleeping, Provisioning, Activating, Unseen, Changed}
 use Rattle.port_manager.specs.declared.turn.ProcedureFault.{ProcedureFault}
 use Rattle.port_manager.specs.declared.turn.ProcedureFault.TheVariants as why
 use Rattle.saved_port.specs.declared.numbers.SavedLeft.{SavedLeft}
@@ -30,6 +30,7 @@ number_of_failure (Provisioning fault) = 4
 number_of_failure (Activating fault) = 5
 number_of_failure Unseen = 6
 number_of_failure Changed = 7
+number_of_failure (Sleeping fault) = 8
 
 -- 8 if it was overdue, and else the number in the fault's code
 abbrev pub numbers_of_procedure : ProcedureFault → SavedFault
@@ -40,6 +41,7 @@ abbrev pub numbers_of_fault : PortFault → SavedFault
 numbers_of_fault Unread = saved_fault None
 numbers_of_fault Asleep = saved_fault None
 numbers_of_fault (Waking fault) = numbers_of_procedure fault
+numbers_of_fault (Sleeping fault) = numbers_of_procedure fault
 numbers_of_fault (Provisioning fault) = numbers_of_procedure fault
 numbers_of_fault (Activating fault) = numbers_of_procedure fault
 numbers_of_fault Unseen = saved_fault None

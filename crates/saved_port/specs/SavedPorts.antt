@@ -25,9 +25,10 @@ use Rattle.module_reading.specs.declared.halves.Halves.{Halves}
 use Rattle.port_manager.specs.declared.deciding.Goal.{Goal}
 use Rattle.port_manager.specs.declared.deciding.LeftBecause.{LeftBecause}
 use Rattle.port_manager.specs.declared.deciding.LeftBecause.TheVariants.{Advert, NoLanes, NoPlan, NeedsPower, NeedsPermission}
+use Rattle.port_manager.specs.declared.deciding.LeftBecause.TheVariants as reasons
 use Rattle.port_manager.specs.declared.flags.Flags.{Flags}
 use Rattle.port_manager.specs.declared.job.Job.{Job}
-use Rattle.port_manager.specs.declared.job.Job.TheVariants.{Reading, Waking, Provisioning, Activating, Watching}
+use Rattle.port_manager.specs.declared.job.Job.TheVariants.{Reading, Waking, Sleeping, Provisioning, Activating, Watching}
 use Rattle.port_manager.specs.declared.look.Look.{Look}
 use Rattle.port_manager.specs.declared.look.LookStage.{LookStage}
 use Rattle.port_manager.specs.declared.look.LookStage.TheVariants.{Lower, Lanes, Seen}
@@ -36,6 +37,8 @@ use Rattle.port_manager.specs.declared.port.Outstanding.TheVariants.{Nothing, Aw
 use Rattle.port_manager.specs.declared.port.Port.{Port}
 use Rattle.port_manager.specs.declared.port.Stage.{Stage}
 use Rattle.port_manager.specs.declared.port.Stage.TheVariants as stage
+use Rattle.port_manager.specs.declared.request.Request.{Request}
+use Rattle.port_manager.specs.declared.request.Request.TheVariants as requests
 use Rattle.port_manager.specs.declared.times.Times.{Times}
 use Rattle.port_manager.specs.Patients.{Patient}
 use Rattle.saved_port.specs.declared.numbers.SavedFlags.{SavedFlags}
@@ -67,6 +70,14 @@ outstanding_in number =
 abbrev pub goal_in : SavedGoal → Goal
 goal_in saved = record { control = saved.control; lanes = lanes_in saved.lanes; outside = lanes_in saved.outside }
 
+-- what somebody has asked, of which lanes
+abbrev pub request_in : ℕ → ℕ → Request
+request_in number bits =
+    if number == 1 then requests.Sleep (lanes_in bits)
+    else (if number == 2 then requests.Provision (lanes_in bits)
+    else (if number == 3 then requests.Deactivate (lanes_in bits)
+    else requests.Wake))
+
 -- ---- why a module is left alone
 
 abbrev pub device_in : ℕ → Dev
@@ -95,7 +106,8 @@ reason_in saved =
     else (if saved.reason == 2 then Some NoPlan
     else (if saved.reason == 3 then Some NeedsPower
     else (if saved.reason == 4 then Some NeedsPermission
-    else advert_in saved)))
+    else (if saved.reason == 5 then Some reasons.Asleep
+    else advert_in saved))))
 
 -- ---- what works at it
 
@@ -160,7 +172,8 @@ job_in number goal work image =
     else (if number == 4 then option_map (λ (procedure : PatientProcedure). Provisioning procedure (goal_in goal)) (procedure_in work)
     else (if number == 5 then option_map (λ (procedure : PatientProcedure). Activating procedure (goal_in goal)) (procedure_in work)
     else (if number == 6 then Some (Watching (patient_in work (on_page_in work (look_in goal work))))
-    else None))))
+    else (if number == 7 then Some (Sleeping (patient_in work (change_in work)))
+    else None)))))
 
 abbrev pub stage_in : ℕ → SavedLeft → SavedGoal → SavedWork → Memory → Option Stage
 stage_in number left goal work image =
@@ -180,6 +193,8 @@ port_with saved stage = record {
   vain = saved.vain == 1;
   keeper = record { selected = page_in saved.selection saved.page; flags = flags_in saved.flags };
   held = saved.held == 1;
+  request = request_in saved.request saved.request_lanes;
+  silence = record { refusals = saved.refusals; since = saved.silent_since };
 }
 
 -- the port that has these numbers, and whose reading has read this; none for memory that is no port

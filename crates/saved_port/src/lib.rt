@@ -13,5 +13,5 @@ pub use known::take_known;
 pub use numbers::{SavedFlags, SavedGoal, SavedLeft, SavedPort, SavedTimes, SavedWork};
 pub use outcome::{SavedOutcome, outcome_of};
 pub use place::place_of;
-pub use restoring::restore;
+pub use restoring::{request_in, restore};
 pub use saving::save;

@@ -26,7 +26,7 @@ pub struct SavedFlags {
 #[repr(C)]
 #[derive(Clone, Copy)]
 pub struct SavedLeft {
-    /// 1 to 4, or 11 to 16, of which the last digit is the number in the fault's code; 0 if it isn't.
+    /// 1 to 5, or 11 to 16, of which the last digit is the number in the fault's code; 0 if it isn't.
     pub reason: u8,
     pub value: u8,
     pub device: u8,
@@ -73,14 +73,19 @@ pub struct SavedWork {
 pub struct SavedPort {
     pub flags: SavedFlags,
     pub due: u64,
+    /// When the first of the refusals began.
+    pub silent_since: u64,
     pub work: SavedWork,
     pub times: SavedTimes,
     /// What stands in each port, so that other memory is not taken for one.
     pub magic: u32,
     pub back_off: u32,
+    /// How many transactions in a row were refused.
+    pub refusals: u32,
     /// How many halves its reading has read: the caller's.
     pub half_count: u16,
-    /// 0 if no module is there, 1 if it is left alone; 2 to 6 if it is read, woken up, provisioned, activated, looked at.
+    /// 0 if no module is there, 1 if it is left alone; 2 to 7 if it is read, woken up, provisioned, activated,
+    /// looked at, put to sleep.
     pub stage: u8,
     pub held: u8,
     /// 0 if nothing is, 1 if the reply is awaited, 2 if it is stale, 3 if it is forsaken.
@@ -91,4 +96,9 @@ pub struct SavedPort {
     pub page: u8,
     pub goal: SavedGoal,
     pub left: SavedLeft,
+    /// What somebody has asked: 1 to sleep, 2 to provision, 3 to deactivate, 0 nothing; and of which lanes.
+    pub request: u8,
+    pub request_lanes: u8,
+    /// Zeros, by which the halves begin where C has them.
+    pub spare: [u8; 2],
 }

@@ -102,6 +102,7 @@ fn number_of_failure(fault: PortFault) -> u8
         PortFault::Activating(_) => 5,
         PortFault::Unseen => 6,
         PortFault::Changed => 7,
+        PortFault::Sleeping(_) => 8,
     }
 }
 
@@ -109,8 +110,10 @@ fn numbers_of_fault(fault: PortFault) -> SavedFault
     ensures { result ≡ spec.numbers_of_fault fault }
 {
     match fault {
-        PortFault::Waking(fault) | PortFault::Provisioning(fault) | PortFault::Activating(fault) =>
-            numbers_of_procedure(fault),
+        PortFault::Waking(fault)
+        | PortFault::Sleeping(fault)
+        | PortFault::Provisioning(fault)
+        | PortFault::Activating(fault) => numbers_of_procedure(fault),
         PortFault::Unread | PortFault::Asleep | PortFault::Unseen | PortFault::Changed => {
             SavedFault::of(None)
         }

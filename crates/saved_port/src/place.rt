@@ -23,7 +23,9 @@ fn place_in(job: &Job) -> Option<Key>
 {
     match job {
         Job::Reading(reading, _) => place_of_reading(&reading.conversation.conversation),
-        Job::Waking(_) | Job::Provisioning(_, _) | Job::Activating(_, _) => None,
+        Job::Waking(_) | Job::Sleeping(_) | Job::Provisioning(_, _) | Job::Activating(_, _) => {
+            None
+        },
         Job::Watching(look) => place_of_look(&look.conversation.conversation),
     }
 }

@@ -11,7 +11,9 @@ use applications::AdvertFault;
 use bus_model::Dev;
 use field_tables::LaneSet;
 use paged_memory::{Image, Key, KnownPage};
-use port_manager::{FlagKeeper, Flags, Goal, Job, LeftBecause, Outstanding, Port, Stage, Times};
+use port_manager::{
+    FlagKeeper, Flags, Goal, Job, LeftBecause, Outstanding, Port, Request, Silence, Stage, Times,
+};
 
 /// What stands in each port, so that other memory is not taken for one: `DCP1`.
 pub const PORT: u32 = 0x4443_5031;
@@ -46,6 +48,11 @@ fn port_with(saved: &SavedPort, stage: Stage) -> Port
             flags: flags_in(&saved.flags),
         },
         held: saved.held == 1,
+        request: request_in(saved.request, saved.request_lanes),
+        silence: Silence {
+            refusals: saved.refusals,
+            since: saved.silent_since,
+        },
     }
 }
 
@@ -89,6 +96,19 @@ fn outstanding_in(number: u8) -> Outstanding
         2 => Outstanding::Stale,
         3 => Outstanding::Forsaken,
         _ => Outstanding::Nothing,
+    }
+}
+
+/// What somebody has asked: 1 to sleep, 2 to provision, 3 to deactivate, and each other number nothing; of lanes whose bits are 1.
+pub fn request_in(number: u8, bits: u8) -> Request
+    ensures { result ≡ spec.request_in number bits }
+{
+    let lanes = LaneSet::from(bits);
+    match number {
+        1 => Request::Sleep(lanes),
+        2 => Request::Provision(lanes),
+        3 => Request::Deactivate(lanes),
+        _ => Request::Wake,
     }
 }
 
@@ -139,6 +159,7 @@ fn job_in(saved: &SavedPort, image: Image) -> Option<Job>
             None => None,
         },
         6 => Some(Job::Watching(work::watching_in(goal, &saved.work))),
+        7 => Some(Job::Sleeping(work::waking_in(&saved.work))),
         _ => None,
     }
 }
@@ -151,6 +172,7 @@ fn reason_in(saved: SavedLeft) -> Option<LeftBecause>
         2 => Some(LeftBecause::NoPlan),
         3 => Some(LeftBecause::NeedsPower),
         4 => Some(LeftBecause::NeedsPermission),
+        5 => Some(LeftBecause::Asleep),
         _ => advert_in(saved),
     }
 }

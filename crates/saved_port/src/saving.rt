@@ -15,7 +15,7 @@ use crate::work;
 use applications::AdvertFault;
 use bus_model::Dev;
 use paged_memory::{Half, Key};
-use port_manager::{Flags, Goal, Job, LeftBecause, Outstanding, Port, Stage, Times};
+use port_manager::{Flags, Goal, Job, LeftBecause, Outstanding, Port, Request, Stage, Times};
 
 /// The numbers of a port, and how many halves its reading has read.
 pub fn save(port: &Port, half_count: u16) -> SavedPort
@@ -28,14 +28,17 @@ pub fn save(port: &Port, half_count: u16) -> SavedPort
     let held = work::number_of(port.held);
     let outstanding = number_of_outstanding(port.outstanding);
     let vain = work::number_of(port.vain);
+    let request = numbers_of_request(port.request);
     let stage = numbers_of(&port.stage);
     SavedPort {
         flags,
         due: port.due,
+        silent_since: port.silence.since,
         work: stage.work,
         times,
         magic: PORT,
         back_off: port.back_off,
+        refusals: port.silence.refusals,
         half_count,
         stage: stage.stage,
         held,
@@ -45,6 +48,9 @@ pub fn save(port: &Port, half_count: u16) -> SavedPort
         page,
         goal: stage.goal,
         left: stage.left,
+        request: request.number,
+        request_lanes: request.lanes,
+        spare: [0; 2],
     }
 }
 
@@ -78,6 +84,36 @@ fn number_of_outstanding(outstanding: Outstanding) -> u8
         Outstanding::Awaited => 1,
         Outstanding::Stale => 2,
         Outstanding::Forsaken => 3,
+    }
+}
+
+// What somebody has asked, as numbers.
+#[derive(Clone, Copy)]
+struct RequestNumbers {
+    pub number: u8,
+    pub lanes: u8,
+}
+
+fn numbers_of_request(request: Request) -> RequestNumbers
+    ensures { spec.request_in result.number result.lanes ≡ request }
+{
+    match request {
+        Request::Wake => RequestNumbers {
+            number: 0,
+            lanes: 0,
+        },
+        Request::Sleep(lanes) => RequestNumbers {
+            number: 1,
+            lanes: lanes.byte(),
+        },
+        Request::Provision(lanes) => RequestNumbers {
+            number: 2,
+            lanes: lanes.byte(),
+        },
+        Request::Deactivate(lanes) => RequestNumbers {
+            number: 3,
+            lanes: lanes.byte(),
+        },
     }
 }
 
@@ -124,6 +160,12 @@ fn numbers_of_job(job: &Job) -> StageNumbers
         },
         Job::Waking(change) => StageNumbers {
             stage: 3,
+            left: no_reason(),
+            goal: no_goal(),
+            work: work::work_of_waking(change),
+        },
+        Job::Sleeping(change) => StageNumbers {
+            stage: 7,
             left: no_reason(),
             goal: no_goal(),
             work: work::work_of_waking(change),
@@ -184,6 +226,7 @@ pub fn numbers_of_reason(reason: LeftBecause) -> SavedLeft
         LeftBecause::NoPlan => left_by(2, 0),
         LeftBecause::NeedsPower => left_by(3, 0),
         LeftBecause::NeedsPermission => left_by(4, 0),
+        LeftBecause::Asleep => left_by(5, 0),
         LeftBecause::Advert(fault) => numbers_of_fault(fault),
     }
 }

@@ -84,7 +84,11 @@ fn count_at(job: &Job, count: u16) -> u16
             let settled = reading.conversation.conversation.conversation.settled;
             if settled == 0 { 0 } else { count }
         }
-        Job::Waking(_) | Job::Provisioning(_, _) | Job::Activating(_, _) | Job::Watching(_) => 0,
+        Job::Waking(_)
+        | Job::Sleeping(_)
+        | Job::Provisioning(_, _)
+        | Job::Activating(_, _)
+        | Job::Watching(_) => 0,
     }
 }
 
@@ -141,7 +145,11 @@ fn half_at(job: &Job, reply: &Reply) -> Option<HalfBytes>
 {
     match job {
         Job::Reading(reading, _) => whole_half(&reading.conversation.conversation, reply),
-        Job::Waking(_) | Job::Provisioning(_, _) | Job::Activating(_, _) | Job::Watching(_) => None,
+        Job::Waking(_)
+        | Job::Sleeping(_)
+        | Job::Provisioning(_, _)
+        | Job::Activating(_, _)
+        | Job::Watching(_) => None,
     }
 }
 

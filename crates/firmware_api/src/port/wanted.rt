@@ -34,6 +34,8 @@ impl PortWanted {
             counts_by_id: self.counts_by_id != 0,
             max_power: self.most_power,
             may_take_down: LaneSet::from(self.may_take_down),
+            asleep: false,
+            down: LaneSet::empty(),
         }
     }
 }

@@ -3,7 +3,7 @@ use Rattle.port_manager.specs.declared.job.Job.{Job}
 use Rattle.port_manager.specs.declared.port.Stage.TheVariants.{Working}
 use Rattle.saved_port.specs.Known.{HasRead, IsKnownJob}
 use Rattle.std.specs.Prelude.{Some}
-use Rattle.saved_port.proofs.Back.{activating_stage, provisioning_stage, reading_stage, waking_stage, watching_stage}
+use Rattle.saved_port.proofs.Back.{activating_stage, provisioning_stage, reading_stage, sleeping_stage, waking_stage, watching_stage}
 use Rattle.saved_port.proofs.saving.numbers_of_job.Goals as goal
 
 pub returns-in-Reading : goal.returns-in-Reading
@@ -14,6 +14,10 @@ returns-in-Reading c image read known =
 pub returns-in-Waking : goal.returns-in-Waking
 returns-in-Waking c image read known =
     waking_stage c.in-Waking.change image c.no_reason-in-Waking.result c.no_goal-in-Waking.result c.work_of_waking.result c.work_of_waking.ensures ∙ ap (λ (j : Job). Some (Working j)) (sym c.in-Waking.is)
+
+pub returns-in-Sleeping : goal.returns-in-Sleeping
+returns-in-Sleeping c image read known =
+    sleeping_stage c.in-Sleeping.change image c.no_reason-in-Sleeping.result c.no_goal-in-Sleeping.result c.work_of_waking-in-Sleeping.result c.work_of_waking-in-Sleeping.ensures ∙ ap (λ (j : Job). Some (Working j)) (sym c.in-Sleeping.is)
 
 pub returns-in-Provisioning : goal.returns-in-Provisioning
 returns-in-Provisioning c image read known =

@@ -15,4 +15,7 @@ returns-clause-same c image read known =
       page = search rules;
       flags = c.numbers_of_flags-flags.ensures;
       held = c.number_of-held.ensures;
+      request = c.numbers_of_request-request.ensures;
+      refusals = refl;
+      since = refl;
     }) (c.numbers_of-stage.ensures image read known)
