@@ -33,14 +33,13 @@ struct port {
     struct adapter *adapter;
     struct bus bus;
     struct dovecounter_port core;
-    enum { UNKNOWN, ABSENT, PRESENT } presence;
-    bool is_open, is_held, is_blind, is_retired; /* is_blind: its pin can't be read; is_retired: no longer configured */
-    uint8_t permitted;     /* lanes that somebody lets go down, until the module is up or left alone */
+    bool is_open, is_held, is_retired; /* is_retired: no longer configured */
+    bool is_blind, is_seen;            /* its pin can't be read; it was read before */
     int64_t due, looks_at; /* when something is to be done next, and when to look whether a module is there */
     int64_t reopens_in;    /* how long to wait if the bus can't be opened */
 
-    int64_t began, refused_at;            /* when the transaction under way began, or 0; and the first of `refusals` */
-    unsigned refusals, operations, nacks; /* transactions refused in a row; all; all refused */
+    int64_t began;              /* when the transaction under way began, or 0 */
+    unsigned operations, nacks; /* all transactions; all refused */
     struct dovecounter_half halves[DOVECOUNTER_MOST_READ];
     size_t half_count;
     int page; /* that was read to be selected last, or -1 */
@@ -62,7 +61,8 @@ extern struct port *ports;
 void begin_ports(void);
 struct port *port_of(const char *name);
 bool is_still(const struct port *port);
-void ask_again(struct port *port);
+bool is_there(const struct port *port);
+void request(struct port *port, uint8_t what, uint8_t lanes);
 void hold(struct port *port, bool held);
 void apply(const struct configuration *configuration);
 bool stop_all(int64_t most);
@@ -75,6 +75,7 @@ void hear(struct port *port, const struct dovecounter_port_outcome *outcome);
 
 /* status.c */
 extern const char *folder;
+extern const char *const requests[4];
 void print_text(FILE *out, const char *before, const char *name, const char *text);
 void print_moment(FILE *out, const char *before, const char *name, int64_t moment);
 void begin_port(FILE *out, const struct port *port);

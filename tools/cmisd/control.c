@@ -60,13 +60,28 @@ static void answer_release(FILE *out, struct port *port, const char *word) {
     answer_done(out);
 }
 
-static void answer_provision(FILE *out, struct port *port, const char *word) {
+static void answer_request(FILE *out, struct port *port, uint8_t what, const char *word) {
     uint8_t lanes = 0;
     if (word != NULL && !read_lanes(word, &lanes)) return answer_error(out, "lanes are such as 1-4,7, or all");
-    port->permitted = lanes;
-    ask_again(port);
-    tell(port, "asked", "");
+    request(port, what, lanes);
+    tell(port, "asked", requests[what]);
     answer_done(out);
+}
+
+static void answer_wake(FILE *out, struct port *port, const char *word) {
+    answer_request(out, port, DOVECOUNTER_REQUEST_WAKE, word);
+}
+
+static void answer_sleep(FILE *out, struct port *port, const char *word) {
+    answer_request(out, port, DOVECOUNTER_REQUEST_SLEEP, word);
+}
+
+static void answer_provision(FILE *out, struct port *port, const char *word) {
+    answer_request(out, port, DOVECOUNTER_REQUEST_PROVISION, word);
+}
+
+static void answer_deactivate(FILE *out, struct port *port, const char *word) {
+    answer_request(out, port, DOVECOUNTER_REQUEST_DEACTIVATE, word);
 }
 
 /* Flags that were raised after that moment, which `show` has named, nobody knows. */
@@ -90,13 +105,11 @@ static const struct command {
     const char *name;
     void (*answer)(FILE *out, struct port *port, const char *word);
     int least, most; /* words after the command, of which the first one is a port */
-} commands[] = {{"ports", answer_ports, 0, 0},
-                {"show", answer_show, 1, 1},
-                {"reload", answer_reload, 0, 0},
-                {"hold", answer_hold, 1, 1},
-                {"release", answer_release, 1, 1},
-                {"provision", answer_provision, 1, 2},
-                {"acknowledge", answer_acknowledge, 1, 2}};
+} commands[] = {{"ports", answer_ports, 0, 0},           {"show", answer_show, 1, 1},
+                {"reload", answer_reload, 0, 0},         {"hold", answer_hold, 1, 1},
+                {"release", answer_release, 1, 1},       {"wake", answer_wake, 1, 1},
+                {"sleep", answer_sleep, 1, 2},           {"provision", answer_provision, 1, 2},
+                {"deactivate", answer_deactivate, 2, 2}, {"acknowledge", answer_acknowledge, 1, 2}};
 
 static void answer(FILE *out, char *line) {
     char *words[WORDS + 1] = {NULL}, *rest = line;
@@ -111,7 +124,8 @@ static void answer(FILE *out, char *line) {
         if (count > 1 && port == NULL) return answer_error(out, "there is no such port");
         return command->answer(out, port, count > 2 ? words[2] : NULL);
     }
-    answer_error(out, "one of: ports, show, events, reload, hold, release, provision, acknowledge");
+    answer_error(out,
+                 "one of: ports, show, events, reload, hold, release, wake, sleep, provision, deactivate, acknowledge");
 }
 
 /* ---- clients */

@@ -5,6 +5,7 @@
 #include <err.h>
 #include <fcntl.h>
 #include <getopt.h>
+#include <malloc.h>
 #include <signal.h>
 #include <stdlib.h>
 #include <string.h>
@@ -25,7 +26,10 @@ static const char usage[] =
     "    events                         what happens from now on\n"
     "    reload                         read FILE again\n"
     "    hold PORT | release PORT       leave its bus to others, or no longer\n"
-    "    provision PORT [LANES]         judge the module anew; LANES may go down\n"
+    "    sleep PORT [LANES]             put its module to sleep; LANES may go down\n"
+    "    deactivate PORT LANES          take down the data paths of these lanes\n"
+    "    wake PORT                      end both\n"
+    "    provision PORT [LANES]         end both, and judge the module anew; LANES may go down\n"
     "    acknowledge PORT [MOMENT]      its flags are known\n"
     "Examples:\n"
     "  cmisd --check\n"
@@ -98,6 +102,7 @@ static void serve_until_stopped(int signals, int server, int most_wait) {
 static int run(void) {
     uint64_t watchdog = 0; /* microseconds */
     int signals = open_signals();
+    mallopt(M_ARENA_MAX, 1); /* or each thread takes memory of its own */
     signal(SIGPIPE, SIG_IGN);
     signal(SIGXFSZ, SIG_IGN);
     take_folder();

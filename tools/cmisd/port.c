@@ -11,7 +11,6 @@
 #include <unistd.h>
 
 enum { SECOND = 1000, SOON = 100, LONGEST = 64 * SECOND }; /* milliseconds */
-enum { GONE_AFTER = 3 };                                   /* refusals */
 
 /* What hangs on one adapter, beyond all multiplexers, has one thread. */
 struct adapter {
@@ -38,6 +37,8 @@ struct port *port_of(const char *name) {
         if (!each->is_retired && strcmp(each->entry.name, name) == 0) return each;
     return NULL;
 }
+
+bool is_there(const struct port *port) { return port->core.stage != DOVECOUNTER_PORT_ABSENT; }
 
 /* Whether nothing is to be done at its bus, which others may use then. */
 bool is_still(const struct port *port) { return port->is_held || !port->entry.manage; }
@@ -82,61 +83,66 @@ static void reopen(struct port *port) {
     port->reopens_in = port->is_open ? SECOND : port->reopens_in < LONGEST ? 2 * port->reopens_in : LONGEST;
 }
 
-/* Makes an operation, while others use the state. */
-static uint8_t make(struct port *port, const struct dovecounter_operation *operation, uint8_t bytes[128]) {
+/* Makes an operation, while others use the state. Answers when it began. */
+static int64_t make(struct port *port, const struct dovecounter_operation *operation, uint8_t bytes[128],
+                    bool *answered) {
     int64_t began = port->began = now();
     pthread_mutex_unlock(&state);
-    bool answered = port->bus.carry(&port->bus, operation, bytes);
+    *answered = port->bus.carry(&port->bus, operation, bytes);
     pthread_mutex_lock(&state);
     port->began = 0;
     port->operations++;
+    port->nacks += !*answered;
     port->due = now();
-    if (!answered) {
-        port->nacks++;
-        if (port->refusals++ == 0) port->refused_at = began;
-        return DOVECOUNTER_REFUSED;
-    }
-    port->refusals = 0;
-    return operation->kind == DOVECOUNTER_STORE ? DOVECOUNTER_STORED : DOVECOUNTER_FETCHED;
+    return began;
 }
 
 /* ---- whether a module is there */
 
-static void take_presence(struct port *port, bool is_there) {
-    bool was_there = port->presence == PRESENT;
-    if (port->presence == (is_there ? PRESENT : ABSENT)) return;
-    port->presence = is_there ? PRESENT : ABSENT;
+static void take_presence(struct port *port, uint8_t presence) {
+    bool is_plugged = presence == DOVECOUNTER_PLUGGED;
+    if (presence == DOVECOUNTER_SAME) return;
     forget(port);
-    if (is_there)
-        must(dovecounter_port_plug(&port->core, (uint64_t)now()));
-    else
-        must(dovecounter_port_pull(&port->core));
-    port->permitted = 0;
-    if (!is_there) remove_file(port->entry.name, "image");
-    if (is_there || was_there) tell(port, is_there ? "plugged" : "pulled", "");
-    if (is_there) return;
-    set_pin(port, port->entry.low_power, true); /* the next one is to wait until it was read */
-    shut(port);
+    if (!is_plugged) remove_file(port->entry.name, "image");
+    tell(port, is_plugged ? "plugged" : "pulled", "");
+    if (!is_plugged) shut(port);
 }
 
-/* Whether no module is there, if there is no pin to tell: more than three refusals in a row, over more than a second. */
-static bool is_gone(const struct port *port) {
-    bool is_silent = port->refusals > GONE_AFTER && now() - port->refused_at > SECOND;
-    return is_silent && port->entry.presence[0] == 0;
+/* Without a pin, the library says by each transaction whether a module is there. */
+static void take_answer(struct port *port, bool answered, int64_t began) {
+    uint8_t presence;
+    if (port->entry.presence[0] != 0) return;
+    must(dovecounter_port_hear(&port->core, answered, (uint64_t)began, (uint64_t)now(), &presence));
+    take_presence(port, presence);
+}
+
+/* The next module is to wait in low power until it was read. */
+static void look_at_pin(struct port *port) {
+    int found = read_pin(port->entry.presence);
+    bool was_there = is_there(port), is_new = !port->is_seen || (found == 1) != was_there;
+    if (found < 0 && !port->is_blind) warn("%s: %s", port->entry.name, port->entry.presence);
+    port->is_blind = found < 0;
+    if (found < 0 || !is_new) return;
+    port->is_seen = true;
+    if (found == 0) set_pin(port, port->entry.low_power, true);
+    if (found == 1) must(dovecounter_port_plug(&port->core, (uint64_t)now()));
+    if (found == 0) must(dovecounter_port_pull(&port->core));
+    if (found == 1 || was_there) take_presence(port, found == 1 ? DOVECOUNTER_PLUGGED : DOVECOUNTER_PULLED);
 }
 
 /* Looks at the pin, or fetches byte 0, which clears no flag. */
 static void look(struct port *port) {
     static const struct dovecounter_operation first = {.kind = DOVECOUNTER_FETCH, .device = 0xA0, .count = 1};
     uint8_t bytes[128];
-    bool has_pin = port->entry.presence[0] != 0;
-    int found = has_pin ? read_pin(port->entry.presence) : make(port, &first, bytes) == DOVECOUNTER_FETCHED;
+    bool has_pin = port->entry.presence[0] != 0, answered = true;
+    int64_t began = has_pin ? 0 : make(port, &first, bytes, &answered);
     if (port->is_retired) return;
-    if (found < 0 && !port->is_blind) warn("%s: %s", port->entry.name, port->entry.presence);
-    port->is_blind = found < 0;
     port->due = now();
-    port->looks_at = now() + (port->refusals == 0 || port->presence == ABSENT ? SECOND : SOON);
-    if (found == 1 || is_gone(port) || (has_pin && found == 0)) take_presence(port, found == 1);
+    port->looks_at = now() + (answered || !is_there(port) ? SECOND : SOON);
+    if (has_pin)
+        look_at_pin(port);
+    else
+        take_answer(port, answered, began);
 }
 
 /* ---- what the library decides */
@@ -178,17 +184,17 @@ static void remember(struct port *port, const struct dovecounter_port_next *next
 static void carry_out(struct port *port, const struct dovecounter_port_next *next) {
     uint8_t bytes[128];
     struct dovecounter_port_outcome led_to;
-    uint8_t outcome = make(port, &next->operation, bytes);
-    size_t count = outcome == DOVECOUNTER_FETCHED ? next->operation.count : 0;
-    struct dovecounter_wanted wanted = port->entry.wanted;
-    wanted.may_take_down |= port->permitted;
+    bool answered, stores = next->operation.kind == DOVECOUNTER_STORE;
+    int64_t began = make(port, &next->operation, bytes, &answered);
+    uint8_t outcome = !answered ? DOVECOUNTER_REFUSED : stores ? DOVECOUNTER_STORED : DOVECOUNTER_FETCHED;
+    size_t count = answered && !stores ? next->operation.count : 0;
     if (port->is_retired) return;
     remember(port, next, outcome, bytes);
-    must(dovecounter_port_take(&port->core, outcome, bytes, count, &wanted, (uint64_t)now(), &led_to));
+    must(dovecounter_port_take(&port->core, outcome, bytes, count, &port->entry.wanted, (uint64_t)now(), &led_to));
     tell_flags(port);
     hear(port, &led_to);
     if (led_to.kind == DOVECOUNTER_PORT_FAILED) forget(port);
-    if (is_gone(port)) take_presence(port, false);
+    take_answer(port, answered, began);
 }
 
 /* One operation, one look, or none, and when the next is due. */
@@ -295,9 +301,15 @@ static void wake(struct port *port) {
 }
 
 /* The module is read and judged anew. */
-void ask_again(struct port *port) {
+static void ask_again(struct port *port) {
     forget(port);
     must(dovecounter_port_reconsider(&port->core));
+    wake(port);
+}
+
+void request(struct port *port, uint8_t what, uint8_t lanes) {
+    must(dovecounter_port_request(&port->core, what, lanes));
+    forget(port);
     wake(port);
 }
 

@@ -79,7 +79,7 @@ static void print_plan(FILE *out, const struct port *port) {
     const struct dovecounter_wanted *wanted = &port->entry.wanted;
     const struct dovecounter_goal *goal = &port->core.goal;
     struct dovecounter_plan plan;
-    if (port->core.stage < DOVECOUNTER_PORT_PROVISIONING) return;
+    if (port->core.stage < DOVECOUNTER_PORT_PROVISIONING || port->core.stage > DOVECOUNTER_PORT_WATCHING) return;
     fputs(", \"plan\": {", out);
     print_control(out, goal->control);
     uint32_t status = dovecounter_plan(port->halves, port->half_count, wanted->paired, wanted->counts_by_id,
@@ -178,6 +178,7 @@ static const char *const stages[] = {
     [DOVECOUNTER_PORT_PROVISIONING] = "provisioning",
     [DOVECOUNTER_PORT_ACTIVATING] = "activating",
     [DOVECOUNTER_PORT_WATCHING] = "up",
+    [DOVECOUNTER_PORT_SLEEPING] = "going to sleep",
 };
 
 static void print_wait(FILE *out, const struct port *port) {
@@ -192,15 +193,27 @@ static void print_wait(FILE *out, const struct port *port) {
         what = "its presence pin";
     else if (port->began != 0)
         what = "a reply";
-    else if (port->presence != PRESENT)
+    else if (!is_there(port))
         what = "a module";
     else if (port->core.stage == DOVECOUNTER_PORT_LEFT)
-        what = "another module, another configuration or provision";
+        what = "another module, another configuration or a command";
     else if (port->core.stage != DOVECOUNTER_PORT_WATCHING)
         what = "its next operation";
     print_text(out, ", ", "waits_for", what);
     if (port->began != 0) print_moment(out, ", ", "waits_since", port->began);
     if (port->core.due > (uint64_t)now()) print_moment(out, ", ", "waits_until", (int64_t)port->core.due);
+}
+
+const char *const requests[] = {"wake", "sleep", "provision", "deactivate"};
+
+static void print_request(FILE *out, const struct port *port) {
+    const char *before = "[";
+    if (port->core.request == DOVECOUNTER_REQUEST_WAKE) return;
+    print_text(out, ", \"asked\": {", "command", requests[port->core.request]);
+    print_name(out, ", ", "lanes");
+    for (unsigned lane = 0; lane < 8; lane++)
+        if (port->core.request_lanes >> lane & 1) fprintf(out, "%s%u", before, lane + 1), before = ", ";
+    fputs(before[0] == '[' ? "[]}" : "]}", out);
 }
 
 /* All members of the overview, without the end. */
@@ -214,8 +227,9 @@ void begin_port(FILE *out, const struct port *port) {
         say_reason(words, &port->core.left);
         print_text(out, ", ", "why", words);
     }
-    print_flag(out, ", ", "present", port->presence == PRESENT);
+    print_flag(out, ", ", "present", is_there(port));
     print_flag(out, ", ", "held", is_still(port));
+    print_request(out, port);
     print_wait(out, port);
 }
 

@@ -47,6 +47,7 @@ static const char *const failures[] = {
     [DOVECOUNTER_PORT_NOT_ACTIVATED] = "the plan's lanes did not come up",
     [DOVECOUNTER_PORT_UNSEEN] = "the module could not be looked at",
     [DOVECOUNTER_PORT_CHANGED] = "the module is no longer as it was wanted",
+    [DOVECOUNTER_PORT_NOT_ASLEEP] = "the module could not be put to sleep",
 };
 
 static const char *const reasons[] = {
@@ -54,13 +55,14 @@ static const char *const reasons[] = {
     [DOVECOUNTER_LEFT_NO_PLAN] = "none of the module's data paths is wanted",
     [DOVECOUNTER_LEFT_NEEDS_POWER] = "the module needs more than max_power",
     [DOVECOUNTER_LEFT_NEEDS_PERMISSION] = "lanes that are up would go down, and nobody permits it",
+    [DOVECOUNTER_LEFT_ASLEEP] = "the module is in low power, as somebody asked",
 };
 
 /* Why a module is left alone: as the library has it of what a module advertises. */
 void say_reason(char words[WORDS_SIZE], const struct dovecounter_left *left) {
     uint8_t text[DOVECOUNTER_TEXT_SIZE];
     size_t length = 0;
-    bool is_own = left->reason <= DOVECOUNTER_LEFT_NEEDS_PERMISSION;
+    bool is_own = left->reason <= DOVECOUNTER_LEFT_ASLEEP;
     if (!is_own) dovecounter_status_text(left->reason, text, sizeof text, &length);
     int written = snprintf(words, WORDS_SIZE, "%.*s", (int)length, (const char *)text);
     if (is_own)
@@ -93,18 +95,12 @@ static void tell_identity(struct port *port) {
     tell(port, "read", words);
 }
 
-/* Its permission ends when a module is up or left alone. */
-static void tell_end(struct port *port, const char *event, const char *words) {
-    port->permitted = 0;
-    tell(port, event, words);
-}
-
 static void tell_note(struct port *port, uint8_t note) {
     switch (note) {
     case DOVECOUNTER_PORT_IDENTIFIED: return tell_identity(port);
     case DOVECOUNTER_PORT_WOKEN: return tell(port, "woken", "");
     case DOVECOUNTER_PORT_PROVISIONED: return tell(port, "provisioned", "");
-    case DOVECOUNTER_PORT_CAME_UP: return tell_end(port, "up", "");
+    case DOVECOUNTER_PORT_CAME_UP: return tell(port, "up", "");
     case DOVECOUNTER_PORT_HELD: return put_status(port);
     default: return;
     }
@@ -118,7 +114,7 @@ void hear(struct port *port, const struct dovecounter_port_outcome *outcome) {
     if (outcome->kind == DOVECOUNTER_PORT_FAILED) tell_failure(port, outcome);
     if (outcome->kind != DOVECOUNTER_PORT_LEAVES) return;
     say_reason(words, &outcome->left);
-    tell_end(port, "left", words);
+    tell(port, "left", words);
 }
 
 /* ---- flags */
