@@ -6,4 +6,4 @@ use Rattle.saved_update.proofs.delivery.with_reply.Goals as goal
 pub returns : goal.returns
 returns c =
     let bytes = c.padded-bytes.result in
-    ap (λ (n : ℕ). outcome_by 1 0 n bytes) c.len.ensures ∙ succeeded_back c.args.reply.now bytes c.padded-bytes.ensures.few c.padded-bytes.ensures.value
+    ap (λ (n : ℕ). outcome_by 1 0 n bytes) c.len.ensures.value ∙ succeeded_back c.args.reply.now bytes c.padded-bytes.ensures.few c.padded-bytes.ensures.value
