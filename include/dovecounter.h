@@ -818,8 +818,7 @@ uint32_t dovecounter_update_end(const struct dovecounter_update *update, const u
 struct dovecounter_update_progress {
     uint32_t sent; /* bytes of the file that the module has taken */
     uint32_t all;  /* of the file; both 0 of a single command */
-    uint8_t
-        known; /* as in dovecounter_update_ending, if nothing more is done, whatever comes of the command on its way */
+    uint8_t known; /* what the ending has if nothing more is done, whatever comes of the command on its way */
 };
 
 /* Writes how far an update has come. */

@@ -1,0 +1,314 @@
+/* Calls that go on with something: a simulated module, a conversation, an update, a port. */
+#ifndef FUZZ_CONVERSATIONS_H
+#define FUZZ_CONVERSATIONS_H
+
+#include "fuzz_answers.h"
+
+/* ---- a simulated module ---- */
+
+static struct dovecounter_module module;
+
+static void call_module_begin(void) {
+    struct dovecounter_delays delays;
+    uint16_t *all = &delays.apply;
+    for (int i = 0; i < 7; i++) all[i] = two_bytes() % 1100;
+#define BEGIN(it) dovecounter_module_begin(halves, half_count, &delays, it)
+    ASK(struct dovecounter_module, found, LIST(OF_ADVERTISEMENT, 51, 53, 54), BEGIN);
+    if (!status) module = *found;
+}
+
+static uint32_t fetch(uint8_t device, uint8_t offset, size_t size) {
+    struct dovecounter_module *it = copied(BYTES, &module, sizeof module);
+    uint8_t *bytes = painted(OUT, size);
+    uint32_t status = dovecounter_module_fetch(halves, half_count, it, device, offset, bytes, size);
+    judge(status, "fetch", LIST(OF_ADVERTISEMENT, 61, 62, 63), bytes, size);
+    stop_if(status && memcmp(it, &module, sizeof module), "a refused fetch changes the module");
+    module = *it;
+    return status;
+}
+
+static uint32_t store(uint8_t device, uint8_t offset, const uint8_t *from, size_t size) {
+    struct dovecounter_module *it = copied(BYTES, &module, sizeof module);
+    const uint8_t *bytes = copied(SMALL, from, size);
+    uint32_t status = dovecounter_module_store(halves, half_count, it, device, offset, bytes, size);
+    judge(status, "store", LIST(OF_ADVERTISEMENT, 61, 62, 63), it, 0);
+    stop_if(status && memcmp(it, &module, sizeof module), "a refused store changes the module");
+    module = *it;
+    return status;
+}
+
+static void call_module(void) {
+    uint8_t bytes[16], what = byte(), device = what & 8 ? byte() : 0xA0, offset = byte();
+    if (what % 8 == 0) fetch(device, offset, byte());
+    if (what % 8 == 1) {
+        size_t size = byte() % sizeof bytes;
+        fill(bytes, size);
+        store(device, offset, bytes, size);
+    }
+    if (what % 8 == 2) judge(dovecounter_module_tick(&module), "tick", LIST(61), room(OUT, 0), 0);
+    if (what % 8 == 3) judge(dovecounter_module_pin(&module, offset), "pin", LIST(61), room(OUT, 0), 0);
+    if (what % 8 == 4) {
+        uint8_t *active = painted(OUT, 8);
+        judge(dovecounter_module_active(&module, active), "active", LIST(61), active, 8);
+    }
+    if (what % 8 == 5) change(&module, sizeof module);
+}
+
+/* Makes an operation on the module, unless the input has the bus refuse it. */
+static uint8_t reply_to(const struct dovecounter_operation *it, uint8_t refused) {
+    if (it->kind == DOVECOUNTER_WAIT) {
+        judge(dovecounter_module_tick(&module), "tick", LIST(61), room(OUT, 0), 0);
+        return DOVECOUNTER_WAITED;
+    }
+    if (refused) return DOVECOUNTER_REFUSED;
+    if (it->kind == DOVECOUNTER_FETCH)
+        return fetch(it->device, it->offset, it->count) ? DOVECOUNTER_REFUSED : DOVECOUNTER_FETCHED;
+    return store(it->device, it->offset, it->bytes, it->count) ? DOVECOUNTER_REFUSED : DOVECOUNTER_STORED;
+}
+
+static void stop_if_no_operation(const struct dovecounter_operation *it) {
+    int is_wait = it->kind == DOVECOUNTER_WAIT;
+    stop_if(it->kind > 2 || it->count > (it->kind == DOVECOUNTER_STORE ? 8 : 128), "an operation");
+    stop_if(is_wait ? it->count : !it->count || it->milliseconds, "a wait");
+    stop_if(it->offset + it->count > 256 || (it->offset < 128 && it->offset + it->count > 128), "two halves");
+}
+
+/* ---- conversations ---- */
+
+static struct dovecounter_conversation conversation;
+static struct dovecounter_half *read_halves;
+
+static void begin_conversation(void) {
+    uint8_t kind = byte(), lanes = byte(), requested = byte();
+    const uint8_t *control = filled(SMALL, 8);
+    if (kind & 16) {
+        patience.pause = two_bytes();
+        patience.limit = four_bytes();
+        patience.trusts = byte();
+    }
+    struct dovecounter_conversation *it = painted(OUT, sizeof *it);
+    uint32_t status = 0;
+    switch (kind % 8) {
+    case 0: dovecounter_provision_begin(control, lanes, &patience, it); break;
+    case 1: dovecounter_activate_begin(control, lanes, &patience, it); break;
+    case 2: dovecounter_wake_begin(&patience, it); break;
+    case 3: dovecounter_sleep_begin(&patience, it); break;
+    case 4: status = dovecounter_read_begin(lanes, &patience, it); break;
+    default: status = dovecounter_read_some_begin(requested, lanes, &patience, it);
+    }
+    if (!judge(status, "begin", LIST(36), it, sizeof *it)) conversation = *it;
+}
+
+static uint32_t reply(uint8_t outcome, const uint8_t *bytes, size_t count) {
+    struct dovecounter_conversation *it = copied(BYTES, &conversation, sizeof conversation);
+    uint32_t status = dovecounter_reply(it, read_halves, outcome, bytes, count);
+    judge(status, "reply", LIST(31, 32, 34), it, 0);
+    stop_if(status && memcmp(it, &conversation, sizeof *it), "a refused reply changes the conversation");
+    conversation = *it;
+    return status;
+}
+
+static uint32_t end_conversation(void) {
+#define END(it) dovecounter_end(&conversation, read_halves, it)
+    ASK(struct dovecounter_ending, found, LIST(31, 33), END);
+    if (!status) stop_if(found->fault.code > 10 || found->steps > 4096, "an ending");
+    return status;
+}
+
+/* Some operations, of which a byte of the input refuses some, or has other bytes fetched. */
+static void go_on(void) {
+    for (int steps = byte(); steps > 0; steps--) {
+#define NEXT(it) dovecounter_next(&conversation, read_halves, it)
+        ASK(struct dovecounter_operation, next, LIST(31, 32), NEXT);
+        if (status) break;
+        stop_if_no_operation(next);
+        struct dovecounter_operation operation = *next;
+        uint8_t how = byte(), outcome = reply_to(&operation, how & 1);
+        if (how >= 0xF8 && outcome != DOVECOUNTER_WAITED) {
+            filled(OUT, operation.count);
+            outcome = operation.kind == DOVECOUNTER_STORE ? DOVECOUNTER_STORED : DOVECOUNTER_FETCHED;
+        }
+        size_t count = outcome == DOVECOUNTER_FETCHED ? operation.count : 0;
+        stop_if(reply(outcome, room(OUT, count), count) != 0, "a reply that fits");
+    }
+    end_conversation();
+}
+
+/* A reply of any kind, or a changed number. */
+static void call_conversation(void) {
+    uint8_t what = byte();
+    if (what & 1) change(&conversation, sizeof conversation);
+    if (what & 2) change(read_halves, DOVECOUNTER_MOST_READ * sizeof *halves);
+    size_t size = byte();
+    if (what & 4) reply(what >> 4, filled(OUT, size), size);
+    end_conversation();
+}
+
+/* ---- firmware ---- */
+
+enum { STATUS = 37, SELECTION = 126, FILE_BYTES = 300 };
+
+static struct dovecounter_update update;
+static uint8_t *file, selected[2];
+static size_t file_size;
+
+static void begin_update(void) {
+    uint8_t kind = byte(), hold = byte();
+    file_size = two_bytes() % FILE_BYTES;
+    file = filled(TEXT, file_size);
+    struct dovecounter_update *it = painted(OUT, sizeof *it);
+    switch (kind % 5) {
+    case 0: dovecounter_banks_begin(it); break;
+    case 1: dovecounter_commit_begin(it); break;
+    case 2: dovecounter_abort_begin(it); break;
+    case 3: dovecounter_password_begin(four_bytes(), it); break;
+    default: dovecounter_update_begin((uint32_t)file_size, hold, it);
+    }
+    if (kind % 5 < 4) file_size = 0, file = room(TEXT, 0);
+    update = *it;
+}
+
+static uint32_t reply_to_update(uint8_t outcome, const uint8_t *bytes, size_t count) {
+    struct dovecounter_update *it = copied(BYTES, &update, sizeof update);
+    uint32_t status = dovecounter_update_reply(it, file, file_size, outcome, bytes, count);
+    judge(status, "update_reply", LIST(31, 32, 34), it, 0);
+    stop_if(status && memcmp(it, &update, sizeof *it), "a refused reply changes the update");
+    update = *it;
+    return status;
+}
+
+static void end_update(void) {
+#define UPDATE_END(it) dovecounter_update_end(&update, file, file_size, it)
+    ASK(struct dovecounter_update_ending, found, LIST(31, 33), UPDATE_END);
+    if (status) return;
+    stop_if(found->fault > 6 || found->known > 9 || found->count > 128, "the end of an update");
+    struct dovecounter_banks *banks = painted(OTHER, sizeof *banks);
+    dovecounter_banks(copied(SMALL, found->reply, found->count), found->count, banks);
+    stop_if(banks->running > 2 || banks->committed > 2, "banks");
+}
+
+static void look_at_update(void) {
+#define PROGRESS(it) dovecounter_update_progress(&update, file, file_size, it)
+    ASK(struct dovecounter_update_progress, found, LIST(31), PROGRESS);
+    if (!status) stop_if(found->sent > found->all || found->known > 9, "progress");
+}
+
+/* A module that shows the page that was selected and success, and else bytes of the input. */
+static uint8_t *fetched_from(const struct dovecounter_operation *it, uint8_t how) {
+    uint8_t *bytes = filled(OUT, it->count);
+    if (it->offset == SELECTION && it->count == 2 && how < 0xF0) memcpy(bytes, selected, 2);
+    if (it->offset == STATUS && how < 0xE0) bytes[0] = 1;
+    return bytes;
+}
+
+static void go_on_with_update(void) {
+    for (int steps = byte() * 4; steps > 0; steps--) {
+#define UPDATE_NEXT(it) dovecounter_update_next(&update, file, file_size, it)
+        ASK(struct dovecounter_operation, next, LIST(31, 32), UPDATE_NEXT);
+        if (status) break;
+        stop_if_no_operation(next);
+        struct dovecounter_operation operation = *next;
+        uint8_t how = byte(), outcome = DOVECOUNTER_WAITED, *bytes = room(OUT, 0);
+        if (operation.kind != DOVECOUNTER_WAIT && how % 8 == 7)
+            outcome = DOVECOUNTER_REFUSED;
+        else if (operation.kind == DOVECOUNTER_STORE)
+            outcome = DOVECOUNTER_STORED;
+        else if (operation.kind == DOVECOUNTER_FETCH)
+            outcome = DOVECOUNTER_FETCHED, bytes = fetched_from(&operation, how);
+        if (outcome == DOVECOUNTER_STORED && operation.offset == SELECTION) memcpy(selected, operation.bytes, 2);
+        stop_if(reply_to_update(outcome, bytes, outcome == DOVECOUNTER_FETCHED ? operation.count : 0) != 0, "a reply");
+    }
+    look_at_update();
+    end_update();
+}
+
+/* A reply of any kind, or a changed number; and what a module advertises. */
+static void call_update(void) {
+    uint8_t what = byte();
+    if (what & 1) change(&update, sizeof update);
+    size_t size = byte();
+    if (what & 4) reply_to_update(what >> 4, filled(OUT, size), size);
+    look_at_update();
+    end_update();
+    struct dovecounter_command_block *block = painted(OUT, sizeof *block);
+    dovecounter_command_block(filled(SMALL, 4), block);
+    stop_if(block->instances > 3, "instances");
+}
+
+/* ---- ports ---- */
+
+static struct dovecounter_port port;
+static struct dovecounter_wanted wanted;
+static uint64_t now;
+
+static void begin_port(void) {
+    struct dovecounter_times times;
+    uint32_t *all = &times.settle;
+    for (int i = 0; i < 4; i++) all[i] = two_bytes();
+    dovecounter_port_new(&times, &port);
+    wanted = (struct dovecounter_wanted){.stay = stay, .paired = paired, .counts_by_id = counts_by_id};
+    wanted.most_power = byte();
+    wanted.may_take_down = byte();
+    memcpy(wanted.weights, weights, sizeof wanted.weights);
+}
+
+static void call_port(void) {
+    uint8_t what = byte(), value = byte();
+    struct dovecounter_port *it = copied(BYTES, &port, sizeof port);
+    uint32_t status = 0;
+    uint8_t *presence = painted(SMALL, 1);
+    switch (what % 10) {
+    case 0: status = dovecounter_port_plug(it, now); break;
+    case 1: status = dovecounter_port_pull(it); break;
+    case 2: status = dovecounter_port_reconsider(it); break;
+    case 3: status = dovecounter_port_hold(it, value); break;
+    case 4: status = dovecounter_port_acknowledge(it, now - value); break;
+    case 5: change(it, sizeof *it); break;
+    case 6: now += (uint64_t)value << (what >> 3); break;
+    case 7: status = dovecounter_port_request(it, what >> 4, value); break;
+    case 8:
+        status =
+            judge(dovecounter_port_hear(it, what >> 4 & 1, now - value, now, presence), "hear", LIST(31), presence, 1);
+        break;
+    default: wanted.may_take_down = value; memcpy(wanted.weights, weights, sizeof wanted.weights);
+    }
+    judge(status, "a port's event", LIST(31), it, 0);
+    stop_if(status && memcmp(it, &port, sizeof port), "a refused event changes the port");
+    port = *it;
+}
+
+static void take(uint8_t outcome, const uint8_t *bytes, size_t count) {
+    struct dovecounter_port *it = copied(BYTES, &port, sizeof port);
+    struct dovecounter_port_outcome *found = painted(OTHER, sizeof *found);
+    uint32_t status = dovecounter_port_take(it, outcome, bytes, count, &wanted, now, found);
+    judge(status, "take", LIST(31, 34), found, sizeof *found);
+    stop_if(status && memcmp(it, &port, sizeof port), "a refused reply changes the port");
+    if (!status)
+        stop_if(found->kind > 4 || found->note > 5 || found->failure > 8 || found->fault.code > 10, "an outcome");
+    port = *it;
+}
+
+static void go_on_with_port(void) {
+    for (int steps = byte(); steps > 0; steps--) {
+        struct dovecounter_port *it = copied(BYTES, &port, sizeof port);
+        struct dovecounter_port_next *next = painted(OTHER, sizeof *next);
+        if (judge(dovecounter_port_next(it, now, next), "next", LIST(31), next, sizeof *next)) return;
+        port = *it;
+        stop_if(next->kind > 3, "what a port does");
+        if (next->kind == DOVECOUNTER_PORT_UNTIL) now = next->moment;
+        if (next->kind == DOVECOUNTER_PORT_IDLE) return;
+        struct dovecounter_operation operation = next->operation;
+        uint8_t how = byte();
+        if (next->kind != DOVECOUNTER_PORT_DO) {
+            if (how >= 0x80) take(how & 3, filled(OUT, how & 63), how & 63);
+            continue;
+        }
+        stop_if_no_operation(&operation);
+        uint8_t outcome = reply_to(&operation, how & 1);
+        size_t count = outcome == DOVECOUNTER_FETCHED ? operation.count : 0;
+        take(how >= 0xF8 ? how & 7 : outcome, room(OUT, count), count);
+        now += how >> 1;
+    }
+}
+
+#endif
