@@ -5,6 +5,7 @@ use Rattle.std.specs.List.{range_with_len}
 use Rattle.std.specs.Option.{option_map}
 use Rattle.paged_memory.specs.Images.{Memory}
 use Rattle.field_tables.specs.declared.readings.PerLimit.{PerLimit}
+use Rattle.module_decoding.specs.declared.report.DecodeFault.TheVariants.{Module}
 use Rattle.module_decoding.specs.ModuleFamilies.{detail_fault}
 use Rattle.observables.specs.declared.amount.Amount.{Amount}
 use Rattle.observables.specs.declared.observable.Side.{Side}
@@ -20,12 +21,12 @@ use Rattle.firmware_api.specs.declared.observable_numbers.AmountNumbers.{AmountN
 use Rattle.firmware_api.specs.declared.observable_numbers.LimitNumbers.{LimitNumbers}
 use Rattle.firmware_api.specs.declared.observable_numbers.ObservableNumbers.{ObservableNumbers}
 use Rattle.firmware_api.specs.declared.status.Refusal.{Refusal}
-use Rattle.firmware_api.specs.declared.status.Refusal.TheVariants.{Module}
-use Rattle.firmware_api.specs.ReadModules.{number_of}
+use Rattle.firmware_api.specs.declared.status.Refusal.TheVariants.{Decode}
+use Rattle.firmware_api.specs.Statuses.{number_of}
 
 -- the modules are those of which details are told
 unfoldable pub observables_refusal : Memory → Option Refusal
-observables_refusal memory = option_map (λ fault. Module fault) (detail_fault memory)
+observables_refusal memory = option_map (λ fault. Decode (Module fault)) (detail_fault memory)
 
 -- ---- amounts and flags: 0 if they are not known
 

@@ -1,9 +1,9 @@
 ghost use Rattle.std.specs.Prelude.{◌≡◌, ◌≢◌, map};
 ghost use Rattle.std.specs.List.{range_with_len};
+ghost use Rattle.std.specs.Option.{option_or};
 ghost use Rattle.firmware_api.specs.Halves.{memory_of};
 ghost use Rattle.firmware_api.specs.ObservableNumbers as spec;
 ghost use Rattle.firmware_api.specs.ObservableNumbers.{IsNext, byte_at, flag_numbers, known_numbers, limit_numbers, observable_in, observables_refusal, written_name};
-ghost use Rattle.firmware_api.specs.Plans.{refusal_before};
 ghost use Rattle.firmware_api.specs.SimulatedModules.{half_refusal};
 ghost use Rattle.firmware_api.specs.Statuses.{done, status_by};
 
@@ -69,7 +69,7 @@ pub extern "C" fn dovecounter_observables(
     place: &mut u16,
     observable: &mut ObservableNumbers,
 ) -> u32
-    ensures status { result ≡ status_by (refusal_before (half_refusal halves.now) (observables_refusal (memory_of halves.now))) }
+    ensures status { result ≡ status_by (option_or (half_refusal halves.now) (observables_refusal (memory_of halves.now))) }
     ensures done { result ≡ done → IsNext (memory_of halves.now) place.old place.new observable.old observable.new }
     ensures refused { result ≢ done → (place.new ≡ place.old) × (observable.new ≡ observable.old) }
 {

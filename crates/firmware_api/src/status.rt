@@ -164,7 +164,8 @@ pub fn decode_status(fault: DecodeFault) -> u32
     }
 }
 
-fn module_status(fault: ModuleFault) -> u32
+/// Why a module can't be decoded at all.
+pub fn module_status(fault: ModuleFault) -> u32
     ensures status { result ≡ module_status fault }
     ensures refused { result ≢ done }
 {

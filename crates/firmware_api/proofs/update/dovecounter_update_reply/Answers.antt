@@ -1,12 +1,30 @@
-use Rattle.std.proofs.Common.{◌≡◌, Option, Some, ap, sym, subst, ◌∙◌}
+use Rattle.std.proofs.Common.{◌≡◌, ℕ, Option, Some, None, refl, ap, sym, subst, ◌∙◌}
+use Rattle.std.proofs.lemmas.Option.{none-some}
+use Rattle.bus_model.specs.declared.operation.Op.{Op}
 use Rattle.bus_model.specs.declared.operation.Reply.{Reply}
+use Rattle.conversations.specs.declared.next.Next.{Next}
+use Rattle.conversations.specs.declared.next.Next.TheVariants.{Do}
+use Rattle.saved_update.specs.declared.work.Ending.{Ending}
 use Rattle.saved_update.specs.declared.work.Work.{Work}
 use Rattle.saved_update.specs.SavedUpdates.{work_in}
 use Rattle.saved_update.specs.Works.{HasRested, replied}
+use Rattle.firmware_api.specs.Operations.{reply_of}
 use Rattle.firmware_api.specs.SavedConversations.{IsReplyFor}
+use Rattle.firmware_api.specs.Updates.{IsReplyTold, wanted_of}
 use Rattle.firmware_api.proofs.AboutLaws.{reply_is}
 use Rattle.firmware_api.proofs.SavedLaws.{same_some}
 use Rattle.firmware_api.proofs.update.dovecounter_update_reply.Goals as goal
+
+told_of : (outcome : ℕ) (found : Option Reply) (op : Op) (taken : Reply) (told : Option Reply) → found ≡ Some taken → IsReplyFor found op told → IsReplyTold 0 outcome told (Some (Do op))
+told_of outcome found op taken None is none = absurd (none-some taken (sym none ∙ is))
+told_of outcome found op taken (Some reply) is (can, cannot) = (λ answers. refl, λ other. absurd (none-some taken (sym (cannot other) ∙ is)))
+
+pub returns-in-Some-reply_to-clause-told : goal.returns-in-Some-reply_to-clause-told
+returns-in-Some-reply_to-clause-told c =
+    let told = reply_of c.args.outcome c.args.bytes.now in
+    let wanted = ap wanted_of (sym c.restore.ensures.value ∙ c.in-Some.is) ∙ ap (λ (next : Next Ending). Some next) (sym c.next.ensures.value ∙ c.in-Do.is) in
+    subst (λ (next : Option (Next Ending)). IsReplyTold 0 c.args.outcome told next) (sym wanted)
+    (told_of c.args.outcome c.reply_to.result c.in-Do.op c.in-Some-reply_to.reply told c.in-Some-reply_to.is c.reply_to.ensures)
 
 pub returns-in-Some-reply_to-clause-taken : goal.returns-in-Some-reply_to-clause-taken
 returns-in-Some-reply_to-clause-taken c done work op reply is asks told =
