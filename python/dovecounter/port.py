@@ -195,8 +195,8 @@ class Port:
     module."""
 
     def __init__(self, times: Times = Times()) -> None:
-        for name, time in vars(look_at_type("the times", times, Times)).items():
-            look_at(f"the time {name}", time, 2**32 - 1)
+        for name, period in vars(look_at_type("the times", times, Times)).items():
+            look_at(f"the time {name}", period, 2**32 - 1)
         self._saved = library.Port()
         self._place: Optional[Key] = None
         _new(byref(library.Times(*astuple(times))), byref(self._saved))

@@ -10,7 +10,6 @@ import pytest
 from shared import example
 from dovecounter import (
     Idle,
-    Image,
     Key,
     ModuleState,
     Operation,
