@@ -87,7 +87,13 @@ def test_an_observable_of_the_module_and_one_of_a_data_path() -> None:
     assert float(first.amount) == 45.5 and first.amount.fraction == Fraction(91, 2)
     assert first.limits.low_alarm == Amount(-500000000, -8, 1)
     assert first.to_dict()["side"] == "MEDIA"
-    assert last.side == Side.HOST and last.scope == "host-path"
+    assert (last.quantity, last.side, last.scope, last.lane) == (
+        "errored-frames",
+        Side.MEDIA,
+        "media-path",
+        5,
+    )
+    assert any(it.side == Side.HOST and it.scope == "host-path" for it in VDM.observables())
     assert "<th>quantity</th>" in first._repr_html_()
 
 

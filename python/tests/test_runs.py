@@ -406,13 +406,20 @@ def test_a_module_that_leaves_module_ready_while_a_procedure_waits_is_told_of() 
             assert left.value.state is state
             assert str(left.value) == library.text("fault", number)
             again = pickle.loads(pickle.dumps(left.value))
-            assert (type(again), again.state, str(again)) == (LeftModuleReady, state, str(left.value))
+            assert (type(again), again.state, str(again)) == (
+                LeftModuleReady,
+                state,
+                str(left.value),
+            )
             pytest.raises(LeftModuleReady, next, procedure)
             assert procedure.steps is None
     for code in (0, 6, 7):
         told = iter([*confirmed, bytes([code << 1])])
         provisioning = Provisioning(best, Patience(1))
-        assert fault_of(lambda: provisioning.run(lambda _: next(told), lambda _: None)) == f"PV7 {code}"
+        assert (
+            fault_of(lambda: provisioning.run(lambda _: next(told), lambda _: None))
+            == f"PV7 {code}"
+        )
 
 
 def test_each_reply_is_looked_at_and_an_operation_without_one_is_given_again() -> None:
@@ -491,6 +498,7 @@ def test_the_page_s_code_runs(
         "20 20 24 24 28 28 2c 2c DPActivated",
         "EXAMPLE QDD-400G-DR4 12000 mW",
         "912000 nW in lane 1",
+        "temperature 35.0 C",
         "ModuleReady ()",
         f"{example('qsfp_dd_400g_dr4.txt').durations().path_init} ms for DPInit at most",
         f"KP3 (2,) {sentence_of('KP3')}",
