@@ -174,8 +174,60 @@ static void *reads_all(void *x) {
     return x;
 }
 
+static struct dovecounter_observable observable;
+
+static void *observes(void *x) {
+    uint16_t place = 0;
+    do dovecounter_observables(halves, half_count, &place, &observable);
+    while (place != 0);
+    return x;
+}
+
+static struct dovecounter_port port;
+static struct dovecounter_port_next port_next;
+static struct dovecounter_port_outcome outcome;
+static struct dovecounter_wanted wanted;
+static uint8_t fetched[128];
+
+/* A port that reads the module, plans, and begins to provision. */
+static void *keeps(void *x) {
+    static const struct dovecounter_times times = {1, 1, 1, 1};
+    dovecounter_port_new(&times, &port);
+    dovecounter_port_plug(&port, 0);
+    for (uint64_t now = 1; now < 40; now++) {
+        dovecounter_port_next(&port, now, &port_next);
+        if (port_next.kind != DOVECOUNTER_PORT_DO) continue;
+        uint8_t reply = transact(0, &port_next.operation, fetched);
+        size_t count = reply == DOVECOUNTER_FETCHED ? port_next.operation.count : 0;
+        dovecounter_port_take(&port, reply, fetched, count, &wanted, now, &outcome);
+    }
+    return x;
+}
+
+static struct dovecounter_update update;
+static struct dovecounter_update_ending update_ending;
+static struct dovecounter_update_progress update_progress;
+static const uint8_t file[300];
+
+/* Some operations of an update, each answered. */
+static void *updates(void *x) {
+    dovecounter_update_begin(sizeof file, 0, &update);
+    for (int made = 0; made < 40; made++) {
+        if (dovecounter_update_next(&update, file, sizeof file, &operation) != DOVECOUNTER_DONE) break;
+        uint8_t reply = operation.kind == DOVECOUNTER_WAIT ? DOVECOUNTER_WAITED : transact(0, &operation, fetched);
+        size_t count = reply == DOVECOUNTER_FETCHED ? operation.count : 0;
+        dovecounter_update_reply(&update, file, sizeof file, reply, fetched, count);
+    }
+    dovecounter_update_progress(&update, file, sizeof file, &update_progress);
+    dovecounter_update_end(&update, file, sizeof file, &update_ending);
+    return x;
+}
+
 int main(void) {
     read_halves();
+    wanted.weights[0x0D] = 101;
+    wanted.most_power = 255;
+    wanted.may_take_down = 0xFF;
     weights[0x0D] = 101;
     weights[0x11] = 400;
     size_t alone = used(nothing);
@@ -208,5 +260,9 @@ int main(void) {
     print_used("dovecounter_wake_begin", wakes, alone);
     print_used("dovecounter_sleep_begin", sleeps, alone);
     print_used("dovecounter_patience", has_patience, alone);
+    print_used("dovecounter_observables", observes, alone);
+    print_used("the calls of a port", keeps, alone);
+    if (port.stage != DOVECOUNTER_PORT_PROVISIONING && port.stage != DOVECOUNTER_PORT_WAKING) return 1;
+    print_used("the calls of an update", updates, alone);
     return 0;
 }
