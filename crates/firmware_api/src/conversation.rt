@@ -51,7 +51,7 @@ pub struct SavedEnd {
 }
 
 /// What came of a wait.
-const WAITED: u8 = 3;
+pub const WAITED: u8 = 3;
 
 /// Puts into `conversation` the procedure that makes these control bytes active, by taking down and applying these lanes.
 #[unsafe(no_mangle)]
@@ -249,8 +249,8 @@ fn wanted(conversation: &SavedConversation, halves: &[HalfBytes; MAX_READ]) -> O
     }
 }
 
-// The reply, if the operation can have it.
-fn reply_to(op: &Op, outcome: u8, bytes: &[u8]) -> Option<Reply>
+/// The reply, if the operation can have it.
+pub fn reply_to(op: &Op, outcome: u8, bytes: &[u8]) -> Option<Reply>
     ensures { IsReplyFor result op.now (reply_of outcome bytes.now) }
 {
     match reply_of(outcome, bytes) {

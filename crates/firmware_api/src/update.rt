@@ -10,23 +10,19 @@ ghost use Rattle.saved_update.specs.Endings.{progress_of};
 ghost use Rattle.saved_update.specs.SavedUpdates.{work_in};
 ghost use Rattle.saved_update.specs.Works.{HasRested, begun_question, begun_update, replied};
 ghost use Rattle.firmware_api.specs.Operations.{reply_of};
-ghost use Rattle.firmware_api.specs.SavedConversations.{IsReplyFor};
 ghost use Rattle.firmware_api.specs.SimulatedModules.{is_on};
 ghost use Rattle.firmware_api.specs.Statuses.{done, status_by};
 ghost use Rattle.firmware_api.specs.Updates.{IsEndTold, IsNextTold, IsReplyTold, command_block_of, refusal_in, wanted_in};
 
-use crate::operation::{Operation, reply_of};
+use crate::conversation::{WAITED, reply_to};
+use crate::operation::Operation;
 use crate::status::{DONE, ENDED, NO_CONVERSATION, NO_REPLY, NOT_ENDED};
-use bus_model::{Op, Reply};
 use command_block::Advertised;
-use conversations::{Next, can_have};
+use conversations::Next;
 use saved_update::{
     Banks, Progress, Question, SavedEnding, SavedUpdate, Work, ending_of, progress_of, restore,
     save, take_saved, wait_saved,
 };
-
-/// What came of a wait.
-const WAITED: u8 = 3;
 
 /// What a module advertises of its command data block.
 #[repr(C)]
@@ -217,14 +213,4 @@ pub extern "C" fn dovecounter_update_progress(
     };
     *progress = progress_of(&work);
     DONE
-}
-
-// The reply, if the operation can have it.
-fn reply_to(op: &Op, outcome: u8, bytes: &[u8]) -> Option<Reply>
-    ensures { IsReplyFor result op.now (reply_of outcome bytes.now) }
-{
-    match reply_of(outcome, bytes) {
-        Some(reply) if can_have(op, &reply) => Some(reply),
-        _ => None,
-    }
 }

@@ -80,6 +80,25 @@ abbrev pub AreNumbers : SavedDelivery → Delivery → Type 0
 AreNumbers saved delivery =
     (message : Message) (duration delay : ℕ) → terms_of delivery.patient ≡ terms_for message duration delay → delivery_in message duration delay saved ≡ delivery
 
+-- of no command
+abbrev pub no_delivery : SavedDelivery
+no_delivery = record {
+  idle = 0;
+  steps = 0;
+  phase = 0;
+  at = 0;
+  check = 0;
+  due = 0;
+  selection = 0;
+  page = 0;
+  taken = 0;
+  taken_page = 0;
+  outcome = 0;
+  status = 0;
+  count = 0;
+  reply = replicate 128 0;
+}
+
 abbrev pub AreNumbersOf : SavedDelivery → Option Delivery → Type 0
-AreNumbersOf saved None = Unit {0}
+AreNumbersOf saved None = saved ≡ no_delivery
 AreNumbersOf saved (Some delivery) = AreNumbers saved delivery

@@ -115,7 +115,9 @@ pub fn numbers_of(delivery: &Delivery) -> SavedDelivery
 }
 
 /// Of no command.
-pub fn no_delivery() -> SavedDelivery {
+pub fn no_delivery() -> SavedDelivery
+    ensures { result ≡ spec.no_delivery }
+{
     SavedDelivery {
         idle: 0,
         steps: 0,
