@@ -1,6 +1,6 @@
 -- Waking a module up, and putting it to sleep, as the numbers of a saved procedure: which numbers are such, and of which.
 -- (docs/firmware.md, "The numbers of a conversation"; this project's own)
-use Rattle.std.specs.Prelude.{ℕ, ◌==◌, ◌&&◌, nat_le, Bool, true, false, Option, Some, None, if◌then◌else◌, slice_index}
+use Rattle.std.specs.Prelude.{ℕ, ◌==◌, ◌&&◌, nat_le, Bool, true, false, ◌∷◌, Option, Some, None, if◌then◌else◌, replicate, slice_index}
 use Rattle.control_sets.specs.declared.fault.ProvisionFault.{ProvisionFault}
 use Rattle.control_sets.specs.declared.fault.ProvisionFault.TheVariants.{ModuleState, Reserved}
 use Rattle.control_sets.specs.declared.procedures.procedure.saved.SavedProcedure.{SavedProcedure}
@@ -10,7 +10,7 @@ use Rattle.control_sets.specs.declared.procedures.power.PowerStage.{PowerStage}
 use Rattle.control_sets.specs.declared.procedures.power.PowerStage.TheVariants.{Unread, Found, Stored, Met}
 use Rattle.control_sets.specs.OutcomeAnswers.{most_steps}
 use Rattle.control_sets.specs.PowerProgress.{PatientPower, patient_power}
-use Rattle.control_sets.specs.SavedNumbers.{due_numbered, fault_in}
+use Rattle.control_sets.specs.SavedNumbers.{due_numbered, fault_in, number_of_due, saved_fault}
 
 -- the works 3 and 4; 1 and 2 are provisioning and activation
 abbrev pub power_numbered : ℕ → Option Power
@@ -50,3 +50,31 @@ change_of saved power stage fault due = None
 unfoldable pub restored_power : SavedProcedure → Option PatientPower
 restored_power saved =
     change_of saved (power_numbered saved.work) (stage_numbered saved.met (slice_index saved.control 0)) (fault_in saved.fault) (due_numbered saved.due)
+
+abbrev pub number_of_power : Power → ℕ
+number_of_power Awake = 3
+number_of_power Asleep = 4
+
+-- how many things were done, and the byte that was read while it is needed, else 0
+abbrev pub numbers_of_stage : PowerStage → ℕ × ℕ
+numbers_of_stage Unread = (0, 0)
+numbers_of_stage (Found byte) = (1, byte)
+numbers_of_stage Stored = (2, 0)
+numbers_of_stage Met = (3, 0)
+
+-- the numbers that a change of power is saved as; those that stand for nothing in it are 0
+abbrev pub saved_power : PatientPower → SavedProcedure
+saved_power within = record {
+  met = (numbers_of_stage within.conversation.conversation.stage).0;
+  steps = within.steps;
+  work = number_of_power within.conversation.conversation.power;
+  lanes = 0;
+  control = (numbers_of_stage within.conversation.conversation.stage).1 ∷ replicate 7 0;
+  selection = 0;
+  page = 0;
+  fault = saved_fault within.conversation.conversation.fault;
+  due = number_of_due within.conversation.due;
+  idle = within.conversation.idle;
+  pause = within.conversation.patience.pause;
+  limit = within.conversation.patience.limit;
+}

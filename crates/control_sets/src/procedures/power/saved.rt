@@ -1,8 +1,9 @@
 ghost use Rattle.std.specs.Prelude.{◌≡◌, ◌&&◌, ℕ, Bool, IsTrue, List, None, Some, nat_le};
 ghost use Rattle.control_sets.specs.OutcomeAnswers.{most_steps};
 ghost use Rattle.control_sets.specs.SavedNumbers.{restored, work_numbered};
+ghost use Rattle.control_sets.specs.SavedPower as spec;
 ghost use Rattle.control_sets.specs.PowerProgress.{ToldPower};
-ghost use Rattle.control_sets.specs.SavedPower.{can_stop, has_no_more, power_numbered, restored_power, stage_numbered};
+ghost use Rattle.control_sets.specs.SavedPower.{can_stop, has_no_more, power_numbered, restored_power, saved_power, stage_numbered};
 ghost use Rattle.conversations.specs.Events.{Events};
 
 use super::{PatientPower, Power, PowerChange, PowerStage};
@@ -14,6 +15,7 @@ use conversations::{Pausing, Within};
 impl PowerChange {
     /// The numbers of a change of power on a real bus, which are those of no procedure, and give it again.
     pub fn save(within: &PatientPower) -> SavedProcedure
+        ensures exact { result ≡ saved_power within.now }
         ensures numbers { IsTrue (nat_le within.now.steps most_steps && can_stop within.now.conversation.conversation.fault) →
             within.now.limit ≡ most_steps → restored_power result ≡ Some within.now }
         ensures same { (events : Events) → ToldPower events within.now → within.now.limit ≡ most_steps → restored_power result ≡ Some within.now }
@@ -88,6 +90,7 @@ fn has_no_more(saved: &SavedProcedure) -> bool
 }
 
 fn number_of_power(power: Power) -> u8
+    ensures value { result ≡ spec.number_of_power power }
     ensures same { power_numbered result ≡ Some power }
     ensures apart { (control : List ℕ) (lanes : ℕ) → work_numbered result control lanes ≡ None }
 {
@@ -108,6 +111,7 @@ fn power_numbered(number: u8) -> Option<Power>
 }
 
 fn numbers_of_stage(stage: PowerStage) -> (usize, u8)
+    ensures value { result ≡ spec.numbers_of_stage stage }
     ensures same { stage_numbered result.0 result.1 ≡ Some stage }
 {
     match stage {
