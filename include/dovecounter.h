@@ -53,6 +53,7 @@ extern "C" {
      plan                                    as advertisement, then 14 (page 11h, if stay is not 0) 42 43
      certificate                             as plan, then 4
      check                                   as advertisement, then 14 (as plan); 21 to 24, of the first faulty line
+     judge                                   1 2 14 (lower half, page 11h)
      read_begin, read_some_begin             36
      next                                    31 32
      reply                                   31 32 34
@@ -489,6 +490,47 @@ uint32_t dovecounter_certificate(const struct dovecounter_half *halves, size_t h
                                  uint8_t counts_by_id, const uint32_t weights[256], uint32_t stay,
                                  const struct dovecounter_path *kept, size_t kept_count, uint8_t *buffer,
                                  size_t buffer_size, size_t *text_length);
+
+/* A change from what the module's memory shows to a plan. Flags are 0 or 1. */
+struct dovecounter_change {
+    uint8_t control[8];       /* of the plan, as the next two */
+    uint8_t lanes;
+    uint8_t outside;
+    uint8_t spares;           /* a path of the plan that is active, and not down, stays, even if it isn't kept */
+    uint8_t activates;        /* the plan's lanes are to come up */
+    uint8_t wakes;            /* a module in low power is woken up first */
+    uint8_t may_take_down;    /* lanes that may go down although they aren't DPDeactivated */
+    uint8_t may_bring_up;     /* lanes that may come up although the change doesn't want them up */
+    uint8_t may_have_no_path; /* the plan may be empty */
+};
+
+enum dovecounter_hindrance {
+    DOVECOUNTER_UNHINDERED = 0,
+    DOVECOUNTER_OTHER_BYTES = 1,   /* `lanes` are to stay, but have other control bytes than the plan's */
+    DOVECOUNTER_OTHER_STATE = 2,   /* the module is in `state`, neither in ModuleReady nor to be woken up from low power */
+    DOVECOUNTER_WOULD_COME_UP = 3, /* `lanes` are down, would come up, and may not */
+    DOVECOUNTER_NO_PATH = 4,       /* the plan is empty, and may not be */
+    DOVECOUNTER_WOULD_GO_DOWN = 5  /* `lanes` aren't down, would go down, and may not */
+};
+
+/* What a change does to lanes. */
+struct dovecounter_effect {
+    uint8_t taken;     /* for dovecounter_provision_begin */
+    uint8_t goes_down; /* aren't DPDeactivated, and are taken down, even if they come up again */
+    uint8_t comes_up;  /* are DPDeactivated, and come up */
+    uint8_t stays;     /* aren't DPDeactivated, and are left as they are */
+    uint8_t is_active; /* 1 if the plan's control bytes are active, so that nothing is to be provisioned */
+    uint8_t is_done;   /* 1 if there is nothing to do */
+    uint8_t hindrance; /* enum dovecounter_hindrance: the first that applies */
+    uint8_t lanes;     /* of the hindrance, or 0 */
+    uint8_t state;     /* of the hindrance, or 0 */
+};
+
+/* Judges a change before anything is stored, by the module's state and page 11h. If it is unhindered, provisioning of
+   `taken` and activation name no lane that isn't DPDeactivated, except those of may_take_down. For a module that
+   dovecounter_plan accepts. */
+uint32_t dovecounter_judge(const struct dovecounter_half *halves, size_t half_count,
+                           const struct dovecounter_change *change, struct dovecounter_effect *effect);
 
 /* ---- Conversations with a module ----
 

@@ -21,11 +21,14 @@ from .image import LOWER, Image, Key, page
 from .observables import Amount, AmountLimits, Observable, PassedLimits, Side
 from .planning import (
     DataPath,
+    Effect,
+    Hindrance,
     Judgement,
     KeptPathNotActive,
     Plan,
     certificate,
     check,
+    judge,
     plan,
     read_weights,
 )
@@ -90,6 +93,7 @@ __all__ = [
     "DataPath",
     "Delays",
     "Durations",
+    "Effect",
     "Family",
     "Fault",
     "FirmwareAbort",
@@ -100,6 +104,7 @@ __all__ = [
     "FirmwarePassword",
     "FirmwareUpdate",
     "Flags",
+    "Hindrance",
     "Idle",
     "Image",
     "Inventory",
@@ -145,6 +150,7 @@ __all__ = [
     "Wanted",
     "certificate",
     "check",
+    "judge",
     "page",
     "plan",
     "read_weights",

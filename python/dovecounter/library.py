@@ -146,6 +146,20 @@ class Judgement(Structure):
     _fields_ = [("reason", c_uint8), ("number", c_uint64)]
 
 
+class Change(Structure):
+    _fields_ = [
+        ("control", Lanes),
+        *_members(c_uint8, "lanes outside spares activates wakes"),
+        *_members(c_uint8, "may_take_down may_bring_up may_have_no_path"),
+    ]
+
+
+class Effect(Structure):
+    _fields_ = _members(
+        c_uint8, "taken goes_down comes_up stays is_active is_done hindrance lanes state"
+    )
+
+
 class Fault(Structure):
     _fields_ = _members(c_uint8, "code first second")
 
@@ -372,6 +386,7 @@ FUNCTIONS: Dict[str, Tuple[Any, Tuple[Any, ...]]] = {
         ),
     ),
     "weights": (c_uint32, (*_BYTES, _WEIGHTS, POINTER(c_size_t))),
+    "judge": (c_uint32, (*_HALVES, POINTER(Change), POINTER(Effect))),
     "patience": (c_uint32, (*_HALVES, POINTER(Patience))),
     "provision_begin": (None, (_CONTROL, c_uint8, *_BEGUN)),
     "activate_begin": (None, (_CONTROL, c_uint8, *_BEGUN)),

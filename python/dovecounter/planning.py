@@ -4,6 +4,7 @@ from __future__ import annotations
 import warnings
 from ctypes import Array, byref, c_size_t, c_uint8, c_uint32
 from dataclasses import dataclass
+from enum import IntEnum
 from typing import Any, Callable, Dict, Mapping, Optional, Sequence, Tuple, Union
 
 from . import library
@@ -12,22 +13,26 @@ from .faults import (
     Fault,
     first_refused,
     look_at,
+    look_at_bytes,
     look_at_choice,
     look_at_mapping,
     look_at_text,
     look_at_type,
     sentence_of,
 )
-from .image import HALF, Image, page
+from .image import HALF, LOWER, Image, page
 from .showing import Record, picture
+from .states import ModuleState, known
 
 _plan = library.function("plan")
 _check = library.function("check")
 _certificate = library.function("certificate")
 _read_weights = library.function("weights")
+_judge = library.function("judge")
 
 
 _ACTIVE = 206 - HALF  # where page 11h has the Active Control Set
+_OF_CHANGES = {"AD4": (LOWER, page(0x11))}  # the halves that a change is judged by
 
 
 class KeptPathNotActive(UserWarning):
@@ -242,3 +247,84 @@ def check(
         raise Fault(code, first_refused(len(lines), lambda count: status(count) == answer))
     image.take(answer)
     return Judgement(f"VR{found.reason}" if found.reason else None, found.number)
+
+
+class Hindrance(IntEnum):
+    """What stands against a change."""
+
+    UNHINDERED = 0
+    OTHER_BYTES = 1
+    """lanes are to stay, but have other control bytes than the plan's"""
+    OTHER_STATE = 2
+    """the module is in a state from which it can't be provisioned"""
+    WOULD_COME_UP = 3
+    """lanes are down, would come up, and may not"""
+    NO_PATH = 4
+    """the plan has no path, and has to have one"""
+    WOULD_GO_DOWN = 5
+    """lanes aren't down, would go down, and may not"""
+
+
+@dataclass(frozen=True)
+class Effect(Record):
+    """What a change to a plan does to a module's lanes. In a byte of lanes, bit i-1 stands for lane
+    i."""
+
+    taken: int
+    """the byte of lanes that provisioning takes"""
+    goes_down: int
+    """of those that aren't DPDeactivated and are taken down, even if they come up again"""
+    comes_up: int
+    """of those that are DPDeactivated and come up"""
+    stays: int
+    """of those that aren't DPDeactivated and are left as they are"""
+    is_active: bool
+    """the plan's control bytes are active, so that nothing is to be provisioned"""
+    is_done: bool
+    """there is nothing to do"""
+    hindrance: Hindrance
+    """what stands against it first"""
+    lanes: int
+    """the byte of lanes on which it is, or 0"""
+    state: Union[ModuleState, int, None]
+    """of OTHER_STATE"""
+
+
+def judge(
+    image: Image,
+    plan: Plan,
+    activates: bool = False,
+    wakes: bool = False,
+    spares: bool = False,
+    may_take_down: int = 0,
+    may_bring_up: int = 0,
+    may_have_no_path: bool = False,
+) -> Effect:
+    """What a change from the memory as read to this plan does, and what stands against it: call it
+    before anything is stored. `activates` says that the plan's lanes are to come up, `wakes` that a
+    module in low power is woken up first, `spares` that a path of the plan stays if it is active and
+    not down, even if it isn't kept. If nothing stands against it, provisioning and activation name no
+    lane that isn't DPDeactivated, except those of `may_take_down`. Raises a Fault of AD4 without the
+    lower half or page 11h; ValueError for a number that is out of range."""
+    look_at_type("the image", image, Image)
+    look_at_type("the plan", plan, Plan)
+    for name, choice in (("activates", activates), ("wakes", wakes), ("spares", spares)):
+        look_at_choice(name, choice)
+    look_at_choice("may_have_no_path", may_have_no_path)
+    for name, lanes in (("may_take_down", may_take_down), ("may_bring_up", may_bring_up)):
+        look_at(name, lanes, 255)
+    change = library.Change(
+        library.Lanes(*look_at_bytes("the control bytes", plan.control, 8)),
+        look_at("the plan's lanes", plan.lanes, 255),
+        look_at("the lanes outside of kept paths", plan.outside, 255),
+        *(spares, activates, wakes),
+        *(may_take_down, may_bring_up, may_have_no_path),
+    )
+    found = library.Effect()
+    image.take(int(_judge(*image.arguments(), byref(change), byref(found))), _OF_CHANGES)
+    hindrance = Hindrance(found.hindrance)
+    return Effect(
+        *(found.taken, found.goes_down, found.comes_up, found.stays),
+        *(bool(found.is_active), bool(found.is_done), hindrance, found.lanes),
+        known(ModuleState, found.state) if hindrance == Hindrance.OTHER_STATE else None,
+    )

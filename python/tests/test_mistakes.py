@@ -32,6 +32,7 @@ from dovecounter import (
     Waking,
     certificate,
     check,
+    judge,
     library,
     page,
     plan,
@@ -240,5 +241,14 @@ def test_a_plan_s_members_are_looked_at() -> None:
     def changed(**members: Any) -> Plan:
         return Plan(**{**vars(best), **members})
 
+    pytest.raises(TypeError, lambda: judge(DR4, changed(control=[0] * 8)))
+    pytest.raises(TypeError, lambda: judge(DR4, changed(lanes=None)))
+    pytest.raises(ValueError, lambda: judge(DR4, changed(outside=256)))
+    pytest.raises(ValueError, lambda: judge(DR4, best, may_take_down=256))
+    pytest.raises(ValueError, lambda: judge(DR4, best, may_bring_up=-1))
+    for choice in ("activates", "wakes", "spares", "may_have_no_path"):
+        pytest.raises(TypeError, lambda: judge(DR4, best, **{choice: 1}))  # type: ignore[arg-type]
+    pytest.raises(TypeError, lambda: judge(best, best))  # type: ignore[arg-type]
+    pytest.raises(TypeError, lambda: judge(DR4, DR4))  # type: ignore[arg-type]
     pytest.raises(TypeError, lambda: Activation(changed(control=[0] * 8)))
     pytest.raises(TypeError, lambda: Activation(changed(lanes=None)))

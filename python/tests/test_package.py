@@ -27,7 +27,9 @@ from dovecounter import (
     ConfigStatus,
     DataPath,
     Delays,
+    Effect,
     Fault,
+    Hindrance,
     Image,
     Judgement,
     ModuleState,
@@ -37,6 +39,7 @@ from dovecounter import (
     SimulatedModule,
     certificate,
     check,
+    judge,
     page,
     plan,
     read_weights,
@@ -255,3 +258,55 @@ def test_states_are_those_of_the_page() -> None:
     assert sorted(named) == sorted(
         (int(code), name) for code, name in rows if not name.startswith("custom")
     )
+
+
+def test_a_change_is_judged_before_it_is_made() -> None:
+    image = example("add_800g_dr8.txt")  # 8 1 1 and 8 3 2 carry traffic
+    weights = {0x4F: 400, 0x0D: 100}
+    kept = [DataPath(8, 1, 1), DataPath(8, 3, 2)]
+    free = plan(image, weights)
+    assert judge(image, free).hindrance == Hindrance.WOULD_GO_DOWN
+    assert judge(image, free, may_take_down=0x0E).lanes == 0x01
+    assert judge(image, free, may_take_down=0x0F) == Effect(
+        *(0xFF, 0x0F, 0, 0), *(False, False, Hindrance.UNHINDERED, 0), None
+    )
+    best = plan(image, weights, kept)
+    assert judge(image, best) == Effect(
+        *(0xF0, 0, 0, 0x0F), *(False, False, Hindrance.UNHINDERED, 0), None
+    )
+    assert judge(image, best, activates=True).comes_up == 0xF0
+    assert judge(image, plan(image, {})).hindrance == Hindrance.NO_PATH
+    assert judge(image, plan(image, {}), may_have_no_path=True).goes_down == 0x0F
+    halves = dict(image.halves)
+    del halves[page(0x11)]
+    assert fault_of(judge, Image(halves), best) == "AD4 upper A0 00 11"
+
+
+def test_a_change_is_judged_by_what_is_asked() -> None:
+    best = plan(DR4, WEIGHTS)
+    module = SimulatedModule(DR4, Delays(1, 1, 1, 1, 1, 1, 1))
+
+    def memory(state: int, path_states: int, active: bytes) -> Image:
+        lower, lanes = bytearray(DR4.halves[LOWER]), bytearray(DR4.halves[page(0x11)])
+        lower[3] = state << 1
+        lanes[:4] = bytes([path_states * 0x11] * 4)
+        lanes[206 - 128 : 214 - 128] = active
+        return Image({**DR4.halves, LOWER: bytes(lower), page(0x11): bytes(lanes)})
+
+    assert module.active != best.control
+    asleep = memory(1, 1, bytes(8))
+    assert judge(asleep, best).state == ModuleState.ModuleLowPwr
+    assert judge(asleep, best, wakes=True).hindrance == Hindrance.UNHINDERED
+    assert judge(memory(6, 1, bytes(8)), best).state == 6
+    up = memory(3, 4, best.control)
+    assert judge(up, best, activates=True).is_done and judge(up, best).is_active
+    assert not judge(memory(3, 1, best.control), best, activates=True).is_done
+    half_up = memory(3, 4, best.control[:4] + bytes(4))
+    assert judge(half_up, best).taken == 0xFF
+    assert judge(half_up, best, spares=True).taken == 0xF0
+    kept = plan(DR4, WEIGHTS, best.paths[:1])
+    down = memory(3, 1, best.control[:4] + bytes(4))
+    assert judge(down, kept).hindrance == Hindrance.WOULD_COME_UP
+    assert judge(down, kept).lanes == 0x03
+    assert judge(down, kept, may_bring_up=0x03).hindrance == Hindrance.UNHINDERED
+    assert judge(memory(3, 1, bytes(8)), kept).hindrance == Hindrance.OTHER_BYTES

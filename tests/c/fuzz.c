@@ -36,7 +36,7 @@ int LLVMFuzzerTestOneInput(const uint8_t *bytes, size_t size) {
         call_monitors,     call_weights, call_durations,     call_patience,     call_plan,
         call_certificate,  call_check,   call_module,        call_module_begin, begin_conversation,
         call_conversation, go_on,        begin_port,         call_port,         go_on_with_port,
-        call_observables,  begin_update, go_on_with_update,  call_update};
+        call_observables,  begin_update, go_on_with_update,  call_update,       call_judge};
     if (!weights) make_memory();
     input = bytes, input_left = size;
     memset(weights, 0, 256 * sizeof *weights);

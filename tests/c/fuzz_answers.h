@@ -120,6 +120,18 @@ static void call_plan(void) {
     if (byte() & 1) kept_count = found->count, kept = copied(KEPT, found->paths, kept_count * sizeof *kept);
 }
 
+/* A change to a plan, by the next bytes. What goes down isn't left as it is, and a hindrance is one of five. */
+static void call_judge(void) {
+    const struct dovecounter_change *change = filled(SMALL, sizeof *change);
+#define JUDGE(it) dovecounter_judge(halves, half_count, change, it)
+    ASK(struct dovecounter_effect, found, LIST(1, 2, 14), JUDGE);
+    if (status) return;
+    stop_if(found->goes_down & (found->stays | found->comes_up), "a lane that goes down and doesn't");
+    stop_if(found->hindrance > 5 || found->state > 7 || found->is_active > 1 || found->is_done > 1, "an effect");
+    stop_if(found->hindrance == 5 && found->lanes & ~found->goes_down, "a lane that would go down");
+    stop_if(found->is_done && found->taken, "lanes that are taken though all is done");
+}
+
 #define CERTIFICATE(text, size, length)                                                                                \
     dovecounter_certificate(halves, half_count, paired, counts_by_id, weights, stay, kept, kept_count, text, size,     \
                             length)

@@ -150,6 +150,28 @@ AT(plan, outside, 10);
 AT(plan, control, 11);
 AT(plan, paths, 19);
 
+SIZE(change, 16);
+AT(change, control, 0);
+AT(change, lanes, 8);
+AT(change, outside, 9);
+AT(change, spares, 10);
+AT(change, activates, 11);
+AT(change, wakes, 12);
+AT(change, may_take_down, 13);
+AT(change, may_bring_up, 14);
+AT(change, may_have_no_path, 15);
+
+SIZE(effect, 9);
+AT(effect, taken, 0);
+AT(effect, goes_down, 1);
+AT(effect, comes_up, 2);
+AT(effect, stays, 3);
+AT(effect, is_active, 4);
+AT(effect, is_done, 5);
+AT(effect, hindrance, 6);
+AT(effect, lanes, 7);
+AT(effect, state, 8);
+
 SIZE(judgement, 16);
 AT(judgement, reason, 0);
 AT(judgement, number, 8);

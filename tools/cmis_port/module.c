@@ -115,9 +115,7 @@ static struct dovecounter_patience patience_for(const struct port *port) {
 static void begin(const struct port *port, enum work work, struct dovecounter_conversation *conversation) {
     const struct dovecounter_patience patience = patience_for(port);
     switch (work) {
-    case PROVISION:
-        dovecounter_provision_begin(port->plan.control, lanes_to_take(port), &patience, conversation);
-        break;
+    case PROVISION: dovecounter_provision_begin(port->plan.control, judge(port).taken, &patience, conversation); break;
     case ACTIVATE: dovecounter_activate_begin(port->plan.control, port->plan.lanes, &patience, conversation); break;
     case WAKE: dovecounter_wake_begin(&patience, conversation); break;
     case SLEEP: dovecounter_sleep_begin(&patience, conversation); break;

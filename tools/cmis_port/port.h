@@ -50,7 +50,7 @@ uint8_t transact(struct port *port, const struct dovecounter_operation *operatio
 /* module.c */
 enum { MODULE_STATE = 3, PATH_STATES = 128, CONFIG_STATUSES = 202, ACTIVE = 206 }; /* the last three on page 11h */
 enum { LOW_POWER = 1, READY = 3, POWER_DOWN = 4 };                                 /* states of the module */
-enum { DEACTIVATED = 1, ACTIVATED = 4, NO_ANSWER = 255 };
+enum { DEACTIVATED = 1, ALL_LANES = 0xFF, NO_ANSWER = 255 };
 bool is_other_family(const struct port *port);
 bool read_module(struct port *port, bool of_any_family);
 const uint8_t *bytes_at(const struct port *port, uint8_t offset);
@@ -79,18 +79,11 @@ enum status firmware_abort(struct port *port);
 enum status firmware_update(struct port *port);
 
 /* lanes.c */
-struct hindrance {
-    enum status status;
-    unsigned lanes;    /* on which it is; 0 if it is on none */
-    const char *state; /* of the module, if that is in the way; else NULL */
-    const char *why;
-};
-bool holds_plan(const struct port *port);
-bool has_work(const struct port *port);
-uint8_t lanes_to_take(const struct port *port);
-struct hindrance hindrance(const struct port *port);
+struct dovecounter_effect judge(const struct port *port);
+enum status status_by(const struct dovecounter_effect *effect);
 void say_lanes(FILE *out, const char *before, unsigned lanes, const char *after);
-void say_hindrance(FILE *out, const char *before, const struct hindrance *hindrance);
+void say_state(FILE *out, const char *before, unsigned state, const char *after);
+void say_hindrance(FILE *out, const char *before, const struct dovecounter_effect *effect);
 
 /* provision.c */
 enum status plan(struct port *port);

@@ -22,16 +22,15 @@ static enum status change_power(struct port *port, enum work work, unsigned want
     uint32_t status = dovecounter_advertisement(port->halves, port->half_count, 0, &module);
     if (status == DOVECOUNTER_DONE && bytes_at(port, ACTIVE) == NULL) status = DOVECOUNTER_ENDED;
     if (status != DOVECOUNTER_DONE) return refuse_by(port, status);
-    unsigned up = 0xFF & ~lanes_in(port, DEACTIVATED);
-    const struct hindrance astray = {REFUSED, 0, module_states[state_of(port)], ""};
-    const struct hindrance in_use = {IN_USE, up, NULL, " are up: take them down with --force"};
+    unsigned up = ALL_LANES & ~lanes_in(port, DEACTIVATED);
     if (state_of(port) < LOW_POWER || state_of(port) > POWER_DOWN)
-        return say_hindrance(stderr, "cmis-port:", &astray), REFUSED;
+        return say_state(stderr, "cmis-port:", state_of(port), ""), REFUSED;
     if (state_of(port) == wanted) {
         printf("%s has nothing to do\nstate %s\n", name, module_states[wanted]);
         return DONE;
     }
-    if (work == SLEEP && up != 0 && !port->force) return say_hindrance(stderr, "cmis-port:", &in_use), IN_USE;
+    if (work == SLEEP && up != 0 && !port->force)
+        return say_lanes(stderr, "cmis-port:", up, " are up: take them down with --force"), IN_USE;
     bool done = carry_out(port, work) == 0;
     if (is_in(port, wanted, done) && done) return DONE;
     return port->stored ? NOT_PROVISIONED : REFUSED;

@@ -48,13 +48,13 @@ static bool find_plan(struct port *port) {
 enum status plan(struct port *port) {
     if (!find_plan(port)) return REFUSED;
     print_held(port);
-    struct hindrance against = hindrance(port);
-    if (against.status != DONE)
-        say_hindrance(stdout, "provision refuses:", &against);
-    else if (!has_work(port))
+    struct dovecounter_effect effect = judge(port);
+    if (status_by(&effect) != DONE)
+        say_hindrance(stdout, "provision refuses:", &effect);
+    else if (effect.is_done)
         puts("provision has nothing to do");
     else
-        say_lanes(stdout, "provision takes", port->plan.outside, "");
+        say_lanes(stdout, "provision takes", effect.taken, "");
     return DONE;
 }
 
@@ -62,9 +62,9 @@ enum status plan(struct port *port) {
 static bool wake_up(struct port *port) {
     if (state_of(port) == READY) return true;
     if (carry_out(port, WAKE) != 0 || !read_lanes(port)) return false;
-    struct hindrance against = hindrance(port);
-    if (against.status != DONE) say_hindrance(stderr, "cmis-port:", &against);
-    return against.status == DONE;
+    struct dovecounter_effect effect = judge(port);
+    if (status_by(&effect) != DONE) say_hindrance(stderr, "cmis-port:", &effect);
+    return status_by(&effect) == DONE;
 }
 
 /* A module may tell an old success before it begins to apply: then other bytes are active (PV3), and a second try helps. */
@@ -73,8 +73,10 @@ static bool put_in(struct port *port) {
         unsigned fault = carry_out(port, PROVISION);
         if (fault != 3) return fault == 0;
         pause_ms(port, BEFORE_AGAIN);
-        if (port->ending != GOES_ON || !read_lanes(port) || hindrance(port).status != DONE) return false;
-        if (holds_plan(port)) return warnx("%s: the plan is active now", port->bus.name), true;
+        if (port->ending != GOES_ON || !read_lanes(port)) return false;
+        struct dovecounter_effect effect = judge(port);
+        if (status_by(&effect) != DONE) return false;
+        if (effect.is_active) return warnx("%s: the plan is active now", port->bus.name), true;
         if (times < 2) warnx("%s: provisioning begins again", port->bus.name);
     }
     return false;
@@ -83,9 +85,10 @@ static bool put_in(struct port *port) {
 /* The last lines: what was done, if the module shows it, and what the module holds now. A module that resets itself after the last
    operation of a procedure shows something else. */
 static enum status say_what_is_held(struct port *port, bool done) {
-    bool known = port->ending != SILENT && read_lanes(port), held = known && holds_plan(port);
-    bool ready = known && state_of(port) == READY, finished = held && ready && !has_work(port);
-    if (held && port->steps[PROVISION] != 0) printf("provisioned %u\n", port->steps[PROVISION]);
+    bool known = port->ending != SILENT && read_lanes(port), ready = known && state_of(port) == READY;
+    struct dovecounter_effect effect = known ? judge(port) : (struct dovecounter_effect){0};
+    bool finished = ready && effect.is_done;
+    if (effect.is_active && port->steps[PROVISION] != 0) printf("provisioned %u\n", port->steps[PROVISION]);
     if (finished && port->steps[ACTIVATE] != 0) printf("activated %u\n", port->steps[ACTIVATE]);
     if (known)
         print_held(port);
@@ -101,15 +104,16 @@ static enum status say_what_is_held(struct port *port, bool done) {
 
 enum status provision(struct port *port) {
     if (!find_plan(port)) return REFUSED;
-    struct hindrance against = hindrance(port);
-    if (against.status != DONE || !has_work(port)) {
-        if (against.status == DONE) puts("provision has nothing to do");
+    struct dovecounter_effect effect = judge(port);
+    enum status status = status_by(&effect);
+    if (status != DONE || effect.is_done) {
+        if (status == DONE) puts("provision has nothing to do");
         print_held(port);
-        if (against.status != DONE) say_hindrance(stderr, "cmis-port:", &against);
-        return against.status;
+        if (status != DONE) say_hindrance(stderr, "cmis-port:", &effect);
+        return status;
     }
     print_now(port);
-    bool done = wake_up(port) && (holds_plan(port) || put_in(port));
-    done = done && (!port->activate || !has_work(port) || carry_out(port, ACTIVATE) == 0);
+    bool done = wake_up(port) && (judge(port).is_active || put_in(port));
+    done = done && (!port->activate || judge(port).is_done || carry_out(port, ACTIVATE) == 0);
     return say_what_is_held(port, done);
 }

@@ -20,6 +20,7 @@ pub mod MeasuredValues
 pub mod Monitors
 pub mod ReadWeights
 pub mod PortsTold
+pub mod Changes
 pub mod KeptPorts
 pub mod Updates
 pub mod ObservableNumbers

@@ -11,6 +11,7 @@ mod durations;
 mod flags;
 mod half;
 mod identity;
+mod judging;
 mod kept;
 pub mod laws;
 mod measured_values;

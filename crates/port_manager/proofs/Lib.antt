@@ -20,3 +20,5 @@ pub mod PermissionLaws
 pub mod PresenceLaws
 pub mod RestLaws
 pub mod DownLaws
+pub mod GatheredLanes
+pub mod ChangeLaws

@@ -94,7 +94,7 @@ permits_other goal lane within other history wanted (image, was, of, inr may) = 
 in_outside : (goal : Goal) (bits lane : ℕ) → bits ≡ byte_of goal.outside → IsLane lane → set.contains (lanes_in bits) lane ≡ true → set.contains goal.outside lane ≡ true
 in_outside goal bits lane is within inside = sym (ap (λ (byte : ℕ). set.contains (lanes_in byte) lane) is ∙ in_byte_of goal.outside lane within) ∙ inside
 
-not_in_plan : (goal : Goal) (bits lane : ℕ) → bits ≡ 255 - byte_of goal.lanes → IsLane lane → set.contains (lanes_in bits) lane ≡ true → set.contains goal.lanes lane ≡ false
+pub not_in_plan : (goal : Goal) (bits lane : ℕ) → bits ≡ 255 - byte_of goal.lanes → IsLane lane → set.contains (lanes_in bits) lane ≡ true → set.contains goal.lanes lane ≡ false
 not_in_plan goal bits lane is within inside =
     elim (cases_Bool (set.contains goal.lanes lane)) [
       | inl held ↦ absurd (let both : true ≡ false = sym inside ∙ ap (λ (byte : ℕ). set.contains (lanes_in byte) lane) is ∙ released goal.lanes lane within held in cc)

@@ -26,13 +26,21 @@ use Rattle.port_manager.specs.declared.deciding.Wanted.{Wanted}
 abbrev pub at_lane : List ℕ → ℕ → ℕ
 at_lane values lane = slice_index values (lane - 1)
 
--- by page 11h the lane has its control byte in the Active Control Set
+-- the byte of a lane in the Active Control Set of page 11h
+abbrev pub active_at : List ℕ → ℕ → ℕ
+active_at page lane = slice_index page (78 + (lane - 1))
+
+-- the lane has its control byte there
 abbrev pub is_active : List ℕ → List ℕ → ℕ → Bool
-is_active page control lane = slice_index page (78 + (lane - 1)) == at_lane control lane
+is_active page control lane = active_at page lane == at_lane control lane
 
 -- it is DPActivated
 abbrev pub is_activated : List ℕ → ℕ → Bool
 is_activated page lane = at_lane (codes_in page 8) lane == 4
+
+-- it is DPDeactivated
+abbrev pub is_deactivated : List ℕ → ℕ → Bool
+is_deactivated page lane = at_lane (codes_in page 8) lane == 1
 
 abbrev pub is_up : List ℕ → List ℕ → ℕ → Bool
 is_up page control lane = is_activated page lane && is_active page control lane
@@ -44,9 +52,13 @@ are_up page control lanes = list_all (λ lane. not (set.contains lanes lane) || 
 abbrev pub has_all : List ℕ → List ℕ → Bool
 has_all page control = list_all (is_active page control) (range_with_len 1 8)
 
--- a lane that is DPActivated may be taken down only if it is one of these
+-- a lane that is in use may be taken down only if it is one of these
+abbrev pub is_permitted_if : Bool → Lanes → ℕ → Bool
+is_permitted_if in_use may lane = set.contains may lane || not in_use
+
+-- a lane that is DPActivated is in use
 abbrev pub is_permitted : List ℕ → Lanes → ℕ → Bool
-is_permitted page may lane = set.contains may lane || not (is_activated page lane)
+is_permitted page may lane = is_permitted_if (is_activated page lane) may lane
 
 -- each lane outside of the kept paths may be taken down
 abbrev pub may_provision : List ℕ → Lanes → Lanes → Bool

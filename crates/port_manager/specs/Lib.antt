@@ -4,6 +4,7 @@ pub mod Requests
 pub mod Silences
 pub mod Goals
 pub mod Decisions
+pub mod Changes
 pub mod Patients
 pub mod Looks
 pub mod Jobs

@@ -20,7 +20,7 @@ use paged_memory::{Dev, Image, Key};
 use plan_certificate::{Path, Plan};
 
 /// The code of ModuleLowPwr.
-const LOW_POWER: u8 = 1;
+pub const LOW_POWER: u8 = 1;
 
 /// What a port's module is wanted for.
 #[derive(Drop)]

@@ -1,5 +1,5 @@
 //! What holds of ports. Each function is a theorem: its contract says it, and its body is empty.
-ghost use Rattle.std.specs.Prelude.{◌≡◌, List, ℕ, false, true};
+ghost use Rattle.std.specs.Prelude.{◌≡◌, ◌⊎◌, List, None, ℕ, false, true};
 ghost use Rattle.std.specs.FinSet as set;
 ghost use Rattle.field_tables.specs.LaneSets.{IsLane, lanes_in};
 ghost use Rattle.control_sets.specs.StoredBits.{Sets};
@@ -8,13 +8,15 @@ ghost use Rattle.bus_model.specs.declared.operation.Op.{Op};
 ghost use Rattle.paged_memory.specs.Images.{Memory};
 ghost use Rattle.applications.specs.Advertised.{Advertised};
 ghost use Rattle.plan_certificate.specs.declared.path.Path.{Path};
+ghost use Rattle.port_manager.specs.declared.change.Change.{Change};
 ghost use Rattle.port_manager.specs.declared.deciding.Decision.{Decision};
 ghost use Rattle.port_manager.specs.declared.deciding.Goal.{Goal};
 ghost use Rattle.port_manager.specs.declared.deciding.Wanted.{Wanted};
 ghost use Rattle.port_manager.specs.declared.port.Port.{Port};
 ghost use Rattle.port_manager.specs.declared.port.PortNext.TheVariants.{Do};
+ghost use Rattle.port_manager.specs.Changes.{IsStoreOfChange, first_hindrance};
 ghost use Rattle.port_manager.specs.Decisions.{IsDecision};
-ghost use Rattle.port_manager.specs.Goals.{IsGoalBy, kept_of, wanted_of};
+ghost use Rattle.port_manager.specs.Goals.{IsGoalBy, is_deactivated, kept_of, wanted_of};
 ghost use Rattle.port_manager.specs.Idle.{LeavesWhatIsUp};
 ghost use Rattle.port_manager.specs.KeptFlags.{NoFlagIsLost};
 ghost use Rattle.port_manager.specs.Ports.{next_at};
@@ -109,4 +111,13 @@ pub fn what_is_asked_is_done()
 pub fn lanes_that_are_to_be_down_have_no_path()
     ensures { (advert : Advertised) (wanted : Wanted) (page : List ℕ) (plan : List Path) (goal : Goal) (lane : ℕ) →
         IsGoalBy advert wanted page plan goal → set.contains wanted.down lane ≡ true → set.contains goal.lanes lane ≡ false }
+{}
+
+/// A change that nothing stands against, by `judge`, stores no bit of DPDeinit or ApplyDPInit of a lane that isn't DPDeactivated,
+/// unless that lane may be taken down.
+pub fn a_change_takes_no_lane_down_unpermitted()
+    ensures { (page : List ℕ) (change : Change) (state : ℕ) (op : Op) (bits lane : ℕ) →
+        first_hindrance change state page ≡ None → IsStoreOfChange page change op → Sets bits op → IsLane lane →
+        set.contains (lanes_in bits) lane ≡ true →
+        (is_deactivated page lane ≡ true) ⊎ (set.contains change.may.take_down lane ≡ true) }
 {}

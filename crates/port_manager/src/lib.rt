@@ -3,6 +3,7 @@
 //! made, or until when nothing is.
 #![tactic(auto)]
 
+mod change;
 mod deciding;
 mod flags;
 mod job;
@@ -16,6 +17,7 @@ mod silence;
 mod times;
 mod turn;
 
+pub use change::{Change, Effect, Hindrance, Permission, judge};
 pub use deciding::{Decision, Goal, LeftBecause, Wanted, decide};
 pub use flags::{FlagKeeper, Flags};
 pub use job::{Job, ReadingJob, WatchingJob};
