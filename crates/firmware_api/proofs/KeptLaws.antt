@@ -16,8 +16,8 @@ use Rattle.port_manager.specs.declared.job.Job.TheVariants.{Reading, Waking, Sle
 use Rattle.port_manager.specs.declared.port.Outstanding.{Outstanding}
 use Rattle.port_manager.specs.declared.port.Outstanding.TheVariants as outstanding
 use Rattle.port_manager.specs.declared.port.Port.{Port}
-use Rattle.port_manager.specs.declared.port.PortNext.{PortNext}
-use Rattle.port_manager.specs.declared.port.PortNext.TheVariants as ports
+use Rattle.port_manager.specs.declared.port.Rest.{Rest}
+use Rattle.port_manager.specs.declared.port.Rest.TheVariants as rests
 use Rattle.port_manager.specs.declared.port.Stage.{Stage}
 use Rattle.port_manager.specs.declared.port.Stage.TheVariants.{Absent, Left, Working}
 use Rattle.port_manager.specs.declared.silence.Presence.{Presence}
@@ -257,21 +257,20 @@ same_some a b same = cc
 pub found_kept : (old : KeptPort) (result : Option Port) (found held : Port) → result ≡ kept_in old → result ≡ Some found → kept_in old ≡ Some held → found ≡ held
 found_kept old result found held value is kept = same_some found held (sym is ∙ value ∙ kept)
 
-pub stage_asking : (port : Port) (next : PortNext) → (asking port next).stage ≡ port.stage
-stage_asking port (ports.Do op) = refl
-stage_asking port (ports.Until moment) = refl
-stage_asking port ports.Busy = refl
-stage_asking port ports.Idle = refl
+pub stage_asking : (port : Port) (next : Next Rest) → (asking port next).stage ≡ port.stage
+stage_asking port (Do op) = refl
+stage_asking port (Wait time) = refl
+stage_asking port (End rest) = refl
 
-pub asking_fits : (port : Port) (next : PortNext) (count : ℕ) (halves : List HalfBytes) → Fits port.stage count halves → Fits (asking port next).stage (count_of (asking port next) count) halves
+pub asking_fits : (port : Port) (next : Next Rest) (count : ℕ) (halves : List HalfBytes) → Fits port.stage count halves → Fits (asking port next).stage (count_of (asking port next) count) halves
 asking_fits port next count halves fits = subst (λ (s : Stage). Fits s (count_in s count) halves) (sym (stage_asking port next)) (stays port.stage count halves fits)
 
-pub asking_known : (port : Port) (next : PortNext) → IsKnown port → IsKnown (asking port next)
+pub asking_known : (port : Port) (next : Next Rest) → IsKnown port → IsKnown (asking port next)
 asking_known port next known = subst (λ (s : Stage). IfWorking s IsKnownJob) (sym (stage_asking port next)) known
 
 -- an operation that is asked for lies where it did
-pub told_asking : (port : Port) (next : PortNext) → next_told (asking port next) next ≡ next_told port next
-told_asking port (ports.Do op) = refl
-told_asking port (ports.Until moment) = refl
-told_asking port ports.Busy = refl
-told_asking port ports.Idle = refl
+pub told_asking : (port : Port) (next : Next Rest) → next_told (asking port next) next ≡ next_told port next
+told_asking port (Do op) = refl
+told_asking port (Wait time) = refl
+told_asking port (End rests.Busy) = refl
+told_asking port (End rests.Idle) = refl

@@ -1,14 +1,16 @@
 -- What C is told of a port, and tells of what is wanted. (docs/manager.md, "From C"; this project's own)
 use Rattle.std.specs.Prelude.{◌==◌, ℕ, false, not, Option, Some, None, replicate}
 use Rattle.std.specs.FinSet as set
+use Rattle.conversations.specs.declared.next.Next.{Next}
+use Rattle.conversations.specs.declared.next.Next.TheVariants.{Do, Wait, End}
 use Rattle.field_tables.specs.LaneSets.{lanes_in}
 use Rattle.paged_memory.specs.declared.key.Half.{Half}
 use Rattle.paged_memory.specs.declared.key.Half.TheVariants.{Lower, Upper}
 use Rattle.paged_memory.specs.declared.key.Key.{Key}
 use Rattle.port_manager.specs.declared.deciding.Wanted.{Wanted}
 use Rattle.port_manager.specs.declared.port.Port.{Port}
-use Rattle.port_manager.specs.declared.port.PortNext.{PortNext}
-use Rattle.port_manager.specs.declared.port.PortNext.TheVariants.{Do, Until, Busy, Idle}
+use Rattle.port_manager.specs.declared.port.Rest.{Rest}
+use Rattle.port_manager.specs.declared.port.Rest.TheVariants.{Busy, Idle}
 use Rattle.port_manager.specs.declared.silence.Presence.{Presence}
 use Rattle.port_manager.specs.declared.silence.Presence.TheVariants.{Same, Plugged, Pulled}
 use Rattle.saved_port.specs.Places.{place_of}
@@ -55,8 +57,8 @@ abbrev pub with_operation : Operation → NextOfPort → NextOfPort
 with_operation operation next = record next { operation = operation }
 
 -- what this port wants; what it doesn't have is 0
-abbrev pub next_told : Port → PortNext → NextOfPort
+abbrev pub next_told : Port → Next Rest → NextOfPort
 next_told port (Do op) = with_operation (operation_of op) (with_place (place_of port) nothing)
-next_told port (Until moment) = record nothing { kind = 1; moment = moment }
-next_told port Busy = record nothing { kind = 2 }
-next_told port Idle = record nothing { kind = 3 }
+next_told port (Wait time) = record nothing { kind = 1; moment = port.due }
+next_told port (End Busy) = record nothing { kind = 2 }
+next_told port (End Idle) = record nothing { kind = 3 }

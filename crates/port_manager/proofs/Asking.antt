@@ -6,6 +6,7 @@ use Rattle.bus_model.specs.declared.device.Dev.TheVariants.{A0}
 use Rattle.bus_model.specs.declared.operation.Op.{Op}
 use Rattle.bus_model.specs.declared.operation.Op.TheVariants.{Fetch}
 use Rattle.bus_model.specs.declared.operation.Reply.{Reply}
+use Rattle.conversations.specs.declared.next.Next.TheVariants as nexts
 use Rattle.conversations.specs.declared.pausing.Patience.{Patience}
 use Rattle.conversations.specs.Budgets.{next_within}
 use Rattle.conversations.specs.Pauses.{next_pausing}
@@ -28,7 +29,7 @@ use Rattle.port_manager.specs.declared.port.Outcome.{Outcome}
 use Rattle.port_manager.specs.declared.port.Outstanding.{Outstanding}
 use Rattle.port_manager.specs.declared.port.Outstanding.TheVariants as outstanding
 use Rattle.port_manager.specs.declared.port.Port.{Port}
-use Rattle.port_manager.specs.declared.port.PortNext.TheVariants as ports
+use Rattle.port_manager.specs.declared.port.Rest.TheVariants as rests
 use Rattle.port_manager.specs.declared.port.Stage.{Stage}
 use Rattle.port_manager.specs.declared.port.Stage.TheVariants as stages
 use Rattle.port_manager.specs.declared.turn.Turn.{Turn}
@@ -41,6 +42,7 @@ use Rattle.port_manager.specs.Requests.{granted}
 use Rattle.port_manager.specs.Runs.{Becomes, Runs}
 use Rattle.port_manager.specs.Stories.{Event, Story, ask, drop, make, plug, pull, reconsider, acknowledge, hold, demand, hear}
 use Rattle.port_manager.specs.Turns.{IsTurn, decided}
+use Rattle.port_manager.specs.Waits.{left}
 use Rattle.port_manager.proofs.TurnCases.{Follows, later, pause_of, turn_all}
 use Rattle.port_manager.proofs.TurnLaws.{IfOn, on_going}
 
@@ -137,10 +139,10 @@ runs_asks port after (event ∷ before) asks (between, ran, is) = event_asks bet
 not_early : (now due : ℕ) → due ≤ now → nat_lt now due ≡ false
 not_early now due le = grind (arith, le)
 
-in_time : (job : Job) (due now : ℕ) (op : Op) → due ≤ now → asked job ≡ Some op → next_in (stages.Working job) due now ≡ ports.Do op
-in_time job due now op le asks = ap (λ (early : Bool). if early then ports.Until due else next_of (asked job)) (not_early now due le) ∙ ap next_of asks
+in_time : (job : Job) (due now : ℕ) (op : Op) → due ≤ now → asked job ≡ Some op → next_in (stages.Working job) due now ≡ nexts.Do op
+in_time job due now op le asks = ap (λ (early : Bool). if early then nexts.Wait (left now due) else next_of (asked job)) (not_early now due le) ∙ ap next_of asks
 
 pub never_stops : NeverStops
 never_stops story port job now (times, ran) is nothing free due =
     let (op, asks) = subst (λ (stage : Stage). StageAsks stage) is (runs_asks (absent times outstanding.Nothing no_flags false) port story tt ran) in
-    (op, ap (λ (o : Outstanding). next_when o port now) nothing ∙ ap (λ (held : Bool). if held then ports.Idle else next_in port.stage port.due now) free ∙ ap (λ (stage : Stage). next_in stage port.due now) is ∙ in_time job port.due now op due asks)
+    (op, ap (λ (o : Outstanding). next_when o port now) nothing ∙ ap (λ (held : Bool). if held then nexts.End rests.Idle else next_in port.stage port.due now) free ∙ ap (λ (stage : Stage). next_in stage port.due now) is ∙ in_time job port.due now op due asks)

@@ -29,7 +29,7 @@ use Rattle.port_manager.specs.declared.job.Job.{Job}
 use Rattle.port_manager.specs.declared.job.Job.TheVariants as jobs
 use Rattle.port_manager.specs.declared.port.Outstanding.{Outstanding}
 use Rattle.port_manager.specs.declared.port.Port.{Port}
-use Rattle.port_manager.specs.declared.port.PortNext.TheVariants as nexts
+use Rattle.conversations.specs.declared.next.Next.TheVariants as nexts
 use Rattle.port_manager.specs.declared.port.Stage.{Stage}
 use Rattle.port_manager.specs.declared.port.Stage.TheVariants.{Absent, Left, Working}
 use Rattle.port_manager.specs.Goals.{HasGoal, IsGoalBy, advert_of, is_kept, is_permitted, kept_of, may_activate, may_provision, wanted_of}

@@ -43,7 +43,7 @@ use Rattle.port_manager.specs.declared.look.LookStage.{LookStage}
 use Rattle.port_manager.specs.declared.look.LookStage.TheVariants as looking
 use Rattle.port_manager.specs.declared.port.Outstanding.{Outstanding}
 use Rattle.port_manager.specs.declared.port.Port.{Port}
-use Rattle.port_manager.specs.declared.port.PortNext.TheVariants as nexts
+use Rattle.conversations.specs.declared.next.Next.TheVariants as nexts
 use Rattle.port_manager.specs.declared.port.Stage.{Stage}
 use Rattle.port_manager.specs.declared.port.Stage.TheVariants.{Absent, Left, Working}
 use Rattle.port_manager.specs.Jobs.{activation_of, asked, paged_halves, paged_look, look_wants, procedure_wants, provisioning_of, reading_wants, paged_tasks, waking_wants}

@@ -15,8 +15,10 @@ use Rattle.port_manager.specs.declared.port.Outcome.TheVariants as outcome
 use Rattle.port_manager.specs.declared.port.Outstanding.{Outstanding}
 use Rattle.port_manager.specs.declared.port.Outstanding.TheVariants as outstanding
 use Rattle.port_manager.specs.declared.port.Port.{Port}
-use Rattle.port_manager.specs.declared.port.PortNext.{PortNext}
-use Rattle.port_manager.specs.declared.port.PortNext.TheVariants as nexts
+use Rattle.conversations.specs.declared.next.Next.{Next}
+use Rattle.conversations.specs.declared.next.Next.TheVariants as nexts
+use Rattle.port_manager.specs.declared.port.Rest.{Rest}
+use Rattle.port_manager.specs.declared.port.Rest.TheVariants as rests
 use Rattle.port_manager.specs.declared.port.Stage.{Stage}
 use Rattle.port_manager.specs.declared.port.Stage.TheVariants as stages
 use Rattle.port_manager.specs.declared.times.Times.{Times}
@@ -35,6 +37,7 @@ use Rattle.port_manager.specs.Readings.{GivesActivation, GivesGoal, GivesProvisi
 use Rattle.port_manager.specs.Standing.{IfTrue, IsAt, IsFounded, IsNamed, IsTame, IsWatching, UnlessStale}
 use Rattle.port_manager.specs.Turns.{IsTurn}
 use Rattle.port_manager.specs.Waits.{later}
+use Rattle.port_manager.specs.Waits.{left}
 use Rattle.port_manager.proofs.TurnLaws.{IfOn, NamesNext, Settles, begun_founded, turn_founded, turn_names, turn_settles, turn_tame}
 
 -- ---- what is dropped with the next reply
@@ -244,38 +247,34 @@ acknowledge_at story port past at =
       named = port_named story (acknowledge past ∷ story) port (λ P since. since) at.named;
     }
 
-not_next_of : (found : Option Op) (moment : ℕ) → next_of found ≡ nexts.Until moment → ⊥
-not_next_of None moment e = let same = e in cc
-not_next_of (Some op) moment e = let same = e in cc
-
-due_if : (early : Bool) (due now : ℕ) (found : Option Op) (op : Op) → nat_lt now due ≡ early → (if early then nexts.Until due else next_of found) ≡ nexts.Do op → due ≤ now
-due_if true due now found op e is = absurd (let same = is in cc)
-due_if false due now found op e is = ltb-false now due e
+due_if : (early : Bool) (due now time : ℕ) (found : Option Op) (op : Op) → nat_lt now due ≡ early → (if early then nexts.Wait time else next_of found) ≡ nexts.Do op → due ≤ now
+due_if true due now time found op e is = absurd (let same = is in cc)
+due_if false due now time found op e is = ltb-false now due e
 
 due_in : (stage : Stage) (due now : ℕ) (op : Op) → next_in stage due now ≡ nexts.Do op → due ≤ now
 due_in stages.Absent due now op is = absurd (let same = is in cc)
 due_in (stages.Left reason) due now op is = absurd (let same = is in cc)
-due_in (stages.Working job) due now op is = due_if (nat_lt now due) due now (asked job) op refl is
+due_in (stages.Working job) due now op is = due_if (nat_lt now due) due now (left now due) (asked job) op refl is
 
 asked_by : (found : Option Op) (op : Op) → next_of found ≡ nexts.Do op → found ≡ Some op
 asked_by None op is = absurd (let same = is in cc)
 asked_by (Some made) op is = let same = is in cc
 
-asked_if : (early : Bool) (due : ℕ) (found : Option Op) (op : Op) → (if early then nexts.Until due else next_of found) ≡ nexts.Do op → found ≡ Some op
-asked_if true due found op is = absurd (let same = is in cc)
-asked_if false due found op is = asked_by found op is
+asked_if : (early : Bool) (time : ℕ) (found : Option Op) (op : Op) → (if early then nexts.Wait time else next_of found) ≡ nexts.Do op → found ≡ Some op
+asked_if true time found op is = absurd (let same = is in cc)
+asked_if false time found op is = asked_by found op is
 
 pub asks_in : (stage : Stage) (due now : ℕ) (op : Op) → next_in stage due now ≡ nexts.Do op → asked_in stage ≡ Some op
 asks_in stages.Absent due now op is = absurd (let same = is in cc)
 asks_in (stages.Left reason) due now op is = absurd (let same = is in cc)
-asks_in (stages.Working job) due now op is = asked_if (nat_lt now due) due (asked job) op is
+asks_in (stages.Working job) due now op is = asked_if (nat_lt now due) (left now due) (asked job) op is
 
-free_asks : (held : Bool) (next : PortNext) (op : Op) → (if held then nexts.Idle else next) ≡ nexts.Do op → next ≡ nexts.Do op
+free_asks : (held : Bool) (next : Next Rest) (op : Op) → (if held then nexts.End rests.Idle else next) ≡ nexts.Do op → next ≡ nexts.Do op
 free_asks true next op e = absurd (let same = e in cc)
 free_asks false next op e = e
 
 idle_when : (o : Outstanding) (port : Port) (now : ℕ) (op : Op) → port.held ≡ true → next_when o port now ≡ nexts.Do op → ⊥
-idle_when outstanding.Nothing port now op held asks = let same : nexts.Idle ≡ nexts.Do op = sym (ap (λ (held : Bool). if held then nexts.Idle else next_in port.stage port.due now) held) ∙ asks in cc
+idle_when outstanding.Nothing port now op held asks = let same : nexts.End rests.Idle ≡ nexts.Do op = sym (ap (λ (held : Bool). if held then nexts.End rests.Idle else next_in port.stage port.due now) held) ∙ asks in cc
 idle_when outstanding.Awaited port now op held asks = let same = asks in cc
 idle_when outstanding.Stale port now op held asks = let same = asks in cc
 idle_when outstanding.Forsaken port now op held asks = let same = asks in cc

@@ -12,7 +12,7 @@ use Rattle.port_manager.specs.declared.deciding.Goal.{Goal}
 use Rattle.port_manager.specs.declared.deciding.Wanted.{Wanted}
 use Rattle.port_manager.specs.declared.port.Outstanding.TheVariants as outstanding
 use Rattle.port_manager.specs.declared.port.Port.{Port}
-use Rattle.port_manager.specs.declared.port.PortNext.TheVariants.{Do}
+use Rattle.conversations.specs.declared.next.Next.TheVariants.{Do}
 use Rattle.port_manager.specs.declared.port.Stage.TheVariants as stages
 use Rattle.port_manager.specs.declared.port.Outcome.{Outcome}
 use Rattle.port_manager.specs.declared.port.Outcome.TheVariants as outcome

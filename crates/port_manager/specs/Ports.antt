@@ -2,11 +2,13 @@
 use Rattle.std.specs.Prelude.{◌≡◌, ◌*◌, ◌||◌, ◌&&◌, not, ℕ, max, min, nat_lt, Bool, true, false, Option, Some, None, if◌then◌else◌}
 use Rattle.bus_model.specs.declared.operation.Op.{Op}
 use Rattle.bus_model.specs.declared.operation.Reply.{Reply}
+use Rattle.conversations.specs.declared.next.Next.{Next}
+use Rattle.conversations.specs.declared.next.Next.TheVariants.{Do, Wait, End}
 use Rattle.port_manager.specs.declared.port.Outstanding.{Outstanding}
 use Rattle.port_manager.specs.declared.port.Outstanding.TheVariants.{Nothing, Awaited, Stale, Forsaken}
 use Rattle.port_manager.specs.declared.port.Port.{Port}
-use Rattle.port_manager.specs.declared.port.PortNext.{PortNext}
-use Rattle.port_manager.specs.declared.port.PortNext.TheVariants.{Do, Until, Busy, Idle}
+use Rattle.port_manager.specs.declared.port.Rest.{Rest}
+use Rattle.port_manager.specs.declared.port.Rest.TheVariants.{Busy, Idle}
 use Rattle.port_manager.specs.declared.port.Stage.{Stage}
 use Rattle.port_manager.specs.declared.port.Stage.TheVariants.{Absent, Left, Working}
 use Rattle.port_manager.specs.declared.port.Outcome.{Outcome}
@@ -30,7 +32,7 @@ use Rattle.port_manager.specs.declared.silence.Presence.{Presence}
 use Rattle.port_manager.specs.declared.silence.Presence.TheVariants as presence
 use Rattle.port_manager.specs.Requests.{ended, granted}
 use Rattle.port_manager.specs.Silences as silences
-use Rattle.port_manager.specs.Waits.{later}
+use Rattle.port_manager.specs.Waits.{later, left}
 use Rattle.port_manager.specs.Jobs.{IsReplyTo, asked, reading}
 
 -- nothing of a module but flags that were read
@@ -115,37 +117,30 @@ heard port answered began now = heard_as (presence_by port answered began now) p
 abbrev pub acknowledged_to : ℕ → Port → Port
 acknowledged_to moment port = record port { keeper = acknowledged port.keeper moment }
 
-abbrev pub next_of : Option Op → PortNext
-next_of None = Idle
+abbrev pub next_of : Option Op → Next Rest
+next_of None = End Idle
 next_of (Some op) = Do op
 
 -- an operation is asked for from the moment on that is waited for
-abbrev pub next_in : Stage → ℕ → ℕ → PortNext
-next_in Absent due now = Idle
-next_in (Left reason) due now = Idle
-next_in (Working job) due now = if nat_lt now due then Until due else next_of (asked job)
+abbrev pub next_in : Stage → ℕ → ℕ → Next Rest
+next_in Absent due now = End Idle
+next_in (Left reason) due now = End Idle
+next_in (Working job) due now = if nat_lt now due then Wait (left now due) else next_of (asked job)
 
 -- and while none is outstanding, unless the port is to hold still
-abbrev pub next_when : Outstanding → Port → ℕ → PortNext
-next_when Nothing port now = if port.held then Idle else next_in port.stage port.due now
-next_when Awaited port now = Busy
-next_when Stale port now = Busy
-next_when Forsaken port now = Busy
+abbrev pub next_when : Outstanding → Port → ℕ → Next Rest
+next_when Nothing port now = if port.held then End Idle else next_in port.stage port.due now
+next_when Awaited port now = End Busy
+next_when Stale port now = End Busy
+next_when Forsaken port now = End Busy
 
-abbrev pub next_at : Port → ℕ → PortNext
+abbrev pub next_at : Port → ℕ → Next Rest
 next_at port now = next_when port.outstanding port now
 
-abbrev pub asking : Port → PortNext → Port
+abbrev pub asking : Port → Next Rest → Port
 asking port (Do op) = record port { outstanding = Awaited }
-asking port (Until moment) = port
-asking port Busy = port
-asking port Idle = port
-
-abbrev pub IfDo : PortNext → (Op → Type 0) → Type 0
-IfDo (Do op) P = P op
-IfDo (Until moment) P = Unit {0}
-IfDo Busy P = Unit {0}
-IfDo Idle P = Unit {0}
+asking port (Wait time) = port
+asking port (End rest) = port
 
 abbrev pub IfWorking : Stage → (Job → Type 0) → Type 0
 IfWorking Absent P = Unit {0}

@@ -2,7 +2,7 @@
 use Rattle.std.specs.Prelude.{◌≡◌, ◌⊎◌, false, [], ◌∷◌, Some}
 use Rattle.port_manager.specs.declared.port.Port.{Port}
 use Rattle.port_manager.specs.declared.port.Outstanding.TheVariants as outstanding
-use Rattle.port_manager.specs.declared.port.PortNext.TheVariants.{Do}
+use Rattle.conversations.specs.declared.next.Next.TheVariants.{Do}
 use Rattle.port_manager.specs.declared.times.Times.{Times}
 use Rattle.port_manager.specs.Ports.{IsAwaited, IsTaken, absent, acknowledged_to, answered, asked_for, asking, awaited, holding, silent, next_at, plugged, pulled, reconsidered}
 use Rattle.port_manager.specs.Flags.{no_flags}

@@ -22,7 +22,7 @@ pub use deciding::{Decision, Goal, LeftBecause, Wanted, decide};
 pub use flags::{FlagKeeper, Flags};
 pub use job::{Job, ReadingJob, WatchingJob};
 pub use look::{Look, LookStage};
-pub use port::{Outcome, Outstanding, Port, PortNext, Stage};
+pub use port::{Outcome, Outstanding, Port, Rest, Stage};
 pub use request::Request;
 pub use silence::{Presence, Silence};
 pub use times::Times;

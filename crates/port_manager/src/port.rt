@@ -4,7 +4,8 @@ ghost use Rattle.bus_model.specs.Operations.{IsWellShaped};
 ghost use Rattle.port_manager.specs.Jobs.{IsReplyTo, asked};
 ghost use Rattle.port_manager.specs.Flags.{no_flags};
 ghost use Rattle.port_manager.specs.Ports as spec;
-ghost use Rattle.port_manager.specs.Ports.{IfDo, IsAwaited, IsTaken};
+ghost use Rattle.conversations.specs.Wanted.{IfDo};
+ghost use Rattle.port_manager.specs.Ports.{IsAwaited, IsTaken};
 ghost use Rattle.port_manager.specs.declared.port.Outstanding.TheVariants as outstanding;
 
 use crate::deciding::{LeftBecause, Wanted};
@@ -12,9 +13,10 @@ use crate::flags::{FlagKeeper, Flags};
 use crate::job::Job;
 use crate::request::Request;
 use crate::silence::{Presence, Silence};
-use crate::times::{Times, doubled, later};
+use crate::times::{Times, doubled, later, left};
 use crate::turn::{Note, PortFault, Turn};
-use bus_model::{Op, Reply};
+use bus_model::Reply;
+use conversations::Next;
 use paged_memory::KnownPage;
 use std::mem;
 
@@ -42,16 +44,12 @@ pub enum Stage {
     Working(Job),
 }
 
-/// What is to be done now.
-#[derive(Drop)]
-pub enum PortNext {
-    /// This operation is to be made, and its reply to be taken.
-    Do(Op),
-    /// Nothing before this moment.
-    Until(u64),
-    /// Nothing before a reply was taken.
+/// Until when there is nothing to do.
+#[derive(Clone, Copy, Debug, PartialEq, Eq, Drop)]
+pub enum Rest {
+    /// Until a reply was taken.
     Busy,
-    /// Nothing before a module is plugged, other weights are wanted, or the port isn't to hold still any longer.
+    /// Until a module is plugged, other weights are wanted, or the port isn't to hold still any longer.
     Idle,
 }
 
@@ -195,33 +193,33 @@ impl Port {
         self.keeper.acknowledge(moment);
     }
 
-    /// What is to be done now.
-    pub fn next(&mut self, now: u64) -> PortNext
+    /// What is to be done now: an operation, whose reply is awaited then, or nothing for a while.
+    pub fn next(&mut self, now: u64) -> Next<Rest>
         ensures value { result ≡ spec.next_at self.old now }
         ensures after { self.new ≡ spec.asking self.old result }
         ensures shape { IfDo result IsWellShaped }
     {
         let next = self.wanted(now);
-        if matches!(next, PortNext::Do(_)) {
+        if matches!(next, Next::Do(_)) {
             self.outstanding = Outstanding::Awaited;
         }
         next
     }
 
-    fn wanted(&self, now: u64) -> PortNext
+    fn wanted(&self, now: u64) -> Next<Rest>
         ensures value { result ≡ spec.next_at self.now now }
         ensures shape { IfDo result IsWellShaped }
     {
         if self.outstanding != Outstanding::Nothing {
-            return PortNext::Busy;
+            return Next::End(Rest::Busy);
         }
         match &self.stage {
-            Stage::Absent | Stage::Left(_) => PortNext::Idle,
-            Stage::Working(_) if self.held => PortNext::Idle,
-            Stage::Working(_) if now < self.due => PortNext::Until(self.due),
+            Stage::Absent | Stage::Left(_) => Next::End(Rest::Idle),
+            Stage::Working(_) if self.held => Next::End(Rest::Idle),
+            Stage::Working(_) if now < self.due => Next::Wait(left(now, self.due)),
             Stage::Working(job) => match job.op() {
-                Some(op) => PortNext::Do(op),
-                None => PortNext::Idle,
+                Some(op) => Next::Do(op),
+                None => Next::End(Rest::Idle),
             },
         }
     }

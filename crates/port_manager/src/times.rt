@@ -1,5 +1,5 @@
 ghost use Rattle.std.specs.Prelude.{◌≡◌, ◌*◌, min};
-ghost use Rattle.port_manager.specs.Waits.{later};
+ghost use Rattle.port_manager.specs.Waits.{later, left};
 
 /// How long a port waits, in milliseconds.
 #[derive(Clone, Copy, Debug, PartialEq, Eq)]
@@ -19,6 +19,18 @@ pub fn later(now: u64, wait: u32) -> u64
     ensures { result ≡ later now wait }
 {
     now.saturating_add(u64::from(wait))
+}
+
+/// How long it is until a later moment; the longest wait there is, if it is longer.
+pub fn left(now: u64, due: u64) -> u32
+    ensures { result ≡ left now due }
+{
+    let wait = due.saturating_sub(now);
+    if wait < u64::from(u32::MAX) {
+        wait as u32
+    } else {
+        u32::MAX
+    }
 }
 
 /// What is waited after the next failure if this was waited after one.

@@ -4,8 +4,9 @@ ghost use Rattle.firmware_api.specs.PortsTold as spec;
 
 use crate::operation::Operation;
 use bus_model::MAX_STORE;
+use conversations::Next;
 use paged_memory::{Half, Key};
-use port_manager::{Port, PortNext};
+use port_manager::{Port, Rest};
 use saved_port::place_of;
 
 /// What a port wants next.
@@ -26,21 +27,21 @@ pub struct NextOfPort {
 
 impl NextOfPort {
     /// Becomes what this port wants.
-    pub fn fill(&mut self, port: &Port, next: PortNext)
+    pub fn fill(&mut self, port: &Port, next: Next<Rest>)
         ensures { self.new ≡ spec.next_told port.now next }
     {
         *self = nothing();
         match next {
-            PortNext::Do(op) => {
+            Next::Do(op) => {
                 self.put_place(place_of(port));
                 self.operation.put(&op);
             }
-            PortNext::Until(moment) => {
+            Next::Wait(_time) => {
                 self.kind = 1;
-                self.moment = moment;
+                self.moment = port.due;
             }
-            PortNext::Busy => self.kind = 2,
-            PortNext::Idle => self.kind = 3,
+            Next::End(Rest::Busy) => self.kind = 2,
+            Next::End(Rest::Idle) => self.kind = 3,
         }
     }
 

@@ -1,6 +1,7 @@
 use Rattle.std.proofs.Common.{◌≡◌, ◌∙◌, ap}
 use Rattle.port_manager.specs.declared.port.Port.{Port}
-use Rattle.port_manager.specs.declared.port.PortNext.{PortNext}
+use Rattle.conversations.specs.declared.next.Next.{Next}
+use Rattle.port_manager.specs.declared.port.Rest.{Rest}
 use Rattle.port_manager.specs.Ports.{asking, next_at}
 use Rattle.firmware_api.specs.PortsTold.{next_told}
 use Rattle.firmware_api.proofs.KeptLaws.{asking_fits, asking_known, fits_kept, found_kept, put_kept, told_asking}
@@ -14,7 +15,7 @@ returns-clause-asked c held kept =
     let same = found_kept old c.restore.result c.in-Some.held held c.restore.ensures.value c.in-Some.is kept.is in
     let fits = fits_kept old c.restore.result c.in-Some.held held c.restore.ensures.fits c.in-Some.is same kept in
     let is : c.next-wants.new.self ≡ asking held (next_at held now) =
-    c.next-wants.ensures.after ∙ ap (λ (n : PortNext). asking c.in-Some.held n) c.next-wants.ensures.value ∙ ap (λ (p : Port). asking p (next_at p now)) same in
+    c.next-wants.ensures.after ∙ ap (λ (n : Next Rest). asking c.in-Some.held n) c.next-wants.ensures.value ∙ ap (λ (p : Port). asking p (next_at p now)) same in
     put_kept old c.put.new.kept c.next-wants.new.self (asking held (next_at held now)) is c.put.ensures.same c.put.ensures.count
     (asking_fits held (next_at held now) count old.halves fits) (asking_known held (next_at held now) kept.known)
 
@@ -24,5 +25,5 @@ returns-clause-told c held is =
     let found = c.in-Some.held in
     let wants = c.next-wants.result in
     let same = found_kept c.args.port.now c.restore.result found held c.restore.ensures.value c.in-Some.is is in
-    c.fill.ensures ∙ ap (λ (p : Port). next_told p wants) c.next-wants.ensures.after ∙ told_asking found wants ∙ ap (λ (n : PortNext). next_told found n) c.next-wants.ensures.value
+    c.fill.ensures ∙ ap (λ (p : Port). next_told p wants) c.next-wants.ensures.after ∙ told_asking found wants ∙ ap (λ (n : Next Rest). next_told found n) c.next-wants.ensures.value
     ∙ ap (λ (p : Port). next_told p (next_at p now)) same
