@@ -953,13 +953,23 @@ struct dovecounter_left {
     uint8_t page;
 };
 
+/* A code of lanes 1 to 8 as last read (0 before that), how often it was read to differ from the one before (at most
+   65535), and when last (0: never). Neither a pull nor an acknowledgement changes these. */
+struct dovecounter_lane_codes {
+    uint64_t last[8];
+    uint16_t changes[8];
+    uint8_t codes[8];
+};
+
 /* How often each flag was read as raised since it was acknowledged (at most 65535), and when last (0: never). Flags
-   are in the order of the module's memory, in a byte from bit 0 on. */
+   are in the order of the module's memory, in a byte from bit 0 on. Below them, what page 11h shows of the lanes. */
 struct dovecounter_flag_counts {
     uint16_t module_counts[32]; /* bytes 8 to 11 of the lower memory: flag 8 * (byte - 8) + bit */
     uint64_t module_last[32];
     uint16_t lane_counts[152]; /* bytes 134 to 152 of page 11h: flag 8 * (byte - 134) + lane - 1 */
     uint64_t lane_last[152];
+    struct dovecounter_lane_codes states;   /* data path states, as 4 of DPActivated */
+    struct dovecounter_lane_codes statuses; /* configuration statuses, as 1 of ConfigSuccess */
 };
 
 /* What a port works for: the plan that followed from the last reading. */

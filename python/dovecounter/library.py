@@ -267,12 +267,17 @@ class Left(Structure):
     _fields_ = _members(c_uint8, "reason value device upper bank page")
 
 
+class LaneCodes(Structure):
+    _fields_ = [("last", c_uint64 * 8), ("changes", c_uint16 * 8), ("codes", Lanes)]
+
+
 class FlagCounts(Structure):
     _fields_ = [
         ("module_counts", c_uint16 * 32),
         ("module_last", c_uint64 * 32),
         ("lane_counts", c_uint16 * 152),
         ("lane_last", c_uint64 * 152),
+        *_members(LaneCodes, "states statuses"),
     ]
 
 

@@ -26,6 +26,7 @@ from .image import Key
 from .planning import weights_of
 from .procedures import Operation, Reply, outcome_of
 from .showing import Record
+from .states import ConfigStatus, PathState, known
 
 _DO, _UNTIL, _BUSY = 0, 1, 2
 _NO_REPLY = 34
@@ -189,6 +190,23 @@ class PortFlag(Record):
     """the moment when it was read last"""
 
 
+@dataclass(frozen=True)
+class PortLane(Record):
+    """What was read of a lane, and how often that has changed. 65535 stands for more; neither a pull nor
+    an acknowledgement begins anew."""
+
+    lane: int
+    state: Union[PathState, int, None]
+    """None before the first read"""
+    state_changes: int
+    """how often a read showed another state than the one before it"""
+    state_since: Optional[int]
+    """the moment of the last such read"""
+    status: Union[ConfigStatus, int]
+    status_changes: int
+    status_since: Optional[int]
+
+
 class Port:
     """One port. Say what happens, make the operation that `next` gives, and pass its reply to
     `take`. Moments are milliseconds by a clock that doesn't go back. Nobody else may read the
@@ -321,6 +339,21 @@ class Port:
         return int(self._saved.due)
 
     @property
+    def lanes(self) -> Tuple[PortLane, ...]:
+        """The lanes as they were read last, and since when."""
+        states, statuses = self._saved.flags.states, self._saved.flags.statuses
+        return tuple(
+            PortLane(
+                place + 1,
+                known(PathState, states.codes[place]) if states.codes[place] else None,
+                *_changes_of(states, place),
+                known(ConfigStatus, statuses.codes[place]),
+                *_changes_of(statuses, place),
+            )
+            for place in range(8)
+        )
+
+    @property
     def goal(self) -> Optional[Tuple[bytes, int]]:
         """The control bytes and the byte of host lanes that the port works for, while it does."""
         goal = self._saved.goal
@@ -406,3 +439,9 @@ def _raised(key: str, first: int, counts: Any, last: Any) -> Iterator[PortFlag]:
 def _expect_done(status: int) -> None:
     if status:
         raise AssertionError(f"the library answered status {status}")
+
+
+def _changes_of(codes: library.LaneCodes, place: int) -> Tuple[int, Optional[int]]:
+    """How often a code has changed, and when last."""
+    changes = int(codes.changes[place])
+    return changes, int(codes.last[place]) if changes else None

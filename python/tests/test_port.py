@@ -9,12 +9,14 @@ import pytest
 
 from shared import example
 from dovecounter import (
+    ConfigStatus,
     Idle,
     Key,
     ModuleState,
     Operation,
     PathState,
     Port,
+    PortLane,
     PortOutcome,
     Reply,
     PortRequest,
@@ -123,6 +125,27 @@ def test_what_it_says_is_json() -> None:
         assert flag.count > 0
     machine.port.acknowledge(machine.now)
     assert machine.port.flags == ()
+
+
+def test_lanes_are_known_since_they_changed() -> None:
+    machine = Machine(SimulatedModule(DR4))
+    assert machine.port.lanes[7] == PortLane(
+        8, None, 0, None, ConfigStatus.ConfigUndefined, 0, None
+    )
+    machine.port.plug(0)
+    machine.comes_up()
+    for lane in machine.port.lanes:
+        assert lane.state == PathState.DPActivated and lane.status == ConfigStatus.ConfigSuccess
+        assert lane.state_changes > 0 and lane.status_changes > 0
+        assert lane.state_since is not None and lane.status_since is not None
+        assert lane.status_since < lane.state_since <= machine.now
+    before = machine.port.lanes
+    machine.module = SimulatedModule(DR4)
+    assert machine.drive(lambda outcome: outcome.kind is Kind.FAILED) is not None
+    first = machine.port.lanes[0]
+    assert first.state == PathState.DPDeactivated
+    assert first.state_changes == before[0].state_changes + 1
+    assert first.state_since is not None and first.state_since > (before[0].state_since or 0)
 
 
 def test_wrong_replies_and_numbers_are_refused() -> None:
@@ -237,6 +260,8 @@ def test_an_operation_of_a_cancelled_task_counts_as_refused() -> None:
 
     asyncio.run(cancelled())
     assert machine.port.stage is Stage.WATCHING
+
+
 def test_a_module_is_put_to_sleep_and_woken_up_again() -> None:
     machine = Machine(SimulatedModule(DR4))
     machine.port.plug(0)

@@ -269,6 +269,43 @@ static void try_flags(void) {
 }
 
 /* Other weights want lanes down that are up: only by permission. */
+/* Each lane's state and status is known since when it was read, whatever is acknowledged or pulled. */
+static void try_lane_codes(void) {
+    enum { LANE_5 = 4, LANE_6 };
+    static const struct dovecounter_lane_codes none;
+    begin();
+    expect_same("no state was read", &none, &port.flags.states, sizeof none);
+    expect_same("nor a status", &none, &port.flags.statuses, sizeof none);
+    plug_in();
+    expect("a module comes up", 1, (unsigned long)comes_up());
+    for (int lane = 0; lane < 8; lane++) {
+        expect("a lane is DPActivated", 4, port.flags.states.codes[lane]);
+        expect("its states were seen", 1, port.flags.states.changes[lane] >= 3);
+        expect("the last one now", (unsigned long)now - 1, (unsigned long)port.flags.states.last[lane]);
+        expect("its status is ConfigSuccess", 1, port.flags.statuses.codes[lane]);
+        expect("it was seen", 1, port.flags.statuses.changes[lane] >= 1);
+        expect("before that", 1, port.flags.statuses.last[lane] < now - 1);
+    }
+    const struct dovecounter_lane_codes states = port.flags.states, statuses = port.flags.statuses;
+    expect("it is held", 1, (unsigned long)drive_to(DOVECOUNTER_PORT_WENT, DOVECOUNTER_PORT_HELD));
+    expect_same("no state has changed", &states, &port.flags.states, sizeof states);
+    module.lanes[LANE_5].path = 1;
+    module.lanes[LANE_6].status = 2;
+    expect("a lane goes down", 1, (unsigned long)drive_to(DOVECOUNTER_PORT_FAILED, 0));
+    expect("as is seen", 1, port.flags.states.codes[LANE_5]);
+    expect("once", states.changes[LANE_5] + 1UL, port.flags.states.changes[LANE_5]);
+    expect("and dated", (unsigned long)now - 1, (unsigned long)port.flags.states.last[LANE_5]);
+    expect("the others are as they were", states.changes[LANE_6], port.flags.states.changes[LANE_6]);
+    expect("since then", (unsigned long)states.last[LANE_6], (unsigned long)port.flags.states.last[LANE_6]);
+    expect("another status", 2, port.flags.statuses.codes[LANE_6]);
+    expect("is dated", (unsigned long)now - 1, (unsigned long)port.flags.statuses.last[LANE_6]);
+    expect("alone", (unsigned long)statuses.last[LANE_5], (unsigned long)port.flags.statuses.last[LANE_5]);
+    const struct dovecounter_lane_codes later = port.flags.states;
+    expect("pulled", 0, dovecounter_port_pull(&port));
+    expect("known", 0, dovecounter_port_acknowledge(&port, now));
+    expect_same("they outlive both", &later, &port.flags.states, sizeof later);
+}
+
 static void try_permission(void) {
     begin();
     plug_in();
@@ -490,6 +527,7 @@ int main(void) {
     try_pull();
     try_hold();
     try_flags();
+    try_lane_codes();
     try_permission();
     try_sleep();
     try_provision();

@@ -45,7 +45,7 @@ struct port {
     int page; /* that was read to be selected last, or -1 */
 
     uint8_t stage; /* as it was told last */
-    int64_t since, lanes_since[8], failed_at;
+    int64_t since, failed_at;
     char failure[WORDS_SIZE]; /* the last one, or "" */
     struct dovecounter_flag_counts flags;
 };

@@ -156,12 +156,6 @@ static void take_half(struct port *port, const struct dovecounter_half *half) {
     port->halves[at] = *half;
 }
 
-/* Since when each lane is in its state, by what is read of page 11h now. */
-static void date_lanes(struct port *port, const uint8_t was[4], const uint8_t is[4]) {
-    for (unsigned lane = 0; lane < 8; lane++)
-        if (was == NULL || code_of(was, lane) != code_of(is, lane)) port->lanes_since[lane] = now();
-}
-
 /* Keeps what an answer shows of the memory: halves, and bytes of those that were read before. The library reads which page is selected
    after each selection. */
 static void remember(struct port *port, const struct dovecounter_port_next *next, uint8_t outcome,
@@ -177,7 +171,6 @@ static void remember(struct port *port, const struct dovecounter_port_next *next
     if (!next->whole && known == NULL) return;
     if (!next->whole) half = *known;
     memcpy(half.bytes + made->offset % 128, bytes, made->count);
-    if (upper && page == LANES_PAGE) date_lanes(port, known != NULL ? known->bytes : NULL, half.bytes);
     take_half(port, &half);
 }
 

@@ -93,14 +93,23 @@ static void print_plan(FILE *out, const struct port *port) {
     fputs(is_same && plan.count > 0 ? "}]}" : "}", out);
 }
 
+/* Since when a code of a lane is as it was read last, if it has ever changed, and how often it has changed. */
+static void print_changes(FILE *out, const char *const names[2], const struct dovecounter_lane_codes *codes,
+                          unsigned lane) {
+    if (codes->changes[lane] > 0) print_moment(out, ", ", names[0], (int64_t)codes->last[lane]);
+    print_number(out, ", ", names[1], codes->changes[lane]);
+}
+
 static void print_lanes(FILE *out, const struct port *port) {
+    static const char *const of_state[] = {"since", "changes"}, *const of_status[] = {"status_since", "status_changes"};
     const struct dovecounter_half *lower = half_of(port, 0, 0), *page = half_of(port, 1, LANES_PAGE);
     if (lower != NULL) print_text(out, ", ", "state", module_states[lower->bytes[MODULE_STATE] >> 1 & 7]);
     for (unsigned lane = 0; lane < 8 && page != NULL; lane++) {
         print_number(out, lane == 0 ? ", \"lanes\": [{" : "}, {", "lane", lane + 1);
         print_text(out, ", ", "state", path_states[code_of(page->bytes, lane)]);
-        print_moment(out, ", ", "since", port->lanes_since[lane]);
+        print_changes(out, of_state, &port->core.flags.states, lane);
         print_text(out, ", ", "status", config_statuses[code_of(page->bytes + CONFIG_STATUSES, lane)]);
+        print_changes(out, of_status, &port->core.flags.statuses, lane);
         print_number(out, ", ", "active", page->bytes[ACTIVE + lane]);
     }
     if (page != NULL) fputs("}]", out);

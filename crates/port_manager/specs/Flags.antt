@@ -1,7 +1,7 @@
--- The flags that were read as raised, how often and when, and which page they were read from. (OIF-CMIS-05.0, chapter 8 "Module
--- Management Memory Map": flags of the lower memory, bytes 8 to 11; lane flags of page 11h, bytes 134 to 152; bank and page select
--- bytes 126 and 127)
-use Rattle.std.specs.Prelude.{◌+◌, ◌-◌, ◌^◌, ◌/◌, ◌%◌, ◌==◌, ◌&&◌, ℕ, Bool, false, max, min, nat_le, nat_lt, List, drop, length, take, map, replicate, slice_index, if◌then◌else◌}
+-- The flags that were read as raised, how often and when, the codes of lanes beside them, and which page they were read from.
+-- (OIF-CMIS-05.0, chapter 8 "Module Management Memory Map": flags of the lower memory, bytes 8 to 11; DPState, lane flags and
+-- ConfigStatus of page 11h, bytes 128 to 131, 134 to 152 and 202 to 205; bank and page select bytes 126 and 127)
+use Rattle.std.specs.Prelude.{◌+◌, ◌-◌, ◌/◌, ◌%◌, ◌==◌, ◌&&◌, ℕ, Bool, false, nat_le, nat_lt, List, drop, length, take, map, replicate, slice_index, if◌then◌else◌}
 use Rattle.std.specs.Int.{bit_at}
 use Rattle.std.specs.List.{range_with_len}
 use Rattle.bus_model.specs.declared.device.Dev.TheVariants.{A0, A2}
@@ -14,10 +14,19 @@ use Rattle.paged_memory.specs.declared.page_addressing.KnownPage.TheVariants.{Un
 use Rattle.paged_memory.specs.declared.page_addressing.PageAddressing.TheVariants.{BankAndPage}
 use Rattle.paged_memory.specs.KnownPages.{is_known, selection_read}
 use Rattle.port_manager.specs.declared.flags.Flags.{Flags}
+use Rattle.port_manager.specs.Codes.{no_codes, with_codes}
+use Rattle.port_manager.specs.Counts.{later_of, one_more}
 use Rattle.port_manager.specs.declared.flags.FlagKeeper.{FlagKeeper}
 
 abbrev pub no_flags : Flags
-no_flags = record { module_counts = replicate 32 0; module_last = replicate 32 0; lane_counts = replicate 152 0; lane_last = replicate 152 0 }
+no_flags = record {
+  module_counts = replicate 32 0;
+  module_last = replicate 32 0;
+  lane_counts = replicate 152 0;
+  lane_last = replicate 152 0;
+  states = no_codes;
+  statuses = no_codes;
+}
 
 -- so often they were raised, and nothing is known of the page that is selected
 abbrev pub unread : Flags → FlagKeeper
@@ -30,13 +39,6 @@ abbrev pub is_raised : ℕ → List ℕ → ℕ → ℕ → Bool
 is_raised offset bytes first place =
     let address = first + place / 8 in
     if nat_le offset address && nat_lt (address - offset) (length bytes) then bit_at (slice_index bytes (address - offset)) (place % 8) == 1 else false
-
--- as far as 16 bits count
-abbrev pub one_more : Bool → ℕ → ℕ
-one_more raised held = if raised then min (held + 1) (2 ^ 16 - 1) else held
-
-abbrev pub later_of : Bool → ℕ → ℕ → ℕ
-later_of raised held now = if raised then max held now else held
 
 abbrev pub counted_at : List ℕ → ℕ → List ℕ → ℕ → ℕ → ℕ
 counted_at held offset bytes first place = one_more (is_raised offset bytes first place) (slice_index held place)
@@ -55,10 +57,15 @@ abbrev pub with_module : Flags → ℕ → List ℕ → ℕ → Flags
 with_module held offset bytes now =
     record held { module_counts = counted 32 held.module_counts offset bytes 8; module_last = dated 32 held.module_last offset bytes 8 now }
 
--- page 11h has them from byte 134 on
+-- page 11h has them from byte 134 on, the data path states from 128 on, and the configuration statuses from 202 on
 abbrev pub with_lanes : Flags → ℕ → List ℕ → ℕ → Flags
 with_lanes held offset bytes now =
-    record held { lane_counts = counted 152 held.lane_counts offset bytes 134; lane_last = dated 152 held.lane_last offset bytes 134 now }
+    record held {
+      lane_counts = counted 152 held.lane_counts offset bytes 134;
+      lane_last = dated 152 held.lane_last offset bytes 134 now;
+      states = with_codes held.states offset bytes 128 now;
+      statuses = with_codes held.statuses offset bytes 202 now;
+    }
 
 -- the page that the lower memory shows as selected
 abbrev pub shown_page : List ℕ → KnownPage
@@ -111,6 +118,8 @@ since held moment =
       module_last = last_since 32 held.module_last moment;
       lane_counts = counts_since 152 held.lane_counts held.lane_last moment;
       lane_last = last_since 152 held.lane_last moment;
+      states = held.states;
+      statuses = held.statuses;
     }
 
 abbrev pub acknowledged : FlagKeeper → ℕ → FlagKeeper

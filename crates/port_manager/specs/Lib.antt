@@ -1,4 +1,6 @@
 pub mod Waits
+pub mod Counts
+pub mod Codes
 pub mod Flags
 pub mod Requests
 pub mod Silences

@@ -2,13 +2,15 @@
 // read, and when last, until that is acknowledged.
 ghost use Rattle.std.specs.Prelude.{◌≡◌, ◌≤◌, ◌<◌, length};
 ghost use Rattle.bus_model.specs.Operations.{Answers};
+ghost use Rattle.port_manager.specs.Counts as counts;
 ghost use Rattle.port_manager.specs.Flags as spec;
 
+use crate::codes::LaneCodes;
 use bus_model::{Dev, Op, Reply};
 use paged_memory::{KnownPage, PageAddressing};
 
 /// Each flag of a module, byte by byte as they stand in its memory, and in a byte from the lowest bit: how often it was read as raised
-/// since that was acknowledged, as far as 16 bits count, and the moment of the last time, or 0.
+/// since that was acknowledged, as far as 16 bits count, and the moment of the last time, or 0. Beside them the codes of its lanes.
 #[derive(Clone, Copy, Drop)]
 pub struct Flags {
     /// Bytes 8 to 11 of the lower memory.
@@ -17,6 +19,9 @@ pub struct Flags {
     /// Bytes 134 to 152 of page 11h, which have a bit for each lane.
     pub lane_counts: [u16; 152],
     pub lane_last: [u64; 152],
+    /// The lanes' data path states, and their configuration statuses, of page 11h.
+    pub states: LaneCodes,
+    pub statuses: LaneCodes,
 }
 
 /// Which flags were read as raised.
@@ -37,6 +42,8 @@ impl Flags {
             module_last: [0; 32],
             lane_counts: [0; 152],
             lane_last: [0; 152],
+            states: LaneCodes::none(),
+            statuses: LaneCodes::none(),
         }
     }
 
@@ -49,6 +56,8 @@ impl Flags {
             module_last: last_since(&self.module_last, moment),
             lane_counts: counts_since(&self.lane_counts, &self.lane_last, moment),
             lane_last: last_since(&self.lane_last, moment),
+            states: self.states,
+            statuses: self.statuses,
         }
     }
 }
@@ -114,6 +123,8 @@ fn with_module(held: &Flags, offset: u8, bytes: &[u8], now: u64) -> Flags
         module_last: dated(&held.module_last, offset, bytes, 8, now),
         lane_counts: held.lane_counts,
         lane_last: held.lane_last,
+        states: held.states,
+        statuses: held.statuses,
     }
 }
 
@@ -126,6 +137,8 @@ fn with_lanes(held: &Flags, offset: u8, bytes: &[u8], now: u64) -> Flags
         module_last: held.module_last,
         lane_counts: counted(&held.lane_counts, offset, bytes, 134),
         lane_last: dated(&held.lane_last, offset, bytes, 134, now),
+        states: held.states.with(offset, bytes, 128, now),
+        statuses: held.statuses.with(offset, bytes, 202, now),
     }
 }
 
@@ -141,10 +154,11 @@ fn counted<const N: usize>(held: &[u16; N], offset: u8, bytes: &[u8], first: u8)
     counts
 }
 
-fn one_more(held: u16, raised: bool) -> u16
-    ensures { result ≡ spec.one_more raised held }
+/// One more if that was read, as far as 16 bits count.
+pub fn one_more(held: u16, read: bool) -> u16
+    ensures { result ≡ counts.one_more read held }
 {
-    if raised { held.saturating_add(1) } else { held }
+    if read { held.saturating_add(1) } else { held }
 }
 
 // When each was last raised.
@@ -159,10 +173,11 @@ fn dated<const N: usize>(held: &[u64; N], offset: u8, bytes: &[u8], first: u8, n
     last
 }
 
-fn later_of(held: u64, raised: bool, now: u64) -> u64
-    ensures { result ≡ spec.later_of raised held now }
+/// This moment if that was read, unless an earlier one was later.
+pub fn later_of(held: u64, read: bool, now: u64) -> u64
+    ensures { result ≡ counts.later_of read held now }
 {
-    if raised { held.max(now) } else { held }
+    if read { held.max(now) } else { held }
 }
 
 // Whether the bytes have the flag's byte, and its bit is 1 there.

@@ -4,6 +4,7 @@
 #![tactic(auto)]
 
 mod change;
+mod codes;
 mod deciding;
 mod flags;
 mod job;
@@ -18,6 +19,7 @@ mod times;
 mod turn;
 
 pub use change::{Change, Effect, Hindrance, Permission, judge};
+pub use codes::LaneCodes;
 pub use deciding::{Decision, Goal, LeftBecause, Wanted, decide};
 pub use flags::{FlagKeeper, Flags};
 pub use job::{Job, ReadingJob, WatchingJob};

@@ -26,6 +26,7 @@ use Rattle.port_manager.specs.declared.deciding.Goal.{Goal}
 use Rattle.port_manager.specs.declared.deciding.LeftBecause.{LeftBecause}
 use Rattle.port_manager.specs.declared.deciding.LeftBecause.TheVariants.{Advert, NoLanes, NoPlan, NeedsPower, NeedsPermission}
 use Rattle.port_manager.specs.declared.deciding.LeftBecause.TheVariants as reasons
+use Rattle.port_manager.specs.declared.codes.LaneCodes.{LaneCodes}
 use Rattle.port_manager.specs.declared.flags.Flags.{Flags}
 use Rattle.port_manager.specs.declared.job.Job.{Job}
 use Rattle.port_manager.specs.declared.job.Job.TheVariants.{Reading, Waking, Sleeping, Provisioning, Activating, Watching}
@@ -41,6 +42,7 @@ use Rattle.port_manager.specs.declared.request.Request.{Request}
 use Rattle.port_manager.specs.declared.request.Request.TheVariants as requests
 use Rattle.port_manager.specs.declared.times.Times.{Times}
 use Rattle.port_manager.specs.Patients.{Patient}
+use Rattle.saved_port.specs.declared.numbers.SavedCodes.{SavedCodes}
 use Rattle.saved_port.specs.declared.numbers.SavedFlags.{SavedFlags}
 use Rattle.saved_port.specs.declared.numbers.SavedGoal.{SavedGoal}
 use Rattle.saved_port.specs.declared.numbers.SavedLeft.{SavedLeft}
@@ -55,9 +57,18 @@ port_magic = 0x44435031
 abbrev pub times_in : SavedTimes → Times
 times_in saved = record { settle = saved.settle; period = saved.period; first = saved.first; most = saved.most }
 
+abbrev pub codes_in : SavedCodes → LaneCodes
+codes_in saved = record { codes = saved.codes; changes = saved.changes; last = saved.last }
+
 abbrev pub flags_in : SavedFlags → Flags
-flags_in saved =
-    record { module_counts = saved.module_counts; module_last = saved.module_last; lane_counts = saved.lane_counts; lane_last = saved.lane_last }
+flags_in saved = record {
+  module_counts = saved.module_counts;
+  module_last = saved.module_last;
+  lane_counts = saved.lane_counts;
+  lane_last = saved.lane_last;
+  states = codes_in saved.states;
+  statuses = codes_in saved.statuses;
+}
 
 -- 2 if this page was read back, 1 if that is awaited
 abbrev pub page_in : ℕ → ℕ → KnownPage

@@ -10,7 +10,7 @@ mod saving;
 mod work;
 
 pub use known::take_known;
-pub use numbers::{SavedFlags, SavedGoal, SavedLeft, SavedPort, SavedTimes, SavedWork};
+pub use numbers::{SavedCodes, SavedFlags, SavedGoal, SavedLeft, SavedPort, SavedTimes, SavedWork};
 pub use outcome::{SavedOutcome, outcome_of};
 pub use place::place_of;
 pub use restoring::{request_in, restore};

@@ -12,7 +12,16 @@ pub struct SavedTimes {
     pub most: u32,
 }
 
-/// How often each flag was read as raised, and when last.
+/// A code of each lane, when it changed last, and how often.
+#[repr(C)]
+#[derive(Clone, Copy)]
+pub struct SavedCodes {
+    pub last: [u64; 8],
+    pub changes: [u16; 8],
+    pub codes: [u8; 8],
+}
+
+/// How often each flag was read as raised, and when last; and the lanes' data path states and configuration statuses.
 #[repr(C)]
 #[derive(Clone, Copy)]
 pub struct SavedFlags {
@@ -20,6 +29,8 @@ pub struct SavedFlags {
     pub module_last: [u64; 32],
     pub lane_counts: [u16; 152],
     pub lane_last: [u64; 152],
+    pub states: SavedCodes,
+    pub statuses: SavedCodes,
 }
 
 /// Why a module is left alone: a number, what the memory shows, or the place of a half that is absent.

@@ -5,14 +5,15 @@ ghost use Rattle.saved_port.specs.Known.{HasRead};
 ghost use Rattle.saved_port.specs.SavedPorts.{port_in};
 ghost use Rattle.saved_port.specs.SavedPorts as spec;
 
-use crate::numbers::{SavedFlags, SavedGoal, SavedLeft, SavedPort, SavedTimes};
+use crate::numbers::{SavedCodes, SavedFlags, SavedGoal, SavedLeft, SavedPort, SavedTimes};
 use crate::work;
 use applications::AdvertFault;
 use bus_model::Dev;
 use field_tables::LaneSet;
 use paged_memory::{Image, Key, KnownPage};
 use port_manager::{
-    FlagKeeper, Flags, Goal, Job, LeftBecause, Outstanding, Port, Request, Silence, Stage, Times,
+    FlagKeeper, Flags, Goal, Job, LaneCodes, LeftBecause, Outstanding, Port, Request, Silence,
+    Stage, Times,
 };
 
 /// What stands in each port, so that other memory is not taken for one: `DCP1`.
@@ -75,6 +76,18 @@ fn flags_in(saved: &SavedFlags) -> Flags
         module_last: saved.module_last,
         lane_counts: saved.lane_counts,
         lane_last: saved.lane_last,
+        states: codes_in(&saved.states),
+        statuses: codes_in(&saved.statuses),
+    }
+}
+
+fn codes_in(saved: &SavedCodes) -> LaneCodes
+    ensures { result ≡ spec.codes_in saved.now }
+{
+    LaneCodes {
+        codes: saved.codes,
+        changes: saved.changes,
+        last: saved.last,
     }
 }
 

@@ -9,13 +9,17 @@ ghost use Rattle.saved_port.specs.Known.{HasRead, IsKnown, IsKnownJob};
 ghost use Rattle.saved_port.specs.SavedPorts.{port_in};
 ghost use Rattle.saved_port.specs.SavedPorts as spec;
 
-use crate::numbers::{SavedFlags, SavedGoal, SavedLeft, SavedPort, SavedTimes, SavedWork};
+use crate::numbers::{
+    SavedCodes, SavedFlags, SavedGoal, SavedLeft, SavedPort, SavedTimes, SavedWork,
+};
 use crate::restoring::PORT;
 use crate::work;
 use applications::AdvertFault;
 use bus_model::Dev;
 use paged_memory::{Half, Key};
-use port_manager::{Flags, Goal, Job, LeftBecause, Outstanding, Port, Request, Stage, Times};
+use port_manager::{
+    Flags, Goal, Job, LaneCodes, LeftBecause, Outstanding, Port, Request, Stage, Times,
+};
 
 /// The numbers of a port, and how many halves its reading has read.
 pub fn save(port: &Port, half_count: u16) -> SavedPort
@@ -73,6 +77,18 @@ fn numbers_of_flags(flags: &Flags) -> SavedFlags
         module_last: flags.module_last,
         lane_counts: flags.lane_counts,
         lane_last: flags.lane_last,
+        states: numbers_of_codes(&flags.states),
+        statuses: numbers_of_codes(&flags.statuses),
+    }
+}
+
+fn numbers_of_codes(codes: &LaneCodes) -> SavedCodes
+    ensures { spec.codes_in result ≡ codes.now }
+{
+    SavedCodes {
+        last: codes.last,
+        changes: codes.changes,
+        codes: codes.codes,
     }
 }
 
