@@ -1,10 +1,11 @@
 -- Where the lines of a certificate stand in its text: each has at most 31 bytes, and there are at most 2,323.
-use Rattle.std.proofs.Common.{◌≡◌, ◌≢◌, ℕ, zero, suc, ◌+◌, ◌-◌, ◌*◌, ◌<◌, ◌≤◌, ◌^◌, Bool, true, false, not, Option, Some, None, MatchOption, Result, Ok, Err, OnOk, List, [], ◌∷◌, ◌++◌, length, drop, take, get_or, map, codes, refl, sym, subst, ap, ◌∙◌, inl, inr, arith}
+use Rattle.std.proofs.Common.{◌≡◌, ◌≢◌, ℕ, ◌+◌, ◌-◌, ◌<◌, ◌≤◌, ◌^◌, true, false, not, Option, Some, None, MatchOption, unwrap_or, Result, Ok, Err, OnOk, List, [], ◌∷◌, ◌++◌, length, drop, take, get_or, map, codes, refl, sym, ap, ◌∙◌, inl, inr, arith}
 use Rattle.std.specs.Fmt.{decimal}
 use Rattle.std.specs.List.{after_first, position_or_len}
 use Rattle.std.specs.Str.Parse.{digits_value}
-use Rattle.std.proofs.lemmas.Fmt.{length-decimal-le, decimal_is_IsNumeral}
+use Rattle.std.proofs.lemmas.Fmt.{decimal_digit, decimal_injective, decimal_is_IsNumeral, decimal_nonempty, length-decimal-le}
 use Rattle.std.proofs.Math.ListN.{drop_of_length-le}
+use Rattle.std.proofs.Math.Seq.{take-length}
 use Rattle.std.proofs.lemmas.Bool.{cases_lt}
 use Rattle.std.proofs.lemmas.List.{drop-drop, length-append, length-drop, length-map, length-take-le}
 use Rattle.std.proofs.lemmas.List.Sums.{prefix_len-le-length}
@@ -12,7 +13,6 @@ use Rattle.hex.specs.Hex.{encode_lower, encode_with}
 use Rattle.text_lines.specs.Lines.{is_lf, lines_of}
 use Rattle.text_lines.specs.Words.{words_of, spaced}
 use Rattle.text_lines.proofs.LineEnds.{first_line}
-use Rattle.plan_certificate.specs.declared.path.Path.{Path}
 use Rattle.plan_certificate.specs.declared.certificate.Entry.{Entry}
 use Rattle.plan_certificate.specs.declared.fault.CertificateFault.{CertificateFault}
 use Rattle.plan_certificate.specs.declared.line.Line.{Line}
@@ -22,9 +22,9 @@ use Rattle.plan_certificate.specs.declared.stage.Stage.TheVariants.{Start, Heade
 use Rattle.plan_certificate.specs.Bounds.{IsStated, line_at, potential_at}
 use Rattle.plan_certificate.specs.Certificates.{Claim}
 use Rattle.plan_certificate.specs.CertificateDrafts.{lines_before_end, lines_so_far}
-use Rattle.plan_certificate.specs.CertificateText.{IsEntryInRange, IsLineInRange, IsPathInRange, IsReadable, line_text, line_words, path_values}
+use Rattle.plan_certificate.specs.CertificateText.{IsEntryInRange, IsLineInRange, IsReadable, line_text, line_words}
 use Rattle.plan_certificate.specs.ReadLines.{IsLineAt}
-use Rattle.plan_certificate.proofs.LineWords.{same_line, words_of-line_text}
+use Rattle.plan_certificate.proofs.LineWords.{words_of-line_text}
 
 -- ---- how long they are
 
@@ -105,12 +105,27 @@ potential_is text at entry fits line =
     ∙ ap (λ (words : List (List ℕ)). digits_value 10 (get_or words 3 [])) (words_of-line_text (StateLine entry) fits)
     ∙ last_word entry fits
 
--- reading it finds it
-pub read_is : (bytes : List ℕ) (entry : Entry) (r : Option Line) → IsEntryInRange entry
-    → MatchOption r ((line : Line) → IsLineInRange line → bytes ≢ line_text line) (λ line. IsLineInRange line × (bytes ≡ line_text line))
-    → bytes ≡ line_text (StateLine entry) → r ≡ Some (StateLine entry)
-read_is bytes entry None fits h is = absurd (h (StateLine entry) fits is)
-read_is bytes entry (Some line) fits h is = ap Some (same_line line (StateLine entry) h.0 fits (sym h.1 ∙ is))
+-- which stands behind eleven bytes
+pub last_behind : (entry : Entry) → IsEntryInRange entry → drop 11 (line_text (StateLine entry)) ≡ decimal entry.potential
+unfolding line_words encode_with
+last_behind entry fits =
+    ap (λ (boundary : List ℕ). drop 11 (spaced (codes "state" ∷ boundary ∷ encode_lower (entry.used ∷ []) ∷ decimal entry.potential ∷ [])))
+    (decimal_digit entry.boundary (omega (arith, fits.boundary)))
+
+pub has_last : (entry : Entry) → IsEntryInRange entry → 11 ≤ length (line_text (StateLine entry))
+has_last entry fits = omega (
+  arith,
+  length-drop 11 (line_text (StateLine entry)),
+  ap (λ (l : List ℕ). length l) (last_behind entry fits),
+  decimal_nonempty entry.potential fits.potential,
+)
+
+-- so reading it finds the potential
+pub potential_read : (entry : Entry) (word : List ℕ) (r : Option ℕ) → IsEntryInRange entry
+    → MatchOption r ((n : ℕ) → n ≤ 18446744073709551615 → word ≢ decimal n) (λ n. (n ≤ 18446744073709551615) × (word ≡ decimal n))
+    → word ≡ decimal entry.potential → unwrap_or r 0 ≡ entry.potential
+potential_read entry word None fits h is = absurd (h entry.potential (omega (arith, fits.potential)) is)
+potential_read entry word (Some n) fits h is = decimal_injective n entry.potential (omega (arith, h.0)) fits.potential (sym h.1 ∙ is)
 
 module _ (text : List ℕ) (at : ℕ) (entry : Entry) (number : ℕ) (fits : IsEntryInRange entry) (there : IsLineAt text at (line_text (StateLine entry)) number) where
   pub stated_there : IsStated text at
@@ -118,6 +133,15 @@ module _ (text : List ℕ) (at : ℕ) (entry : Entry) (number : ℕ) (fits : IsE
 
   pub potential_there : potential_at text at ≡ entry.potential
   potential_there = potential_is text at entry fits there.here
+
+-- what is left of a list has no more elements than that
+pub whole_rest : (n : ℕ) (l : List ℕ) → take (length l - n) (drop n l) ≡ drop n l
+whole_rest n l = ap (λ (many : ℕ). take many (drop n l)) (sym (length-drop n l)) ∙ take-length (drop n l)
+
+-- the first line of what is left of a text
+pub first_of_rest : (text : List ℕ) (at : ℕ) (line : List ℕ) (lines : List (List ℕ)) → lines_of (take (length text - at) (drop at text)) ≡ line ∷ lines → line ≡ line_at text at
+first_of_rest text at line lines is =
+    sym (ap (λ (l : List ℕ). get_or (lines_of l) 0 []) (sym (whole_rest at text)) ∙ ap (λ (l : List (List ℕ)). get_or l 0 []) is)
 
 -- ---- one line more
 

@@ -5,8 +5,7 @@ use Rattle.std.specs.Str.Parse.{digits_value}
 use Rattle.text_lines.specs.Lines.{lines_of}
 use Rattle.text_lines.specs.Words.{words_of}
 use Rattle.plan_certificate.specs.declared.certificate.Entry.{Entry}
-use Rattle.plan_certificate.specs.declared.line.Line.{Line}
-use Rattle.plan_certificate.specs.declared.line.Line.TheVariants.{Header, KeptHeader, Weight, KeepLine, PathLine, StateLine, End}
+use Rattle.plan_certificate.specs.declared.line.Line.TheVariants.{StateLine}
 use Rattle.plan_certificate.specs.CertificateText.{IsEntryInRange, line_text}
 use Rattle.plan_certificate.specs.Limits.{most_states}
 
@@ -21,16 +20,6 @@ line_at text at = slice_index_or (lines_of (drop at text)) 0 []
 -- the potential in the line of a state that begins there: its last word
 abbrev pub potential_at : List ℕ → ℕ → ℕ
 potential_at text at = digits_value 10 (slice_index_or (words_of (line_at text at)) 3 [])
-
-abbrev pub potential_in : Option Line → ℕ
-potential_in None = 0
-potential_in (Some (Header paired)) = 0
-potential_in (Some (KeptHeader paired)) = 0
-potential_in (Some (Weight weight)) = 0
-potential_in (Some (KeepLine path)) = 0
-potential_in (Some (PathLine path)) = 0
-potential_in (Some (StateLine entry)) = entry.potential
-potential_in (Some End) = 0
 
 -- the upper byte is 0 for no bound, 1 for one in the text, and else two more than that of the number
 abbrev pub bound_of : List ℕ → ℕ → ℕ → Option ℕ

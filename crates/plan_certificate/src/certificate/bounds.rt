@@ -1,17 +1,19 @@
 // What bounds the gain of each state that has an entry.
 ghost use Rattle.std.specs.Prelude.{◌≡◌, ◌<◌, ◌≤◌, [], None, Some, replicate, slice_index_or, slice_set};
-ghost use Rattle.plan_certificate.specs.Bounds.{IsStated, potential_at, potential_in};
+ghost use Rattle.plan_certificate.specs.Bounds.{IsStated, potential_at};
 
-use crate::line::{Line, read_line};
 use crate::state::STATES;
 use std::marker::Model;
-use text_lines::split_line;
+use text_lines::{read_decimal, split_line};
 
 /// The upper byte of a state that has none.
 const NONE: u8 = 0;
 
 /// The upper byte of one that stands in the text.
 const IN_TEXT: u8 = 1;
+
+/// Where the potential begins in the line of a state, as in `state 8 ff 40`.
+const POTENTIAL: usize = 11;
 
 /// From here on a potential stands in the text alone. From what decisions reach, less can be gained: eight paths weigh less.
 pub const LARGE_POTENTIAL: u64 = 1090921693184;
@@ -89,24 +91,15 @@ impl<'text> Bounds<'text> {
     }
 }
 
-// The potential in the line of a state that begins there. Not inlined, since hardly any certificate has such a one.
+// The potential in the line of a state that begins there. Not inlined, since hardly any certificate has such a one. It reads no
+// whole line, so that where each line is read, that is inlined.
 #[inline(never)]
 fn potential_at(text: &[u8], at: usize) -> u64
     requires { IsStated text.now at }
     ensures { result ≡ potential_at text.now at }
 {
     match split_line(&text[at..]) {
-        Some((line, _)) => potential_in(read_line(line)),
+        Some((line, _)) => read_decimal(&line[POTENTIAL..], u64::MAX).unwrap_or(0),
         None => 0,
-    }
-}
-
-// The potential that a state's line says.
-fn potential_in(line: Option<Line>) -> u64
-    ensures { result ≡ potential_in line }
-{
-    match line {
-        Some(Line::StateLine(entry)) => entry.potential,
-        _ => 0,
     }
 }
