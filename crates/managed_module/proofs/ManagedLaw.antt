@@ -18,8 +18,8 @@ use Rattle.port_manager.specs.declared.port.Outstanding.TheVariants as outstandi
 use Rattle.port_manager.specs.declared.port.Port.{Port}
 use Rattle.port_manager.specs.declared.port.Stage.{Stage}
 use Rattle.port_manager.specs.declared.port.Stage.TheVariants as stages
-use Rattle.port_manager.specs.declared.turn.Turn.{Turn}
-use Rattle.port_manager.specs.declared.turn.Turn.TheVariants as turns
+use Rattle.port_manager.specs.Turns.{Turn}
+use Rattle.port_manager.specs.Turns as turns
 use Rattle.port_manager.specs.Jobs.{IsReplyTo, asked}
 use Rattle.port_manager.specs.Patients.{Paged}
 use Rattle.port_manager.specs.Ports.{IsAwaitedBy, IsTakenBy, IsTurnedIn, answered, asked_in, awaited, noting, outcome_of, plugged, turned}

@@ -32,8 +32,8 @@ use Rattle.port_manager.specs.declared.port.Port.{Port}
 use Rattle.port_manager.specs.declared.port.Rest.TheVariants as rests
 use Rattle.port_manager.specs.declared.port.Stage.{Stage}
 use Rattle.port_manager.specs.declared.port.Stage.TheVariants as stages
-use Rattle.port_manager.specs.declared.turn.Turn.{Turn}
-use Rattle.port_manager.specs.declared.turn.Turn.TheVariants as turns
+use Rattle.port_manager.specs.Turns.{Turn}
+use Rattle.port_manager.specs.Turns as turns
 use Rattle.port_manager.specs.Flags.{no_flags}
 use Rattle.port_manager.specs.Jobs.{asked, reading}
 use Rattle.port_manager.specs.Ports.{IfWorking, IsRestartedIn, IsTakenBy, IsTurnedIn, absent, answered, begun_in, next_in, next_of, next_when, noting, reconsidered_by, turned, vain_after}

@@ -26,8 +26,8 @@ use Rattle.port_manager.specs.declared.port.Outstanding.TheVariants as outstandi
 use Rattle.port_manager.specs.declared.port.Port.{Port}
 use Rattle.port_manager.specs.declared.port.Stage.{Stage}
 use Rattle.port_manager.specs.declared.port.Stage.TheVariants as stages
-use Rattle.port_manager.specs.declared.turn.Turn.{Turn}
-use Rattle.port_manager.specs.declared.turn.Turn.TheVariants as turns
+use Rattle.port_manager.specs.Turns.{Turn}
+use Rattle.port_manager.specs.Turns as turns
 use Rattle.port_manager.specs.Decisions.{IsDecision, IsDecisionFor, IsDecisionIn, IsJudged, has_no_plan, if_permitted}
 use Rattle.port_manager.specs.Goals.{are_up, has_all, may_activate, may_provision}
 use Rattle.port_manager.specs.Idle.{IsCalm, IsCalmOutcome, IsUp, LeavesWhatIsUp}

@@ -27,8 +27,8 @@ use Rattle.port_manager.specs.declared.request.Request.{Request}
 use Rattle.port_manager.specs.declared.request.Request.TheVariants as requests
 use Rattle.port_manager.specs.declared.turn.Note.{Note}
 use Rattle.port_manager.specs.declared.turn.Note.TheVariants as notes
-use Rattle.port_manager.specs.declared.turn.Turn.{Turn}
-use Rattle.port_manager.specs.declared.turn.Turn.TheVariants as turns
+use Rattle.port_manager.specs.Turns.{Turn}
+use Rattle.port_manager.specs.Turns as turns
 use Rattle.port_manager.specs.Requested.{IsRequestDone}
 use Rattle.port_manager.specs.Decisions.{IsDecision, IsDecisionFor, if_permitted, page_of_lanes, sleep_in, sleep_within}
 use Rattle.port_manager.specs.Goals.{conventions_of, may_activate}

@@ -22,8 +22,8 @@ use Rattle.port_manager.specs.declared.port.Rest.TheVariants as rests
 use Rattle.port_manager.specs.declared.port.Stage.{Stage}
 use Rattle.port_manager.specs.declared.port.Stage.TheVariants as stages
 use Rattle.port_manager.specs.declared.times.Times.{Times}
-use Rattle.port_manager.specs.declared.turn.Turn.{Turn}
-use Rattle.port_manager.specs.declared.turn.Turn.TheVariants as turns
+use Rattle.port_manager.specs.Turns.{Turn}
+use Rattle.port_manager.specs.Turns as turns
 use Rattle.port_manager.specs.Flags.{acknowledged, no_flags, noted, unread}
 use Rattle.port_manager.specs.Jobs.{IsReplyTo, asked, reading}
 use Rattle.port_manager.specs.declared.request.Request.{Request}

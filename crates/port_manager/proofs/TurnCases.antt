@@ -32,8 +32,8 @@ use Rattle.port_manager.specs.declared.turn.Note.TheVariants as note
 use Rattle.port_manager.specs.declared.turn.PortFault.{PortFault}
 use Rattle.port_manager.specs.declared.turn.PortFault.TheVariants as fault
 use Rattle.port_manager.specs.declared.turn.ProcedureFault.{ProcedureFault}
-use Rattle.port_manager.specs.declared.turn.Turn.{Turn}
-use Rattle.port_manager.specs.declared.turn.Turn.TheVariants.{On, Failed, Left}
+use Rattle.port_manager.specs.Turns.{Turn}
+use Rattle.port_manager.specs.Turns.{On, Failed, Left}
 use Rattle.port_manager.specs.Decisions.{IsDecision}
 use Rattle.port_manager.specs.Jobs.{activating, asked, paged_halves, paged_look, look_after, look_wants, procedure_after, procedure_wants, reading, reading_after, reading_wants, paged_tasks, waking_after, waking_wants, watching}
 use Rattle.port_manager.specs.Looks as looks

@@ -37,8 +37,8 @@ use Rattle.port_manager.specs.declared.job.Job.TheVariants.{Reading, Waking, Sle
 use Rattle.port_manager.specs.declared.look.Look.{Look}
 use Rattle.port_manager.specs.declared.port.Outcome.TheVariants as outcome
 use Rattle.port_manager.specs.declared.turn.Note.TheVariants as note
-use Rattle.port_manager.specs.declared.turn.Turn.{Turn}
-use Rattle.port_manager.specs.declared.turn.Turn.TheVariants.{On, Paused, Failed, Left}
+use Rattle.port_manager.specs.Turns.{Turn}
+use Rattle.port_manager.specs.Turns.{On, Paused, Failed, Left}
 use Rattle.port_manager.specs.Decisions.{IsDecision, IsDecisionFor, IsDecisionIn, IsJudged, has_no_plan, if_permitted, page_of_lanes, sleep_in, sleep_within}
 use Rattle.port_manager.specs.Goals.{IsGoalOf, are_up, conventions_of, has_all, may_activate, may_provision}
 use Rattle.port_manager.specs.Jobs.{asked, paged_look, look_after, procedure_after, reading, reading_after, reading_wants, paged_tasks, waking_after}

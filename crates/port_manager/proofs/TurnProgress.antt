@@ -21,8 +21,8 @@ use Rattle.port_manager.specs.declared.port.Outstanding.TheVariants as outstandi
 use Rattle.port_manager.specs.declared.port.Port.{Port}
 use Rattle.port_manager.specs.declared.port.Stage.{Stage}
 use Rattle.port_manager.specs.declared.port.Stage.TheVariants as stages
-use Rattle.port_manager.specs.declared.turn.Turn.{Turn}
-use Rattle.port_manager.specs.declared.turn.Turn.TheVariants as turns
+use Rattle.port_manager.specs.Turns.{Turn}
+use Rattle.port_manager.specs.Turns as turns
 use Rattle.port_manager.specs.Jobs.{IsReplyTo, activating, asked, paged_halves, paged_tasks, procedure_after, provisioning, reading}
 use Rattle.port_manager.specs.Ports.{IsAwaitedBy, IsRestartedIn, IsTakenBy, IsTurnedIn, answered, asked_in, awaited, noting, outcome_of, plugged, turned}
 use Rattle.port_manager.specs.Progress.{IsGoing, IsGoingOn, IsUpStage, made_in, paused_in, pauses_by}

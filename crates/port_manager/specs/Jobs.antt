@@ -27,6 +27,8 @@ use Rattle.module_reading.specs.declared.halves.Halves.{Halves}
 use Rattle.module_reading.specs.ImageReading as reader
 use Rattle.module_reading.specs.Regions.{everything}
 use Rattle.port_manager.specs.declared.deciding.Goal.{Goal}
+use Rattle.port_manager.specs.declared.job.Beginning.{Beginning}
+use Rattle.port_manager.specs.declared.job.Beginning.TheVariants as beginning
 use Rattle.port_manager.specs.declared.job.Job.{Job}
 use Rattle.port_manager.specs.declared.job.Job.TheVariants.{Reading, Waking, Sleeping, Provisioning, Activating, Watching}
 use Rattle.port_manager.specs.declared.look.Look.{Look}
@@ -101,6 +103,14 @@ activating goal patience = Activating (procedure_for (activation_of goal) patien
 
 abbrev pub watching : Goal → Patience → Job
 watching goal patience = Watching (begun_with (doubting (looks.begun goal)) patience)
+
+abbrev pub begun_by : Beginning → Job
+begun_by (beginning.Reading woken) = reading woken
+begun_by (beginning.Waking patience) = waking patience
+begun_by (beginning.Sleeping patience) = sleeping patience
+begun_by (beginning.Provisioning goal patience) = provisioning goal patience
+begun_by (beginning.Activating goal patience) = activating goal patience
+begun_by (beginning.Watching goal patience) = watching goal patience
 
 -- ---- what each wants, and what a reply makes of it
 

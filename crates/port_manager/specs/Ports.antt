@@ -23,8 +23,8 @@ use Rattle.port_manager.specs.declared.turn.PortFault.TheVariants as faults
 use Rattle.port_manager.specs.declared.flags.Flags.{Flags}
 use Rattle.port_manager.specs.Flags.{acknowledged, noted, unread}
 use Rattle.port_manager.specs.Turns.{IsTurn}
-use Rattle.port_manager.specs.declared.turn.Turn.{Turn}
-use Rattle.port_manager.specs.declared.turn.Turn.TheVariants as turn
+use Rattle.port_manager.specs.Turns.{Turn}
+use Rattle.port_manager.specs.Turns as turn
 use Rattle.port_manager.specs.declared.job.Job.{Job}
 use Rattle.port_manager.specs.declared.request.Request.{Request}
 use Rattle.port_manager.specs.declared.request.Request.TheVariants.{Wake}

@@ -23,15 +23,36 @@ use Rattle.port_manager.specs.declared.job.Job.{Job}
 use Rattle.port_manager.specs.declared.job.Job.TheVariants.{Reading, Waking, Sleeping, Provisioning, Activating, Watching}
 use Rattle.port_manager.specs.declared.look.Look.{Look}
 use Rattle.module_reading.specs.declared.halves.Halves.{Halves}
+use Rattle.port_manager.specs.declared.deciding.LeftBecause.{LeftBecause}
+use Rattle.port_manager.specs.declared.turn.Course.{Course}
+use Rattle.port_manager.specs.declared.turn.Course.TheVariants as course
+use Rattle.port_manager.specs.declared.turn.Note.{Note}
 use Rattle.port_manager.specs.declared.turn.Note.TheVariants as note
+use Rattle.port_manager.specs.declared.turn.PortFault.{PortFault}
 use Rattle.port_manager.specs.declared.turn.PortFault.TheVariants as fault
 use Rattle.port_manager.specs.declared.turn.ProcedureFault.{ProcedureFault}
 use Rattle.port_manager.specs.declared.turn.ProcedureFault.TheVariants as why
-use Rattle.port_manager.specs.declared.turn.Turn.{Turn}
-use Rattle.port_manager.specs.declared.turn.Turn.TheVariants.{On, Paused, Failed, Left}
 use Rattle.port_manager.specs.Decisions.{IsDecision}
-use Rattle.port_manager.specs.Jobs.{activating, paged_halves, paged_look, look_after, look_wants, procedure_after, procedure_wants, provisioning, sleeping, reading, reading_after, reading_wants, paged_tasks, waking, waking_after, waking_wants, watching}
+use Rattle.port_manager.specs.Jobs.{activating, begun_by, paged_halves, paged_look, look_after, look_wants, procedure_after, procedure_wants, provisioning, sleeping, reading, reading_after, reading_wants, paged_tasks, waking, waking_after, waking_wants, watching}
 use Rattle.port_manager.specs.Patients.{Patient, after_on, pause_after, wants_on}
+
+pub data Turn : Type 0 where
+  -- this job goes on, or is the next one
+  On : Job → Note → Turn
+  -- the operation was in vain: this job goes on after so many milliseconds
+  Paused : Job → ℕ → Turn
+  -- what was begun has failed
+  Failed : PortFault → Turn
+  -- the module is left alone
+  Left : LeftBecause → Turn
+
+-- what such a course is of a job that has taken the reply
+abbrev pub turn_by : Job → Course → Turn
+turn_by job course.On = On job note.Quiet
+turn_by job (course.Paused time) = Paused job time
+turn_by job (course.Next beginning what) = On (begun_by beginning) what
+turn_by job (course.Failed why) = Failed why
+turn_by job (course.Left reason) = Left reason
 
 -- ---- a job goes on
 

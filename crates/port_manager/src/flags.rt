@@ -83,7 +83,8 @@ impl FlagKeeper {
         }
     }
 
-    /// Those that were last read as raised at this moment or before it are known.
+    /// Those that were last read as raised at this moment or before it are known. Not inlined: flags take some of a stack.
+    #[inline(never)]
     pub fn acknowledge(&mut self, moment: u64)
         ensures { self.new ≡ spec.acknowledged self.old moment }
     {

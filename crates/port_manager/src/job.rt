@@ -38,6 +38,34 @@ pub enum Job {
     Watching(WatchingJob),
 }
 
+/// How a job begins.
+#[derive(Clone, Copy)]
+pub enum Beginning {
+    /// The memory is read from the beginning; whether the module was woken up before.
+    Reading(bool),
+    Waking(Patience),
+    Sleeping(Patience),
+    Provisioning(Goal, Patience),
+    Activating(Goal, Patience),
+    Watching(Goal, Patience),
+}
+
+impl Beginning {
+    /// The job that begins so.
+    pub fn job(self) -> Job
+        ensures { result ≡ spec.begun_by self }
+    {
+        match self {
+            Beginning::Reading(woken) => Job::reading(woken),
+            Beginning::Waking(patience) => Job::waking(patience),
+            Beginning::Sleeping(patience) => Job::sleeping(patience),
+            Beginning::Provisioning(goal, patience) => Job::provisioning(goal, patience),
+            Beginning::Activating(goal, patience) => Job::activating(goal, patience),
+            Beginning::Watching(goal, patience) => Job::watching(goal, patience),
+        }
+    }
+}
+
 impl Job {
     /// The memory is read from the beginning. Nothing is known of how long the module's states last.
     pub fn reading(woken: bool) -> Job

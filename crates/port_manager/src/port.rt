@@ -1,20 +1,23 @@
 // A port over time: whether a module is there, what works at it, what is outstanding, and until when nothing is made.
 ghost use Rattle.std.specs.Prelude.{◌≡◌, false};
 ghost use Rattle.bus_model.specs.Operations.{IsWellShaped};
-ghost use Rattle.port_manager.specs.Jobs.{IsReplyTo, asked};
+ghost use Rattle.port_manager.specs.Jobs.{IsReplyTo, asked, begun_by};
+ghost use Rattle.port_manager.specs.Turns.{turn_by};
+ghost use Rattle.port_manager.specs.declared.job.Job.{Job};
 ghost use Rattle.port_manager.specs.Flags.{no_flags};
 ghost use Rattle.port_manager.specs.Ports as spec;
 ghost use Rattle.conversations.specs.Wanted.{IfDo};
 ghost use Rattle.port_manager.specs.Ports.{IsAwaited, IsTaken};
 ghost use Rattle.port_manager.specs.declared.port.Outstanding.TheVariants as outstanding;
+ghost use Rattle.port_manager.specs.declared.port.Stage.TheVariants as stages;
 
 use crate::deciding::{LeftBecause, Wanted};
 use crate::flags::{FlagKeeper, Flags};
-use crate::job::Job;
+use crate::job::{Beginning, Job};
 use crate::request::Request;
 use crate::silence::{Presence, Silence};
 use crate::times::{Times, doubled, later, left};
-use crate::turn::{Note, PortFault, Turn};
+use crate::turn::{Course, Note, PortFault};
 use bus_model::Reply;
 use conversations::Next;
 use paged_memory::KnownPage;
@@ -99,6 +102,7 @@ impl Port {
     }
 
     /// The module was pulled: nothing of it is left but the flags that were read.
+    #[inline(never)]
     pub fn pull(&mut self)
         ensures value { self.new ≡ spec.pulled self.old }
     {
@@ -115,7 +119,7 @@ impl Port {
         ensures value { self.new ≡ spec.plugged now self.old }
     {
         self.pull();
-        self.stage = Stage::Working(Job::reading(false));
+        self.begin(Beginning::Reading(false));
         self.due = later(now, self.times.settle);
     }
 
@@ -182,7 +186,7 @@ impl Port {
     {
         match self.stage {
             Stage::Absent => {}
-            Stage::Left(_) | Stage::Working(_) => self.stage = Stage::Working(Job::reading(false)),
+            Stage::Left(_) | Stage::Working(_) => self.begin(Beginning::Reading(false)),
         }
     }
 
@@ -230,63 +234,62 @@ impl Port {
         ensures exact { IsTaken self.old reply.now wanted.now now result self.new }
     {
         let due = mem::replace(&mut self.outstanding, Outstanding::Nothing);
-        match (due, mem::replace(&mut self.stage, Stage::Absent)) {
+        match (due, &mut self.stage) {
             (Outstanding::Awaited, Stage::Working(job)) => {
-                self.note(&job, reply, now);
-                self.turned(job.turn(reply, &self.request.granted(wanted)), now)
+                note(&mut self.keeper, job, reply, now);
+                let course = job.turn(reply, &self.request.granted(wanted));
+                self.turned(course, now)
             }
             (Outstanding::Stale, Stage::Working(job)) => {
-                self.note(&job, reply, now);
-                self.stage = Stage::Working(Job::reading(self.vain));
+                note(&mut self.keeper, job, reply, now);
+                self.begin(Beginning::Reading(self.vain));
                 Outcome::Dropped
             }
-            (_, stage) => {
-                self.stage = stage;
-                Outcome::Dropped
-            }
+            (_, _) => Outcome::Dropped,
         }
     }
 
-    // What the reply shows of flags.
-    fn note(&mut self, job: &Job, reply: &Reply, now: u64)
-        requires { IsReplyTo (asked job.now) reply.now }
-        ensures { self.new ≡ spec.noting self.old (asked job.now) reply.now now }
+    fn turned(&mut self, course: Course, now: u64) -> Outcome
+        ensures after { (job : Job) → self.old.stage ≡ stages.Working job → self.new ≡ spec.turned self.old (turn_by job course) now }
+        ensures result { (job : Job) → result ≡ spec.outcome_of self.old (turn_by job course) now }
     {
-        if let Some(op) = job.op() {
-            self.keeper.take(&op, reply, now);
-        }
-    }
-
-    fn turned(&mut self, turn: Turn, now: u64) -> Outcome
-        ensures after { self.new ≡ spec.turned self.old turn now }
-        ensures result { result ≡ spec.outcome_of self.old turn now }
-    {
-        match turn {
-            Turn::On(job, note) => {
-                self.stage = Stage::Working(job);
-                self.wait_for(note, now);
-                Outcome::Went(note)
+        match course {
+            Course::On => {
+                self.wait_for(Note::Quiet, now);
+                Outcome::Went(Note::Quiet)
             }
-            Turn::Paused(job, time) => {
+            Course::Paused(time) => {
                 let again = self.due.max(later(now, time));
-                self.stage = Stage::Working(job);
                 self.due = again;
                 Outcome::Paused(again)
             }
-            Turn::Failed(fault) => {
+            Course::Next(beginning, note) => {
+                self.begin(beginning);
+                self.wait_for(note, now);
+                Outcome::Went(note)
+            }
+            Course::Failed(fault) => {
                 let again = self.due.max(later(now, self.back_off));
                 self.vain = self.vain || is_vain(fault);
-                self.stage = Stage::Working(Job::reading(self.vain));
+                self.begin(Beginning::Reading(self.vain));
                 self.due = again;
                 self.back_off = doubled(self.back_off, self.times.most);
                 Outcome::Failed(fault, again)
             }
-            Turn::Left(reason) => {
+            Course::Left(reason) => {
                 self.stage = Stage::Left(reason);
                 self.request = self.request.ended();
                 Outcome::Left(reason)
             }
         }
+    }
+
+    // Not inlined: a job that is made takes much of a stack.
+    #[inline(never)]
+    fn begin(&mut self, beginning: Beginning)
+        ensures { self.new ≡ record self.old { stage = stages.Working (begun_by beginning) } }
+    {
+        self.stage = Stage::Working(beginning.job());
     }
 
     // A look is followed by a pause; a module that came up is as it was asked.
@@ -300,6 +303,17 @@ impl Port {
             self.request = self.request.ended();
         }
         self.due = self.due.max(later(now, wait_of(self.times, note)));
+    }
+}
+
+// What the reply shows of flags. Not inlined: flags take some of a stack.
+#[inline(never)]
+fn note(keeper: &mut FlagKeeper, job: &Job, reply: &Reply, now: u64)
+    requires { IsReplyTo (asked job.now) reply.now }
+    ensures { keeper.new ≡ spec.noted_of keeper.old (asked job.now) reply.now now }
+{
+    if let Some(op) = job.op() {
+        keeper.take(&op, reply, now);
     }
 }
 

@@ -2,12 +2,13 @@
 ghost use Rattle.std.specs.Prelude.{◌≡◌, Option};
 ghost use Rattle.conversations.specs.Wanted as conversations;
 ghost use Rattle.port_manager.specs.Jobs.{IsReplyTo, asked, look_wants, procedure_wants, reading_wants, waking_wants};
-ghost use Rattle.port_manager.specs.Turns.{IsRead, IsTurn, activated, decided, going, provisioned, seen, slept, woken_up};
+ghost use Rattle.port_manager.specs.Turns.{IsRead, IsTurn, activated, decided, going, provisioned, seen, slept, turn_by, woken_up};
 ghost use Rattle.port_manager.specs.Turns as spec;
+ghost use Rattle.port_manager.specs.declared.job.Job.{Job};
 ghost use Rattle.port_manager.specs.declared.job.Job.TheVariants as jobs;
 
 use crate::deciding::{Decision, Goal, LeftBecause, Wanted, decide};
-use crate::job::{Job, ReadingJob, WatchingJob};
+use crate::job::{Beginning, Job, ReadingJob, WatchingJob};
 use crate::patient::advance;
 use bus_model::Reply;
 use control_sets::{PatientPower, PatientProcedure, ProvisionFault, patience_for};
@@ -61,13 +62,15 @@ pub enum PortFault {
     Changed,
 }
 
-/// What a reply leads to.
-#[derive(Drop)]
-pub enum Turn {
-    /// This job goes on, or is the next one.
-    On(Job, Note),
-    /// The operation was in vain: this job goes on after so many milliseconds.
-    Paused(Job, u32),
+/// What a reply leads to, beside what it makes of the job.
+#[derive(Clone, Copy)]
+pub enum Course {
+    /// The job goes on.
+    On,
+    /// The operation was in vain: the job goes on after so many milliseconds.
+    Paused(u32),
+    /// Another job begins in its place.
+    Next(Beginning, Note),
     /// What was begun has failed.
     Failed(PortFault),
     /// The module is left alone.
@@ -75,39 +78,39 @@ pub enum Turn {
 }
 
 impl Job {
-    /// What the reply to the operation that was to be made leads to.
-    pub fn turn(self, reply: &Reply, wanted: &Wanted) -> Turn
-        requires { IsReplyTo (asked self) reply.now }
-        ensures { IsTurn wanted.now self reply.now result }
+    /// Takes the reply to the operation that was to be made. It is worked at in its place, since a reading takes much of a stack.
+    pub fn turn(&mut self, reply: &Reply, wanted: &Wanted) -> Course
+        requires { IsReplyTo (asked self.old) reply.now }
+        ensures { IsTurn wanted.now self.old reply.now (turn_by self.new result) }
     {
         match self {
-            Job::Reading(reading, woken) => reading_turn(reading, woken, reply, wanted),
+            Job::Reading(reading, woken) => reading_turn(reading, *woken, reply, wanted),
             Job::Waking(change) => waking_turn(change, reply),
             Job::Sleeping(change) => sleeping_turn(change, reply),
-            Job::Provisioning(procedure, goal) => provisioning_turn(procedure, goal, reply),
-            Job::Activating(procedure, goal) => activating_turn(procedure, goal, reply),
+            Job::Provisioning(procedure, goal) => provisioning_turn(procedure, *goal, reply),
+            Job::Activating(procedure, goal) => activating_turn(procedure, *goal, reply),
             Job::Watching(look) => watching_turn(look, reply),
         }
     }
 }
 
-fn going(job: Job, pause: Option<u32>) -> Turn
-    ensures { result ≡ going pause job }
+fn going(pause: Option<u32>) -> Course
+    ensures { (job : Job) → turn_by job result ≡ going pause job }
 {
     match pause {
-        Some(time) => Turn::Paused(job, time),
-        None => Turn::On(job, Note::Quiet),
+        Some(time) => Course::Paused(time),
+        None => Course::On,
     }
 }
 
-fn reading_turn(mut reading: ReadingJob, woken: bool, reply: &Reply, wanted: &Wanted) -> Turn
-    requires { conversations.IsReplyTo (reading_wants reading) reply.now }
-    ensures { IsTurn wanted.now (jobs.Reading reading woken) reply.now result }
+fn reading_turn(reading: &mut ReadingJob, woken: bool, reply: &Reply, wanted: &Wanted) -> Course
+    requires { conversations.IsReplyTo (reading_wants reading.old) reply.now }
+    ensures { IsTurn wanted.now (jobs.Reading reading.old woken) reply.now (turn_by (jobs.Reading reading.new woken) result) }
 {
-    let pause = advance(&mut reading, reply);
+    let pause = advance(reading, reply);
     match reading.next() {
-        Next::Do(_op) => going(Job::Reading(reading, woken), pause),
-        Next::Wait(_time) => going(Job::Reading(reading, woken), pause),
+        Next::Do(_op) => going(pause),
+        Next::Wait(_time) => going(pause),
         Next::End(spent) => {
             let image = &reading.conversation.conversation.conversation.image;
             read(image, woken, wanted, spent.end)
@@ -115,28 +118,32 @@ fn reading_turn(mut reading: ReadingJob, woken: bool, reply: &Reply, wanted: &Wa
     }
 }
 
-fn read(image: &Image, woken: bool, wanted: &Wanted, end: Option<Timed<()>>) -> Turn
-    ensures { IsRead wanted.now woken image.now end result }
+fn read(image: &Image, woken: bool, wanted: &Wanted, end: Option<Timed<()>>) -> Course
+    ensures { (job : Job) → IsRead wanted.now woken image.now end (turn_by job result) }
 {
     match end {
         Some(Timed::InTime(())) => decided(decide(image, wanted), woken, patience_for(image)),
-        Some(Timed::Overdue) => Turn::Failed(PortFault::Unread),
-        None => Turn::Failed(PortFault::Unread),
+        Some(Timed::Overdue) => Course::Failed(PortFault::Unread),
+        None => Course::Failed(PortFault::Unread),
     }
 }
 
 // What a decision leads to. A module that was woken up before is not woken up again.
-fn decided(decision: Decision, woken: bool, patience: Patience) -> Turn
-    ensures { result ≡ decided woken patience decision }
+fn decided(decision: Decision, woken: bool, patience: Patience) -> Course
+    ensures { (job : Job) → turn_by job result ≡ decided woken patience decision }
 {
     match decision {
-        Decision::Leave(reason) => Turn::Left(reason),
-        Decision::Wake if woken => Turn::Failed(PortFault::Asleep),
-        Decision::Wake => Turn::On(Job::waking(patience), Note::Identified),
-        Decision::Sleep => Turn::On(Job::sleeping(patience), Note::Identified),
-        Decision::Hold(goal) => Turn::On(Job::watching(goal, patience), Note::CameUp),
-        Decision::Activate(goal) => Turn::On(Job::activating(goal, patience), Note::Identified),
-        Decision::Provision(goal) => Turn::On(Job::provisioning(goal, patience), Note::Identified),
+        Decision::Leave(reason) => Course::Left(reason),
+        Decision::Wake if woken => Course::Failed(PortFault::Asleep),
+        Decision::Wake => Course::Next(Beginning::Waking(patience), Note::Identified),
+        Decision::Sleep => Course::Next(Beginning::Sleeping(patience), Note::Identified),
+        Decision::Hold(goal) => Course::Next(Beginning::Watching(goal, patience), Note::CameUp),
+        Decision::Activate(goal) => {
+            Course::Next(Beginning::Activating(goal, patience), Note::Identified)
+        }
+        Decision::Provision(goal) => {
+            Course::Next(Beginning::Provisioning(goal, patience), Note::Identified)
+        }
     }
 }
 
@@ -152,102 +159,102 @@ fn fault_in(end: Option<Timed<Option<ProvisionFault>>>) -> Option<ProcedureFault
     }
 }
 
-fn waking_turn(mut change: PatientPower, reply: &Reply) -> Turn
-    requires { conversations.IsReplyTo (waking_wants change) reply.now }
-    ensures { spec.IsWakingTurn change reply.now result }
+fn waking_turn(change: &mut PatientPower, reply: &Reply) -> Course
+    requires { conversations.IsReplyTo (waking_wants change.old) reply.now }
+    ensures { spec.IsWakingTurn change.old reply.now (turn_by (jobs.Waking change.new) result) }
 {
-    let pause = advance(&mut change, reply);
+    let pause = advance(change, reply);
     match change.next() {
-        Next::Do(_op) => going(Job::Waking(change), pause),
-        Next::Wait(_time) => going(Job::Waking(change), pause),
+        Next::Do(_op) => going(pause),
+        Next::Wait(_time) => going(pause),
         Next::End(spent) => woken_up(fault_in(spent.end)),
     }
 }
 
-fn woken_up(fault: Option<ProcedureFault>) -> Turn
-    ensures { result ≡ woken_up fault }
+fn woken_up(fault: Option<ProcedureFault>) -> Course
+    ensures { (job : Job) → turn_by job result ≡ woken_up fault }
 {
     match fault {
-        None => Turn::On(Job::reading(true), Note::Woken),
-        Some(fault) => Turn::Failed(PortFault::Waking(fault)),
+        None => Course::Next(Beginning::Reading(true), Note::Woken),
+        Some(fault) => Course::Failed(PortFault::Waking(fault)),
     }
 }
 
-fn sleeping_turn(mut change: PatientPower, reply: &Reply) -> Turn
-    requires { conversations.IsReplyTo (waking_wants change) reply.now }
-    ensures { spec.IsSleepingTurn change reply.now result }
+fn sleeping_turn(change: &mut PatientPower, reply: &Reply) -> Course
+    requires { conversations.IsReplyTo (waking_wants change.old) reply.now }
+    ensures { spec.IsSleepingTurn change.old reply.now (turn_by (jobs.Sleeping change.new) result) }
 {
-    let pause = advance(&mut change, reply);
+    let pause = advance(change, reply);
     match change.next() {
-        Next::Do(_op) => going(Job::Sleeping(change), pause),
-        Next::Wait(_time) => going(Job::Sleeping(change), pause),
+        Next::Do(_op) => going(pause),
+        Next::Wait(_time) => going(pause),
         Next::End(spent) => slept(fault_in(spent.end)),
     }
 }
 
-fn slept(fault: Option<ProcedureFault>) -> Turn
-    ensures { result ≡ slept fault }
+fn slept(fault: Option<ProcedureFault>) -> Course
+    ensures { (job : Job) → turn_by job result ≡ slept fault }
 {
     match fault {
-        None => Turn::Left(LeftBecause::Asleep),
-        Some(fault) => Turn::Failed(PortFault::Sleeping(fault)),
+        None => Course::Left(LeftBecause::Asleep),
+        Some(fault) => Course::Failed(PortFault::Sleeping(fault)),
     }
 }
 
-fn provisioning_turn(mut procedure: PatientProcedure, goal: Goal, reply: &Reply) -> Turn
-    requires { conversations.IsReplyTo (procedure_wants procedure) reply.now }
-    ensures { spec.IsProvisioningTurn procedure goal reply.now result }
+fn provisioning_turn(procedure: &mut PatientProcedure, goal: Goal, reply: &Reply) -> Course
+    requires { conversations.IsReplyTo (procedure_wants procedure.old) reply.now }
+    ensures { spec.IsProvisioningTurn procedure.old goal reply.now (turn_by (jobs.Provisioning procedure.new goal) result) }
 {
-    let pause = advance(&mut procedure, reply);
+    let pause = advance(procedure, reply);
     match procedure.next() {
-        Next::Do(_op) => going(Job::Provisioning(procedure, goal), pause),
-        Next::Wait(_time) => going(Job::Provisioning(procedure, goal), pause),
+        Next::Do(_op) => going(pause),
+        Next::Wait(_time) => going(pause),
         Next::End(spent) => {
             provisioned(goal, procedure.conversation.patience, fault_in(spent.end))
         }
     }
 }
 
-fn provisioned(goal: Goal, patience: Patience, fault: Option<ProcedureFault>) -> Turn
-    ensures { result ≡ provisioned goal patience fault }
+fn provisioned(goal: Goal, patience: Patience, fault: Option<ProcedureFault>) -> Course
+    ensures { (job : Job) → turn_by job result ≡ provisioned goal patience fault }
 {
     match fault {
-        None => Turn::On(Job::activating(goal, patience), Note::Provisioned),
-        Some(fault) => Turn::Failed(PortFault::Provisioning(fault)),
+        None => Course::Next(Beginning::Activating(goal, patience), Note::Provisioned),
+        Some(fault) => Course::Failed(PortFault::Provisioning(fault)),
     }
 }
 
-fn activating_turn(mut procedure: PatientProcedure, goal: Goal, reply: &Reply) -> Turn
-    requires { conversations.IsReplyTo (procedure_wants procedure) reply.now }
-    ensures { spec.IsActivatingTurn procedure goal reply.now result }
+fn activating_turn(procedure: &mut PatientProcedure, goal: Goal, reply: &Reply) -> Course
+    requires { conversations.IsReplyTo (procedure_wants procedure.old) reply.now }
+    ensures { spec.IsActivatingTurn procedure.old goal reply.now (turn_by (jobs.Activating procedure.new goal) result) }
 {
-    let pause = advance(&mut procedure, reply);
+    let pause = advance(procedure, reply);
     match procedure.next() {
-        Next::Do(_op) => going(Job::Activating(procedure, goal), pause),
-        Next::Wait(_time) => going(Job::Activating(procedure, goal), pause),
+        Next::Do(_op) => going(pause),
+        Next::Wait(_time) => going(pause),
         Next::End(spent) => {
             activated(goal, procedure.conversation.patience, fault_in(spent.end))
         }
     }
 }
 
-fn activated(goal: Goal, patience: Patience, fault: Option<ProcedureFault>) -> Turn
-    ensures { result ≡ activated goal patience fault }
+fn activated(goal: Goal, patience: Patience, fault: Option<ProcedureFault>) -> Course
+    ensures { (job : Job) → turn_by job result ≡ activated goal patience fault }
 {
     match fault {
-        None => Turn::On(Job::watching(goal, patience), Note::CameUp),
-        Some(fault) => Turn::Failed(PortFault::Activating(fault)),
+        None => Course::Next(Beginning::Watching(goal, patience), Note::CameUp),
+        Some(fault) => Course::Failed(PortFault::Activating(fault)),
     }
 }
 
-fn watching_turn(mut look: WatchingJob, reply: &Reply) -> Turn
-    requires { conversations.IsReplyTo (look_wants look) reply.now }
-    ensures { spec.IsWatchingTurn look reply.now result }
+fn watching_turn(look: &mut WatchingJob, reply: &Reply) -> Course
+    requires { conversations.IsReplyTo (look_wants look.old) reply.now }
+    ensures { spec.IsWatchingTurn look.old reply.now (turn_by (jobs.Watching look.new) result) }
 {
-    let pause = advance(&mut look, reply);
+    let pause = advance(look, reply);
     match look.next() {
-        Next::Do(_op) => going(Job::Watching(look), pause),
-        Next::Wait(_time) => going(Job::Watching(look), pause),
+        Next::Do(_op) => going(pause),
+        Next::Wait(_time) => going(pause),
         Next::End(spent) => {
             let goal = look.conversation.conversation.conversation.goal;
             seen(goal, look.conversation.patience, spent.end)
@@ -255,13 +262,13 @@ fn watching_turn(mut look: WatchingJob, reply: &Reply) -> Turn
     }
 }
 
-fn seen(goal: Goal, patience: Patience, end: Option<Timed<bool>>) -> Turn
-    ensures { result ≡ seen goal patience end }
+fn seen(goal: Goal, patience: Patience, end: Option<Timed<bool>>) -> Course
+    ensures { (job : Job) → turn_by job result ≡ seen goal patience end }
 {
     match end {
-        Some(Timed::InTime(true)) => Turn::On(Job::watching(goal, patience), Note::Held),
-        Some(Timed::InTime(false)) => Turn::Failed(PortFault::Changed),
-        Some(Timed::Overdue) => Turn::Failed(PortFault::Unseen),
-        None => Turn::Failed(PortFault::Unseen),
+        Some(Timed::InTime(true)) => Course::Next(Beginning::Watching(goal, patience), Note::Held),
+        Some(Timed::InTime(false)) => Course::Failed(PortFault::Changed),
+        Some(Timed::Overdue) => Course::Failed(PortFault::Unseen),
+        None => Course::Failed(PortFault::Unseen),
     }
 }

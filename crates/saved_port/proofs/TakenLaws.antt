@@ -13,8 +13,8 @@ use Rattle.port_manager.specs.declared.port.Outstanding.TheVariants as outstandi
 use Rattle.port_manager.specs.declared.port.Port.{Port}
 use Rattle.port_manager.specs.declared.port.Stage.{Stage}
 use Rattle.port_manager.specs.declared.port.Stage.TheVariants.{Absent, Left, Working}
-use Rattle.port_manager.specs.declared.turn.Turn.{Turn}
-use Rattle.port_manager.specs.declared.turn.Turn.TheVariants as turns
+use Rattle.port_manager.specs.Turns.{Turn}
+use Rattle.port_manager.specs.Turns as turns
 use Rattle.port_manager.specs.Jobs.{IsReplyTo, activation_of, asked, provisioning_of, reading}
 use Rattle.port_manager.specs.Ports.{IfWorking, IsAwaitedBy, IsRestartedIn, IsTakenBy, IsTurnedIn, answered, asked_in, noting, turned, vain_after}
 use Rattle.port_manager.specs.Requests.{granted}
