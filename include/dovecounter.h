@@ -43,7 +43,8 @@ extern "C" {
    and dovecounter_weights the number of the faulty line.
 
      status_text, fault_text, verdict_text   3 4
-     version                                 4
+     code_name                               3 4
+     version, media_name                     4
      advertisement, durations, patience      1 2 14 (lower half) 11 12 16 13 14 (page) 15
      identity                                1 2 76 (lower half) 71 74 76 (page) 83
      flags                                   1 2 76 (lower half) 71 74 76 (page) 84 86 83
@@ -134,7 +135,7 @@ enum dovecounter_status {
    Each function writes ASCII without a line end and without a NUL, and its length to *text_length. It leaves the
    rest of the buffer alone. */
 
-/* The longest text of the four functions below. */
+/* The longest text of the functions below. */
 #define DOVECOUNTER_TEXT_SIZE 256
 
 /* What a status means, and what to do. If the status names a fault, this is the fault's sentence in docs/faults.md. */
@@ -148,6 +149,44 @@ uint32_t dovecounter_verdict_text(uint32_t reason, uint8_t *buffer, size_t buffe
 
 /* The version, such as 0.1.0. */
 uint32_t dovecounter_version(uint8_t *buffer, size_t buffer_size, size_t *text_length);
+
+/* Tables of names, by what they name. */
+enum dovecounter_table {
+    DOVECOUNTER_TABLE_IDENTIFIERS = 1,          /* SFF-8024, Table 4-1 */
+    DOVECOUNTER_TABLE_CONNECTORS = 2,           /* SFF-8024, Table 4-3 */
+    DOVECOUNTER_TABLE_SFF_8472_ENCODINGS = 3,   /* SFF-8024, Table 4-2 */
+    DOVECOUNTER_TABLE_SFF_8636_ENCODINGS = 4,   /* the same for SFF-8636 */
+    DOVECOUNTER_TABLE_EXTENDED_COMPLIANCE = 5,  /* SFF-8024, Table 4-4 */
+    DOVECOUNTER_TABLE_HOST_INTERFACES = 6,      /* SFF-8024, Table 4-5 */
+    DOVECOUNTER_TABLE_MULTI_MODE_MEDIA = 7,     /* SFF-8024, Table 4-6; for these five see media_name */
+    DOVECOUNTER_TABLE_SINGLE_MODE_MEDIA = 8,    /* SFF-8024, Table 4-7 */
+    DOVECOUNTER_TABLE_PASSIVE_COPPER = 9,       /* SFF-8024, Table 4-8 */
+    DOVECOUNTER_TABLE_ACTIVE_CABLES = 10,       /* SFF-8024, Table 4-9 */
+    DOVECOUNTER_TABLE_BASE_T_MEDIA = 11,        /* SFF-8024, Table 4-10 */
+    DOVECOUNTER_TABLE_MEDIA_TYPES = 12,         /* CMIS */
+    DOVECOUNTER_TABLE_MEDIA_TECHNOLOGIES = 13,
+    DOVECOUNTER_TABLE_MODULE_FAULTS = 14,
+    DOVECOUNTER_TABLE_DURATIONS = 15,
+    DOVECOUNTER_TABLE_SQUELCH_METHODS = 16,
+    DOVECOUNTER_TABLE_OUTPUT_EQUALIZERS = 17,
+    DOVECOUNTER_TABLE_SFF_8636_REVISIONS = 18,
+    DOVECOUNTER_TABLE_SFF_8636_RATE_SELECTS = 19,
+    DOVECOUNTER_TABLE_SFF_8636_COMPLIANCE = 20, /* a code is a bit from bit 0 of byte 131 on */
+    DOVECOUNTER_TABLE_INFINIBAND_SPEEDS = 21,   /* a code is a bit of byte 164 */
+    DOVECOUNTER_TABLE_SFF_8472_EXTENDED_IDENTIFIERS = 22,
+    DOVECOUNTER_TABLE_SFF_8472_REVISIONS = 23,
+    DOVECOUNTER_TABLE_SFF_8472_RATE_SELECTS = 24,
+    DOVECOUNTER_TABLE_SFF_8472_COMPLIANCE = 25, /* a code is a bit from bit 0 of byte 3 on; byte 62 comes after byte 10 */
+    DOVECOUNTER_TABLE_SFP_PASSIVE_CABLES = 26,
+    DOVECOUNTER_TABLE_SFP_ACTIVE_CABLES = 27
+};
+
+/* What a table says of a code, as cmisctl prints it: its name, or `reserved`, `vendor specific` or `not listed`. */
+uint32_t dovecounter_code_name(uint32_t table, uint8_t code, uint8_t *buffer, size_t buffer_size, size_t *text_length);
+
+/* The same of a MediaInterfaceID, by the media type of its module. */
+uint32_t dovecounter_media_name(uint8_t media_type, uint8_t code, uint8_t *buffer, size_t buffer_size,
+                                size_t *text_length);
 
 /* ---- What a module is ----
 

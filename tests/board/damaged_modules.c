@@ -265,6 +265,8 @@ static void read_texts(void) {
     add_status(dovecounter_status_text(status, words, below(sizeof words), &length));
     add_status(dovecounter_fault_text(status % 10, words, below(sizeof words), &length));
     add_status(dovecounter_verdict_text(status % 12, words, below(sizeof words), &length));
+    add_status(dovecounter_code_name(status % 30, (uint8_t)status, words, below(64), &length));
+    add_status(dovecounter_media_name((uint8_t)(status % 7), (uint8_t)status, words, below(64), &length));
     add(words, sizeof words);
     uint32_t told[2] = {(uint32_t)line, (uint32_t)length};
     add(told, sizeof told);

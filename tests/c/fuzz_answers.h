@@ -84,7 +84,9 @@ static void call_text(void) {
     uint32_t number = which & 4 ? byte() : four_bytes();
     size_t size = which & 8 ? DOVECOUNTER_TEXT_SIZE : byte(), *length = painted(SMALL, sizeof *length);
     uint8_t *text = painted(OUT, size);
-    uint32_t status = which % 4 == 0   ? dovecounter_status_text(number, text, size, length)
+    uint32_t status = which & 16       ? dovecounter_code_name(number, (uint8_t)number, text, size, length)
+                      : which & 32     ? dovecounter_media_name(which >> 6, (uint8_t)number, text, size, length)
+                      : which % 4 == 0 ? dovecounter_status_text(number, text, size, length)
                       : which % 4 == 1 ? dovecounter_fault_text(number, text, size, length)
                       : which % 4 == 2 ? dovecounter_verdict_text(number, text, size, length)
                                        : dovecounter_version(text, size, length);

@@ -1,4 +1,4 @@
-/* Asks the library for its texts, as its header says: each number once, buffers that just fit, and those that do not. */
+/* Asks the library for its texts, as its header says: each number and code once, buffers that just fit, and those that do not. */
 #include "dovecounter.h"
 
 #include <stdio.h>
@@ -18,6 +18,17 @@ typedef uint32_t text_call(uint32_t number, uint8_t *buffer, size_t buffer_size,
 static uint32_t version(uint32_t number, uint8_t *buffer, size_t buffer_size, size_t *text_length) {
     (void)number;
     return dovecounter_version(buffer, buffer_size, text_length);
+}
+
+/* The names of codes: of which table, or of which media type. */
+static uint32_t table;
+
+static uint32_t code_name(uint32_t code, uint8_t *buffer, size_t buffer_size, size_t *text_length) {
+    return dovecounter_code_name(table, (uint8_t)code, buffer, buffer_size, text_length);
+}
+
+static uint32_t media_name(uint32_t code, uint8_t *buffer, size_t buffer_size, size_t *text_length) {
+    return dovecounter_media_name((uint8_t)table, (uint8_t)code, buffer, buffer_size, text_length);
 }
 
 /* A buffer of this very size, so that a byte behind it is noticed. */
@@ -44,7 +55,7 @@ static void expect_text(text_call *text_of, uint32_t number) {
     uint8_t text[DOVECOUNTER_TEXT_SIZE + 1], again[DOVECOUNTER_TEXT_SIZE + 1];
     expect("status", number, DOVECOUNTER_DONE, call(text_of, number, DOVECOUNTER_TEXT_SIZE, 0, text));
     size_t length = strlen((const char *)text);
-    expect("a text", number, 1, length > 4);
+    expect("a text", number, 1, length > 1);
     for (size_t i = 0; i < length; i++) expect("printable byte", number, 1, text[i] >= 0x20 && text[i] <= 0x7E);
     expect("status with just enough", number, DOVECOUNTER_DONE, call(text_of, number, length, length, again));
     expect("the same text", number, 0, (unsigned long)(memcmp(text, again, length) != 0));
@@ -79,6 +90,34 @@ static void expect_words(text_call *text_of, uint32_t number, const char *words)
     failures++;
 }
 
+/* Each code of each table, and of each media type. */
+static void try_names(void) {
+    for (table = 0; table < 300; table++)
+        for (uint32_t code = 0; code < 256; code += table < 30 ? 1 : 51) {
+            if (table >= DOVECOUNTER_TABLE_IDENTIFIERS && table <= DOVECOUNTER_TABLE_SFP_ACTIVE_CABLES)
+                expect_text(code_name, code);
+            else
+                expect_none(code_name, code);
+            if (table < 256) expect_text(media_name, code);
+        }
+    table = UINT32_MAX;
+    expect_none(code_name, 1);
+    table = 256 + DOVECOUNTER_TABLE_CONNECTORS;
+    expect_none(code_name, 1);
+    table = DOVECOUNTER_TABLE_CONNECTORS;
+    expect_words(code_name, 0x07, "LC");
+    expect_words(code_name, 0x28, "MPO 1x16");
+    expect_words(code_name, 0x6E, "reserved");
+    expect_words(code_name, 0x6F, "not listed");
+    expect_words(code_name, 0x80, "vendor specific");
+    table = DOVECOUNTER_TABLE_SFP_ACTIVE_CABLES;
+    expect_words(code_name, 0xFF, "not listed");
+    table = 2; /* single-mode */
+    expect_words(media_name, 0x1C, "400GBASE-DR4");
+    table = 6;
+    expect_words(media_name, 0x1C, "not listed");
+}
+
 int main(void) {
     static const uint32_t statuses[] = {0,  1,  2,  3,  4,  11, 12, 13, 14, 15, 16, 21, 22, 23, 24, 31, 32, 33, 34,
                                         36, 42, 43, 51, 53, 54, 61, 62, 63, 71, 74, 76, 83, 84, 85, 86, 91, 92, 94};
@@ -92,6 +131,7 @@ int main(void) {
     expect_words(dovecounter_fault_text, DOVECOUNTER_BUS_ENDED, "the bus made no further transaction");
     expect_words(dovecounter_verdict_text, 3, "the weight is not the plan's: is the certificate of these weights?");
     expect_words(version, 0, "0.1.0");
+    try_names();
     printf("texts: %d failures\n", failures);
     return failures != 0;
 }

@@ -16,6 +16,7 @@ mod ReadingEnds
 mod RefusalTexts
 mod ShortLines
 mod ShortTexts
+mod ShortNames
 mod DecodersRefuse
 mod WatchfulLaws
 mod KeptLaws

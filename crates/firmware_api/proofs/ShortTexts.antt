@@ -9,7 +9,7 @@ use Rattle.notices.specs.Sentences.{sentences}
 use Rattle.firmware_api.specs.declared.status.Refusal.TheVariants.{TooSmall}
 use Rattle.firmware_api.specs.Texts.{text_refusal}
 
-abbrev is_short : Option (List ℕ) → Bool
+abbrev pub is_short : Option (List ℕ) → Bool
 is_short None = true
 is_short (Some text) = not (nat_lt 256 (length text))
 
@@ -28,7 +28,7 @@ fits : (b : Bool) → IsTrue (not b) → (if b then Some TooSmall else None) ≢
 fits true short = absurd (let same = short in cc)
 fits false short = λ same. cc
 
-has_room : (text : Option (List ℕ)) → IsTrue (is_short text) → text_refusal text 256 ≢ Some TooSmall
+pub has_room : (text : Option (List ℕ)) → IsTrue (is_short text) → text_refusal text 256 ≢ Some TooSmall
 has_room None short = λ same. cc
 has_room (Some text) short = fits (nat_lt 256 (length text)) short
 
@@ -64,7 +64,7 @@ short_length text has = elim (cases_lt 256 (length text)) [
   | inr short ↦ short
 ]
 
-given : (text : Option (Bor (List ℕ))) (wanted : Option (List ℕ)) → option_map (λ (t : Bor (List ℕ)). t.now) text ≡ wanted → text_refusal wanted 256 ≢ Some TooSmall → IfSome text (λ t. length t.now ≤ 256)
+pub given : (text : Option (Bor (List ℕ))) (wanted : Option (List ℕ)) → option_map (λ (t : Bor (List ℕ)). t.now) text ≡ wanted → text_refusal wanted 256 ≢ Some TooSmall → IfSome text (λ t. length t.now ≤ 256)
 given None wanted is has = tt
 given (Some text) wanted is has = short_length text.now (subst (λ (t : Option (List ℕ)). text_refusal t 256 ≢ Some TooSmall) (sym is) has)
 

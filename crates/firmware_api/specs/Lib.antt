@@ -12,6 +12,7 @@ pub mod SimulatedModules
 pub mod WholeHalves
 pub mod Durations
 pub mod Texts
+pub mod CodeTexts
 pub mod WrittenCertificates
 pub mod ShownTexts
 pub mod Identities

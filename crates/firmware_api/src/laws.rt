@@ -3,6 +3,7 @@ ghost use Rattle.std.specs.Prelude.{◌≢◌, IfSome, IsTrue, Some, is_some, �
 ghost use Rattle.paged_memory.specs.Images.{Memory};
 ghost use Rattle.notices.specs.Numbers.{procedure_faults, reasons, statuses, text_by};
 ghost use Rattle.notices.specs.declared.version.TheConstants.{VERSION};
+ghost use Rattle.firmware_api.specs.CodeTexts.{code_text, media_text};
 ghost use Rattle.firmware_api.specs.Identities.{identity_refusal};
 ghost use Rattle.firmware_api.specs.Monitors.{monitors_refusal};
 ghost use Rattle.firmware_api.specs.RaisedFlags.{flags_refusal};
@@ -28,5 +29,7 @@ pub fn each_text_has_room_in_256_bytes()
     ensures statuses { (number : ℕ) → text_refusal (text_by statuses number) 256 ≢ Some TooSmall }
     ensures procedure_faults { (number : ℕ) → text_refusal (text_by procedure_faults number) 256 ≢ Some TooSmall }
     ensures reasons { (number : ℕ) → text_refusal (text_by reasons number) 256 ≢ Some TooSmall }
+    ensures names { (table code : ℕ) → text_refusal (code_text table code) 256 ≢ Some TooSmall }
+    ensures media { (media_type code : ℕ) → text_refusal (Some (media_text media_type code)) 256 ≢ Some TooSmall }
     ensures version { text_refusal (Some VERSION.now) 256 ≢ Some TooSmall }
 {}

@@ -6,6 +6,7 @@
 mod advertisement;
 mod certificate;
 mod checking;
+mod code_texts;
 mod conversation;
 mod durations;
 mod flags;

@@ -65,7 +65,7 @@ pub extern "C" fn dovecounter_version(buffer: &mut [u8], text_length: &mut usize
 }
 
 // Puts a text into a buffer that has room for it.
-fn put(text: Option<&str>, buffer: &mut [u8], text_length: &mut usize) -> u32
+pub fn put(text: Option<&str>, buffer: &mut [u8], text_length: &mut usize) -> u32
     ensures status { result ≡ status_by (text_refusal (option_map (λ (t : Bor (List ℕ)). t.now) text.entry) (length buffer.old)) }
     ensures written { result ≡ done → option_map (with_text buffer.old) (option_map (λ (t : Bor (List ℕ)). t.now) text.entry) ≡ Some (buffer.new, text_length.new) }
     ensures short { result ≡ done → IfSome text.entry (λ (t : Bor (List ℕ)). length t.now ≤ 256) → text_length.new ≤ 256 }
