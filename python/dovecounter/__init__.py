@@ -4,6 +4,7 @@ those of CMIS, and simulates them; by Dovecounter's library for C.
 docs/python.md has a first page. The package touches no bus by itself; only `Image.from_port` and
 `Image.from_file` open files."""
 from .faults import Fault, LeftModuleReady
+from .details import Details
 from .firmware import (
     Bank,
     Banks,
@@ -18,6 +19,7 @@ from .firmware import (
     FirmwareUpdate,
 )
 from .image import LOWER, Image, Key, page
+from .names import Table, code_name, media_name
 from .observables import Amount, AmountLimits, Observable, PassedLimits, Side
 from .planning import (
     DataPath,
@@ -93,6 +95,7 @@ __all__ = [
     "ConfigStatus",
     "DataPath",
     "Delays",
+    "Details",
     "Durations",
     "Effect",
     "Family",
@@ -142,6 +145,7 @@ __all__ = [
     "Sleeping",
     "Stage",
     "Support",
+    "Table",
     "Temperature",
     "Times",
     "Until",
@@ -152,7 +156,9 @@ __all__ = [
     "Wanted",
     "certificate",
     "check",
+    "code_name",
     "judge",
+    "media_name",
     "page",
     "plan",
     "read_weights",

@@ -87,6 +87,14 @@ class Fault(Exception):
         self.values: Tuple[Value, ...] = values
         self.sentence = sentence_of(code)
 
+    @classmethod
+    def of_line(cls, line: str) -> Fault:
+        """The fault that the program's line says."""
+        _, code, *values = line.split()
+        if all(value.isdigit() for value in values):
+            return cls(code, *map(int, values))
+        return cls(code, " ".join(values))
+
     def __reduce__(self) -> Tuple[object, ...]:
         return Fault, (self.code, *self.values)
 

@@ -19,6 +19,7 @@ from .faults import (
     look_at_text,
     look_at_type,
 )
+from .details import Details, details_of
 from .observables import Observable, observable_of
 from .reports import (
     Advertisement,
@@ -297,6 +298,25 @@ class Image:
             if place.value == 0:
                 return tuple(observed)
             observed.append(observable_of(found))
+
+    def details(self) -> Details:
+        """All that the module has about itself, with names (docs/tables/details.md). Needs the halves
+        that `cmisctl details` needs. Raises a Fault of RP1, RP4, RP6 or SF3."""
+        return details_of(self._report("details"))
+
+    def metrics(self, all_flags: bool = False) -> str:
+        """What the inventory, the monitors and the flags say, in the text format of Prometheus; of
+        flags those that are raised, or all. A report that can't be made is a metric, too."""
+        look_at_choice("all_flags", all_flags)
+        return self._report("metrics", all_flags).decode("ascii")
+
+    def _report(self, call: str, *numbers: int) -> bytes:
+        status, text = library.report(call, self.to_text().encode("ascii"), *numbers)
+        if status == library.REPORT_FAULT:
+            raise Fault.of_line(text.decode("ascii"))
+        if status:
+            raise AssertionError(f"the library answered status {status}")
+        return text
 
     def arguments(self) -> Tuple[Array[library.Half], int]:
         """The halves as the library takes them, and their number."""

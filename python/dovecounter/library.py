@@ -1,7 +1,7 @@
-"""The library for C (include/dovecounter.h) as ctypes sees it: its structures, its functions, and
+"""The library for C (the headers in include) as ctypes sees it: its structures, its functions, and
 where it is.
 
-Each name is the header's without `dovecounter_`; a test compares them all. ctypes cuts a number to
+Each name is a header's without `dovecounter_`; a test compares them all. ctypes cuts a number to
 the size of its place without a word, so the rest of the package looks at each number before it
 comes here."""
 from __future__ import annotations
@@ -30,6 +30,8 @@ TEXT_SIZE = 256  # DOVECOUNTER_TEXT_SIZE
 CERTIFICATE_SIZE = 74046  # DOVECOUNTER_CERTIFICATE_SIZE
 UNBOUNDED = 2**32 - 1  # DOVECOUNTER_UNBOUNDED
 MOST_READ = 5  # DOVECOUNTER_MOST_READ
+_TOO_SMALL, REPORT_FAULT, _NO_MEMORY = 4, 5, 6  # statuses of reports
+_REPORT_SIZE = 2**15  # which most reports fit
 FILE = f"libdovecounter.so.{VERSION}"
 
 Lanes = c_uint8 * 8
@@ -362,13 +364,18 @@ _BUFFER = (POINTER(c_uint8), c_size_t)  # that is written
 _CONTROL = POINTER(c_uint8)
 _WEIGHTS = POINTER(c_uint32)
 _BEGUN = (POINTER(Patience), POINTER(Conversation))
-_TEXT = (c_uint32, (c_uint32, *_BUFFER, POINTER(c_size_t)))
+_WRITTEN = (*_BUFFER, POINTER(c_size_t))  # a text and its length
+_TEXT = (c_uint32, (c_uint32, *_WRITTEN))
 
 # What each function answers, and what it takes.
 FUNCTIONS: Dict[str, Tuple[Any, Tuple[Any, ...]]] = {
     "status_text": _TEXT,
     "fault_text": _TEXT,
     "verdict_text": _TEXT,
+    "code_name": (c_uint32, (c_uint32, c_uint8, *_WRITTEN)),
+    "media_name": (c_uint32, (c_uint8, c_uint8, *_WRITTEN)),
+    "details": (c_uint32, (*_BYTES, *_WRITTEN)),
+    "metrics": (c_uint32, (*_BYTES, c_uint8, *_WRITTEN)),
     "advertisement": (c_uint32, (*_HALVES, c_uint8, POINTER(Advertisement))),
     "identity": (c_uint32, (*_HALVES, POINTER(Identity))),
     "flags": (c_uint32, (*_HALVES, POINTER(Flags))),
@@ -470,8 +477,31 @@ def function(name: str) -> Callable[..., Any]:
 def text(kind: str, number: int) -> str:
     """What the library says of a number: of a status, of a fault of procedures, or of the reason of
     a verdict."""
+    return _short_text(f"{kind}_text", number)
+
+
+def name(kind: str, table: int, code: int) -> str:
+    """What the library calls a code: of a table, or a medium by its media type."""
+    return _short_text(f"{kind}_name", table, code)
+
+
+def _short_text(call: str, *numbers: int) -> str:
     buffer, length = (c_uint8 * TEXT_SIZE)(), c_size_t()
-    status = function(f"{kind}_text")(number, buffer, TEXT_SIZE, byref(length))
+    status = function(call)(*numbers, buffer, TEXT_SIZE, byref(length))
     if status:
-        raise AssertionError(f"the library has no text for the {kind} {number}")
+        raise AssertionError(f"the library has no {call} of {numbers}")
     return bytes(buffer[: length.value]).decode("ascii")
+
+
+def report(call: str, image: bytes, *numbers: int) -> Tuple[int, bytes]:
+    """The status and the text of a report of an image that is given as a text."""
+    size, length = c_size_t(0), c_size_t(_REPORT_SIZE)
+    status = _TOO_SMALL
+    while status == _TOO_SMALL:
+        size.value = length.value
+        buffer = (c_uint8 * size.value)()
+        arguments = (image, len(image), *numbers, buffer, size.value, byref(length))
+        status = function(call)(*arguments)
+    if status == _NO_MEMORY:
+        raise MemoryError(f"there is no memory for the {call}")
+    return status, bytes(buffer[: length.value])

@@ -8,6 +8,7 @@ from math import log10
 from typing import Any, Dict, Optional, Tuple, Union
 
 from . import library
+from .names import Table, code_name, media_name
 from .showing import Record, Report
 from .states import ConfigStatus, ModuleState, PathState, known
 
@@ -31,6 +32,15 @@ class Application(Record):
     """a byte of lanes where a data path may begin"""
     media_starts: int
     """a byte of lanes where a data path may begin"""
+
+    @property
+    def host_name(self) -> str:
+        """The name of its HostInterfaceID."""
+        return code_name(Table.HOST_INTERFACES, self.host_id)
+
+    def media_name(self, media_type: Optional[int]) -> str:
+        """The name of its MediaInterfaceID, by the `media_type` of the module's inventory."""
+        return media_name(media_type or 0, self.media_id)
 
 
 @dataclass(frozen=True)
@@ -112,6 +122,30 @@ class Inventory(Report):
     """of the cable, in millimetres (CMIS)"""
     technology: Optional[int] = None
     """the code of the media interface technology (CMIS)"""
+
+    @property
+    def identifier_name(self) -> str:
+        """The name of its identifier, such as `QSFP-DD`."""
+        return code_name(Table.IDENTIFIERS, self.identifier)
+
+    @property
+    def connector_name(self) -> str:
+        """The name of its connector, such as `LC`."""
+        return code_name(Table.CONNECTORS, self.connector)
+
+    @property
+    def media_type_name(self) -> Optional[str]:
+        """The name of its media type (CMIS)."""
+        return _name_if_any(Table.MEDIA_TYPES, self.media_type)
+
+    @property
+    def technology_name(self) -> Optional[str]:
+        """The name of its media interface technology (CMIS)."""
+        return _name_if_any(Table.MEDIA_TECHNOLOGIES, self.technology)
+
+
+def _name_if_any(table: Table, code: Optional[int]) -> Optional[str]:
+    return None if code is None else code_name(table, code)
 
 
 @dataclass(frozen=True)

@@ -1,6 +1,6 @@
-"""The declarations of ctypes against the header: structures with the size and the place of each
+"""The declarations of ctypes against the headers: structures with the size and the place of each
 member, functions with the types of what they take and answer, and numbers. What the package doesn't
-use of the header isn't declared."""
+use of the headers isn't declared."""
 from __future__ import annotations
 
 import ctypes
@@ -14,10 +14,11 @@ from typing import Any, Dict, List
 import pytest
 
 from shared import ROOT
-from dovecounter import Family, Request, Side, library, procedures, simulated
+from dovecounter import Family, Request, Side, Table, library, procedures, simulated
 from dovecounter.faults import CODES
 
-HEADER = re.sub(r"/\*.*?\*/", "", (ROOT / "include/dovecounter.h").read_text(), flags=re.DOTALL)
+HEADERS = [ROOT / "include/dovecounter.h", ROOT / "include/dovecounter_reports.h"]
+HEADER = re.sub(r"/\*.*?\*/", "", "".join(path.read_text() for path in HEADERS), flags=re.DOTALL)
 COMPILER = os.environ.get("CC", "cc")
 STRUCTURES: Dict[str, List[str]] = {
     name: re.findall(r"(\w+)(?:\[\w+\])?;", members)
@@ -120,6 +121,15 @@ def test_numbers_are_those_of_the_header() -> None:
         assert STATUSES[family.name] == family
     for side in Side:
         assert STATUSES[f"SIDE_{side.name}"] == side
+    tables = re.search(r"enum dovecounter_table \{(.*?)\}", HEADER, re.DOTALL)
+    assert tables is not None
+    numbered = re.findall(r"DOVECOUNTER_TABLE_(\w+) = (\d+)", tables[1])
+    assert [(table.name, str(table.value)) for table in Table] == numbered
+    assert (STATUSES["TOO_SMALL"], STATUSES["REPORT_FAULT"], STATUSES["NO_MEMORY"]) == (
+        library._TOO_SMALL,
+        library.REPORT_FAULT,
+        library._NO_MEMORY,
+    )
     requested = re.search(r"enum dovecounter_requested \{(.*?)\}", HEADER, re.DOTALL)
     assert requested is not None
     bits = {name: int(bit) for name, bit in re.findall(r"DOVECOUNTER_(\w+) = (\d+)", requested[1])}

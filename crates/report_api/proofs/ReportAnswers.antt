@@ -1,0 +1,48 @@
+-- The answer to an image, by what making its report answers.
+use Rattle.std.proofs.Common.{◌≡◌, ◌∙◌, ℕ, Bool, List, [], Option, Some, None, Ok, Err, refl, ap, ◌⊎◌, inl, inr}
+use Rattle.std.specs.Prelude.{Vec}
+use Rattle.std.specs.declared.alloc.Global.{Global}
+use Rattle.text_lines.specs.Lines.{lines_of}
+use Rattle.paged_memory.specs.Images.{Memory as Image}
+use Rattle.paged_memory.specs.ImageText.{IsTextOf}
+use Rattle.report_entries.specs.Entries.{Entry}
+use Rattle.report_entries.specs.EntryJson.{json_text, report_json}
+use Rattle.reports.specs.Answered.{ReportsJson}
+use Rattle.reports.specs.Details.{details_entries, details_fault}
+use Rattle.module_metrics.specs.Answers.{metrics_of}
+use Rattle.module_metrics.specs.Exposition.{Label, exposition}
+use Rattle.reports.specs.declared.fault.ReportFault.{ReportFault}
+use Rattle.reports.specs.declared.fault.ReportFault.TheVariants as report
+use Rattle.report_api.specs.Answers.{fault_of_report}
+use Rattle.report_api.specs.ReportTexts.{IsDetails, IsMetricsOf, IsReport}
+
+-- a fault that is `Memory`, or that of an image
+pub refused : (refusal : Image → Option ReportFault) (text_of : Image → List ℕ) (given : List ℕ) (image : Image) → IsTextOf (lines_of given) image
+    → (f : ReportFault) → (f ≡ report.Memory) ⊎ (refusal image ≡ Some f) → IsReport refusal text_of given (Err (fault_of_report f))
+refused refusal text_of given image read report.Memory h = tt
+refused refusal text_of given image read f (inl same) = absurd cc
+refused refusal text_of given image read f (inr is) = (image, read, is)
+
+-- what is known of a report as JSON
+json_refused : (o : Option ReportFault) (entries : List Entry) (f : ReportFault) → ReportsJson o entries (Err f) → (f ≡ report.Memory) ⊎ (o ≡ Some f)
+json_refused None entries f h = inl h
+json_refused (Some g) entries f h = inr cc
+
+json_told : (o : Option ReportFault) (entries : List Entry) (text : Vec ℕ Global) → ReportsJson o entries (Ok text)
+    → (o ≡ None) × (text.items ≡ json_text (report_json entries))
+json_told None entries text h = (refl, h.spelled)
+json_told (Some f) entries text h = absurd cc
+
+module _ (given : List ℕ) (image : Image) (read : IsTextOf (lines_of given) image) where
+  pub details_refused : (f : ReportFault) → ReportsJson (details_fault image) (details_entries image) (Err f) → IsDetails given (Err (fault_of_report f))
+  details_refused f h =
+      refused details_fault (λ image. json_text (report_json (details_entries image))) given image read f (json_refused (details_fault image) (details_entries image) f h)
+
+  pub details_told : (text : Vec ℕ Global) → ReportsJson (details_fault image) (details_entries image) (Ok text) → IsDetails given (Ok text.items)
+  details_told text h =
+      let told = json_told (details_fault image) (details_entries image) text h in
+      (image, read, told.0, told.1)
+
+  -- without labels of one's own
+  pub metrics_told : (all : Bool) (labels : List Label) (text : List ℕ) → labels ≡ [] → text ≡ exposition labels (metrics_of all image) → IsMetricsOf all given (Ok text)
+  metrics_told all labels text none is = (image, read, refl, is ∙ ap (λ (l : List Label). exposition l (metrics_of all image)) none)
