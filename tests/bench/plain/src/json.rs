@@ -2,12 +2,11 @@
 use crate::advert::Advert;
 use crate::bus::{Operation, Reply, Step};
 use crate::certificate::Good;
-use crate::names::{path_state, state_name, status_name};
+use crate::names::{known_path_state, known_state, known_status};
 use crate::plan::{control_bytes, weight_of, Choice};
 use crate::reports::Flags;
 use crate::Outcome;
 use serde::Serialize;
-use std::borrow::Cow;
 
 pub fn text(value: &impl Serialize) -> String {
     let mut text = serde_json::to_string_pretty(value).expect("nothing of it fails");
@@ -52,9 +51,11 @@ pub fn apps(advert: &Advert) -> String {
 #[derive(Serialize)]
 struct Lane {
     path_state: u8,
-    path_state_name: Cow<'static, str>,
+    #[serde(skip_serializing_if = "Option::is_none")]
+    path_state_name: Option<&'static str>,
     config_status: u8,
-    config_status_name: Cow<'static, str>,
+    #[serde(skip_serializing_if = "Option::is_none")]
+    config_status_name: Option<&'static str>,
 }
 
 #[derive(Serialize)]
@@ -70,7 +71,7 @@ struct FlagsReport {
     #[serde(skip_serializing_if = "Option::is_none")]
     state: Option<u8>,
     #[serde(skip_serializing_if = "Option::is_none")]
-    state_name: Option<Cow<'static, str>>,
+    state_name: Option<&'static str>,
     #[serde(skip_serializing_if = "Vec::is_empty")]
     lane: Vec<Lane>,
     flag: Vec<Flag>,
@@ -79,9 +80,9 @@ struct FlagsReport {
 pub fn flags(flags: &Flags) -> String {
     let lane = flags.lanes.iter().map(|(state, status)| Lane {
         path_state: *state,
-        path_state_name: path_state(*state),
+        path_state_name: known_path_state(*state),
         config_status: *status,
-        config_status_name: status_name(*status),
+        config_status_name: known_status(*status),
     });
     let flag = flags.raised().map(|flag| {
         let mut name = String::new();
@@ -91,7 +92,7 @@ pub fn flags(flags: &Flags) -> String {
     text(&FlagsReport {
         dovecounter: 1,
         state: flags.state,
-        state_name: flags.state.map(state_name),
+        state_name: flags.state.and_then(known_state),
         lane: lane.collect(),
         flag: flag.collect(),
     })

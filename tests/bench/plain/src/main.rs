@@ -1,22 +1,28 @@
 //! What `cmisctl` does, in plain Rust, to compare both by what they print and by what it takes.
 mod advert;
 mod bus;
+mod calibration;
 mod certificate;
+mod details;
+mod draw;
 mod fault;
 mod image;
 mod json;
+mod metrics;
 mod module;
 mod names;
+mod observables;
 mod plan;
 mod procedures;
 mod reports;
 mod rows;
+mod tables;
 mod text;
 
 use advert::{Advert, Weights};
 use bus::{Bus, Script};
 use fault::Fault;
-use image::Image;
+use image::{Device, Image, Key};
 use module::Module;
 use plan::{control_bytes, Choice, Gains, Problem};
 use std::fmt::Write as _;
@@ -74,7 +80,7 @@ fn main() -> ExitCode {
     let answer = read_input().and_then(|input| answer(&command, &flags, &input));
     let answer = answer.unwrap_or_else(|fault| Answer { text: String::new(), fault: Some(fault) });
     let mut text = answer.text;
-    if let (Some(fault), false) = (&answer.fault, flags.json) {
+    if let (Some(fault), false) = (&answer.fault, flags.json || command == "metrics") {
         writeln!(text, "{fault}").unwrap();
     }
     if std::io::stdout().write_all(text.as_bytes()).is_err() {
@@ -137,6 +143,11 @@ fn answer(command: &str, flags: &Flags, input: &[u8]) -> Result<Answer, Fault> {
             let [image, weights, script] = parts(input)?;
             provisioned(command == "trace", flags, image, weights, b"", script)
         }
+        "metrics" => {
+            let [image] = parts(input)?;
+            let (text, fault) = metrics::metrics(&Image::read(image)?);
+            Ok(Answer { text, fault })
+        }
         _ => {
             let [image] = parts(input)?;
             Ok(report(command, flags, &Image::read(image)?)?.into())
@@ -150,6 +161,8 @@ fn report(command: &str, flags: &Flags, image: &Image) -> Result<String, Fault> 
         "monitors" => reports::monitors(image).map(|report| shown(&report, flags)),
         "apps" => Advert::of(image, false).map(|advert| if flags.json { json::apps(&advert) } else { reports::apps_text(&advert) }),
         "flags" => reports::flags(image).map(|report| if flags.json { json::flags(&report) } else { report.text() }),
+        "details" => details::details(image).map(|report| shown(&report, flags)),
+        "observables" => observables::observables(image, flags.json),
         _ => Err(Fault::new("command")),
     }
 }
@@ -159,13 +172,17 @@ fn shown(report: &rows::Report, flags: &Flags) -> String {
 }
 
 fn planned(command: &str, flags: &Flags, image: &[u8], weights: &[u8], kept: &[u8]) -> Result<Answer, Fault> {
-    let advert = Advert::of(&Image::read(image)?, flags.paired)?;
+    let image = Image::read(image)?;
+    let advert = Advert::of(&image, flags.paired)?;
     let weights = Weights::read(weights)?;
     let kept = plan::read_kept(&advert, &weights, kept)?;
     let problem = Problem::new(&advert, &weights, kept);
     let gains = Gains::of(&problem);
     let plan = gains.plan(&problem);
-    let _ = command;
+    if command == "draw" {
+        let media_type = image.need(Key::lower(Device::A0), "AD4")?.byte(85);
+        return Ok(draw::draw(&advert, media_type, &problem, &gains, &plan).into());
+    }
     Ok(if flags.json { json::plan(&problem.kept, &plan) } else { certificate::write(&advert, &problem, &gains, &plan) }.into())
 }
 

@@ -145,7 +145,7 @@ impl Problem {
     }
 
     /// The paths that may begin after a boundary without a used media lane.
-    pub fn paths_from(&self, (boundary, used): State) -> impl Iterator<Item = &Choice> {
+    pub fn paths_from(&self, (boundary, used): State) -> impl DoubleEndedIterator<Item = &Choice> {
         self.choices[usize::from(boundary)].iter().filter(move |choice| choice.media_mask & used == 0)
     }
 
@@ -153,67 +153,54 @@ impl Problem {
         (boundary + choice.host_lanes, used | choice.media_mask)
     }
 
-    fn is_kept(&self, choice: &Choice) -> bool {
+    pub fn is_kept(&self, choice: &Choice) -> bool {
         self.kept.iter().any(|other| other.path == choice.path)
     }
 }
 
 /// The greatest weight that can be gained from each state that decisions reach.
-pub struct Gains {
-    reached: [[bool; 256]; 9],
-    gain: [[u64; 256]; 9],
-}
+pub struct Gains(Box<[[Option<u64>; 256]; 9]>);
 
 impl Gains {
-    pub fn of(problem: &Problem) -> Box<Gains> {
-        let mut gains = Box::new(Gains { reached: [[false; 256]; 9], gain: [[0; 256]; 9] });
-        gains.reached[0][0] = true;
-        for boundary in 0..8u8 {
-            for used in 0..=255 {
-                if gains.is_reached((boundary, used)) {
-                    if problem.may_stay_free(boundary) {
-                        gains.reach((boundary + 1, used));
-                    }
-                    for choice in problem.paths_from((boundary, used)) {
-                        gains.reach(Problem::after((boundary, used), choice));
-                    }
-                }
-            }
-        }
-        for boundary in (0..8u8).rev() {
-            for used in 0..=255 {
-                if gains.is_reached((boundary, used)) {
-                    gains.gain[usize::from(boundary)][usize::from(used)] = gains.best(problem, (boundary, used));
-                }
-            }
-        }
+    pub fn of(problem: &Problem) -> Gains {
+        let mut gains = Gains(Box::new([[None; 256]; 9]));
+        gains.find(problem, (0, 0));
         gains
     }
 
-    fn is_reached(&self, (boundary, used): State) -> bool {
-        self.reached[usize::from(boundary)][usize::from(used)]
+    fn known(&self, (boundary, used): State) -> Option<u64> {
+        self.0[usize::from(boundary)][usize::from(used)]
     }
 
-    fn reach(&mut self, (boundary, used): State) {
-        self.reached[usize::from(boundary)][usize::from(used)] = true;
+    /// The gain from a state, which is found once.
+    fn find(&mut self, problem: &Problem, state: State) -> u64 {
+        if let Some(gain) = self.known(state) {
+            return gain;
+        }
+        let (boundary, used) = state;
+        let mut best = 0;
+        if boundary < 8 {
+            if problem.may_stay_free(boundary) {
+                best = self.find(problem, (boundary + 1, used));
+            }
+            for choice in problem.paths_from(state) {
+                best = best.max(choice.weight + self.find(problem, Problem::after(state, choice)));
+            }
+        }
+        self.0[usize::from(boundary)][usize::from(used)] = Some(best);
+        best
     }
 
-    pub fn at(&self, (boundary, used): State) -> u64 {
-        self.gain[usize::from(boundary)][usize::from(used)]
-    }
-
-    fn best(&self, problem: &Problem, state: State) -> u64 {
-        let free = if problem.may_stay_free(state.0) { self.at((state.0 + 1, state.1)) } else { 0 };
-        let paths = problem.paths_from(state);
-        paths.fold(free, |best, choice| best.max(choice.weight + self.at(Problem::after(state, choice))))
+    /// The gain from a state that is reached.
+    pub fn at(&self, state: State) -> u64 {
+        self.known(state).expect("a state that decisions reach")
     }
 
     /// Each state that is reached, by boundary and then used lanes, with its gain.
     pub fn states(&self) -> impl Iterator<Item = (State, u64)> + '_ {
         (0..=8u8)
             .flat_map(|boundary| (0..=255u8).map(move |used| (boundary, used)))
-            .filter(|state| self.is_reached(*state))
-            .map(|state| (state, self.at(state)))
+            .filter_map(|state| self.known(state).map(|gain| (state, gain)))
     }
 
     /// The first best plan without paths of weight 0 that aren't kept.

@@ -33,10 +33,23 @@ pub struct Known<'a> {
 
 impl<'a> Known<'a> {
     pub fn of(image: &'a Image) -> Result<Known<'a>, Fault> {
+        Known::read(image, |identifier| matches!(identifier, 0x18 | 0x19 | 0x1E), 4)
+    }
+
+    /// Of a family, an identifier or a revision that only details and observables read, too.
+    pub fn in_detail(image: &'a Image) -> Result<Known<'a>, Fault> {
+        Known::read(image, |identifier| matches!(identifier, 0x18 | 0x19 | 0x1B | 0x1E..=0x25), 3)
+    }
+
+    fn read(image: &'a Image, is_cmis: fn(u8) -> bool, first_major: u8) -> Result<Known<'a>, Fault> {
         let lower = image.need(Key::lower(Device::A0), "RP6")?;
         let family = match lower.byte(0) {
-            0x18 | 0x19 | 0x1E if !matches!(lower.byte(1) >> 4, 4 | 5) => return Err(Fault::with("RP4", lower.byte(1))),
-            0x18 | 0x19 | 0x1E => Family::Cmis,
+            identifier if is_cmis(identifier) => {
+                if !(first_major..=5).contains(&(lower.byte(1) >> 4)) {
+                    return Err(Fault::with("RP4", lower.byte(1)));
+                }
+                Family::Cmis
+            }
             0x0C | 0x0D | 0x11 => Family::Sff8636,
             0x03 => Family::Sff8472,
             identifier => return Err(Fault::with("RP1", identifier)),

@@ -12,6 +12,11 @@ pub enum Unit {
     Milliamperes,
     Watts,
     Meters,
+    Kilometers,
+    Nanometers,
+    Decibels,
+    Percent,
+    Gigabaud,
 }
 
 impl Unit {
@@ -23,6 +28,11 @@ impl Unit {
             Unit::Milliamperes => "mA",
             Unit::Watts => "W",
             Unit::Meters => "m",
+            Unit::Kilometers => "km",
+            Unit::Nanometers => "nm",
+            Unit::Decibels => "dB",
+            Unit::Percent => "%",
+            Unit::Gigabaud => "GBd",
         }
     }
 }
@@ -60,6 +70,39 @@ pub enum Value {
     Lanes(Vec<i64>, Unit),
     Limits(Vec<i64>, Unit),
     Sum(bool),
+    /// A code with its name, or what is said in its place.
+    Named(u8, &'static str),
+    /// A code with its name if it has one, and what a line says of it.
+    State(u8, Option<&'static str>, Cow<'static, str>),
+    Yes(bool),
+    Names(Vec<&'static str>),
+    Version(u8, u8),
+    /// Powers in tenths of a microwatt, shown in dBm and in milliwatts.
+    Level(u16),
+    Milliwatts(u16),
+}
+
+/// A level in dBm, rounded down to hundredths.
+struct Decibels(u16);
+
+impl Display for Decibels {
+    fn fmt(&self, f: &mut fmt::Formatter) -> fmt::Result {
+        if self.0 == 0 {
+            return f.write_str("-inf");
+        }
+        let level = (f64::from(self.0).log10() * 1000.0).floor() as i32 - 4000;
+        let (sign, size) = (if level < 0 { "-" } else { "" }, level.abs());
+        write!(f, "{sign}{}.{:02}", size / 100, size % 100)
+    }
+}
+
+/// Milliwatts with four decimals.
+struct TenThousandths(u16);
+
+impl Display for TenThousandths {
+    fn fmt(&self, f: &mut fmt::Formatter) -> fmt::Result {
+        write!(f, "{}.{:04}", self.0 / 10_000, self.0 % 10_000)
+    }
 }
 
 pub struct Report(Vec<(Cow<'static, str>, Value)>);
@@ -110,6 +153,20 @@ fn write_row(out: &mut String, name: &str, value: &Value) -> fmt::Result {
             Ok(())
         }
         Value::Sum(right) => writeln!(out, "{name} {}", if *right { "right" } else { "wrong" }),
+        Value::Named(code, text) => writeln!(out, "{name} {code:02X}h \"{text}\""),
+        Value::State(_, _, text) => writeln!(out, "{name} {text}"),
+        Value::Yes(yes) => writeln!(out, "{name} {}", if *yes { "yes" } else { "no" }),
+        Value::Names(names) => {
+            out.push_str(name);
+            for text in names {
+                write!(out, " \"{text}\"")?;
+            }
+            out.push('\n');
+            Ok(())
+        }
+        Value::Version(major, minor) => writeln!(out, "{name} {major}.{minor}"),
+        Value::Level(power) => writeln!(out, "{name} {} dBm", Decibels(*power)),
+        Value::Milliwatts(power) => writeln!(out, "{name} {} mW", TenThousandths(*power)),
     }
 }
 
@@ -128,7 +185,10 @@ impl Serialize for Report {
         map.serialize_entry("dovecounter", &1)?;
         for (name, value) in &self.0 {
             let name = name.replace('-', "_");
-            let with_unit = |unit: &Unit| format!("{name}_{}", unit.name().to_lowercase());
+            let with_unit = |unit: &Unit| match unit {
+                Unit::Percent => format!("{name}_percent"),
+                _ => format!("{name}_{}", unit.name().to_lowercase()),
+            };
             match value {
                 Value::Word(word) => map.serialize_entry(&name, word)?,
                 Value::Code(code) => map.serialize_entry(&name, code)?,
@@ -143,6 +203,22 @@ impl Serialize for Report {
                 }
                 Value::Limits(amounts, unit) => map.serialize_entry(&with_unit(unit), &Limits(amounts))?,
                 Value::Sum(right) => map.serialize_entry(&format!("{name}_right"), right)?,
+                Value::Named(code, text) => {
+                    map.serialize_entry(&name, code)?;
+                    map.serialize_entry(&format!("{name}_name"), text)?;
+                }
+                Value::State(code, known, _) => {
+                    map.serialize_entry(&name, code)?;
+                    if let Some(text) = known {
+                        map.serialize_entry(&format!("{name}_name"), text)?;
+                    }
+                }
+                Value::Yes(yes) => map.serialize_entry(&name, yes)?,
+                Value::Names(names) => map.serialize_entry(&name, names)?,
+                Value::Version(major, minor) => map.serialize_entry(&name, &format!("{major}.{minor}"))?,
+                Value::Level(0) => map.serialize_entry(&format!("{name}_dbm"), "-inf")?,
+                Value::Level(power) => map.serialize_entry(&format!("{name}_dbm"), &raw(Decibels(*power).to_string()))?,
+                Value::Milliwatts(power) => map.serialize_entry(&name, &raw(TenThousandths(*power).to_string()))?,
             }
         }
         map.end()
