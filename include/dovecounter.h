@@ -868,7 +868,9 @@ enum dovecounter_update_fault {
     DOVECOUNTER_UPDATE_UNKNOWN = 3,      /* what came of a command is not known */
     DOVECOUNTER_UPDATE_UNSUPPORTED = 4,  /* the module takes no blocks of the local payload, or too much at the Start */
     DOVECOUNTER_UPDATE_NOT_STANDING = 5, /* no bank alone runs, is committed and valid: none may be overwritten */
-    DOVECOUNTER_UPDATE_GAVE_UP = 6       /* asked or sent as often as may be */
+    DOVECOUNTER_UPDATE_GAVE_UP = 6,      /* asked or sent as often as may be */
+    DOVECOUNTER_UPDATE_LEFT_OPEN = 7     /* the module refuses to begin, with status 43h or 47h, as it does while an earlier
+                                            download is open; begin again if known is DOVECOUNTER_FIRMWARE_ABORTED */
 };
 
 /* What is known of the firmware, from what came of each command. */
@@ -886,7 +888,7 @@ enum dovecounter_update_known {
 
 struct dovecounter_update_ending {
     uint8_t fault;      /* enum dovecounter_update_fault */
-    uint8_t status;     /* of the module, with DOVECOUNTER_UPDATE_REFUSED; else 0 */
+    uint8_t status;     /* of the module, with DOVECOUNTER_UPDATE_REFUSED and _LEFT_OPEN; else 0 */
     uint8_t known;      /* enum dovecounter_update_known; 0 of a single command */
     uint8_t count;      /* bytes of the reply to a single command */
     uint8_t reply[128]; /* zeros after them */

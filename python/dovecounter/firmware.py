@@ -13,7 +13,6 @@ from .procedures import Procedure
 from .reports import Patience
 
 _ADVERTISED = slice(163 - 128, 167 - 128)
-_REFUSED = 1
 
 _next = library.function("update_next")
 _reply = library.function("update_reply")
@@ -36,6 +35,9 @@ class FirmwareFailure(Enum):
     NOT_STANDING = 5
     """no bank alone runs, is committed and valid, so none may be overwritten"""
     GAVE_UP = 6
+    LEFT_OPEN = 7
+    """the module refuses to begin, with a status, as it does while an earlier download is open; begin
+    again if it was ABORTED"""
 
 
 class FirmwareKnown(Enum):
@@ -61,13 +63,13 @@ class FirmwareFault(Exception):
         super().__init__(failure, status, known)
         self.failure = failure
         self.status = status
-        """the module's, if it refused; else 0"""
+        """the module's, if it refused (REFUSED, LEFT_OPEN); else 0"""
         self.known = known
         """None of a single command"""
 
     def __str__(self) -> str:
         name = self.failure.name.lower().replace("_", " ")
-        status = f" with status {self.status:02X}h" if self.failure.value == _REFUSED else ""
+        status = f" with status {self.status:02X}h" if self.status else ""
         known = f", {self.known.name.lower().replace('_', ' ')}" if self.known else ""
         return f"{name}{status}{known}"
 

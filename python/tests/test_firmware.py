@@ -35,6 +35,7 @@ class TwoBanks:
         self.valid = [True, False]
         self.running = self.committed = self.status = 0
         self.password = b""
+        self.refusal = 0  # of a Start, while an earlier download is open
         self.selected, self.block = [0, 0], bytearray(128)
         self.download = b""
         self.sent: List[int] = []
@@ -84,6 +85,10 @@ class TwoBanks:
             self.password = b"" if body == self.password else self.password
         if self.password:
             return 0x46
+        if number == 0x101 and self.refusal:
+            return self.refusal
+        if number == 0x102:
+            self.refusal = 0
         actions: Dict[int, bytes] = {0x101: body[8:], 0x103: self.download + body[4:]}
         self.download = actions.get(number, self.download)
         if number == 0x107:
@@ -143,6 +148,18 @@ def test_a_refusal_has_its_status() -> None:
     FirmwarePassword(0x12345678).run(module.transact, lambda seconds: None)
     FirmwareAbort().run(module.transact, lambda seconds: None)
     assert module.sent[-2:] == [1, 0x102]
+
+
+def test_an_earlier_download_is_given_up() -> None:
+    module, update = TwoBanks(), FirmwareUpdate(FILE)
+    module.refusal = 0x47
+    with pytest.raises(FirmwareFault) as fault:
+        update.run(module.transact, lambda seconds: None)
+    found = fault.value
+    assert (found.failure, found.known) == (FirmwareFailure.LEFT_OPEN, FirmwareKnown.ABORTED)
+    assert str(found) == "left open with status 47h, aborted" and module.refusal == 0
+    FirmwareUpdate(FILE).run(module.transact, lambda seconds: None)
+    assert module.committed == 1
 
 
 def test_a_silent_module_is_given_up() -> None:

@@ -2,84 +2,11 @@
    call answers, and each kind of end by a module made for it; then COUNT updates by chance, 300 where nothing is said, with refusals,
    commands that fail before and after their effect, images that don't run, late resets, and losses of power at any moment. No module may
    be without a committed image that can run, and none may be reported as committed that isn't. */
-#include "expect.h"
-
-#include "../port/two_banks.c"
+#include "two_banks_bus.h"
 
 #include <stdlib.h>
 
-static struct two_banks module;
-static uint8_t file[MOST_IMAGE];
-static uint32_t size;
-static uint64_t state;
-
-static unsigned chance(unsigned below) {
-    state ^= state << 13, state ^= state >> 7, state ^= state << 17;
-    return (unsigned)(state >> 33) % below;
-}
-
-/* ---- the bus ---- */
-
-static uint8_t selected[2]; /* bank and page */
-static unsigned refuses;    /* of 100 transactions */
-static unsigned made, cut;  /* transactions; after which one power is lost, or 0 */
-
-static uint8_t fetch_one(uint8_t address) {
-    if (address == 37) return fetch_status(&module);
-    if (address == 126 || address == 127) return selected[address - 126];
-    if (address >= 128 && selected[0] == 0 && selected[1] == 0x9F) return fetch_of_block(&module, address);
-    return 0;
-}
-
-static void store_one(uint8_t address, uint8_t byte) {
-    if (address == 126 || address == 127)
-        selected[address - 126] = byte;
-    else if (address >= 128 && selected[0] == 0 && selected[1] == 0x9F)
-        store_to_block(&module, address, byte);
-    else
-        expect("a store elsewhere", 0, address);
-}
-
-/* A module that restarts selects page 00h. */
-static void look_for_restarts(void) {
-    static unsigned seen;
-    if (module.restarts != seen) selected[0] = selected[1] = 0;
-    seen = module.restarts;
-}
-
-static uint8_t transact(void *context, const struct dovecounter_operation *operation, uint8_t bytes[128]) {
-    (void)context;
-    bool stores = operation->kind == DOVECOUNTER_STORE;
-    pass_time(&module, 1);
-    if (++made == cut) lose_power(&module);
-    look_for_restarts();
-    bool refused = is_deaf(&module) || chance(100) < refuses;
-    unsigned taken = !refused ? operation->count : is_deaf(&module) ? 0 : chance(operation->count + 1U);
-    for (unsigned i = 0; i < taken; i++) {
-        uint8_t address = (uint8_t)(operation->offset + i);
-        if (stores)
-            store_one(address, operation->bytes[i]);
-        else
-            bytes[i] = fetch_one(address);
-    }
-    return refused ? DOVECOUNTER_REFUSED : stores ? DOVECOUNTER_STORED : DOVECOUNTER_FETCHED;
-}
-
-static void pause_for(void *context, uint32_t milliseconds) {
-    (void)context;
-    unsigned before = milliseconds / 2;
-    pass_time(&module, before);
-    if (cut != 0 && ++made == cut) lose_power(&module);
-    pass_time(&module, milliseconds - before);
-    look_for_restarts();
-}
-
 /* ---- updates ---- */
-
-static void fill_file(uint32_t wanted) {
-    size = wanted;
-    for (uint32_t i = 0; i < size; i++) file[i] = (uint8_t)chance(256);
-}
 
 static struct dovecounter_update_ending run_update(uint8_t hold) {
     struct dovecounter_update update;
@@ -106,17 +33,6 @@ static struct dovecounter_update_ending run_command(void (*begin)(struct dovecou
 }
 
 static void give_password(struct dovecounter_update *update) { dovecounter_password_begin(0x12345678, update); }
-
-static bool has_file(int bank) {
-    return module.valid[bank] && module.lengths[bank] == size && memcmp(module.images[bank], file, size) == 0;
-}
-
-static void begin_module(uint64_t seed) {
-    begin_two_banks(&module, seed);
-    memcpy(module.images[0], "\1\2\3\4", 4);
-    selected[0] = selected[1] = 0;
-    refuses = made = cut = 0;
-}
 
 /* ---- by modules made for it ---- */
 
@@ -161,6 +77,19 @@ static void try_ends(void) {
     begin_module(8);
     module.background = false, module.late = 3000;
     end_so("a deaf module", 0, DOVECOUNTER_UPDATE_DONE, 0, DOVECOUNTER_FIRMWARE_COMMITTED);
+    for (uint8_t status = 0x43; status <= 0x47; status += 4) {
+        begin_module(status);
+        module.open = true;
+        module.not_again = status;
+        end_so("an earlier download", 0, DOVECOUNTER_UPDATE_LEFT_OPEN, status, DOVECOUNTER_FIRMWARE_ABORTED);
+        expect("it is given up", 1, module.aborts == 1 && !module.open && module.starts == 0);
+        end_so("after it", 0, DOVECOUNTER_UPDATE_DONE, 0, DOVECOUNTER_FIRMWARE_COMMITTED);
+        module.open = module.aborts_none = true;
+        end_so("one that stays open", 0, DOVECOUNTER_UPDATE_LEFT_OPEN, status, DOVECOUNTER_FIRMWARE_BEGUN);
+        expect("nothing else was done", 1, module.aborts == 1 && module.starts == 1 && module.running == 1);
+        module.not_again = 0x42;
+        end_so("another refusal", 0, DOVECOUNTER_UPDATE_REFUSED, 0x42, DOVECOUNTER_FIRMWARE_UNTOUCHED);
+    }
     begin_module(9);
     cut = 200;
     end_so("power lost amid a block", 0, DOVECOUNTER_UPDATE_REFUSED, 0x45, DOVECOUNTER_FIRMWARE_ABORTED);
@@ -276,28 +205,6 @@ static void try_forged(unsigned count) {
 }
 
 /* ---- by chance ---- */
-
-static void make_module(void) {
-    begin_module(state);
-    int old = (int)chance(2);
-    module.running = old;
-    load_bank(&module, 0, (const uint8_t *)"old", 3);
-    load_bank(&module, 1, (const uint8_t *)"older", 5);
-    module.committed[old] = true;
-    module.committed[1 - old] = false;
-    module.valid[1 - old] = chance(2);
-    if (chance(6) == 0 && module.valid[1 - old]) module.running = 1 - old; /* it runs, and isn't committed */
-    module.start_size = (uint8_t)(chance(3) ? chance(113) : 0);
-    module.reply_count = (uint8_t)(1 + chance(110));
-    module.background = chance(2);
-    module.tens = chance(2);
-    module.boots = chance(5);
-    module.slowest = 1 + chance(chance(8) ? 50 : 3000);
-    module.late = chance(2) ? 0 : chance(3000);
-    module.unlucky = chance(3) ? 0 : chance(30);
-    refuses = chance(2) ? 0 : chance(chance(4) ? 5 : 40);
-    cut = chance(2) ? 0 : 1 + chance(chance(2) ? 300 : 60 + size / 6);
-}
 
 static unsigned ended[10], lost;
 

@@ -48,6 +48,12 @@ bool is_deaf(const struct two_banks *module) {
     return module->off_left > 0 || (module->busy_left > 0 && !module->background);
 }
 
+uint8_t fetch_flags(struct two_banks *module) {
+    uint8_t flags = module->completed ? 0x40 : 0;
+    module->completed = false;
+    return flags;
+}
+
 uint8_t fetch_status(const struct two_banks *module) { return module->status; }
 
 uint8_t fetch_of_block(const struct two_banks *module, uint8_t address) { return module->page[address - 128]; }
@@ -76,6 +82,16 @@ static void put_duration(uint8_t *bytes, unsigned milliseconds, bool tens) {
     bytes[1] = (uint8_t)count;
 }
 
+/* The longest that a command takes that is none of a download. */
+static unsigned quick_time(const struct two_banks *module) { return module->slowest < QUICK ? module->slowest : QUICK; }
+
+/* CMD 0040h: of what it supports nothing, and how long a command may take. */
+static void tell_module_features(struct two_banks *module) {
+    uint8_t bytes[36] = {0};
+    put_duration(bytes + 34, quick_time(module), false);
+    reply(module, bytes, sizeof bytes);
+}
+
 /* CMD 0041h */
 static void tell_features(struct two_banks *module) {
     uint8_t bytes[18] = {1, module->tens ? 8 : 0, module->start_size, 0xFF, 15, module->mechanism};
@@ -99,6 +115,7 @@ static void tell_banks(struct two_banks *module) {
 static uint8_t start(struct two_banks *module, const uint8_t *body, uint8_t count) {
     int other = 1 - module->running;
     uint32_t size = read_32(body);
+    if (module->open && module->not_again != 0) return module->not_again;
     if (count != 8 + module->start_size || size > MOST_IMAGE || size < module->start_size) return BAD_PARAMETER;
     module->starts++;
     module->valid[other] = false;
@@ -107,6 +124,14 @@ static uint8_t start(struct two_banks *module, const uint8_t *body, uint8_t coun
     module->covered = module->start_size;
     memset(module->images[other], 0xFF, MOST_IMAGE);
     memcpy(module->images[other], body + 8, module->start_size);
+    return SUCCESS;
+}
+
+/* CMD 0102h */
+static uint8_t abort_download(struct two_banks *module) {
+    if (module->aborts_none) return UNKNOWN_COMMAND;
+    module->aborts++;
+    module->open = false;
     return SUCCESS;
 }
 
@@ -159,12 +184,13 @@ static uint8_t carry_out(struct two_banks *module) {
     unsigned id = (unsigned)module->page[0] << 8 | module->page[1];
     uint8_t count = module->page[4];
     if (id == 0x0001) return enter(module, body, count);
+    if (id == 0x0040) return tell_module_features(module), SUCCESS;
     if (id == 0x0041) return tell_features(module), SUCCESS;
     if (id == 0x0100) return tell_banks(module), SUCCESS;
     if (module->password != 0 && !module->is_open_to_all) return NO_ACCESS;
     switch (id) {
     case 0x0101: return start(module, body, count);
-    case 0x0102: return module->aborts++, module->open = false, SUCCESS;
+    case 0x0102: return abort_download(module);
     case 0x0103: return take_block(module, body, count);
     case 0x0107: return complete(module);
     case 0x0109: return run(module, body, count);
@@ -180,11 +206,12 @@ static void trigger(struct two_banks *module) {
     memcpy(message + 5, module->page + 8, 120);
     bool loads = module->page[0] == 1 && module->page[1] != 0 && module->page[1] <= 7; /* 0101h to 0107h */
     module->status = BUSY;
-    module->busy_left = 1 + next(module, loads || module->slowest < QUICK ? module->slowest : QUICK);
+    module->busy_left = 1 + next(module, loads ? module->slowest : quick_time(module));
     if (next(module, 300) < module->unlucky) module->busy_left = FOR_EVER;
     if (module->page[4] > 120 || module->page[5] != check_code(message, 5U + module->page[4])) {
         module->status = BAD_CHECK;
         module->busy_left = 0;
+        module->completed = true;
     }
 }
 
@@ -201,6 +228,7 @@ static void end_command(struct two_banks *module) {
     bool fails = next(module, 100) < module->unlucky, late = next(module, 2) == 0;
     uint8_t status = fails && !late ? 0x40 : carry_out(module);
     module->status = fails && status == SUCCESS ? 0x40 : status;
+    module->completed = true;
 }
 
 static void boot(struct two_banks *module, int bank) {
@@ -208,6 +236,7 @@ static void boot(struct two_banks *module, int bank) {
     module->running = can_run ? bank : module->committed[0] && module->valid[0] ? 0 : 1;
     module->restarts++;
     module->status = 0;
+    module->completed = false;
     module->busy_left = module->reset_left = 0;
     module->off_left = 200 + next(module, 2000);
     module->open = module->open && can_run && next(module, 2) == 0;

@@ -1,4 +1,4 @@
-/* The firmware of a module with two banks, as its host sees it: byte 37 and page 9Fh. Written from OIF-CMIS-05.0, "CDB Messaging" and the
+/* The firmware of a module with two banks, as its host sees it: bytes 8 and 37, and page 9Fh. Written from OIF-CMIS-05.0, "CDB Messaging" and the
    commands that manage firmware, apart from the library. */
 #ifndef TWO_BANKS_H
 #define TWO_BANKS_H
@@ -20,6 +20,7 @@ struct two_banks {
 
     /* page 9Fh, and the command in hand */
     uint8_t page[128], status;
+    bool completed;                /* CdbCmdCompleteFlag1, until byte 8 is fetched */
     unsigned busy_left;            /* milliseconds until it ends; 0 if none is in hand */
     unsigned reset_left, off_left; /* until the reset of a Run; until the module is back from one */
     int reset_to;
@@ -30,6 +31,8 @@ struct two_banks {
     uint8_t mechanism;   /* 01h: blocks by the local payload */
     uint8_t reply_count; /* bytes of the reply about the banks */
     uint8_t instances;   /* that page 01h advertises */
+    uint8_t not_again;   /* the status of a Start while a download is open; 0: that one begins anew */
+    bool aborts_none;    /* it has no command that gives up a download */
     bool background;     /* it answers while it is busy */
     bool tens;           /* its durations count tens of milliseconds */
     bool boots;          /* what is loaded can run */
@@ -46,7 +49,8 @@ struct two_banks {
 
 void begin_two_banks(struct two_banks *module, uint64_t seed);
 void load_bank(struct two_banks *module, int bank, const uint8_t *image, uint32_t length);
-bool is_deaf(const struct two_banks *module); /* it refuses each transaction */
+bool is_deaf(const struct two_banks *module);  /* it refuses each transaction */
+uint8_t fetch_flags(struct two_banks *module); /* byte 8 */
 uint8_t fetch_status(const struct two_banks *module);
 uint8_t fetch_of_block(const struct two_banks *module, uint8_t address);
 void store_to_block(struct two_banks *module, uint8_t address, uint8_t byte);

@@ -22,16 +22,17 @@ static const char *const known_sentences[10] = {
     "the new image runs, and is not committed: a reset brings the old one back",
     "the new image ran, and may be committed: ask which bank is",
     "the new image runs and is committed"};
-static const char *const fault_words[7] = {"done",        "refused",      "unsent", "unknown",
-                                           "unsupported", "not-standing", "gave-up"};
-static const char *const fault_sentences[7] = {
+static const char *const fault_words[8] = {"done",        "refused",      "unsent",  "unknown",
+                                           "unsupported", "not-standing", "gave-up", "left-open"};
+static const char *const fault_sentences[8] = {
     "",
     "the module refuses",
     "a command could not be sent",
     "what came of a command is not known",
     "the module takes no blocks of the local payload, or more at the start than the file has",
     "no bank alone runs, is committed and valid: commit what runs, or reset, first",
-    "the module did not do it as often as it was asked"};
+    "the module did not do it as often as it was asked",
+    "the module refuses to begin, as while an earlier download is open: abort that, or reset the module"};
 
 bool read_file(struct port *port, const char *name) {
     FILE *in = fopen(name, "rb");
@@ -234,6 +235,18 @@ static enum status stop_update(struct sending *sending) {
     return progress.known == DOVECOUNTER_FIRMWARE_UNTOUCHED ? REFUSED : NOT_PROVISIONED;
 }
 
+/* Whether it came to its end. It begins once more if the module refused to begin, and an earlier download was given up. */
+static bool send_update(struct sending *sending, struct dovecounter_update_ending *ending) {
+    struct port *port = sending->port;
+    for (bool is_first = true;; is_first = false) {
+        dovecounter_update_begin((uint32_t)port->file_size, port->no_commit, &sending->update);
+        if (!send(sending, ending)) return false;
+        bool is_free = ending->fault == DOVECOUNTER_UPDATE_LEFT_OPEN && ending->known == DOVECOUNTER_FIRMWARE_ABORTED;
+        if (!is_free || !is_first) return true;
+        warnx("%s: an earlier download was open, and was given up: the update begins again", port->bus.name);
+    }
+}
+
 enum status firmware_update(struct port *port) {
     struct sending sending = {.port = port, .file = port->file, .size = port->file_size};
     struct dovecounter_update_ending ending;
@@ -241,8 +254,7 @@ enum status firmware_update(struct port *port) {
     if (!may_reset(port)) return IN_USE;
     print_now(port);
     port->patient = true;
-    dovecounter_update_begin((uint32_t)port->file_size, port->no_commit, &sending.update);
-    if (!send(&sending, &ending)) return stop_update(&sending);
+    if (!send_update(&sending, &ending)) return stop_update(&sending);
     if (port->json)
         printf("{\"ended\": \"%s\", \"status\": %u, \"known\": \"%s\"}\n", fault_words[ending.fault], ending.status,
                known_words[ending.known]);

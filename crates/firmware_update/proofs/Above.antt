@@ -1,5 +1,5 @@
 -- What the stage and the fault of an update show of the module.
-use Rattle.std.proofs.Common.{◌≡◌, ◌⊎◌, ℕ, ◌-◌, ◌≤◌, ◌==◌, nat_lt, Bool, true, false, cond, [], ◌∷◌, Option, Some, None, arith, refl, sym, subst, inl, inr}
+use Rattle.std.proofs.Common.{◌≡◌, ◌⊎◌, ℕ, ◌-◌, ◌≤◌, ◌==◌, ◌||◌, nat_lt, Bool, true, false, cond, [], ◌∷◌, Option, Some, None, arith, refl, sym, subst, inl, inr}
 use Rattle.std.proofs.lemmas.Bool.{eqb-true, le-ltb}
 use Rattle.arrayvec.specs.ArrayVec.{ArrayVec}
 use Rattle.firmware_update.specs.declared.bank.Bank.{Bank}
@@ -19,8 +19,8 @@ use Rattle.firmware_update.specs.declared.update.Stage.TheVariants.{Asking, Look
 use Rattle.firmware_update.specs.Blocks.{block_length}
 use Rattle.firmware_update.specs.Exchanges.{History, MayHold, Stands, Succeeds}
 use Rattle.firmware_update.specs.Safety.{ReportsNew}
-use Rattle.firmware_update.specs.KnownStates.{NoneAbove, Shows, known_by, known_open, level}
-use Rattle.firmware_update.specs.Progress.{AbortsOn, HasClosed, HasComeTo, HasFailed, IsAsking, IsAtStage, IsCommitting, IsFinished, IsLooking, IsRunning, IsSending, IsStarting, IsVerifying, IsWatching, is_open, judged, sending}
+use Rattle.firmware_update.specs.KnownStates.{NoneAbove, Shows, known_begun, known_by, known_open, level}
+use Rattle.firmware_update.specs.Progress.{AbortsOn, HasClosed, HasComeTo, HasFailed, IsAsking, IsAtStage, IsCommitting, IsFinished, IsLooking, IsRunning, IsSending, IsStarting, IsVerifying, IsWatching, is_open, judged, refused_start, sending}
 
 below : (x : Exchange) (command : Command) (most : ℕ) → x.command ≡ command → level command ≤ most → MayHold x.outcome → level x.command ≤ most
 below x command most is low may = subst (λ (c : Command). level c ≤ most) (sym is) low
@@ -88,6 +88,11 @@ module _ (size : ℕ) where
   the : (x : Exchange) (wanted : Command) → Some wanted ≡ Some x.command → x.command ≡ wanted
   the x wanted e = cc
 
+  -- one that is refused was not carried out, whatever that is judged to be
+  refused_shows : (b : Bool) (code : ℕ) (h : History) → NoneAbove 0 h → Shows (known_begun (Some (cond b (causes.LeftOpen code) (causes.Refused code)))) h
+  refused_shows true code h none = more 0 1 h (omega arith) none
+  refused_shows false code h none = none
+
   -- a Start that may have been carried out ends it in Unknown
   start_failed : (header : ℕ) (old : Bank) (cause : Cause) (x : Exchange) (before : History) → x.command ≡ Start header → IsAtStage size (Starting header old) before
       → (outcome : Outcome) → x.outcome ≡ outcome
@@ -96,9 +101,9 @@ module _ (size : ℕ) where
   start_failed header old cause x before is at (Succeeded reply) was (inl e) = absurd cc
   start_failed header old cause x before is at (Succeeded reply) was (inr (g, e)) = absurd cc
   start_failed header old cause x before is at (Failed code) was (inl e) =
-      let c : causes.Refused code ≡ cause = cc in
+      let c : refused_start code ≡ cause = cc in
       subst (λ (k : Cause). Shows (known_open (Starting header old) (Some k)) (x ∷ before)) c
-      ((λ may. absurd (subst MayHold was may)), starting header old before at.0)
+      (refused_shows (code == 67 || code == 71) code (x ∷ before) ((λ may. absurd (subst MayHold was may)), starting header old before at.0))
   start_failed header old cause x before is at (Failed code) was (inr (g, e)) = absurd cc
   start_failed header old cause x before is at outcomes.Unsent was (inl e) =
       let c : causes.Unsent ≡ cause = cc in
@@ -119,6 +124,7 @@ module _ (size : ℕ) where
   begun header old address causes.Unsupported h none = none
   begun header old address causes.NotStanding h none = none
   begun header old address causes.GaveUp h none = none
+  begun header old address (causes.LeftOpen code) h none = none
 
   complete_failed : (header : ℕ) (old : Bank) (address : ℕ) (cause : Cause) (x : Exchange) (before : History) (b : Bool)
       → cond b Complete (Block header address) ≡ x.command → NoneAbove 1 before → (outcome : Outcome) → x.outcome ≡ outcome → (some : Bool) → (b ≡ true → some ≡ false)
@@ -206,6 +212,7 @@ module _ (size : ℕ) where
   abort_shows : (stage : Stage) (cause : Cause) (x : Exchange) (before : History) → x.command ≡ Abort → is_open stage cause ≡ true
       → Shows (known_open stage (Some cause)) before → Shows (known_open stage (Some cause)) (x ∷ before)
   abort_shows (Starting header old) causes.Unknown x before is opened none = (below x Abort 1 is (omega arith), none)
+  abort_shows (Starting header old) (causes.LeftOpen code) x before is opened none = (below x Abort 1 is (omega arith), none)
   abort_shows (Starting header old) (causes.Refused code) x before is opened none = absurd cc
   abort_shows (Starting header old) causes.Unsent x before is opened none = absurd cc
   abort_shows (Starting header old) causes.Unsupported x before is opened none = absurd cc
@@ -217,6 +224,7 @@ module _ (size : ℕ) where
   abort_shows (Sending header old address) causes.Unsupported x before is opened none = (below x Abort 1 is (omega arith), none)
   abort_shows (Sending header old address) causes.NotStanding x before is opened none = (below x Abort 1 is (omega arith), none)
   abort_shows (Sending header old address) causes.GaveUp x before is opened none = (below x Abort 1 is (omega arith), none)
+  abort_shows (Sending header old address) (causes.LeftOpen code) x before is opened none = (below x Abort 1 is (omega arith), none)
   abort_shows Asking cause x before is opened none = absurd cc
   abort_shows (Looking header) cause x before is opened none = absurd cc
   abort_shows (Running old) cause x before is opened none = absurd cc
@@ -227,6 +235,7 @@ module _ (size : ℕ) where
 
   open_below : (stage : Stage) (cause : Cause) (h : History) → is_open stage cause ≡ true → Shows (known_open stage (Some cause)) h → NoneAbove 2 h
   open_below (Starting header old) causes.Unknown h opened none = more 1 2 h (omega arith) none
+  open_below (Starting header old) (causes.LeftOpen code) h opened none = more 1 2 h (omega arith) none
   open_below (Starting header old) (causes.Refused code) h opened none = absurd cc
   open_below (Starting header old) causes.Unsent h opened none = absurd cc
   open_below (Starting header old) causes.Unsupported h opened none = absurd cc
@@ -238,6 +247,7 @@ module _ (size : ℕ) where
   open_below (Sending header old address) causes.Unsupported h opened none = more 1 2 h (omega arith) none
   open_below (Sending header old address) causes.NotStanding h opened none = more 1 2 h (omega arith) none
   open_below (Sending header old address) causes.GaveUp h opened none = more 1 2 h (omega arith) none
+  open_below (Sending header old address) (causes.LeftOpen code) h opened none = more 1 2 h (omega arith) none
   open_below Asking cause h opened none = absurd cc
   open_below (Looking header) cause h opened none = absurd cc
   open_below (Running old) cause h opened none = absurd cc

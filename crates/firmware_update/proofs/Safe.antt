@@ -227,6 +227,7 @@ module _ (size : ℕ) where
 
   failed_downloading : (stage : Stage) (cause : Cause) (x : Exchange) (before : History) → HasFailed size stage cause (x ∷ before) → is_open stage cause ≡ true → IsDownloading (x ∷ before)
   failed_downloading (Starting header old) causes.Unknown x before (is, why, at) opened = inl (subst IsStart (sym (the x (Start header) is)) tt)
+  failed_downloading (Starting header old) (causes.LeftOpen code) x before (is, why, at) opened = inl (subst IsStart (sym (the x (Start header) is)) tt)
   failed_downloading (Starting header old) (causes.Refused code) x before has opened = absurd cc
   failed_downloading (Starting header old) causes.Unsent x before has opened = absurd cc
   failed_downloading (Starting header old) causes.Unsupported x before has opened = absurd cc

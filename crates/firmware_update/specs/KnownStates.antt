@@ -7,7 +7,7 @@ use Rattle.firmware_update.specs.declared.command.Command.TheVariants as command
 use Rattle.firmware_update.specs.declared.known.Known.{Known}
 use Rattle.firmware_update.specs.declared.known.Known.TheVariants.{Untouched, Begun, Aborted, MayBeComplete, Complete, MayRun, Runs, MayBeCommitted, Committed}
 use Rattle.firmware_update.specs.declared.update.Cause.{Cause}
-use Rattle.firmware_update.specs.declared.update.Cause.TheVariants.{Refused, Unsent, Unknown, Unsupported, NotStanding, GaveUp}
+use Rattle.firmware_update.specs.declared.update.Cause.TheVariants.{Refused, Unsent, Unknown, Unsupported, NotStanding, GaveUp, LeftOpen}
 use Rattle.firmware_update.specs.declared.update.Closing.{Closing}
 use Rattle.firmware_update.specs.declared.update.Closing.TheVariants.{Due, Closed, Left}
 use Rattle.firmware_update.specs.declared.update.Stage.{Stage}
@@ -44,6 +44,17 @@ Shows Runs history = NoneAbove 3 history × ((old : Bank) × Stands (ReportsNew 
 Shows MayBeCommitted history = (old : Bank) × Stands (ReportsNew old) history
 Shows Committed history = (old : Bank) × Newest (Gave Info (λ reply. new_is_committed old reply ≡ true)) history
 
+-- a Start may have begun a download, or an earlier one is open
+abbrev pub known_begun : Option Cause → Known
+known_begun None = Untouched
+known_begun (Some Unknown) = Begun
+known_begun (Some (LeftOpen code)) = Begun
+known_begun (Some (Refused code)) = Untouched
+known_begun (Some Unsent) = Untouched
+known_begun (Some Unsupported) = Untouched
+known_begun (Some NotStanding) = Untouched
+known_begun (Some GaveUp) = Untouched
+
 abbrev pub if_unknown : Option Cause → Known → Known → Known
 if_unknown None known other = other
 if_unknown (Some Unknown) known other = known
@@ -52,11 +63,12 @@ if_unknown (Some Unsent) known other = other
 if_unknown (Some Unsupported) known other = other
 if_unknown (Some NotStanding) known other = other
 if_unknown (Some GaveUp) known other = other
+if_unknown (Some (LeftOpen code)) known other = other
 
 abbrev pub known_open : Stage → Option Cause → Known
 known_open Asking fault = Untouched
 known_open (Looking header) fault = Untouched
-known_open (Starting header old) fault = if_unknown fault Begun Untouched
+known_open (Starting header old) fault = known_begun fault
 known_open (Sending header old address) fault = if_unknown fault MayBeComplete Begun
 known_open (Running old) fault = Complete
 known_open (Watching old) fault = MayRun

@@ -1,6 +1,6 @@
 -- How far an update has come, by its exchanges with the newest first, what it sends next, and how it ends. (this project's
 -- own)
-use Rattle.std.specs.Prelude.{◌≡◌, ◌⊎◌, ℕ, ◌+◌, ◌-◌, ◌*◌, ◌<◌, ◌==◌, nat_lt, Bool, true, false, List, [], ◌∷◌, Option, Some, None, Ok, Err, if◌then◌else◌}
+use Rattle.std.specs.Prelude.{◌≡◌, ◌⊎◌, ℕ, ◌+◌, ◌-◌, ◌*◌, ◌<◌, ◌==◌, ◌||◌, nat_lt, Bool, true, false, List, [], ◌∷◌, Option, Some, None, Ok, Err, if◌then◌else◌}
 use Rattle.firmware_update.specs.declared.bank.Bank.{Bank}
 use Rattle.firmware_update.specs.declared.command.Command.{Command}
 use Rattle.firmware_update.specs.declared.command.Command.TheVariants.{Features, Info, Start, Block, Complete, Abort, Run, Commit}
@@ -51,6 +51,7 @@ next_command (Some command) = Send command
 -- the fault leaves a download open, perhaps
 abbrev pub is_open : Stage → Cause → Bool
 is_open (Starting header old) causes.Unknown = true
+is_open (Starting header old) (causes.LeftOpen code) = true
 is_open (Sending header old address) cause = true
 is_open stage cause = false
 
@@ -96,7 +97,13 @@ judged_reply size (Committing old) reply = On (Verifying old)
 judged_reply size (Verifying old) reply = on_or_again Finished (new_is_committed old reply)
 judged_reply size Finished reply = Again
 
+-- the statuses with which a Start is refused while an earlier download is open: an earlier command was not ended (43h), or this
+-- one can't be carried out now (47h)
+abbrev pub refused_start : ℕ → Cause
+refused_start code = if code == 67 || code == 71 then causes.LeftOpen code else causes.Refused code
+
 abbrev pub judged_failed : Stage → ℕ → Judgement
+judged_failed (Starting header old) code = Fails (refused_start code)
 judged_failed (Watching old) code = Again
 judged_failed (Verifying old) code = Again
 judged_failed _ code = Fails (causes.Refused code)

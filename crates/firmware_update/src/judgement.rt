@@ -1,5 +1,5 @@
 ghost use Rattle.std.specs.Prelude.{◌≡◌};
-ghost use Rattle.firmware_update.specs.Progress.{after_features, after_info, again_if_query, judged, judged_failed, judged_reply, judged_unknown, judged_unsent, on_or_again, sent_block};
+ghost use Rattle.firmware_update.specs.Progress.{after_features, after_info, again_if_query, judged, judged_failed, judged_reply, judged_unknown, judged_unsent, on_or_again, refused_start, sent_block};
 
 use crate::bank::Bank;
 use crate::command::block_length;
@@ -105,7 +105,19 @@ fn judged_failed(stage: Stage, code: u8) -> Judgement
 {
     match stage {
         Stage::Watching { .. } | Stage::Verifying { .. } => Judgement::Again,
+        Stage::Starting { .. } => Judgement::Fails(refused_start(code)),
         _ => Judgement::Fails(Cause::Refused(code)),
+    }
+}
+
+// A Start is refused with 43h or 47h while an earlier download is open.
+fn refused_start(code: u8) -> Cause
+    ensures { result ≡ refused_start code }
+{
+    if code == 0x43 || code == 0x47 {
+        Cause::LeftOpen(code)
+    } else {
+        Cause::Refused(code)
     }
 }
 

@@ -3,7 +3,7 @@
 pub enum Known {
     /// Nothing was begun.
     Untouched,
-    /// A download was begun, perhaps, and may be aborted. The old image runs and is committed.
+    /// A download is open, perhaps, this one or an earlier one, and may be aborted. The old image runs and is committed.
     Begun,
     /// A download was begun and then aborted. The old image runs and is committed.
     Aborted,

@@ -4,7 +4,7 @@ ghost use Rattle.firmware_update.specs.declared.command.Command.{Command};
 ghost use Rattle.firmware_update.specs.declared.update.UpdateNext.TheVariants.{Send, Done};
 ghost use Rattle.firmware_update.specs.Exchanges.{History};
 ghost use Rattle.firmware_update.specs.Safety.{IsSafe, MaySend};
-ghost use Rattle.firmware_update.specs.KnownStates.{Shows, known_at, known_open};
+ghost use Rattle.firmware_update.specs.KnownStates.{Shows, known_at, known_begun, known_open};
 ghost use Rattle.firmware_update.specs.Payloads.{HasRoom};
 ghost use Rattle.firmware_update.specs.Progress.{IsAt, IsFinished, aborted, begun_update, command_at, exchange_of, is_open, left, most_left, next, next_closing, sending, settled, taken};
 
@@ -55,6 +55,8 @@ pub enum Cause {
     NotStanding,
     /// It was asked, or a block was sent, as often as it may be.
     GaveUp,
+    /// The module refuses to begin, with this status, as it does while a download that was begun earlier is open.
+    LeftOpen(u8),
 }
 
 /// What became of a download that a fault left open.
@@ -142,8 +144,7 @@ impl Update {
         let unknown = matches!(self.fault, Some(Cause::Unknown));
         match self.stage {
             Stage::Asking | Stage::Looking { .. } => Known::Untouched,
-            Stage::Starting { .. } if unknown => Known::Begun,
-            Stage::Starting { .. } => Known::Untouched,
+            Stage::Starting { .. } => known_begun(self.fault),
             Stage::Sending { .. } if unknown => Known::MayBeComplete,
             Stage::Sending { .. } => Known::Begun,
             Stage::Running { .. } => Known::Complete,
@@ -244,6 +245,16 @@ impl Update {
     }
 }
 
+// What is known after a Start: a download may be open, this one or an earlier one.
+fn known_begun(fault: Option<Cause>) -> Known
+    ensures { result ≡ known_begun fault }
+{
+    match fault {
+        Some(Cause::Unknown | Cause::LeftOpen(_)) => Known::Begun,
+        _ => Known::Untouched,
+    }
+}
+
 // An Abort, where a download may be open and none had an answer yet, or the end.
 fn next_closing(stage: Stage, cause: Cause, closing: Closing) -> UpdateNext
     ensures { result ≡ next_closing (is_open stage cause) closing cause }
@@ -258,7 +269,7 @@ fn is_open(stage: Stage, cause: Cause) -> bool
     ensures { result ≡ is_open stage cause }
 {
     match stage {
-        Stage::Starting { .. } => matches!(cause, Cause::Unknown),
+        Stage::Starting { .. } => matches!(cause, Cause::Unknown | Cause::LeftOpen(_)),
         Stage::Sending { .. } => true,
         _ => false,
     }

@@ -11,7 +11,7 @@ use Rattle.firmware_update.specs.declared.known.Known.{Known}
 use Rattle.firmware_update.specs.declared.known.Known.TheVariants.{Untouched, Begun, Aborted, MayBeComplete, Complete, MayRun, Runs, MayBeCommitted, Committed}
 use Rattle.firmware_update.specs.declared.session.Session.{Session}
 use Rattle.firmware_update.specs.declared.update.Cause.{Cause}
-use Rattle.firmware_update.specs.declared.update.Cause.TheVariants.{Refused, Unsent, Unknown, Unsupported, NotStanding, GaveUp}
+use Rattle.firmware_update.specs.declared.update.Cause.TheVariants.{Refused, Unsent, Unknown, Unsupported, NotStanding, GaveUp, LeftOpen}
 use Rattle.firmware_update.specs.declared.update.Stage.{Stage}
 use Rattle.firmware_update.specs.declared.update.Stage.TheVariants.{Asking, Looking, Starting, Sending, Running, Watching, Committing, Verifying, Finished}
 use Rattle.firmware_update.specs.declared.update.Update.{Update}
@@ -54,6 +54,7 @@ numbers_of_cause Unknown = (3, 0)
 numbers_of_cause Unsupported = (4, 0)
 numbers_of_cause NotStanding = (5, 0)
 numbers_of_cause GaveUp = (6, 0)
+numbers_of_cause (LeftOpen status) = (7, status)
 
 abbrev pub updated : ℕ → Result ⊤ Cause → SavedEnding
 updated known (Ok done) = without_reply 0 0 known

@@ -61,7 +61,8 @@ fault_in number status =
     else (if number == 3 then Some causes.Unknown
     else (if number == 4 then Some causes.Unsupported
     else (if number == 5 then Some causes.NotStanding
-    else Some causes.GaveUp)))))
+    else (if number == 7 then Some (causes.LeftOpen status)
+    else Some causes.GaveUp))))))
 
 abbrev pub closing_in : ℕ → Closing
 closing_in number = if number == 1 then Closed else (if number == 2 then Left else Due)

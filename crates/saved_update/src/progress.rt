@@ -69,6 +69,7 @@ fn numbers_of_cause(cause: Cause) -> (u8, u8)
         Cause::Unsupported => (4, 0),
         Cause::NotStanding => (5, 0),
         Cause::GaveUp => (6, 0),
+        Cause::LeftOpen(status) => (7, status),
     }
 }
 

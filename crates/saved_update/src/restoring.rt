@@ -193,6 +193,7 @@ fn fault_in(number: u8, status: u8) -> Option<Cause>
         3 => Some(Cause::Unknown),
         4 => Some(Cause::Unsupported),
         5 => Some(Cause::NotStanding),
+        7 => Some(Cause::LeftOpen(status)),
         _ => Some(Cause::GaveUp),
     }
 }

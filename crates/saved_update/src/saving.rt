@@ -164,6 +164,7 @@ fn numbers_of_fault(fault: Option<Cause>) -> (u8, u8)
         Some(Cause::Unsupported) => (4, 0),
         Some(Cause::NotStanding) => (5, 0),
         Some(Cause::GaveUp) => (6, 0),
+        Some(Cause::LeftOpen(status)) => (7, status),
     }
 }
 

@@ -22,7 +22,11 @@ struct TwoBanks {
     // How often it says that it is busy with a command, and still will.
     slowness: u16,
     busy: u16,
+    // With which status it refuses a Start while an earlier download is open, or 0; how it ended the last command.
+    refusal: u8,
+    status: u8,
     starts: u8,
+    aborts: u8,
     runs: u8,
     commits: u8,
     waited: u32,
@@ -46,7 +50,10 @@ impl TwoBanks {
             hides_run: false,
             slowness: 0,
             busy: 0,
+            refusal: 0,
+            status: 0,
             starts: 0,
+            aborts: 0,
             runs: 0,
             commits: 0,
             waited: 0,
@@ -65,6 +72,7 @@ impl TwoBanks {
 
     // Replies come with their lengths and check codes.
     fn carry_out(&mut self, id: u16) {
+        self.status = 0x01;
         match id {
             0x0041 => {
                 self.page[6] = 18;
@@ -77,6 +85,11 @@ impl TwoBanks {
                 self.page[6] = 1;
                 self.page[7] = 255 - info;
                 self.page[8] = info;
+            }
+            0x0101 if self.refusal != 0 => self.status = self.refusal,
+            0x0102 => {
+                self.aborts = self.aborts.saturating_add(1);
+                self.refusal = 0;
             }
             0x0101 => {
                 self.starts = self.starts.saturating_add(1);
@@ -99,7 +112,7 @@ impl TwoBanks {
     }
 
     fn show_status(&mut self) {
-        self.lower[37] = if self.busy > 0 { 0x83 } else { 0x01 };
+        self.lower[37] = if self.busy > 0 { 0x83 } else { self.status };
     }
 
     // The bytes of the body behind its first ones.
@@ -235,6 +248,46 @@ fn no_download_begins_over_a_committed_image(rt: HostRuntime) -> Result<(), Fail
         )
     );
     assert_eq!(rt; (module.starts, module.runs, module.commits), (0, 0, 0));
+    Ok(())
+}
+
+fn ended(run: UpdateRun<()>) -> Option<(Known, Result<(), Cause>)> {
+    match run {
+        UpdateRun::Over { known, end } => Some((known, end)),
+        UpdateRun::Stopped(()) => None,
+    }
+}
+
+// An earlier download is open: the update gives it up, and the next one begins.
+#[test]
+fn an_earlier_download_is_given_up(rt: HostRuntime) -> Result<(), Fail> {
+    for status in [0x43, 0x47] {
+        let mut module = TwoBanks::standing();
+        module.refusal = status;
+        assert_eq!(rt;
+            ended(run_update(&mut module, &FILE)),
+            Some((Known::Aborted, Err(Cause::LeftOpen(status))))
+        );
+        assert_eq!(rt; (module.starts, module.aborts, module.runs), (0, 1, 0));
+        assert_eq!(rt;
+            ended(run_update(&mut module, &FILE)),
+            Some((Known::Committed, Ok(())))
+        );
+        assert_eq!(rt; (module.starts, module.aborts, module.commits), (1, 1, 1));
+    }
+    Ok(())
+}
+
+// It is refused for another reason.
+#[test]
+fn another_refusal_of_a_start_aborts_nothing(rt: HostRuntime) -> Result<(), Fail> {
+    let mut module = TwoBanks::standing();
+    module.refusal = 0x42;
+    assert_eq!(rt;
+        ended(run_update(&mut module, &FILE)),
+        Some((Known::Untouched, Err(Cause::Refused(0x42))))
+    );
+    assert_eq!(rt; (module.starts, module.aborts), (0, 0));
     Ok(())
 }
 
