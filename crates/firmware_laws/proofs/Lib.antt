@@ -3,6 +3,7 @@ pub mod Downloads
 pub mod KeptBanks
 pub mod WholeImage
 pub mod Once
+pub mod Again
 pub mod Samples
 pub mod Feasible
 pub mod Needed

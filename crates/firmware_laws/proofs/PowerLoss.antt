@@ -44,7 +44,7 @@ alone firmware B B only is = refl
 abbrev pub IsSteady : Bank → Firmware → Type 0
 IsSteady old firmware = IsStanding old firmware × IsQuiet firmware
 
-endures_quiet : (before after : Firmware) → Endures before after → IsQuiet before → IsQuiet after
+pub endures_quiet : (before after : Firmware) → Endures before after → IsQuiet before → IsQuiet after
 endures_quiet before after (inl same) quiet = ap (λ (f : Firmware). f.reset) same ∙ quiet
 endures_quiet before after (inr (inl (keeps, boots, opened, still))) quiet = still
 endures_quiet before after (inr (inr (bank, was, keeps, well, runs_it, opened, still))) quiet = still

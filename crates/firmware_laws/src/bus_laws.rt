@@ -16,9 +16,11 @@ ghost use Rattle.firmware_update.specs.declared.update.Update.{Update};
 ghost use Rattle.firmware_update.specs.declared.update.UpdateNext.TheVariants.{Done};
 ghost use Rattle.firmware_update.specs.Courses.{IsCourse, IsOnBus};
 ghost use Rattle.firmware_update.specs.Exchanges.{History};
+ghost use Rattle.firmware_update.specs.KnownStates.{known_at};
 ghost use Rattle.firmware_update.specs.Progress.{IsAt, next};
 ghost use Rattle.firmware_update.specs.Runs.{IsShort};
 ghost use Rattle.firmware_update.specs.Safety.{IsSafe};
+ghost use Rattle.firmware_laws.specs.Again.{HasRunNothing};
 ghost use Rattle.firmware_laws.specs.AtTheBus.{ComesOnBus, StandsAfter};
 ghost use Rattle.firmware_laws.specs.Contents.{IsOldOrNew, StoresContents};
 ghost use Rattle.firmware_laws.specs.Heard.{heard};
@@ -40,7 +42,7 @@ pub fn outcomes_are_what_happened()
 
 /// On such a bus a module with two banks and a committed image that can run always has one, also in the midst of a message, and when
 /// power comes back such an image runs. The image is one that was committed at the beginning, or the whole file; and where an update
-/// has come to its end, the whole file runs and is committed, alone.
+/// has come to its end, the whole file runs and is committed, alone. Where one has run nothing, another may follow.
 pub fn power_loss_on_the_bus_leaves_an_image()
     ensures always { (conduct : Conduct) (file : List ℕ) (history : History) (events : Events) (first last : Firmware) → HasTwoBanks conduct →
         HasImage first → IsQuiet first → IsSafe (length file) history → ComesOnBus conduct file first history events last → HasImage last }
@@ -53,6 +55,9 @@ pub fn power_loss_on_the_bus_leaves_an_image()
     ensures ends { (conduct : Conduct) (file : List ℕ) (history : History) (events : Events) (update : Update) (first last : Firmware) →
         HasTwoBanks conduct → StoresContents conduct → IsQuiet first → IsAt (length file) history update → next update ≡ Done (Ok tt) →
         ComesOnBus conduct file first history events last → (bank : Bank) × IsStanding bank last × ((held last bank).image ≡ file) }
+    ensures again { (conduct : Conduct) (file : List ℕ) (history : History) (events : Events) (update : Update) (first last : Firmware) →
+        HasTwoBanks conduct → HasImage first → IsQuiet first → IsAt (length file) history update → HasRunNothing (known_at update) →
+        ComesOnBus conduct file first history events last → HasImage last × IsQuiet last }
     ensures courses { (conduct : Conduct) (file : List ℕ) (history : History) (events : Events) (first last : Firmware) →
         ComesOnBus conduct file first history events last → IsCourse file history events }
 {}

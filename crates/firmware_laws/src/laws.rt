@@ -5,11 +5,13 @@ ghost use Rattle.firmware_update.specs.declared.command.Command.{Command};
 ghost use Rattle.firmware_update.specs.declared.command.Command.TheVariants.{Complete, Run, Start};
 ghost use Rattle.firmware_update.specs.declared.update.Update.{Update};
 ghost use Rattle.firmware_update.specs.declared.update.UpdateNext.TheVariants.{Done};
+ghost use Rattle.firmware_laws.specs.Again.{HasRunNothing};
 ghost use Rattle.firmware_laws.specs.Contents.{BlocksAreStored, BlocksKeepOthers, CompletesMakeImages, IsOldOrNew, StartsAreKept, StoresContents};
 ghost use Rattle.firmware_update.specs.Exchanges.{History, Stands};
 ghost use Rattle.firmware_laws.specs.Looser.{IsUnseen};
 ghost use Rattle.firmware_laws.specs.Losses.{CanBeLost, CanBeMixed};
 ghost use Rattle.firmware_laws.specs.Modules.{ComesTo, CommitIsAtomic, Conduct, DownloadsGoAside, Firmware, HasImage, HasTwoBanks, InfoIsTrue, IsImage, IsQuiet, IsStanding, Loses, QuestionsChangeNothing, Resets, RunsKeepBanks, held};
+ghost use Rattle.firmware_update.specs.KnownStates.{known_at};
 ghost use Rattle.firmware_update.specs.Payloads.{accepted, message_of};
 ghost use Rattle.firmware_update.specs.Progress.{IsAt, next};
 ghost use Rattle.firmware_update.specs.Replies.{other_bank};
@@ -108,6 +110,14 @@ pub fn the_committed_image_is_whole()
         HasTwoBanks conduct → StoresContents conduct → IsQuiet first → IsAt (length file) history update → next update ≡ Done (Ok tt) →
         ComesTo conduct file first history last →
         (bank : Bank) × IsStanding bank last × ((held last bank).image ≡ file) }
+{}
+
+/// An update that ran nothing may be followed by another: as at the beginning, there is a committed image that can run, and no reset is
+/// still to come. So is one that the module refused to begin, since an earlier download was open, which was given up or not.
+pub fn another_update_may_follow()
+    ensures { (conduct : Conduct) (file : List ℕ) (history : History) (update : Update) (first last : Firmware) → HasTwoBanks conduct →
+        HasImage first → IsQuiet first → IsAt (length file) history update → HasRunNothing (known_at update) →
+        ComesTo conduct file first history last → HasImage last × IsQuiet last }
 {}
 
 /// What is not harmless twice is sent once: a Start, and a Run.
