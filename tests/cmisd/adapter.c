@@ -1,6 +1,7 @@
 /* Adapters with simulated modules, each in a file that the test has in memory too: so a module outlives the daemon, and the test sees what
    becomes of it, and lets it be plugged, pulled, reset or silent. The daemon is linked with these in place of the system's calls. */
 #include "../../tools/cmis_port/bus.h"
+#include "../port/two_banks.c"
 
 #include <errno.h>
 #include <fcntl.h>
@@ -14,18 +15,18 @@
 #include <sys/stat.h>
 #include <unistd.h>
 
-enum { SIZE = 1 << 14, READY = 3, ACTIVATED = 4, MOST_TICKS = 2000 };
+enum { SIZE = 1 << 18, READY = 3, ACTIVATED = 4, MOST_TICKS = 2000 };
 
 /* The numbers come first, in the order that `run` knows. */
 struct adapter {
     /* what the test asks for */
     uint32_t present, refuse, late, blocks, serial, resets, pin, raises, smbus, rejects, identifier;
-    uint32_t wanted[8];
-    uint32_t unused[13];
+    uint32_t wanted[8], has_firmware;
+    uint32_t unused[12];
     /* what became of it */
     uint32_t transactions, refused, stores, needless, dropped, unread, state, deinit;
     uint32_t paths[8], active[8];
-    uint32_t seen_serial, seen_resets, read_lower, read_lanes, stores_of_power, flags_raised;
+    uint32_t seen_serial, seen_resets, read_lower, read_lanes, stores_of_power, commits;
     uint32_t unused_too[2];
     uint32_t module_flags[32], lane_flags[152]; /* how often each was answered as raised */
     char image[256];
@@ -33,6 +34,7 @@ struct adapter {
     uint64_t random;
     int64_t ticked;
     struct simulated simulated;
+    struct two_banks banks;
 };
 _Static_assert(sizeof(struct adapter) <= SIZE, "the file is too small");
 
@@ -61,13 +63,22 @@ static void begin(struct adapter *it) {
     it->seen_resets = it->resets;
 }
 
+/* Its reset by a Run is one of the module too. */
+static void pass_firmware_time(struct adapter *it, unsigned ticks) {
+    unsigned before = it->banks.restarts;
+    if (it->banks.random == 0) begin_two_banks(&it->banks, 1);
+    pass_time(&it->banks, ticks);
+    if (it->banks.restarts != before) begin(it);
+}
+
 /* A tick is a millisecond. */
 static void let_time_pass(struct adapter *it) {
     int64_t time = now(), ticks = time - it->ticked;
     it->ticked = time;
     dovecounter_module_pin(&it->simulated.module, it->pin != 0);
-    for (ticks = ticks < MOST_TICKS ? ticks : MOST_TICKS; ticks > 0; ticks--)
-        dovecounter_module_tick(&it->simulated.module);
+    ticks = ticks < MOST_TICKS ? ticks : MOST_TICKS;
+    if (it->has_firmware) pass_firmware_time(it, (unsigned)ticks);
+    for (; ticks > 0; ticks--) dovecounter_module_tick(&it->simulated.module);
     if (it->raises > 1000) it->simulated.module.module_flags = 0xFF;
     if (below(it, 1000) < it->raises)
         it->simulated.module.lane_flags[1 + below(it, 18)] |= (uint8_t)(1U << below(it, 8));
@@ -78,7 +89,7 @@ static void let_time_pass(struct adapter *it) {
 /* A store that takes down or applies a lane that is up as wanted is needless; one to another module before it was read is too early. */
 static void judge_store(struct adapter *it, const struct i2c_msg *message) {
     uint8_t offset = message->buf[0];
-    if (offset == 126 || offset == 127) return;
+    if (offset == 126 || offset == 127 || it->simulated.module.page == 0x9F) return;
     it->stores++;
     it->stores_of_power += offset == 26;
     it->unread += !it->read_lower || !it->read_lanes;
@@ -105,10 +116,27 @@ static void judge_fetch(struct adapter *it, unsigned offset, const uint8_t *byte
 
 /* ---- a transaction */
 
+/* Whether byte 37 or page 9Fh is meant. */
+static bool is_of_firmware(const struct adapter *it, uint8_t offset) {
+    return it->has_firmware && (offset == 37 || (offset >= 128 && it->simulated.module.page == 0x9F));
+}
+
+static void use_firmware(struct adapter *it, const struct i2c_rdwr_ioctl_data *data) {
+    const struct i2c_msg *sent = &data->msgs[0], *taken = &data->msgs[1];
+    for (unsigned i = 0; data->nmsgs == 2 && i < taken->len; i++)
+        taken->buf[i] =
+            sent->buf[0] == 37 ? fetch_status(&it->banks) : fetch_of_block(&it->banks, (uint8_t)(sent->buf[0] + i));
+    for (unsigned i = 1; data->nmsgs == 1 && i < sent->len; i++)
+        store_to_block(&it->banks, (uint8_t)(sent->buf[0] + i - 1), sent->buf[i]);
+    it->commits = it->banks.commits;
+}
+
 static bool is_done(struct adapter *it, const struct i2c_rdwr_ioctl_data *data) {
     struct simulated *module = &it->simulated;
     const struct i2c_msg *sent = &data->msgs[0];
     uint8_t device = (uint8_t)(sent->addr << 1), offset = sent->buf[0];
+    if (it->has_firmware && is_deaf(&it->banks)) return false;
+    if (is_of_firmware(it, offset)) return use_firmware(it, data), true;
     if (data->nmsgs == 1)
         return dovecounter_module_store(module->halves, module->count, &module->module, device, offset, sent->buf + 1,
                                         sent->len - 1U) == DOVECOUNTER_DONE;

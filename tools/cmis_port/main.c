@@ -93,6 +93,7 @@ struct command {
     bool plans;                                        /* it takes --keep, --unpaired and --counts-by-id */
     bool stores, forces;                               /* it takes --activate, --ensure and --wake; it takes --force */
     bool resets, shows;                                /* it takes --reset and --no-commit; it takes --json */
+    bool borrows;                                      /* it may have the bus of a port that cmisd keeps */
 };
 
 static bool read_host(struct port *port, const char *name) { return read_weights(name, port->weights); }
@@ -113,15 +114,16 @@ static const struct command *read_words(int count, char **words, struct port *po
         {.name = "provision", .run = provision, .read = read_host, .plans = true, .stores = true, .forces = true},
         {.name = "wake", .run = wake},
         {.name = "sleep", .run = put_to_sleep, .forces = true},
-        {.name = "firmware", .run = firmware, .shows = true},
-        {.name = "firmware", .second = "commit", .run = firmware_commit, .shows = true},
-        {.name = "firmware", .second = "abort", .run = firmware_abort},
+        {.name = "firmware", .run = firmware, .shows = true, .borrows = true},
+        {.name = "firmware", .second = "commit", .run = firmware_commit, .shows = true, .borrows = true},
+        {.name = "firmware", .second = "abort", .run = firmware_abort, .borrows = true},
         {.name = "firmware",
          .second = "update",
          .run = firmware_update,
          .read = read_file,
          .resets = true,
-         .shows = true}};
+         .shows = true,
+         .borrows = true}};
     if (!read_flags(count, words, port) || port->help || optind + 1 >= count) return NULL;
     port->bus.name = words[optind];
     for (const struct command *each = commands; each < commands + sizeof commands / sizeof *commands; each++) {
@@ -140,20 +142,22 @@ static void close_log(struct port *port) {
 
 /* Whatever may keep the program waiting is read before signals are held back, and before the module is touched. */
 static enum status run(const struct command *command, struct port *port, const char *name) {
-    bool ready = (command->read == NULL || command->read(port, name)) && open_port(port);
+    bool ready = command->read == NULL || command->read(port, name);
+    ready = ready && (!command->borrows || borrow_bus(port)) && open_port(port);
     hold_signals(&port->signals);
     enum status status = ready ? command->run(port) : REFUSED;
     unlock_bus(&port->bus);
     release_signals(port);
     if (port->log != NULL) close_log(port);
     close_bus(&port->bus);
+    give_back_bus(port);
     free(port->file);
     return status;
 }
 
 int main(int count, char **words) {
     static char output[1 << 14]; /* holds all of it, to be written where a signal may end the program */
-    struct port port = {.bus = {.file = -1, .lock.file = -1}, .most = 128, .least = 8};
+    struct port port = {.bus = {.file = -1, .lock.file = -1}, .manager = -1, .most = 128, .least = 8};
     fill_streams();
     signal(SIGPIPE, SIG_IGN); /* writes fail instead, */
     signal(SIGXFSZ, SIG_IGN); /* also those above a limit of the file's size */

@@ -20,6 +20,7 @@ struct port {
 
     /* the bus */
     struct bus bus;
+    int manager; /* a connection to cmisd, which lends the bus as long as that stands, or -1 */
     FILE *log;
     uint8_t most, least; /* bytes that the adapter fetches at once: as far as is known, and certainly */
     sigset_t signals;    /* they end the program between two operations */
@@ -46,6 +47,10 @@ void print_now(struct port *port);
 void release_signals(struct port *port);
 bool open_port(struct port *port);
 uint8_t transact(struct port *port, const struct dovecounter_operation *operation, uint8_t bytes[128]);
+
+/* manager.c */
+bool borrow_bus(struct port *port);
+void give_back_bus(struct port *port);
 
 /* module.c */
 enum { MODULE_STATE = 3, PATH_STATES = 128, CONFIG_STATUSES = 202, ACTIVE = 206 }; /* the last three on page 11h */

@@ -34,6 +34,7 @@ struct port {
     struct bus bus;
     struct dovecounter_port core;
     bool is_open, is_held, is_retired; /* is_retired: no longer configured */
+    bool is_lent, is_free;             /* a client has its bus until it is gone; it knows that */
     bool is_blind, is_seen;            /* its pin can't be read; it was read before */
     int64_t due, looks_at; /* when something is to be done next, and when to look whether a module is there */
     int64_t reopens_in;    /* how long to wait if the bus can't be opened */
@@ -60,10 +61,12 @@ extern pthread_mutex_t state;
 extern struct port *ports;
 void begin_ports(void);
 struct port *port_of(const char *name);
+struct port *port_on(const char *bus);
 bool is_still(const struct port *port);
 bool is_there(const struct port *port);
 void request(struct port *port, uint8_t what, uint8_t lanes);
 void hold(struct port *port, bool held);
+void lend(struct port *port, bool lent);
 void apply(const struct configuration *configuration);
 bool stop_all(int64_t most);
 
@@ -92,6 +95,7 @@ enum { MOST_CLIENTS = 16 };
 int open_control(void);
 int ask(int count, char **words);
 void send_to_listeners(const char *line, size_t length);
+void send_to_borrower(const struct port *port);
 size_t list_clients(struct pollfd files[MOST_CLIENTS]);
 void accept_client(int server);
 void serve(int file);

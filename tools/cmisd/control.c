@@ -16,7 +16,8 @@ enum { LINE_SIZE = 128, WORDS = 3 };
 static struct client {
     int file; /* 0 if there is none */
     bool listens;
-    size_t length; /* of what has come of a line */
+    char borrowed[NAME_SIZE]; /* the port whose bus it has, or "" */
+    size_t length;            /* of what has come of a line */
     char line[LINE_SIZE];
 } clients[MOST_CLIENTS];
 
@@ -124,13 +125,21 @@ static void answer(FILE *out, char *line) {
         if (count > 1 && port == NULL) return answer_error(out, "there is no such port");
         return command->answer(out, port, count > 2 ? words[2] : NULL);
     }
-    answer_error(out,
-                 "one of: ports, show, events, reload, hold, release, wake, sleep, provision, deactivate, acknowledge");
+    answer_error(
+        out,
+        "one of: ports, show, events, reload, hold, release, lend, wake, sleep, provision, deactivate, acknowledge");
 }
 
 /* ---- clients */
 
+/* Takes a port back. Meanwhile another may have got its name, which is not lent. */
+static void take_back(const struct client *client) {
+    struct port *port = port_of(client->borrowed);
+    if (port != NULL && port->is_lent) lend(port, false);
+}
+
 static void drop_client(struct client *client) {
+    if (client->borrowed[0] != 0) take_back(client);
     close(client->file);
     memset(client, 0, sizeof *client);
 }
@@ -145,6 +154,23 @@ void send_to_listeners(const char *line, size_t length) {
         if (each->listens) send_line(each, line, length);
 }
 
+void send_to_borrower(const struct port *port) {
+    static const char line[] = "{\"done\": true}\n";
+    for (struct client *each = clients; each < clients + MOST_CLIENTS; each++)
+        if (each->file != 0 && strcmp(each->borrowed, port->entry.name) == 0) send_line(each, line, strlen(line));
+}
+
+/* Lends the port of a bus to a client until that is gone. The answer comes once the bus is free. */
+static void lend_to(struct client *client, const char *bus, FILE *out) {
+    struct port *port = port_on(bus);
+    if (port == NULL) return answer_error(out, "there is no port with that bus");
+    for (struct client *each = clients; each < clients + MOST_CLIENTS; each++)
+        if (strcmp(each->borrowed, port->entry.name) == 0) return answer_error(out, "it is lent already");
+    if (client->borrowed[0] != 0) return answer_error(out, "another one is lent already");
+    snprintf(client->borrowed, NAME_SIZE, "%s", port->entry.name);
+    lend(port, true);
+}
+
 static void answer_client(struct client *client, char *line) {
     char *text = NULL;
     size_t length;
@@ -153,9 +179,11 @@ static void answer_client(struct client *client, char *line) {
     client->listens = client->listens || strcmp(line, "events") == 0;
     if (strcmp(line, "events") == 0)
         answer_done(out);
+    else if (strncmp(line, "lend ", 5) == 0)
+        lend_to(client, line + 5, out);
     else
         answer(out, line);
-    if (fclose(out) == 0) send_line(client, text, length);
+    if (fclose(out) == 0 && length > 0) send_line(client, text, length);
     free(text);
 }
 

@@ -8,6 +8,7 @@
 #include <stddef.h>
 #include <stdlib.h>
 #include <string.h>
+#include <sys/stat.h>
 #include <unistd.h>
 
 enum { SECOND = 1000, SOON = 100, LONGEST = 64 * SECOND }; /* milliseconds */
@@ -38,10 +39,23 @@ struct port *port_of(const char *name) {
     return NULL;
 }
 
+/* The port whose bus is this file, whatever name that is given. */
+struct port *port_on(const char *bus) {
+    struct stat wanted, about;
+    if (stat(bus, &wanted) != 0) return NULL;
+    for (struct port *each = ports; each != NULL; each = each->next) {
+        if (each->is_retired || stat(each->entry.bus, &about) != 0) continue;
+        bool is_device = S_ISCHR(wanted.st_mode) && S_ISCHR(about.st_mode);
+        bool is_same_file = about.st_dev == wanted.st_dev && about.st_ino == wanted.st_ino;
+        if (is_device ? about.st_rdev == wanted.st_rdev : is_same_file) return each;
+    }
+    return NULL;
+}
+
 bool is_there(const struct port *port) { return port->core.stage != DOVECOUNTER_PORT_ABSENT; }
 
 /* Whether nothing is to be done at its bus, which others may use then. */
-bool is_still(const struct port *port) { return port->is_held || !port->entry.manage; }
+bool is_still(const struct port *port) { return port->is_held || port->is_lent || !port->entry.manage; }
 
 static void forget(struct port *port) {
     port->half_count = 0;
@@ -71,6 +85,8 @@ static void set_pin(const struct port *port, const char *name, bool on) {
 static void shut(struct port *port) {
     if (port->is_open) close_bus(&port->bus);
     port->is_open = false;
+    if (port->is_lent && !port->is_free) send_to_borrower(port);
+    port->is_free = port->is_lent;
 }
 
 /* Opens the bus anew, or waits longer and longer. */
@@ -318,6 +334,17 @@ void hold(struct port *port, bool held) {
     bool was_still = is_still(port);
     port->is_held = held;
     if (is_still(port) != was_still) hold_or_release(port);
+}
+
+/* Whoever borrows it hears of it once the bus is closed. */
+void lend(struct port *port, bool lent) {
+    bool was_still = is_still(port);
+    port->is_lent = lent;
+    port->is_free = false;
+    if (is_still(port) != was_still)
+        hold_or_release(port);
+    else
+        wake(port);
 }
 
 static void add(const struct entry *entry) {

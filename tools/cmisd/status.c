@@ -194,7 +194,7 @@ static void print_wait(FILE *out, const struct port *port) {
     const char *what = "its next look";
     if (!port->entry.manage)
         what = "manage = yes";
-    else if (port->is_held)
+    else if (port->is_held || port->is_lent)
         what = "release";
     else if (!port->is_open)
         what = "its bus";
