@@ -1,6 +1,6 @@
 -- A port that C keeps, after a call: its reading has read as many of the halves as are counted.
 use Rattle.std.proofs.Common.{◌≡◌, ◌≢◌, ◌≤◌, ◌<◌, ◌==◌, [], ℕ, Bool, true, false, List, length, take, Option, Some, None, refl, ap, sym, subst, inl, inr, ◌∙◌, arith, if◌then◌else◌}
-use Rattle.std.specs.Prelude.{IfSome, nat_le}
+use Rattle.std.specs.Prelude.{nat_le}
 use Rattle.std.specs.FinMap as map
 use Rattle.std.proofs.lemmas.Bool.{eqb-true, le-leb}
 use Rattle.bus_model.specs.declared.operation.Reply.{Reply}
@@ -243,19 +243,17 @@ put_kept old new found later is same counts fits known =
     (keeps new found (count_of found old.numbers.half_count) old.halves (subst (λ (p : Port). Fits p.stage (count_of p old.numbers.half_count) old.halves) (sym is) fits)
     (subst (λ (p : Port). IsKnown p) (sym is) known) counts same)
 
-pub fits_kept : (old : KeptPort) (result : Option Port) (found held : Port) → IfSome result (λ port. FitsIn port old.numbers.half_count old.halves) → result ≡ Some found → found ≡ held →
-    IsKept old held → Fits held.stage old.numbers.half_count old.halves
-fits_kept old result found held fits is same kept =
-    let (few, read) = subst (λ (p : Port). FitsIn p old.numbers.half_count old.halves) same
-    (subst (λ (r : Option Port). IfSome r (λ port. FitsIn port old.numbers.half_count old.halves)) is fits) in
+pub fits_kept : (old : KeptPort) (found held : Port) → FitsIn found old.numbers.half_count old.halves → found ≡ held → IsKept old held → Fits held.stage old.numbers.half_count old.halves
+fits_kept old found held fits same kept =
+    let (few, read) = subst (λ (p : Port). FitsIn p old.numbers.half_count old.halves) same fits in
     record { few = few; read = read; counted = kept.counted }
 
 pub same_some : {A : Type 0} (a b : A) → Some a ≡ Some b → a ≡ b
 same_some a b same = cc
 
 -- the port that was found is the one that is kept
-pub found_kept : (old : KeptPort) (result : Option Port) (found held : Port) → result ≡ kept_in old → result ≡ Some found → kept_in old ≡ Some held → found ≡ held
-found_kept old result found held value is kept = same_some found held (sym is ∙ value ∙ kept)
+pub found_kept : (old : KeptPort) (found held : Port) → kept_in old ≡ Some found → kept_in old ≡ Some held → found ≡ held
+found_kept old found held is kept = same_some found held (sym is ∙ kept)
 
 pub stage_asking : (port : Port) (next : Next Rest) → (asking port next).stage ≡ port.stage
 stage_asking port (Do op) = refl

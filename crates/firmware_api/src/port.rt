@@ -50,11 +50,12 @@ pub extern "C" fn dovecounter_port_plug(port: &mut KeptPort, now: u64) -> u32
     ensures plugged { (held : Held) → IsKept port.old held → IsKept port.new (plugged now held) }
     ensures refused { result ≢ done → port.new ≡ port.old }
 {
-    let Some(mut held) = kept::restore(port) else {
+    let held = &mut kept::blank();
+    if !kept::restore(port, held) {
         return NO_CONVERSATION;
-    };
+    }
     held.plug(now);
-    kept::put(&held, port);
+    kept::put(held, port);
     DONE
 }
 
@@ -65,11 +66,12 @@ pub extern "C" fn dovecounter_port_pull(port: &mut KeptPort) -> u32
     ensures pulled { (held : Held) → IsKept port.old held → IsKept port.new (pulled held) }
     ensures refused { result ≢ done → port.new ≡ port.old }
 {
-    let Some(mut held) = kept::restore(port) else {
+    let held = &mut kept::blank();
+    if !kept::restore(port, held) {
         return NO_CONVERSATION;
-    };
+    }
     held.pull();
-    kept::put(&held, port);
+    kept::put(held, port);
     DONE
 }
 
@@ -80,11 +82,12 @@ pub extern "C" fn dovecounter_port_reconsider(port: &mut KeptPort) -> u32
     ensures reconsidered { (held : Held) → IsKept port.old held → IsKept port.new (reconsidered held) }
     ensures refused { result ≢ done → port.new ≡ port.old }
 {
-    let Some(mut held) = kept::restore(port) else {
+    let held = &mut kept::blank();
+    if !kept::restore(port, held) {
         return NO_CONVERSATION;
-    };
+    }
     held.reconsider();
-    kept::put(&held, port);
+    kept::put(held, port);
     DONE
 }
 
@@ -95,11 +98,12 @@ pub extern "C" fn dovecounter_port_hold(port: &mut KeptPort, hold: u8) -> u32
     ensures holds { (held : Held) → IsKept port.old held → IsKept port.new (holding (is_on hold) held) }
     ensures refused { result ≢ done → port.new ≡ port.old }
 {
-    let Some(mut held) = kept::restore(port) else {
+    let held = &mut kept::blank();
+    if !kept::restore(port, held) {
         return NO_CONVERSATION;
-    };
+    }
     held.hold(hold != 0);
-    kept::put(&held, port);
+    kept::put(held, port);
     DONE
 }
 
@@ -110,11 +114,12 @@ pub extern "C" fn dovecounter_port_request(port: &mut KeptPort, request: u8, lan
     ensures asked { (held : Held) → IsKept port.old held → IsKept port.new (asked_for (request_in request lanes) held) }
     ensures refused { result ≢ done → port.new ≡ port.old }
 {
-    let Some(mut held) = kept::restore(port) else {
+    let held = &mut kept::blank();
+    if !kept::restore(port, held) {
         return NO_CONVERSATION;
-    };
+    }
     held.ask(request_in(request, lanes));
-    kept::put(&held, port);
+    kept::put(held, port);
     DONE
 }
 
@@ -133,12 +138,13 @@ pub extern "C" fn dovecounter_port_hear(
     ensures heard { (held : Held) → IsKept port.old held → IsKept port.new (heard held (is_on answered) began now) }
     ensures refused { result ≢ done → (port.new ≡ port.old) × (presence.new ≡ presence.old) }
 {
-    let Some(mut held) = kept::restore(port) else {
+    let held = &mut kept::blank();
+    if !kept::restore(port, held) {
         return NO_CONVERSATION;
-    };
+    }
     let heard = held.hear(answered != 0, began, now);
     tell(heard, presence);
-    kept::put(&held, port);
+    kept::put(held, port);
     DONE
 }
 
@@ -159,11 +165,12 @@ pub extern "C" fn dovecounter_port_acknowledge(port: &mut KeptPort, moment: u64)
     ensures acknowledged { (held : Held) → IsKept port.old held → IsKept port.new (acknowledged_to moment held) }
     ensures refused { result ≢ done → port.new ≡ port.old }
 {
-    let Some(mut held) = kept::restore(port) else {
+    let held = &mut kept::blank();
+    if !kept::restore(port, held) {
         return NO_CONVERSATION;
-    };
+    }
     held.acknowledge(moment);
-    kept::put(&held, port);
+    kept::put(held, port);
     DONE
 }
 
@@ -175,12 +182,13 @@ pub extern "C" fn dovecounter_port_next(port: &mut KeptPort, now: u64, next: &mu
     ensures asked { (held : Held) → IsKept port.old held → IsKept port.new (asking held (next_at held now)) }
     ensures refused { result ≢ done → (port.new ≡ port.old) × (next.new ≡ next.old) }
 {
-    let Some(mut held) = kept::restore(port) else {
+    let held = &mut kept::blank();
+    if !kept::restore(port, held) {
         return NO_CONVERSATION;
-    };
+    }
     let wants = held.next(now);
-    next.fill(&held, wants);
-    kept::put(&held, port);
+    next.fill(held, wants);
+    kept::put(held, port);
     DONE
 }
 
@@ -200,13 +208,14 @@ pub extern "C" fn dovecounter_port_take(
         × (IsKept port.old held → IsKept port.new later) }
     ensures refused { result ≢ done → (port.new ≡ port.old) × (outcome.new ≡ outcome.old) }
 {
-    let Some(mut held) = kept::restore(port) else {
+    let held = &mut kept::blank();
+    if !kept::restore(port, held) {
         return NO_CONVERSATION;
-    };
-    let Some(reply) = awaited(&held, reply, bytes) else {
+    }
+    let Some(reply) = awaited(held, reply, bytes) else {
         return NO_REPLY;
     };
-    *outcome = kept::take(&mut held, &reply, &wanted.wanted(), now, port);
+    *outcome = kept::take(held, &reply, &wanted.wanted(), now, port);
     DONE
 }
 

@@ -1,60 +1,61 @@
 // From numbers to a port.
-ghost use Rattle.std.specs.Prelude.{◌≡◌, IfSome};
+ghost use Rattle.std.specs.Prelude.{◌≡◌, ◌≢◌, ◌==◌, IfSome, None, Some, false, true};
+ghost use Rattle.std.specs.Option.{option_map};
+ghost use Rattle.paged_memory.specs.Images.{Memory};
+ghost use Rattle.port_manager.specs.declared.job.Job.TheVariants as jobs;
+ghost use Rattle.port_manager.specs.declared.port.Stage.TheVariants as stages;
 ghost use Rattle.port_manager.specs.Ports.{IfWorking};
 ghost use Rattle.saved_port.specs.Known.{HasRead};
 ghost use Rattle.saved_port.specs.SavedPorts.{port_in};
 ghost use Rattle.saved_port.specs.SavedPorts as spec;
 
-use crate::numbers::{SavedCodes, SavedFlags, SavedGoal, SavedLeft, SavedPort, SavedTimes};
+use crate::numbers::{
+    SavedCodes, SavedFlags, SavedGoal, SavedLeft, SavedPort, SavedTimes, SavedWork,
+};
 use crate::work;
 use applications::AdvertFault;
 use bus_model::Dev;
 use field_tables::LaneSet;
 use paged_memory::{Image, Key, KnownPage};
 use port_manager::{
-    FlagKeeper, Flags, Goal, Job, LaneCodes, LeftBecause, Outstanding, Port, Request, Silence,
-    Stage, Times,
+    Flags, Goal, Job, LaneCodes, LeftBecause, Outstanding, Port, Request, Silence, Stage, Times,
 };
 
 /// What stands in each port, so that other memory is not taken for one: `DCP1`.
 pub const PORT: u32 = 0x4443_5031;
 
-/// The port that has these numbers, if one has, and whose reading has read this memory.
+/// Makes a port the one that has these numbers, and whose reading has read this memory, if there is one. Whether there is. It is filled
+/// in its place, since a port takes much of a stack.
 #[tactic(auto, unfolding(crate::specs::SavedPorts::port_in))]
-pub fn restore(saved: &SavedPort, image: Image) -> Option<Port>
-    ensures value { result ≡ port_in saved.now image }
-    ensures read { IfSome result (λ port. IfWorking port.stage (HasRead image)) }
+pub fn restore(saved: &SavedPort, image: Image, port: &mut Port) -> bool
+    ensures found { result ≡ true → port_in saved.now image ≡ Some port.new }
+    ensures none { result ≡ false → port_in saved.now image ≡ None }
+    ensures read { result ≡ true → IfWorking port.new.stage (HasRead image) }
 {
     if saved.magic != PORT {
-        return None;
+        return false;
     }
-    match stage_in(saved, image) {
-        Some(stage) => Some(port_with(saved, stage)),
-        None => None,
-    }
+    put_rest(saved, port);
+    put_stage(saved, image, &mut port.stage)
 }
 
-fn port_with(saved: &SavedPort, stage: Stage) -> Port
-    ensures { result ≡ spec.port_with saved.now stage }
+// All but what is in the port.
+fn put_rest(saved: &SavedPort, port: &mut Port)
+    ensures { port.new ≡ spec.port_with saved.now port.old.stage }
 {
-    Port {
-        times: times_in(saved.times),
-        stage,
-        due: saved.due,
-        back_off: saved.back_off,
-        outstanding: outstanding_in(saved.outstanding),
-        vain: saved.vain == 1,
-        keeper: FlagKeeper {
-            selected: page_in(saved.selection, saved.page),
-            flags: flags_in(&saved.flags),
-        },
-        held: saved.held == 1,
-        request: request_in(saved.request, saved.request_lanes),
-        silence: Silence {
-            refusals: saved.refusals,
-            since: saved.silent_since,
-        },
-    }
+    port.times = times_in(saved.times);
+    port.due = saved.due;
+    port.back_off = saved.back_off;
+    port.outstanding = outstanding_in(saved.outstanding);
+    port.vain = saved.vain == 1;
+    port.keeper.selected = page_in(saved.selection, saved.page);
+    put_flags(&saved.flags, &mut port.keeper.flags);
+    port.held = saved.held == 1;
+    port.request = request_in(saved.request, saved.request_lanes);
+    port.silence = Silence {
+        refusals: saved.refusals,
+        since: saved.silent_since,
+    };
 }
 
 fn times_in(saved: SavedTimes) -> Times
@@ -68,17 +69,15 @@ fn times_in(saved: SavedTimes) -> Times
     }
 }
 
-fn flags_in(saved: &SavedFlags) -> Flags
-    ensures { result ≡ spec.flags_in saved.now }
+fn put_flags(saved: &SavedFlags, flags: &mut Flags)
+    ensures { flags.new ≡ spec.flags_in saved.now }
 {
-    Flags {
-        module_counts: saved.module_counts,
-        module_last: saved.module_last,
-        lane_counts: saved.lane_counts,
-        lane_last: saved.lane_last,
-        states: codes_in(&saved.states),
-        statuses: codes_in(&saved.statuses),
-    }
+    flags.module_counts = saved.module_counts;
+    flags.module_last = saved.module_last;
+    flags.lane_counts = saved.lane_counts;
+    flags.lane_last = saved.lane_last;
+    flags.states = codes_in(&saved.states);
+    flags.statuses = codes_in(&saved.statuses);
 }
 
 fn codes_in(saved: &SavedCodes) -> LaneCodes
@@ -138,30 +137,70 @@ fn goal_in(saved: SavedGoal) -> Goal
 
 // ---- what is in the port
 
-fn stage_in(saved: &SavedPort, image: Image) -> Option<Stage>
-    ensures value { result ≡ spec.stage_in saved.now.stage saved.now.left saved.now.goal saved.now.work image }
-    ensures read { IfSome result (λ stage. IfWorking stage (HasRead image)) }
+fn put_stage(saved: &SavedPort, image: Image, stage: &mut Stage) -> bool
+    ensures found { result ≡ true → spec.stage_in saved.now.stage saved.now.left saved.now.goal saved.now.work image ≡ Some stage.new }
+    ensures none { result ≡ false → spec.stage_in saved.now.stage saved.now.left saved.now.goal saved.now.work image ≡ None }
+    ensures read { result ≡ true → IfWorking stage.new (HasRead image) }
 {
     match saved.stage {
-        0 => Some(Stage::Absent),
-        1 => match reason_in(saved.left) {
-            Some(reason) => Some(Stage::Left(reason)),
-            None => None,
-        },
-        _ => match job_in(saved, image) {
-            Some(job) => Some(Stage::Working(job)),
-            None => None,
-        },
+        0 => {
+            *stage = Stage::Absent;
+            true
+        }
+        1 => put_reason(saved.left, stage),
+        2 => {
+            put_reading(&saved.work, image, stage);
+            true
+        }
+        _ => put_job(saved, stage),
     }
 }
 
-fn job_in(saved: &SavedPort, image: Image) -> Option<Job>
-    ensures value { result ≡ spec.job_in saved.now.stage saved.now.goal saved.now.work image }
-    ensures read { IfSome result (HasRead image) }
+fn put_reason(saved: SavedLeft, stage: &mut Stage) -> bool
+    ensures found { result ≡ true → option_map stages.Left (spec.reason_in saved) ≡ Some stage.new }
+    ensures none { result ≡ false → option_map stages.Left (spec.reason_in saved) ≡ None }
+{
+    match reason_in(saved) {
+        Some(reason) => {
+            *stage = Stage::Left(reason);
+            true
+        }
+        None => false,
+    }
+}
+
+fn put_reading(work: &SavedWork, image: Image, stage: &mut Stage)
+    ensures { stage.new ≡ stages.Working (jobs.Reading (spec.patient_in work.now (spec.on_page_in work.now (spec.halves_in work.now image))) (work.now.woken == 1)) }
+{
+    *stage = Stage::Working(Job::reading(work.woken == 1));
+    if let Stage::Working(Job::Reading(reading, _)) = stage {
+        work::put_reading(work, image, reading);
+    }
+}
+
+// What works at the module, if it reads nothing.
+fn put_job(saved: &SavedPort, stage: &mut Stage) -> bool
+    requires { saved.now.stage ≢ 2 }
+    ensures found { result ≡ true → (image : Memory) → option_map stages.Working (spec.job_in saved.now.stage saved.now.goal saved.now.work image) ≡ Some stage.new }
+    ensures none { result ≡ false → (image : Memory) → option_map stages.Working (spec.job_in saved.now.stage saved.now.goal saved.now.work image) ≡ None }
+    ensures read { result ≡ true → (image : Memory) → IfWorking stage.new (HasRead image) }
+{
+    match job_in(saved) {
+        Some(job) => {
+            *stage = Stage::Working(job);
+            true
+        }
+        None => false,
+    }
+}
+
+fn job_in(saved: &SavedPort) -> Option<Job>
+    requires { saved.now.stage ≢ 2 }
+    ensures value { (image : Memory) → result ≡ spec.job_in saved.now.stage saved.now.goal saved.now.work image }
+    ensures read { (image : Memory) → IfSome result (HasRead image) }
 {
     let goal = goal_in(saved.goal);
     match saved.stage {
-        2 => Some(Job::Reading(work::reading_in(&saved.work, image), saved.work.woken == 1)),
         3 => Some(Job::Waking(work::waking_in(&saved.work))),
         4 => match work::procedure_in(&saved.work) {
             Some(procedure) => Some(Job::Provisioning(procedure, goal)),

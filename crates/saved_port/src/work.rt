@@ -1,5 +1,5 @@
 // What works at a module, from its numbers and as numbers.
-ghost use Rattle.std.specs.Prelude.{◌≡◌, Some};
+ghost use Rattle.std.specs.Prelude.{◌≡◌, ◌==◌, if◌then◌else◌, None, Some};
 ghost use Rattle.control_sets.specs.SavedNumbers as procedures;
 ghost use Rattle.saved_port.specs.Known.{IsToldSo};
 ghost use Rattle.saved_port.specs.SavedPorts as spec;
@@ -11,23 +11,32 @@ use control_sets::{
     SavedProcedure, TaskList,
 };
 use conversations::{OnPage, Patience, Pausing, Within};
-use module_reading::{Halves, Request};
+use module_reading::Request;
 use paged_memory::{Image, KnownPage};
 use port_manager::{Goal, Look, LookStage, ReadingJob, WatchingJob};
 
 // ---- from numbers
 
-pub fn reading_in(work: &SavedWork, image: Image) -> ReadingJob
-    ensures { result ≡ spec.patient_in work.now (spec.on_page_in work.now (spec.halves_in work.now image)) }
+/// Makes a reading the one that has read this memory.
+pub fn put_reading(work: &SavedWork, image: Image, reading: &mut ReadingJob)
+    ensures { reading.new ≡ spec.patient_in work.now (spec.on_page_in work.now (spec.halves_in work.now image)) }
 {
-    let halves = Halves {
-        request: Request {
-            halves: work.saved.lanes,
-        },
-        image,
-        settled: work.saved.met,
+    reading.steps = work.saved.steps;
+    reading.limit = work.most;
+    let pausing = &mut reading.conversation;
+    pausing.patience = patience_in(work);
+    pausing.due = work.saved.due == 1;
+    pausing.idle = work.saved.idle;
+    let on_page = &mut pausing.conversation;
+    on_page.selection = page_in(work.saved.selection, work.saved.page);
+    on_page.taken = taken_in(work);
+    on_page.doubts = work.doubts == 1;
+    let halves = &mut on_page.conversation;
+    halves.request = Request {
+        halves: work.saved.lanes,
     };
-    patient_in(work, on_page_in(work, halves))
+    halves.image = image;
+    halves.settled = work.saved.met;
 }
 
 pub fn waking_in(work: &SavedWork) -> PatientPower
@@ -63,15 +72,31 @@ fn patient_in<C>(work: &SavedWork, conversation: C) -> Within<Pausing<C>>
     Within {
         conversation: Pausing {
             conversation,
-            patience: Patience {
-                pause: work.saved.pause,
-                limit: work.saved.limit,
-            },
+            patience: patience_in(work),
             due: work.saved.due == 1,
             idle: work.saved.idle,
         },
         steps: work.saved.steps,
         limit: work.most,
+    }
+}
+
+fn patience_in(work: &SavedWork) -> Patience
+    ensures { result ≡ record { pause = work.now.saved.pause; limit = work.now.saved.limit } }
+{
+    Patience {
+        pause: work.saved.pause,
+        limit: work.saved.limit,
+    }
+}
+
+fn taken_in(work: &SavedWork) -> Option<u8>
+    ensures { result ≡ (if work.now.taken == 1 then Some work.now.taken_page else None) }
+{
+    if work.taken == 1 {
+        Some(work.taken_page)
+    } else {
+        None
     }
 }
 
@@ -81,11 +106,7 @@ fn on_page_in<C>(work: &SavedWork, conversation: C) -> OnPage<C>
     OnPage {
         conversation,
         selection: page_in(work.saved.selection, work.saved.page),
-        taken: if work.taken == 1 {
-            Some(work.taken_page)
-        } else {
-            None
-        },
+        taken: taken_in(work),
         doubts: work.doubts == 1,
     }
 }

@@ -1,5 +1,5 @@
 // A port in memory of C: its numbers, and the halves that its reading has read.
-ghost use Rattle.std.specs.Prelude.{◌≡◌, ◌≢◌, ◌≤◌, ◌<◌, IfSome, None, Some};
+ghost use Rattle.std.specs.Prelude.{◌≡◌, ◌≢◌, ◌≤◌, ◌<◌, None, Some, false, true};
 ghost use Rattle.port_manager.specs.declared.port.Outcome.{Outcome};
 ghost use Rattle.port_manager.specs.Jobs.{IsReplyTo, asked};
 ghost use Rattle.port_manager.specs.Ports.{IfWorking, IsAwaited, IsTaken, asked_in};
@@ -13,7 +13,7 @@ use crate::conversation::whole_half::whole_half;
 use crate::half::{HalfBytes, image_of};
 use bus_model::Reply;
 use paged_memory::PAGE_LEN;
-use port_manager::{Job, Outstanding, Port, Stage, Wanted};
+use port_manager::{Job, Outstanding, Port, Stage, Times, Wanted};
 use saved_port::{SavedOutcome, SavedPort, outcome_of, save, take_known};
 
 /// A port, as C keeps it.
@@ -25,17 +25,29 @@ pub struct KeptPort {
     pub halves: [HalfBytes; MAX_READ],
 }
 
-/// The port that has these numbers, if one has.
+/// Makes a port the one that has these numbers, if one has. Whether one has. Not inlined: it takes much of a stack.
+#[inline(never)]
 #[tactic(auto, unfolding(crate::specs::KeptPorts::kept_in))]
-pub fn restore(kept: &KeptPort) -> Option<Port>
-    ensures value { result ≡ kept_in kept.now }
-    ensures fits { IfSome result (λ port. FitsIn port kept.now.numbers.half_count kept.now.halves) }
+pub fn restore(kept: &KeptPort, port: &mut Port) -> bool
+    ensures found { result ≡ true → kept_in kept.now ≡ Some port.new }
+    ensures none { result ≡ false → kept_in kept.now ≡ None }
+    ensures fits { result ≡ true → FitsIn port.new kept.now.numbers.half_count kept.now.halves }
 {
     let count = usize::from(kept.numbers.half_count);
     if count > MAX_READ {
-        return None;
+        return false;
     }
-    saved_port::restore(&kept.numbers, image_of(&kept.halves[..count]))
+    saved_port::restore(&kept.numbers, image_of(&kept.halves[..count]), port)
+}
+
+/// A port to be filled.
+pub fn blank() -> Port {
+    Port::new(Times {
+        settle: 0,
+        period: 0,
+        first: 0,
+        most: 0,
+    })
 }
 
 /// The memory of a port whose reading has read nothing.

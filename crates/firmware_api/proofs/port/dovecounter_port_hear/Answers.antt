@@ -1,4 +1,4 @@
-use Rattle.std.proofs.Common.{◌≡◌, ◌∙◌, ap}
+use Rattle.std.proofs.Common.{◌≡◌, ◌∙◌, ap, true, rules}
 use Rattle.port_manager.specs.declared.port.Port.{Port}
 use Rattle.port_manager.specs.declared.silence.Presence.{Presence}
 use Rattle.port_manager.specs.Ports.{heard, presence_by}
@@ -14,8 +14,9 @@ returns-clause-heard c held kept =
     let alive = is_on c.args.answered in
     let began = c.args.began in
     let now = c.args.now in
-    let same = found_kept old c.restore.result c.in-Some.held held c.restore.ensures.value c.in-Some.is kept.is in
-    let fits = fits_kept old c.restore.result c.in-Some.held held c.restore.ensures.fits c.in-Some.is same kept in
+    let there : c.restore.result ≡ true = search rules in
+    let same = found_kept old c.restore.new.port held (c.restore.ensures.found there) kept.is in
+    let fits = fits_kept old c.restore.new.port held (c.restore.ensures.fits there) same kept in
     let is : c.hear-heard.new.self ≡ heard held alive began now = c.hear-heard.ensures.after ∙ ap (λ (p : Port). heard p alive began now) same in
     let presence = presence_by held alive began now in
     put_kept old c.put.new.kept c.hear-heard.new.self (heard held alive began now) is c.put.ensures.same c.put.ensures.count
@@ -24,5 +25,6 @@ returns-clause-heard c held kept =
 pub returns-clause-told : goal.returns-clause-told
 returns-clause-told c held is =
     let alive = is_on c.args.answered in
-    let same = found_kept c.args.port.now c.restore.result c.in-Some.held held c.restore.ensures.value c.in-Some.is is in
+    let there : c.restore.result ≡ true = search rules in
+    let same = found_kept c.args.port.now c.restore.new.port held (c.restore.ensures.found there) is in
     c.tell.ensures ∙ ap number_of_presence c.hear-heard.ensures.presence ∙ ap (λ (p : Port). number_of_presence (presence_by p alive c.args.began c.args.now)) same

@@ -1,4 +1,4 @@
-use Rattle.std.proofs.Common.{◌≡◌, ◌∙◌, false, ap}
+use Rattle.std.proofs.Common.{◌≡◌, ◌∙◌, false, ap, true, rules}
 use Rattle.port_manager.specs.declared.port.Port.{Port}
 use Rattle.port_manager.specs.Ports.{holding}
 use Rattle.firmware_api.specs.SimulatedModules.{is_on}
@@ -10,8 +10,9 @@ returns-clause-holds c held kept =
     let old = c.args.port.now in
     let count = old.numbers.half_count in
     let on = is_on c.args.hold in
-    let same = found_kept old c.restore.result c.in-Some.held held c.restore.ensures.value c.in-Some.is kept.is in
-    let fits = fits_kept old c.restore.result c.in-Some.held held c.restore.ensures.fits c.in-Some.is same kept in
+    let there : c.restore.result ≡ true = search rules in
+    let same = found_kept old c.restore.new.port held (c.restore.ensures.found there) kept.is in
+    let fits = fits_kept old c.restore.new.port held (c.restore.ensures.fits there) same kept in
     let is : c.hold.new.self ≡ holding on held = c.hold.ensures ∙ ap (λ (p : Port). holding on p) same in
     put_kept old c.put.new.kept c.hold.new.self (holding on held) is c.put.ensures.same c.put.ensures.count
     (reconsidered_fits held.outstanding (record held { vain = false; held = on }) count old.halves fits) (reconsidered_known held.outstanding (record held { vain = false; held = on }) kept.known)

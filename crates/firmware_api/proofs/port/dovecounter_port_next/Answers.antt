@@ -1,4 +1,4 @@
-use Rattle.std.proofs.Common.{◌≡◌, ◌∙◌, ap}
+use Rattle.std.proofs.Common.{◌≡◌, ◌∙◌, ap, true, rules}
 use Rattle.port_manager.specs.declared.port.Port.{Port}
 use Rattle.conversations.specs.declared.next.Next.{Next}
 use Rattle.port_manager.specs.declared.port.Rest.{Rest}
@@ -12,18 +12,20 @@ returns-clause-asked c held kept =
     let old = c.args.port.now in
     let count = old.numbers.half_count in
     let now = c.args.now in
-    let same = found_kept old c.restore.result c.in-Some.held held c.restore.ensures.value c.in-Some.is kept.is in
-    let fits = fits_kept old c.restore.result c.in-Some.held held c.restore.ensures.fits c.in-Some.is same kept in
+    let there : c.restore.result ≡ true = search rules in
+    let same = found_kept old c.restore.new.port held (c.restore.ensures.found there) kept.is in
+    let fits = fits_kept old c.restore.new.port held (c.restore.ensures.fits there) same kept in
     let is : c.next-wants.new.self ≡ asking held (next_at held now) =
-    c.next-wants.ensures.after ∙ ap (λ (n : Next Rest). asking c.in-Some.held n) c.next-wants.ensures.value ∙ ap (λ (p : Port). asking p (next_at p now)) same in
+      c.next-wants.ensures.after ∙ ap (λ (n : Next Rest). asking c.restore.new.port n) c.next-wants.ensures.value ∙ ap (λ (p : Port). asking p (next_at p now)) same in
     put_kept old c.put.new.kept c.next-wants.new.self (asking held (next_at held now)) is c.put.ensures.same c.put.ensures.count
     (asking_fits held (next_at held now) count old.halves fits) (asking_known held (next_at held now) kept.known)
 
 pub returns-clause-told : goal.returns-clause-told
 returns-clause-told c held is =
     let now = c.args.now in
-    let found = c.in-Some.held in
+    let found = c.restore.new.port in
     let wants = c.next-wants.result in
-    let same = found_kept c.args.port.now c.restore.result found held c.restore.ensures.value c.in-Some.is is in
+    let there : c.restore.result ≡ true = search rules in
+    let same = found_kept c.args.port.now found held (c.restore.ensures.found there) is in
     c.fill.ensures ∙ ap (λ (p : Port). next_told p wants) c.next-wants.ensures.after ∙ told_asking found wants ∙ ap (λ (n : Next Rest). next_told found n) c.next-wants.ensures.value
     ∙ ap (λ (p : Port). next_told p (next_at p now)) same

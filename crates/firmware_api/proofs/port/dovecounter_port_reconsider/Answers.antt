@@ -1,4 +1,4 @@
-use Rattle.std.proofs.Common.{◌≡◌, ◌∙◌, false, ap}
+use Rattle.std.proofs.Common.{◌≡◌, ◌∙◌, false, ap, true, rules}
 use Rattle.port_manager.specs.declared.port.Port.{Port}
 use Rattle.port_manager.specs.Ports.{reconsidered}
 use Rattle.firmware_api.proofs.KeptLaws.{fits_kept, found_kept, put_kept, reconsidered_fits, reconsidered_known}
@@ -8,8 +8,9 @@ pub returns-clause-reconsidered : goal.returns-clause-reconsidered
 returns-clause-reconsidered c held kept =
     let old = c.args.port.now in
     let count = old.numbers.half_count in
-    let same = found_kept old c.restore.result c.in-Some.held held c.restore.ensures.value c.in-Some.is kept.is in
-    let fits = fits_kept old c.restore.result c.in-Some.held held c.restore.ensures.fits c.in-Some.is same kept in
+    let there : c.restore.result ≡ true = search rules in
+    let same = found_kept old c.restore.new.port held (c.restore.ensures.found there) kept.is in
+    let fits = fits_kept old c.restore.new.port held (c.restore.ensures.fits there) same kept in
     let is : c.reconsider.new.self ≡ reconsidered held = c.reconsider.ensures.value ∙ ap (λ (p : Port). reconsidered p) same in
     put_kept old c.put.new.kept c.reconsider.new.self (reconsidered held) is c.put.ensures.same c.put.ensures.count
     (reconsidered_fits held.outstanding (record held { vain = false }) count old.halves fits) (reconsidered_known held.outstanding (record held { vain = false }) kept.known)

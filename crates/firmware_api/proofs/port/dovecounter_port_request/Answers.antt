@@ -1,4 +1,4 @@
-use Rattle.std.proofs.Common.{◌≡◌, ◌∙◌, false, ap}
+use Rattle.std.proofs.Common.{◌≡◌, ◌∙◌, false, ap, true, rules}
 use Rattle.port_manager.specs.declared.port.Port.{Port}
 use Rattle.port_manager.specs.declared.request.Request.{Request}
 use Rattle.port_manager.specs.Ports.{asked_for}
@@ -11,9 +11,10 @@ returns-clause-asked c held kept =
     let old = c.args.port.now in
     let count = old.numbers.half_count in
     let request = request_in c.args.request c.args.lanes in
-    let same = found_kept old c.restore.result c.in-Some.held held c.restore.ensures.value c.in-Some.is kept.is in
-    let fits = fits_kept old c.restore.result c.in-Some.held held c.restore.ensures.fits c.in-Some.is same kept in
+    let there : c.restore.result ≡ true = search rules in
+    let same = found_kept old c.restore.new.port held (c.restore.ensures.found there) kept.is in
+    let fits = fits_kept old c.restore.new.port held (c.restore.ensures.fits there) same kept in
     let is : c.ask.new.self ≡ asked_for request held =
-    c.ask.ensures ∙ ap (λ (r : Request). asked_for r c.in-Some.held) c.request_in.ensures ∙ ap (λ (p : Port). asked_for request p) same in
+    c.ask.ensures ∙ ap (λ (r : Request). asked_for r c.restore.new.port) c.request_in.ensures ∙ ap (λ (p : Port). asked_for request p) same in
     put_kept old c.put.new.kept c.ask.new.self (asked_for request held) is c.put.ensures.same c.put.ensures.count
     (reconsidered_fits held.outstanding (record held { vain = false; request = request }) count old.halves fits) (reconsidered_known held.outstanding (record held { vain = false; request = request }) kept.known)
