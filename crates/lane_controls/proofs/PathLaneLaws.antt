@@ -3,9 +3,11 @@ use Rattle.std.proofs.Common.{◌≡◌, ℕ, zero, suc, ◌+◌, ◌-◌, ◌*�
 use Rattle.std.proofs.lemmas.Bool.{eqb-true}
 use Rattle.std.proofs.lemmas.Nat.Bits.{bit_at_and, bit_at_not, bit_at-zero, bit_at-lt}
 use Rattle.std.specs.Int.{bit_at}
+use Rattle.lane_controls.specs.declared.lane_change.LaneChange.{LaneChange}
 use Rattle.lane_controls.specs.declared.test_plan.Switch.{Switch}
 use Rattle.lane_controls.specs.declared.test_plan.TestPlan.{TestPlan}
 use Rattle.lane_controls.specs.Controls.{host_lanes}
+use Rattle.lane_controls.specs.LaneChanges.{concerned, disturbed}
 use Rattle.lane_controls.specs.TestPlans.{allows, up_lanes}
 use Rattle.lane_controls.specs.PathLanes.{is_up}
 
@@ -84,20 +86,30 @@ module _ (states : List ℕ) where
   up_bit (suc (suc (suc (suc (suc (suc (suc zero))))))) below = up_7
   up_bit (suc (suc (suc (suc (suc (suc (suc (suc n)))))))) below = absurd (omega (arith, below))
 
+-- a lane that is concerned and up is permitted, where none is that isn't
+permitted_bit : (lanes up permitted i : ℕ) → permitted < 256 → bit_and (bit_and lanes up) (255 - permitted) ≡ 0 → i < 8 → bit_at lanes i ≡ 1 → bit_at up i ≡ 1 → bit_at permitted i ≡ 1
+permitted_bit lanes up permitted i fits nothing below touches is =
+    let both = bit_and lanes up in
+    let none : bit_at (bit_and both (255 - permitted)) i ≡ 0 = ap (λ n. bit_at n i) nothing ∙ bit_at-zero i in
+    let kept : bit_at (255 - permitted) i ≡ 1 - bit_at permitted i = bit_at_not w8 permitted i fits below in
+    let whole : bit_at (bit_and both (255 - permitted)) i ≡ min (bit_at both i) (bit_at (255 - permitted) i) = bit_at_and both (255 - permitted) i in
+    let part : bit_at both i ≡ min (bit_at lanes i) (bit_at up i) = bit_at_and lanes up i in
+    let bound : bit_at permitted i < 2 = bit_at-lt permitted i in
+    join (bit_at (bit_and both (255 - permitted)) i) (bit_at both i) (bit_at (255 - permitted) i) (bit_at lanes i) (bit_at up i) (bit_at permitted i) none kept whole part touches is bound
+  where
+    join : (w b k l u p : ℕ) → w ≡ 0 → k ≡ 1 - p → w ≡ min b k → b ≡ min l u → l ≡ 1 → u ≡ 1 → p < 2 → p ≡ 1
+    join w b k l u p none kept whole part touches is bound = omega (arith, none, kept, whole, part, touches, is, bound)
+
+pub change_needs_permission : (change : LaneChange) (states : List ℕ) → change.permitted < 256 → disturbed change states ≡ 0 → (i : ℕ) → i < 8
+    → bit_at (concerned change) i ≡ 1 → is_up states i ≡ true → bit_at change.permitted i ≡ 1
+unfolding disturbed
+change_needs_permission change states fits nothing i below touches up =
+    permitted_bit (concerned change) (up_lanes states) change.permitted i fits nothing below touches (up_bit states i below up)
+
 pub needs_permission : (plan : TestPlan) (states : List ℕ) (switch : Switch) → plan.permitted < 256 → allows plan (up_lanes states) switch ≡ true → (i : ℕ) → i < 8
     → bit_at (host_lanes plan.media_paths switch.control switch.mask) i ≡ 1 → is_up states i ≡ true → bit_at plan.permitted i ≡ 1
 unfolding allows
 needs_permission plan states switch fits allowed i below touches up =
-    let permitted = plan.permitted in
     let lanes = host_lanes plan.media_paths switch.control switch.mask in
-    let both = bit_and lanes (up_lanes states) in
-    let none : bit_at (bit_and both (255 - permitted)) i ≡ 0 = ap (λ n. bit_at n i) (eqb-true (bit_and both (255 - permitted)) 0 allowed) ∙ bit_at-zero i in
-    let kept : bit_at (255 - permitted) i ≡ 1 - bit_at permitted i = bit_at_not w8 permitted i fits below in
-    let whole : bit_at (bit_and both (255 - permitted)) i ≡ min (bit_at both i) (bit_at (255 - permitted) i) = bit_at_and both (255 - permitted) i in
-    let part : bit_at both i ≡ min (bit_at lanes i) (bit_at (up_lanes states) i) = bit_at_and lanes (up_lanes states) i in
-    let is : bit_at (up_lanes states) i ≡ 1 = up_bit states i below up in
-    let bound : bit_at permitted i < 2 = bit_at-lt permitted i in
-    join (bit_at (bit_and both (255 - permitted)) i) (bit_at both i) (bit_at (255 - permitted) i) (bit_at lanes i) (bit_at (up_lanes states) i) (bit_at permitted i) none kept whole part touches is bound
-  where
-    join : (w b k l u p : ℕ) → w ≡ 0 → k ≡ 1 - p → w ≡ min b k → b ≡ min l u → l ≡ 1 → u ≡ 1 → p < 2 → p ≡ 1
-    join w b k l u p none kept whole part touches is bound = omega (arith, none, kept, whole, part, touches, is, bound)
+    let nothing = eqb-true (bit_and (bit_and lanes (up_lanes states)) (255 - plan.permitted)) 0 allowed in
+    permitted_bit lanes (up_lanes states) plan.permitted i fits nothing below touches (up_bit states i below up)

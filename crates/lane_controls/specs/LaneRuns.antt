@@ -10,17 +10,17 @@ use Rattle.conversations.specs.Selecting.{WithSelections}
 use Rattle.paged_memory.specs.declared.page_addressing.PageAddressing.TheVariants.{BankAndPage}
 use Rattle.lane_controls.specs.declared.lane_change.LaneChange.{LaneChange}
 use Rattle.lane_controls.specs.declared.lane_change.LaneEnd.{LaneEnd}
-use Rattle.lane_controls.specs.LaneChanges.{AreLaneSteps, HasEnded}
+use Rattle.lane_controls.specs.LaneChanges.{AreLaneSteps, HasEnded, lane_after, page_at}
 
--- but for selections of page 10h, which is confirmed before each other step
-abbrev pub OnControls : Bool → (Events → Type 0) → Events → Type 0
-OnControls doubts = WithSelections doubts false (λ own. Some BankAndPage) (λ own. Some 16)
+-- but for selections of pages 10h and 11h, each of which is confirmed before it is used
+abbrev pub OnControls : Bool → LaneChange → (Events → Type 0) → Events → Type 0
+OnControls doubts change = WithSelections doubts false (λ own. Some BankAndPage) (λ own. page_at (lane_after change (steps_of own)).stage)
 
 abbrev pub GoesOn : Bool → LaneChange → Events → Type 0
-GoesOn doubts change = OnControls doubts (λ own. AreLaneSteps change (steps_of own))
+GoesOn doubts change = OnControls doubts change (λ own. AreLaneSteps change (steps_of own))
 
 abbrev pub Ends : Bool → LaneChange → Events → LaneEnd → Type 0
-Ends doubts change events end = OnControls doubts (λ own. HasEnded change (steps_of own) end) events
+Ends doubts change events end = OnControls doubts change (λ own. HasEnded change (steps_of own) end) events
 
 -- the change ended, or gave up at the limit, or the bus failed
 abbrev pub ChangesLanes : {F : Type 0} → LaneChange → ℕ → Type 0 → (F → Type 0) → Events → Result (Spent LaneEnd) F → Type 0

@@ -113,8 +113,9 @@ impl Control {
     }
 }
 
+/// The host lanes of the paths of these media lanes, where these are the host lanes of each media lane's path.
 #[tactic(auto, unfolding(crate::specs::Controls::hosts_of))]
-fn hosts_of(paths: &[u8; 8], lanes: u8) -> u8
+pub fn hosts_of(paths: &[u8; 8], lanes: u8) -> u8
     ensures { result ≡ spec.hosts_of paths.now lanes }
 {
     ((hosts_at(paths, lanes, 0) | hosts_at(paths, lanes, 1))

@@ -1,13 +1,15 @@
 //! A control of page 10h changed for some lanes alone.
-ghost use Rattle.std.specs.Prelude.{◌≡◌, ◌≤◌, ℕ, [], if◌then◌else◌, length, slice_index};
+ghost use Rattle.std.specs.Prelude.{◌≡◌, ℕ, [], if◌then◌else◌, length};
 ghost use Rattle.std.specs.FinSet as set;
 ghost use Rattle.field_tables.specs.LaneSets.{lanes_in};
 ghost use Rattle.conversations.specs.Wanted.{IfDo, IsReplyTo};
 ghost use Rattle.lane_controls.specs.LaneChanges as spec;
 
+use crate::control::hosts_of;
 use crate::lane_register::LaneRegister;
 use crate::merging::merged;
-use crate::page_bytes::{read_at, store_at};
+use crate::page_bytes::{read_at, read_from, store_at};
+use crate::path_lanes::up_lanes;
 use bus_model::Reply;
 use conversations::{Conversation, NeedsPages, Next};
 use field_tables::LaneSet;
@@ -21,6 +23,10 @@ pub struct LaneChange {
     pub on: bool,
     /// How often it may be stored.
     pub max_stores: u8,
+    /// Host lanes that it may disturb though their path is up: bit i-1 is lane i.
+    pub permitted: u8,
+    /// The host lanes of each media lane's path; all eight where that isn't known.
+    pub media_paths: [u8; 8],
 }
 
 /// How a change of lanes ended: the byte as it was read last.
@@ -34,6 +40,8 @@ pub enum LaneEnd {
     Ignored(u8),
     /// The module refused the last store, and it had no effect.
     Refused(u8),
+    /// The paths of these host lanes are up, and may not be disturbed: bit i-1 is lane i. Nothing was stored since the byte was read.
+    NotPermitted { byte: u8, lanes: u8 },
 }
 
 /// How far a change of lanes has come.
@@ -41,8 +49,10 @@ pub enum LaneEnd {
 pub enum LaneStage {
     /// The byte is to be read, at first or since it was stored.
     Unread,
-    /// It was read so, and is to be stored.
+    /// It was read so, and is to be changed; which paths are up is to be read.
     Found(u8),
+    /// None of them stands against that, and it is to be stored.
+    Admitted(u8),
     Ended(LaneEnd),
 }
 
@@ -79,6 +89,27 @@ impl LaneChange {
     {
         merged(self.lanes.byte(), bits_of(self.on), byte)
     }
+
+    fn host_lanes(self) -> u8
+        ensures { result ≡ spec.concerned self }
+    {
+        let lanes = self.lanes.byte();
+        if self.register.is_media() {
+            hosts_of(&self.media_paths, lanes)
+        } else {
+            lanes
+        }
+    }
+
+    // The host lanes that it would disturb without permission.
+    #[tactic(auto, unfolding(crate::specs::LaneChanges::disturbed))]
+    fn disturbed(self, states: &[u8]) -> u8
+        requires { length states.now ≡ 4 }
+        ensures { result ≡ spec.disturbed self states.now }
+    {
+        let permitted = self.permitted;
+        self.host_lanes() & up_lanes(states) & !permitted
+    }
 }
 
 fn bits_of(on: bool) -> u8
@@ -99,7 +130,12 @@ impl ChangingLanes {
                     self.stage = self.stage_read(bytes[0]);
                 }
             }
-            LaneStage::Found(_) => {
+            LaneStage::Found(byte) => {
+                if let Reply::Bytes(bytes) = reply {
+                    self.stage = self.stage_looked(byte, bytes);
+                }
+            }
+            LaneStage::Admitted(_) => {
                 self.stage = LaneStage::Unread;
                 self.left = self.left.saturating_sub(1);
                 self.refused = matches!(reply, Reply::Refused);
@@ -118,6 +154,18 @@ impl ChangingLanes {
             return LaneStage::Found(byte);
         }
         LaneStage::Ended(self.end_otherwise(byte))
+    }
+
+    fn stage_looked(&self, byte: u8, states: &[u8]) -> LaneStage
+        requires { length states.now ≡ 4 }
+        ensures { result ≡ spec.stage_looked self.now.change byte states.now }
+    {
+        let lanes = self.change.disturbed(states);
+        if lanes == 0 {
+            LaneStage::Admitted(byte)
+        } else {
+            LaneStage::Ended(LaneEnd::NotPermitted { byte, lanes })
+        }
     }
 
     fn end_as_wanted(&self, byte: u8) -> LaneEnd
@@ -165,7 +213,8 @@ impl Conversation for ChangingLanes {
         let address = self.change.register.address();
         match self.stage {
             LaneStage::Unread => Next::Do(read_at(address)),
-            LaneStage::Found(byte) => Next::Do(store_at(address, self.change.wanted(byte))),
+            LaneStage::Found(_) => Next::Do(read_from(128, 4)),
+            LaneStage::Admitted(byte) => Next::Do(store_at(address, self.change.wanted(byte))),
             LaneStage::Ended(end) => Next::End(end),
         }
     }
@@ -181,11 +230,13 @@ impl Conversation for ChangingLanes {
 
 impl NeedsPages for ChangingLanes {
     ghost use Rattle.std.specs.Prelude.{Some, false};
+    ghost use Rattle.conversations.specs.Events.{steps_of};
+    ghost use Rattle.lane_controls.specs.LaneChanges.{lane_after, page_at};
     ghost use Rattle.paged_memory.specs.declared.page_addressing.PageAddressing.TheVariants.{BankAndPage};
 
-    ghost page = { λ changing. Some 16 };
+    ghost page = { λ changing. page_at changing.stage };
 
-    ghost needs = { λ change events. Some 16 };
+    ghost needs = { λ change events. page_at (lane_after change (steps_of events)).stage };
 
     ghost addressing = { λ changing. Some BankAndPage };
 
@@ -196,7 +247,11 @@ impl NeedsPages for ChangingLanes {
     ghost lacking = { λ changing number. changing };
 
     fn page(&self) -> Option<u8> {
-        Some(CONTROLS_PAGE)
+        match self.stage {
+            LaneStage::Unread | LaneStage::Admitted(_) => Some(CONTROLS_PAGE),
+            LaneStage::Found(_) => Some(STATES_PAGE),
+            LaneStage::Ended(_) => None,
+        }
     }
 
     fn addressing(&self) -> Option<PageAddressing> {
@@ -210,4 +265,8 @@ impl NeedsPages for ChangingLanes {
     fn lacks(&mut self, _number: u8) {}
 }
 
+/// Controls of lanes.
 const CONTROLS_PAGE: u8 = 0x10;
+
+/// States of lanes and paths.
+const STATES_PAGE: u8 = 0x11;

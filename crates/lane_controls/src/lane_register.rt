@@ -30,4 +30,16 @@ impl LaneRegister {
             LaneRegister::AutoSquelchDisableRx => 139,
         }
     }
+
+    /// Whether its lanes are those of the media side.
+    pub fn is_media(self) -> bool
+        ensures { result ≡ spec.is_media self }
+    {
+        matches!(
+            self,
+            LaneRegister::OutputDisableTx
+                | LaneRegister::AutoSquelchDisableTx
+                | LaneRegister::OutputSquelchForceTx
+        )
+    }
 }

@@ -5,6 +5,7 @@ ghost use Rattle.std.specs.FinSet as set;
 ghost use Rattle.bus_model.specs.declared.operation.Op.{Op};
 ghost use Rattle.conversations.specs.declared.pausing.Patience.{Patience};
 ghost use Rattle.conversations.specs.Events.{Events, steps_of};
+ghost use Rattle.lane_controls.specs.declared.lane_change.LaneChange.{LaneChange};
 ghost use Rattle.lane_controls.specs.declared.link_test.LinkTest.{LinkTest};
 ghost use Rattle.lane_controls.specs.declared.link_test.TestStage.TheVariants.{Over};
 ghost use Rattle.paged_memory.specs.PageAddressing.{EachStep, History};
@@ -16,6 +17,7 @@ ghost use Rattle.lane_controls.specs.declared.signal_settings.SignalTargets.{Sig
 ghost use Rattle.lane_controls.specs.declared.test_plan.Switch.{Switch};
 ghost use Rattle.lane_controls.specs.declared.test_plan.TestPlan.{TestPlan};
 ghost use Rattle.lane_controls.specs.Controls.{host_lanes};
+ghost use Rattle.lane_controls.specs.LaneChanges.{concerned, disturbed};
 ghost use Rattle.lane_controls.specs.LinkTests.{test_after};
 ghost use Rattle.lane_controls.specs.Merging.{TakesBitsOfMask, merged};
 ghost use Rattle.lane_controls.specs.PathLanes.{is_up};
@@ -27,6 +29,13 @@ ghost use Rattle.lane_controls.specs.TestRuns.{OnRealBus, OnTestPages};
 /// A byte that is stored has the bits of its mask from others, and each other bit as it was.
 pub fn only_bits_of_the_mask_change()
     ensures { (mask bits byte : ℕ) → mask < 256 → TakesBitsOfMask mask bits byte (merged mask bits byte) }
+{}
+
+/// A change of lanes, which stores only once nothing is disturbed without permission, concerns no host lane of a path that is up, but for
+/// those that it may disturb.
+pub fn a_change_of_lanes_that_are_up_needs_permission()
+    ensures { (change : LaneChange) (states : List ℕ) → change.permitted < 256 → disturbed change states ≡ 0 → (i : ℕ) → i < 8
+        → bit_at (concerned change) i ≡ 1 → is_up states i ≡ true → bit_at change.permitted i ≡ 1 }
 {}
 
 /// What a test may switch concerns no host lane of a path that is up, but for those that it may disturb.

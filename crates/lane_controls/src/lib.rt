@@ -10,6 +10,7 @@ pub mod laws;
 mod link_test;
 mod merging;
 mod page_bytes;
+mod path_lanes;
 mod result_set;
 mod results;
 mod runs;

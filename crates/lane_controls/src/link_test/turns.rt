@@ -8,6 +8,7 @@ ghost use Rattle.lane_controls.specs.TestPlans as plans;
 
 use super::{LinkTest, STOP, TestFault, TestStage};
 use crate::capabilities::has_diagnostics;
+use crate::path_lanes::up_lanes;
 use crate::test_plan::{Change, MAX_SWITCHES, Switch};
 use arrayvec::ArrayVec;
 use bus_model::Reply;
@@ -238,24 +239,6 @@ impl LinkTest {
             }
         }
     }
-}
-
-fn up_pair(byte: u8) -> u8
-    ensures value { result ≡ plans.up_pair byte }
-    ensures few { result < 4 }
-{
-    let first = if byte % 16 == 1 { 0 } else { 1 };
-    let second = if byte / 16 == 1 { 0 } else { 2 };
-    first + second
-}
-
-// The lanes of paths that are up.
-#[tactic(auto, unfolding(crate::specs::TestPlans::up_lanes))]
-fn up_lanes(states: &[u8]) -> u8
-    requires { length states.now ≡ 4 }
-    ensures { result ≡ plans.up_lanes states.now }
-{
-    up_pair(states[0]) + up_pair(states[1]) * 4 + up_pair(states[2]) * 16 + up_pair(states[3]) * 64
 }
 
 // Flags that were set before or are now.

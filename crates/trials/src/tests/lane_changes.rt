@@ -7,33 +7,100 @@ use lane_controls::{
 };
 use std::test::Fail;
 
+// Lanes 3 and 4 of a transmitter that may be disturbed are these.
+fn outputs_off(permitted: u8, media_paths: [u8; 8]) -> LaneChange {
+    LaneChange {
+        register: LaneRegister::OutputDisableTx,
+        lanes: LaneSet::run(3, 2),
+        on: true,
+        max_stores: 3,
+        permitted,
+        media_paths,
+    }
+}
+
+fn change(board: &mut Pages, change: LaneChange) -> Option<LaneEnd> {
+    let mut changing = change.begin();
+    for _ in 0..30u8 {
+        match changing.next() {
+            Next::Do(op) => {
+                let page = changing.page().unwrap_or(0);
+                let reply = board.answer(page, &op);
+                let _fits = try_take(&mut changing, &reply);
+            }
+            Next::Wait(_time) => {}
+            Next::End(end) => return Some(end),
+        }
+    }
+    None
+}
+
 #[test]
 fn outputs_are_switched_off(rt: HostRuntime) -> Result<(), Fail> {
     for refuses_each in [0, 3, 5u32] {
         let mut board = board();
         board.refuses_each = refuses_each;
         board.set(0x10, 130, 0x81);
-        let change = LaneChange {
-            register: LaneRegister::OutputDisableTx,
-            lanes: LaneSet::run(3, 2),
-            on: true,
-            max_stores: 3,
-        };
-        let mut changing = change.begin();
-        let mut ended = None;
-        for _ in 0..20u8 {
-            match changing.next() {
-                Next::Do(op) => {
-                    let reply = board.answer(0x10, &op);
-                    let _fits = try_take(&mut changing, &reply);
-                }
-                Next::Wait(_time) => {}
-                Next::End(end) => ended = Some(end),
-            }
-        }
-        assert_eq!(rt; ended, Some(LaneEnd::Changed(0x8d)));
+        let end = change(&mut board, outputs_off(0, [0xff; 8]));
+        assert_eq!(rt; end, Some(LaneEnd::Changed(0x8d)));
         assert_eq!(rt; board.byte(0x10, 130), 0x8d);
     }
+    Ok(())
+}
+
+// Lane 5 is up, and carries media lane 4 in the last two cases.
+#[test]
+fn outputs_of_paths_that_are_up_need_permission(rt: HostRuntime) -> Result<(), Fail> {
+    for (permitted, media_paths, end) in [
+        (
+            0xef,
+            [0xff; 8],
+            LaneEnd::NotPermitted {
+                byte: 0x81,
+                lanes: 0x10,
+            },
+        ),
+        (0x10, [0xff; 8], LaneEnd::Changed(0x8d)),
+        (
+            0,
+            [0, 0, 0, 0x10, 0, 0, 0, 0],
+            LaneEnd::NotPermitted {
+                byte: 0x81,
+                lanes: 0x10,
+            },
+        ),
+        (
+            0,
+            [0x10, 0x10, 0, 0, 0x10, 0x10, 0x10, 0x10],
+            LaneEnd::Changed(0x8d),
+        ),
+    ] {
+        let mut board = board();
+        board.set(0x10, 130, 0x81);
+        board.set(0x11, 130, 0x14);
+        assert_eq!(rt;
+            change(&mut board, outputs_off(permitted, media_paths)),
+            Some(end)
+        );
+        let byte = if end == LaneEnd::Changed(0x8d) {
+            0x8d
+        } else {
+            0x81
+        };
+        assert_eq!(rt; board.byte(0x10, 130), byte);
+    }
+    Ok(())
+}
+
+// Where the lanes are as wanted, no path stands against that.
+#[test]
+fn outputs_that_are_off_are_left_alone(rt: HostRuntime) -> Result<(), Fail> {
+    let mut board = board();
+    board.set(0x10, 130, 0x8c);
+    board.set(0x11, 129, 0x44);
+    let end = change(&mut board, outputs_off(0, [0xff; 8]));
+    assert_eq!(rt; end, Some(LaneEnd::Unchanged(0x8c)));
+    assert_eq!(rt; board.stores, 0);
     Ok(())
 }
 
