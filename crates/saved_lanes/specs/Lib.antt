@@ -1,0 +1,3 @@
+pub mod SavedLanes
+pub mod Turns
+pub mod Endings

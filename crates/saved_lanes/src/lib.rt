@@ -1,0 +1,14 @@
+//! A change of lanes as plain numbers, for a caller that keeps it in memory of another language.
+#![tactic(auto)]
+
+mod ending;
+mod numbers;
+mod restoring;
+mod saving;
+mod turning;
+
+pub use ending::{SavedLaneEnd, ending_of};
+pub use numbers::{SavedChanging, SavedLaneChange};
+pub use restoring::{CHANGE, restore};
+pub use saving::save;
+pub use turning::{MAX_STEPS, begin, take_saved, wait_saved};
