@@ -8,10 +8,11 @@
      Plans                        weights, plans, certificates
      Conversations with a module  read, provision, activate, wake, sleep
      A module's firmware          look at it, update it
+     Single lanes                 switch outputs, polarity and squelch
      A port's manager             keep the module in a port as wanted
      A simulated module           a module without hardware
 
-   Every function except dovecounter_run and dovecounter_update_run is proved to return and to do what this file says,
+   Every function except dovecounter_run, _update_run and _lane_run is proved to return and to do what this file says,
    except where it says "tested". Nothing is proved about real modules. No function allocates, prints, waits, keeps a pointer or has state
    of its own, so calls may run in parallel unless one writes what another uses.
 
@@ -59,13 +60,17 @@ extern "C" {
      next                                    31 32
      reply                                   31 32 34
      end                                     31 33
-     run, update_run                         31 34
+     run, update_run, lane_run               31 34
      port_plug to port_next                  31
      port_take                               31 34
      update_next                             31 32
      update_reply                            31 32 34
      update_end                              31 33
      update_progress                         31
+     lane_begin                              31
+     lane_next                               31 32
+     lane_reply                              31 32 34
+     lane_end                                31 33
      module_begin                            1 2 51, then as advertisement, then 53 54
      module_fetch, module_store              as advertisement, then 61 62 63
      module_tick, module_pin, module_active  61
@@ -943,6 +948,115 @@ static inline uint32_t dovecounter_update_run(struct dovecounter_update *update,
         else
             outcome = transact(context, &operation, bytes);
         status = dovecounter_update_reply(update, file, file_size, outcome, bytes, operation.count);
+        if (status != DOVECOUNTER_DONE) return status;
+    }
+    return status == DOVECOUNTER_ENDED ? (uint32_t)DOVECOUNTER_DONE : status;
+}
+
+/* ---- Single lanes ----
+
+   A change of one control of page 10h for some lanes, under way (docs/lanes.md). It touches no bus: dovecounter_lane_next names
+   the operation to make, and dovecounter_lane_reply takes its outcome, until dovecounter_lane_end says how it ended;
+   dovecounter_lane_run is that loop. Nobody else may use the module meanwhile.
+
+   It reads the control, and ends if the lanes are as wanted. Else it reads which data paths are up, and stores the control with the
+   bits of these lanes changed, and no other, if no lane of a path that is up is disturbed but the permitted ones; then it reads the
+   control back. */
+
+enum dovecounter_lane_control {
+    DOVECOUNTER_INPUT_POLARITY_FLIP_TX = 0,
+    DOVECOUNTER_OUTPUT_DISABLE_TX = 1, /* this and the next two are of media lanes, the others of host lanes */
+    DOVECOUNTER_AUTO_SQUELCH_DISABLE_TX = 2,
+    DOVECOUNTER_OUTPUT_SQUELCH_FORCE_TX = 3,
+    DOVECOUNTER_ADAPTIVE_INPUT_EQ_FREEZE_TX = 4,
+    DOVECOUNTER_OUTPUT_POLARITY_FLIP_RX = 5,
+    DOVECOUNTER_OUTPUT_DISABLE_RX = 6,
+    DOVECOUNTER_AUTO_SQUELCH_DISABLE_RX = 7
+};
+
+/* What to change. */
+struct dovecounter_lane_change {
+    uint8_t control; /* enum dovecounter_lane_control */
+    uint8_t lanes;
+    uint8_t on;             /* 1 sets the bits of these lanes, anything else clears them */
+    uint8_t most_stores;    /* how often the control may be stored */
+    uint8_t permitted;      /* host lanes that may be disturbed though their data path is up */
+    uint8_t media_paths[8]; /* the host lanes of the data path of each media lane; 0xFF where you don't know them */
+};
+
+/* A change under way. Copy it and save it; change nothing. Changed numbers are refused, or taken for another change. */
+struct dovecounter_changing_lanes {
+    uint32_t magic;
+    uint32_t idle;
+    uint32_t pause;
+    uint32_t limit;
+    uint16_t steps;
+    uint16_t most_steps;
+    struct dovecounter_lane_change change;
+    uint8_t stage;
+    uint8_t end;
+    uint8_t byte;
+    uint8_t disturbed;
+    uint8_t left;
+    uint8_t refused;
+    uint8_t due;
+    uint8_t doubts;
+    uint8_t selection;
+    uint8_t page;
+    uint8_t taken;
+    uint8_t taken_page;
+};
+
+/* Begins to change lanes, by 4096 operations at most. Status 31 means that there is no such control. */
+uint32_t dovecounter_lane_begin(const struct dovecounter_lane_change *change,
+                                const struct dovecounter_patience *patience,
+                                struct dovecounter_changing_lanes *changing);
+
+/* Writes what to do now. */
+uint32_t dovecounter_lane_next(const struct dovecounter_changing_lanes *changing,
+                               struct dovecounter_operation *operation);
+
+/* Takes the outcome of that operation, as dovecounter_reply does. */
+uint32_t dovecounter_lane_reply(struct dovecounter_changing_lanes *changing, uint8_t outcome, const uint8_t *bytes,
+                                size_t byte_count);
+
+enum dovecounter_lane_outcome {
+    DOVECOUNTER_LANES_UNCHANGED = 0, /* as wanted from the beginning */
+    DOVECOUNTER_LANES_CHANGED = 1,   /* stored, and read back as wanted */
+    DOVECOUNTER_LANES_IGNORED = 2,   /* the module accepted the last store, and shows something else */
+    DOVECOUNTER_LANES_REFUSED = 3,   /* the module refused the last store, and shows something else */
+    DOVECOUNTER_LANES_NOT_PERMITTED =
+        4, /* a lane that is up would be disturbed; nothing was stored since the control was read */
+    DOVECOUNTER_LANES_OVERDUE = 5, /* out of patience; if it was stored, read the control before anything else */
+    DOVECOUNTER_LANES_GAVE_UP = 6  /* 4096 operations; if it was stored, read the control before anything else */
+};
+
+struct dovecounter_lane_end {
+    uint8_t outcome; /* enum dovecounter_lane_outcome */
+    uint8_t byte;    /* the control as it was read last; 0 if overdue or given up */
+    uint8_t lanes;   /* the host lanes that are up and not permitted; 0 with any other outcome */
+    uint8_t stores;  /* how often the control was stored, accepted or not */
+};
+
+/* Writes how it ended. */
+uint32_t dovecounter_lane_end(const struct dovecounter_changing_lanes *changing, struct dovecounter_lane_end *end);
+
+/* Carries a change of lanes out, as dovecounter_run does. */
+static inline uint32_t dovecounter_lane_run(struct dovecounter_changing_lanes *changing,
+                                            uint8_t (*transact)(void *context,
+                                                                const struct dovecounter_operation *operation,
+                                                                uint8_t bytes[128]),
+                                            void (*pause)(void *context, uint32_t milliseconds), void *context) {
+    struct dovecounter_operation operation;
+    uint8_t bytes[128];
+    uint32_t status;
+    while ((status = dovecounter_lane_next(changing, &operation)) == DOVECOUNTER_DONE) {
+        uint8_t outcome = DOVECOUNTER_WAITED;
+        if (operation.kind == DOVECOUNTER_WAIT)
+            pause(context, operation.milliseconds);
+        else
+            outcome = transact(context, &operation, bytes);
+        status = dovecounter_lane_reply(changing, outcome, bytes, operation.count);
         if (status != DOVECOUNTER_DONE) return status;
     }
     return status == DOVECOUNTER_ENDED ? (uint32_t)DOVECOUNTER_DONE : status;

@@ -223,6 +223,23 @@ static void *updates(void *x) {
     return x;
 }
 
+static const struct dovecounter_lane_change outputs_off = {DOVECOUNTER_OUTPUT_DISABLE_TX, 0x0C, 1, 3, 0xFF, {0}};
+static struct dovecounter_changing_lanes changing;
+static struct dovecounter_lane_end lane_end;
+
+/* All operations of a change of lanes, each answered. */
+static void *switches(void *x) {
+    dovecounter_lane_begin(&outputs_off, &patience, &changing);
+    for (int made = 0; made < 40; made++) {
+        if (dovecounter_lane_next(&changing, &operation) != DOVECOUNTER_DONE) break;
+        uint8_t reply = operation.kind == DOVECOUNTER_WAIT ? DOVECOUNTER_WAITED : transact(0, &operation, fetched);
+        size_t count = reply == DOVECOUNTER_FETCHED ? operation.count : 0;
+        dovecounter_lane_reply(&changing, reply, fetched, count);
+    }
+    dovecounter_lane_end(&changing, &lane_end);
+    return x;
+}
+
 int main(void) {
     read_halves();
     wanted.weights[0x0D] = 101;
@@ -264,5 +281,6 @@ int main(void) {
     print_used("the calls of a port", keeps, alone);
     if (port.stage != DOVECOUNTER_PORT_PROVISIONING && port.stage != DOVECOUNTER_PORT_WAKING) return 1;
     print_used("the calls of an update", updates, alone);
+    print_used("the calls of a change of lanes", switches, alone);
     return 0;
 }

@@ -425,3 +425,38 @@ SIZE(banks, 18);
 AT(banks, banks, 0);
 AT(banks, running, 16);
 AT(banks, committed, 17);
+
+SIZE(lane_change, 13);
+AT(lane_change, control, 0);
+AT(lane_change, lanes, 1);
+AT(lane_change, on, 2);
+AT(lane_change, most_stores, 3);
+AT(lane_change, permitted, 4);
+AT(lane_change, media_paths, 5);
+
+SIZE(changing_lanes, 48);
+AT(changing_lanes, magic, 0);
+AT(changing_lanes, idle, 4);
+AT(changing_lanes, pause, 8);
+AT(changing_lanes, limit, 12);
+AT(changing_lanes, steps, 16);
+AT(changing_lanes, most_steps, 18);
+AT(changing_lanes, change, 20);
+AT(changing_lanes, stage, 33);
+AT(changing_lanes, end, 34);
+AT(changing_lanes, byte, 35);
+AT(changing_lanes, disturbed, 36);
+AT(changing_lanes, left, 37);
+AT(changing_lanes, refused, 38);
+AT(changing_lanes, due, 39);
+AT(changing_lanes, doubts, 40);
+AT(changing_lanes, selection, 41);
+AT(changing_lanes, page, 42);
+AT(changing_lanes, taken, 43);
+AT(changing_lanes, taken_page, 44);
+
+SIZE(lane_end, 4);
+AT(lane_end, outcome, 0);
+AT(lane_end, byte, 1);
+AT(lane_end, lanes, 2);
+AT(lane_end, stores, 3);

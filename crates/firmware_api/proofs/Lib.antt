@@ -20,4 +20,5 @@ mod ShortNames
 mod DecodersRefuse
 mod WatchfulLaws
 mod KeptLaws
+mod ToldReplies
 pub mod NextObservables

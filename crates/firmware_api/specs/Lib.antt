@@ -24,4 +24,5 @@ pub mod PortsTold
 pub mod Changes
 pub mod KeptPorts
 pub mod Updates
+pub mod LanesTold
 pub mod ObservableNumbers

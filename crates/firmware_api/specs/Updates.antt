@@ -49,14 +49,14 @@ abbrev pub refusal_in : Option Work → Option Refusal
 refusal_in None = Some NoConversation
 refusal_in (Some work) = None
 
-abbrev pub IsNextTold : ℕ → Operation → Option (Next Ending) → Type 0
+abbrev pub IsNextTold : {E : Type 0} → ℕ → Operation → Option (Next E) → Type 0
 IsNextTold status operation None = status ≡ status_of NoConversation
 IsNextTold status operation (Some (Do op)) = (status ≡ done) × (operation ≡ operation_of op)
 IsNextTold status operation (Some (Wait time)) = (status ≡ done) × (operation ≡ waiting time)
 IsNextTold status operation (Some (End ending)) = status ≡ status_of Ended
 
 -- a wait is over, or the reply is taken if and only if the operation can have it
-abbrev pub IsReplyTold : ℕ → ℕ → Option Reply → Option (Next Ending) → Type 0
+abbrev pub IsReplyTold : {E : Type 0} → ℕ → ℕ → Option Reply → Option (Next E) → Type 0
 IsReplyTold status outcome reply None = status ≡ status_of NoConversation
 IsReplyTold status outcome reply (Some (End ending)) = status ≡ status_of Ended
 IsReplyTold status outcome reply (Some (Wait time)) = status ≡ (if outcome == waited then done else status_of NoReply)

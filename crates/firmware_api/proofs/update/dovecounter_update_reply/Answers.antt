@@ -1,5 +1,4 @@
-use Rattle.std.proofs.Common.{◌≡◌, ℕ, Option, Some, None, refl, ap, sym, subst, ◌∙◌}
-use Rattle.std.proofs.lemmas.Option.{none-some}
+use Rattle.std.proofs.Common.{◌≡◌, Option, Some, ap, sym, subst, ◌∙◌}
 use Rattle.bus_model.specs.declared.operation.Op.{Op}
 use Rattle.bus_model.specs.declared.operation.Reply.{Reply}
 use Rattle.conversations.specs.declared.next.Next.{Next}
@@ -13,11 +12,8 @@ use Rattle.firmware_api.specs.SavedConversations.{IsReplyFor}
 use Rattle.firmware_api.specs.Updates.{IsReplyTold, wanted_of}
 use Rattle.firmware_api.proofs.AboutLaws.{reply_is}
 use Rattle.firmware_api.proofs.SavedLaws.{same_some}
+use Rattle.firmware_api.proofs.ToldReplies.{told_of}
 use Rattle.firmware_api.proofs.update.dovecounter_update_reply.Goals as goal
-
-told_of : (outcome : ℕ) (found : Option Reply) (op : Op) (taken : Reply) (told : Option Reply) → found ≡ Some taken → IsReplyFor found op told → IsReplyTold 0 outcome told (Some (Do op))
-told_of outcome found op taken None is none = absurd (none-some taken (sym none ∙ is))
-told_of outcome found op taken (Some reply) is (can, cannot) = (λ answers. refl, λ other. absurd (none-some taken (sym (cannot other) ∙ is)))
 
 pub returns-in-Some-reply_to-clause-told : goal.returns-in-Some-reply_to-clause-told
 returns-in-Some-reply_to-clause-told c =
