@@ -43,6 +43,9 @@ void load_line(struct emulator *module, const char *line) {
         module->present[page] = read_digits(digits, module->pages[page]);
 }
 
+/* Polarity, disable and squelch of single lanes. */
+static bool is_control(unsigned at) { return (at >= 1 && at <= 4) || (at >= 9 && at <= 11); }
+
 size_t describe(const struct emulator *module, char *text, size_t room) {
     size_t at = (size_t)snprintf(text, room, "active");
     for (int lane = 0; lane < 8; lane++)
@@ -51,9 +54,15 @@ size_t describe(const struct emulator *module, char *text, size_t room) {
     for (int lane = 0; lane < 8; lane++) at += (size_t)snprintf(text + at, room - at, " %u", module->path[lane]);
     at += (size_t)snprintf(text + at, room - at, "\ndeinit %02x applied %02x left-activated %02x astray %u\n",
                            module->deinit, module->applies, module->left_activated, module->astray);
-    if (module->powers == 0) return at;
-    return at + (size_t)snprintf(text + at, room - at, "power %02x state %u\n", module->lower[26],
-                                 module->lower[3] >> 1 & 7);
+    if (module->powers != 0)
+        at += (size_t)snprintf(text + at, room - at, "power %02x state %u\n", module->lower[26],
+                               module->lower[3] >> 1 & 7);
+    if (module->switched == 0) return at;
+    at += (size_t)snprintf(text + at, room - at, "switched %u controls", module->switched);
+    for (unsigned control = 129; control <= 139; control++)
+        if (is_control(control - 128))
+            at += (size_t)snprintf(text + at, room - at, " %02x", module->pages[0x10][control - 128]);
+    return at + (size_t)snprintf(text + at, room - at, "\n");
 }
 
 /* The descriptor of an Application; NULL if it isn't advertised. */
@@ -203,6 +212,9 @@ void store_byte(struct emulator *module, uint8_t address, uint8_t byte) {
         apply(module, byte);
     } else if (at >= STAGED && at < STAGED + 8) {
         if (at - STAGED + 1U != module->unstaged) page[at] = byte;
+    } else if (is_control(at)) {
+        module->switched++;
+        if (!module->fixed) page[at] = byte;
     } else
         module->astray++;
 }

@@ -65,6 +65,8 @@ static void read_rare_word(const char *word, unsigned value) {
     if (strncmp(word, "ignored=", 8) == 0) shim.module.ignored = value;
     if (strncmp(word, "reject=", 7) == 0) shim.module.reject = (uint8_t)value;
     if (strncmp(word, "unstaged=", 9) == 0) shim.module.unstaged = value;
+    if (strcmp(word, "fixed") == 0) shim.module.fixed = true;
+    if (strcmp(word, "locked") == 0) shim.locked = true;
 }
 
 /* Words of the firmware. */
@@ -257,11 +259,16 @@ static void store_bytes(uint8_t address, size_t count, const uint8_t *bytes) {
 
 /* ---- /dev/i2c-99 ---- */
 
+static bool is_locked(const struct i2c_msg *message) {
+    bool stores = !(message->flags & I2C_M_RD) && message->len == 2 && message->buf[0] >= 128;
+    return shim.locked && stores && shim.module.page == 0x10;
+}
+
 static int transfer(const struct i2c_rdwr_ioctl_data *data) {
     for (unsigned i = 0; i < data->nmsgs; i++)
         if (shim.longest != 0 && data->msgs[i].len > shim.longest)
             return errno = shim.too_long != 0 ? shim.too_long : EOPNOTSUPP, -1;
-    bool reached = reaches();
+    bool reached = reaches() && !is_locked(&data->msgs[0]);
     for (unsigned i = 0; i < data->nmsgs; i++) {
         struct i2c_msg *message = &data->msgs[i];
         if (message->addr != 0x50) return errno = ENXIO, -1;

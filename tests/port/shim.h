@@ -34,6 +34,7 @@ struct shim {
     unsigned mute;    /* from the twentieth on, none is answered for so many milliseconds */
     int64_t muted;    /* microseconds: until then */
     unsigned takes;   /* milliseconds until one that isn't answered is given up */
+    bool locked;      /* an adapter's stores of one byte on page 10h are refused */
     char other[256];  /* the memory of the module that comes in place of the first; else that of the first */
     char hold[256];   /* a file that is made at the tenth transaction, which waits until it is gone */
     struct shim_byte {

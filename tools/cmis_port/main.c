@@ -11,7 +11,13 @@
 static const char usage[] =
     "usage: cmis-port BUS image | state | plan WEIGHTS | provision WEIGHTS | wake | sleep\n"
     "       cmis-port BUS firmware [commit | abort | update FILE]\n"
+    "       cmis-port BUS lanes\n"
+    "       cmis-port BUS tx | rx on | off LANES\n"
+    "       cmis-port BUS tx-polarity | rx-polarity normal | flipped LANES\n"
+    "       cmis-port BUS tx-squelch | rx-squelch auto | disabled LANES\n"
+    "       cmis-port BUS tx-squelch forced | released LANES\n"
     "  BUS             /dev/i2c-N, the eeprom file of the driver optoe, or sim:IMAGE[,SCRIPT] to simulate a module\n"
+    "  LANES           such as 3 or 1,3,4: media lanes of tx and tx-squelch, else host lanes\n"
     "  WEIGHTS         a file with a line [host] and lines such as 0Dh = 101\n"
     "  image           print the module's memory, for cmisctl\n"
     "  state           print the states of the module and its lanes, its flags, and the active control bytes\n"
@@ -23,16 +29,18 @@ static const char usage[] =
     "    commit        have the image that runs run after each reset\n"
     "    abort         give an open download up\n"
     "    update        write FILE to the bank that doesn't run, run it, and commit it\n"
+    "  lanes           print which lanes have which control: outputs disabled, polarity flipped and so on\n"
+    "  tx, rx          switch outputs of these lanes on or off; so their polarity, and their squelch\n"
     "  --keep A,H,M    keep a data path that is active: its Application, first host lane, first media lane\n"
     "  --unpaired      let any first host lane go with any first media lane\n"
     "  --counts-by-id  look up lane counts of 0 by interface ID\n"
     "  --activate      bring the plan's data paths up\n"
     "  --ensure        take down what is in the way, but no active path that the plan has too\n"
-    "  --force         take down whatever is up; accept a plan without paths\n"
+    "  --force         take down, or disturb, whatever is up; accept a plan without paths\n"
     "  --wake          take the module out of low power first\n"
     "  --reset         let an update restart the module, which takes its lanes down\n"
     "  --no-commit     end an update once the new image runs\n"
-    "  --json          print of firmware, and of the progress of an update, a line of JSON each\n"
+    "  --json          print of firmware, of the progress of an update, and of lanes a line of JSON each\n"
     "  --log FILE      write each transaction to FILE\n"
     "Examples:\n"
     "  cmis-port /dev/i2c-7 image | cmisctl inventory\n"
@@ -94,6 +102,7 @@ struct command {
     bool stores, forces;                               /* it takes --activate, --ensure and --wake; it takes --force */
     bool resets, shows;                                /* it takes --reset and --no-commit; it takes --json */
     bool borrows;                                      /* it may have the bus of a port that cmisd keeps */
+    bool sets;                                         /* its words are followed by a setting and lanes */
 };
 
 static bool read_host(struct port *port, const char *name) { return read_weights(name, port->weights); }
@@ -123,13 +132,21 @@ static const struct command *read_words(int count, char **words, struct port *po
          .read = read_file,
          .resets = true,
          .shows = true,
-         .borrows = true}};
+         .borrows = true},
+        {.name = "lanes", .run = print_controls, .shows = true},
+        {.name = "tx", .run = change_lanes, .sets = true, .forces = true, .shows = true},
+        {.name = "rx", .run = change_lanes, .sets = true, .forces = true, .shows = true},
+        {.name = "tx-polarity", .run = change_lanes, .sets = true, .forces = true, .shows = true},
+        {.name = "rx-polarity", .run = change_lanes, .sets = true, .forces = true, .shows = true},
+        {.name = "tx-squelch", .run = change_lanes, .sets = true, .forces = true, .shows = true},
+        {.name = "rx-squelch", .run = change_lanes, .sets = true, .forces = true, .shows = true}};
     if (!read_flags(count, words, port) || port->help || optind + 1 >= count) return NULL;
     port->bus.name = words[optind];
     for (const struct command *each = commands; each < commands + sizeof commands / sizeof *commands; each++) {
-        int length = 2 + (each->second != NULL) + (each->read != NULL);
+        int length = 2 + (each->second != NULL) + (each->read != NULL) + 2 * each->sets;
         if (count - optind != length || strcmp(words[optind + 1], each->name) != 0) continue;
         if (each->second != NULL && strcmp(words[optind + 2], each->second) != 0) continue;
+        if (each->sets && !read_change(port, each->name, words[optind + 2], words[optind + 3])) return NULL;
         return is_stray(port, each) ? NULL : each;
     }
     return NULL;

@@ -106,7 +106,7 @@ unsigned lanes_in(const struct port *port, unsigned path_state) {
 }
 
 /* As much as the module asks for. */
-static struct dovecounter_patience patience_for(const struct port *port) {
+struct dovecounter_patience patience_for(const struct port *port) {
     struct dovecounter_patience patience = {.pause = 100, .limit = 10000};
     dovecounter_patience(port->halves, port->half_count, &patience);
     return patience;

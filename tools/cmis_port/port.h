@@ -15,6 +15,7 @@ struct port {
     uint32_t weights[256];
     struct dovecounter_path kept[9];
     size_t kept_count;
+    struct dovecounter_lane_change change;
     uint8_t *file; /* the firmware */
     size_t file_size;
 
@@ -61,6 +62,7 @@ bool read_module(struct port *port, bool of_any_family);
 const uint8_t *bytes_at(const struct port *port, uint8_t offset);
 unsigned state_of(const struct port *port);
 unsigned lanes_in(const struct port *port, unsigned path_state);
+struct dovecounter_patience patience_for(const struct port *port);
 unsigned carry_out(struct port *port, enum work work);
 
 /* flags.c */
@@ -82,6 +84,11 @@ enum status firmware(struct port *port);
 enum status firmware_commit(struct port *port);
 enum status firmware_abort(struct port *port);
 enum status firmware_update(struct port *port);
+
+/* controls.c */
+bool read_change(struct port *port, const char *name, const char *word, const char *lanes);
+enum status print_controls(struct port *port);
+enum status change_lanes(struct port *port);
 
 /* lanes.c */
 struct dovecounter_effect judge(const struct port *port);
