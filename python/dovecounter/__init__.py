@@ -19,6 +19,7 @@ from .firmware import (
     FirmwareUpdate,
 )
 from .image import LOWER, Image, Key, page
+from .lanes import LaneChange, LaneControl, LaneEnd, LaneFault, LaneOutcome
 from .names import Table, code_name, media_name
 from .observables import Amount, AmountLimits, Observable, PassedLimits, Side
 from .planning import (
@@ -115,7 +116,12 @@ __all__ = [
     "Judgement",
     "KeptPathNotActive",
     "Key",
+    "LaneChange",
+    "LaneControl",
     "LaneCurrents",
+    "LaneEnd",
+    "LaneFault",
+    "LaneOutcome",
     "LanePowers",
     "LaneValues",
     "LeftModuleReady",

@@ -261,6 +261,27 @@ class Banks(Structure):
     _fields_ = [("banks", Bank * 2), *_members(c_uint8, "running committed")]
 
 
+class LaneChange(Structure):
+    _fields_ = [
+        *_members(c_uint8, "control lanes on most_stores permitted"),
+        ("media_paths", Lanes),
+    ]
+
+
+class ChangingLanes(Structure):
+    _fields_ = [
+        *_members(c_uint32, "magic idle pause limit"),
+        *_members(c_uint16, "steps most_steps"),
+        ("change", LaneChange),
+        *_members(c_uint8, "stage end byte disturbed left refused due doubts"),
+        *_members(c_uint8, "selection page taken taken_page"),
+    ]
+
+
+class LaneEnd(Structure):
+    _fields_ = _members(c_uint8, "outcome byte lanes stores")
+
+
 class Times(Structure):
     _fields_ = _members(c_uint32, "settle period first most")
 
@@ -419,6 +440,10 @@ FUNCTIONS: Dict[str, Tuple[Any, Tuple[Any, ...]]] = {
     "update_end": (c_uint32, (POINTER(Update), *_BYTES, POINTER(UpdateEnding))),
     "update_progress": (c_uint32, (POINTER(Update), *_BYTES, POINTER(UpdateProgress))),
     "banks": (None, (*_BYTES, POINTER(Banks))),
+    "lane_begin": (c_uint32, (POINTER(LaneChange), POINTER(Patience), POINTER(ChangingLanes))),
+    "lane_next": (c_uint32, (POINTER(ChangingLanes), POINTER(Operation))),
+    "lane_reply": (c_uint32, (POINTER(ChangingLanes), c_uint8, *_BYTES)),
+    "lane_end": (c_uint32, (POINTER(ChangingLanes), POINTER(LaneEnd))),
     "port_new": (None, (POINTER(Times), POINTER(Port))),
     "port_plug": (c_uint32, (POINTER(Port), c_uint64)),
     "port_pull": (c_uint32, (POINTER(Port),)),
