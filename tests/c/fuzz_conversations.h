@@ -1,4 +1,4 @@
-/* Calls that go on with something: a simulated module, a conversation, an update, a port. */
+/* Calls that go on with something: a simulated module, a conversation, an update, a change of lanes, a port. */
 #ifndef FUZZ_CONVERSATIONS_H
 #define FUZZ_CONVERSATIONS_H
 
@@ -233,6 +233,64 @@ static void call_update(void) {
     struct dovecounter_command_block *block = painted(OUT, sizeof *block);
     dovecounter_command_block(filled(SMALL, 4), block);
     stop_if(block->instances > 3, "instances");
+}
+
+/* ---- single lanes ---- */
+
+static struct dovecounter_changing_lanes changing;
+
+static void begin_change(void) {
+    const struct dovecounter_lane_change *wants = filled(SMALL, sizeof *wants);
+#define LANE_BEGIN(it) dovecounter_lane_begin(wants, &patience, it)
+    ASK(struct dovecounter_changing_lanes, found, LIST(31), LANE_BEGIN);
+    stop_if((wants->control > DOVECOUNTER_AUTO_SQUELCH_DISABLE_RX) != (status == 31), "a control");
+    if (!status) changing = *found;
+}
+
+static uint32_t reply_to_change(uint8_t outcome, const uint8_t *bytes, size_t count) {
+    struct dovecounter_changing_lanes *it = copied(BYTES, &changing, sizeof changing);
+    uint32_t status = dovecounter_lane_reply(it, outcome, bytes, count);
+    judge(status, "lane_reply", LIST(31, 32, 34), it, 0);
+    stop_if(status && memcmp(it, &changing, sizeof *it), "a refused reply changes the change");
+    changing = *it;
+    return status;
+}
+
+static void end_change(void) {
+#define LANE_END(it) dovecounter_lane_end(&changing, it)
+    ASK(struct dovecounter_lane_end, found, LIST(31, 33), LANE_END);
+    if (status) return;
+    stop_if(found->outcome > DOVECOUNTER_LANES_GAVE_UP, "the end of a change");
+    stop_if(found->lanes != 0 && found->outcome != DOVECOUNTER_LANES_NOT_PERMITTED, "lanes of another end");
+}
+
+static void go_on_with_change(void) {
+    for (int steps = byte(); steps > 0; steps--) {
+#define LANE_NEXT(it) dovecounter_lane_next(&changing, it)
+        ASK(struct dovecounter_operation, next, LIST(31, 32), LANE_NEXT);
+        if (status) break;
+        stop_if_no_operation(next);
+        struct dovecounter_operation operation = *next;
+        uint8_t how = byte(), outcome = DOVECOUNTER_WAITED, *bytes = room(OUT, 0);
+        if (operation.kind != DOVECOUNTER_WAIT && how % 8 == 7)
+            outcome = DOVECOUNTER_REFUSED;
+        else if (operation.kind == DOVECOUNTER_STORE)
+            outcome = DOVECOUNTER_STORED;
+        else if (operation.kind == DOVECOUNTER_FETCH)
+            outcome = DOVECOUNTER_FETCHED, bytes = fetched_from(&operation, how);
+        if (outcome == DOVECOUNTER_STORED && operation.offset == SELECTION) memcpy(selected, operation.bytes, 2);
+        stop_if(reply_to_change(outcome, bytes, outcome == DOVECOUNTER_FETCHED ? operation.count : 0) != 0, "a reply");
+    }
+    end_change();
+}
+
+/* A reply of any kind, or a changed number. */
+static void call_change(void) {
+    uint8_t what = byte();
+    if (what & 1) change(&changing, sizeof changing);
+    size_t size = byte();
+    if (what & 4) reply_to_change(what >> 4, filled(OUT, size), size);
+    end_change();
 }
 
 /* ---- ports ---- */
