@@ -103,14 +103,14 @@ fn push_path(paths: &mut Vec<Path>, path: Path) -> Result<(), Fault> {
     Ok(())
 }
 
-/// A good certificate's plan, and whether that is the first of the best.
+/// A good certificate's plan, and whether that is the first of the best, if that is asked for.
 pub struct Good {
     pub kept: Vec<Choice>,
     pub plan: Vec<Choice>,
-    pub first: bool,
+    pub first: Option<bool>,
 }
 
-pub fn check(image: &Image, weights: &[u8], text: &[u8], paired: bool) -> Result<Good, Fault> {
+pub fn check(image: &Image, weights: &[u8], text: &[u8], paired: bool, tells_first: bool) -> Result<Good, Fault> {
     let advert = Advert::of(image, paired)?;
     let weights = Weights::read(weights)?;
     let certificate = Certificate::read(text)?;
@@ -132,13 +132,13 @@ pub fn check(image: &Image, weights: &[u8], text: &[u8], paired: bool) -> Result
     }
     let problem = Problem::new(&advert, &weights, kept);
     check_entries(&problem, &certificate)?;
-    let first = is_first(&problem, &plan);
+    let first = tells_first.then(|| is_first(&problem, &plan));
     Ok(Good { kept: problem.kept, plan, first })
 }
 
 /// Whether each decision from an entry leads to one whose potential is not too high.
 fn check_entries(problem: &Problem, certificate: &Certificate) -> Result<(), Fault> {
-    let mut potentials: Box<[[Option<u64>; 256]; 9]> = Box::new([[None; 256]; 9]);
+    let mut potentials = Box::new([[None; 256]; 9]);
     for ((boundary, used), potential) in &certificate.entries {
         potentials[usize::from(*boundary)][usize::from(*used)] = Some(*potential);
     }

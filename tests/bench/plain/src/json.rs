@@ -148,9 +148,8 @@ pub fn plan(kept: &[Choice], plan: &[Choice]) -> String {
     text(&Plan::of(kept, plan))
 }
 
-pub fn good(good: &Good, tells_first: bool) -> String {
-    let first = tells_first.then(|| good.first);
-    text(&Plan { good: Some(true), first, ..Plan::of(&good.kept, &good.plan) })
+pub fn good(good: &Good) -> String {
+    text(&Plan { good: Some(true), first: good.first, ..Plan::of(&good.kept, &good.plan) })
 }
 
 #[derive(Serialize)]

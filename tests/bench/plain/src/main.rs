@@ -132,8 +132,8 @@ fn answer(command: &str, flags: &Flags, input: &[u8]) -> Result<Answer, Fault> {
         }
         "check" => {
             let [image, weights, text] = parts(input)?;
-            let good = certificate::check(&Image::read(image)?, weights, text, flags.paired)?;
-            Ok(if flags.json { json::good(&good, flags.first) } else { good_text(&good, flags.first) }.into())
+            let good = certificate::check(&Image::read(image)?, weights, text, flags.paired, flags.first)?;
+            Ok(if flags.json { json::good(&good) } else { good_text(&good) }.into())
         }
         "provision" | "trace" if flags.keep => {
             let [image, weights, kept, script] = parts(input)?;
@@ -186,14 +186,14 @@ fn planned(command: &str, flags: &Flags, image: &[u8], weights: &[u8], kept: &[u
     Ok(if flags.json { json::plan(&problem.kept, &plan) } else { certificate::write(&advert, &problem, &gains, &plan) }.into())
 }
 
-fn good_text(good: &certificate::Good, tells_first: bool) -> String {
+fn good_text(good: &certificate::Good) -> String {
     let mut out = String::from("good\n");
     if !good.kept.is_empty() {
         writeln!(out, "kept {}", good.kept.len()).unwrap();
     }
     plan::plan_text(&mut out, &good.plan);
-    if tells_first {
-        out.push_str(if good.first { "first yes\n" } else { "first no\n" });
+    if let Some(first) = good.first {
+        out.push_str(if first { "first yes\n" } else { "first no\n" });
     }
     out
 }

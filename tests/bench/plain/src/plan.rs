@@ -158,49 +158,61 @@ impl Problem {
     }
 }
 
+/// A set of bytes.
+#[derive(Clone, Copy)]
+struct Bytes([u64; 4]);
+
+impl Bytes {
+    fn insert(&mut self, byte: u8) {
+        self.0[usize::from(byte / 64)] |= 1 << (byte % 64);
+    }
+
+    fn iter(self) -> impl Iterator<Item = u8> {
+        (0..4u8).flat_map(move |index| {
+            let mut left = self.0[usize::from(index)];
+            std::iter::from_fn(move || {
+                let bit = left.trailing_zeros();
+                left &= left.wrapping_sub(1);
+                (bit < 64).then(|| 64 * index + bit as u8)
+            })
+        })
+    }
+}
+
 /// The greatest weight that can be gained from each state that decisions reach.
-pub struct Gains(Box<[[Option<u64>; 256]; 9]>);
+pub struct Gains {
+    /// By boundary, the sets of used lanes.
+    reached: [Bytes; 9],
+    gain: Box<[[u64; 256]; 9]>,
+}
 
 impl Gains {
     pub fn of(problem: &Problem) -> Gains {
-        let mut gains = Gains(Box::new([[None; 256]; 9]));
-        gains.find(problem, (0, 0));
+        let mut gains = Gains { reached: reached(problem), gain: Box::new([[0; 256]; 9]) };
+        for boundary in (0..8).rev() {
+            for used in gains.reached[usize::from(boundary)].iter() {
+                gains.gain[usize::from(boundary)][usize::from(used)] = gains.best(problem, (boundary, used));
+            }
+        }
         gains
     }
 
-    fn known(&self, (boundary, used): State) -> Option<u64> {
-        self.0[usize::from(boundary)][usize::from(used)]
-    }
-
-    /// The gain from a state, which is found once.
-    fn find(&mut self, problem: &Problem, state: State) -> u64 {
-        if let Some(gain) = self.known(state) {
-            return gain;
-        }
-        let (boundary, used) = state;
-        let mut best = 0;
-        if boundary < 8 {
-            if problem.may_stay_free(boundary) {
-                best = self.find(problem, (boundary + 1, used));
-            }
-            for choice in problem.paths_from(state) {
-                best = best.max(choice.weight + self.find(problem, Problem::after(state, choice)));
-            }
-        }
-        self.0[usize::from(boundary)][usize::from(used)] = Some(best);
-        best
+    fn best(&self, problem: &Problem, state: State) -> u64 {
+        let free = if problem.may_stay_free(state.0) { self.at((state.0 + 1, state.1)) } else { 0 };
+        let paths = problem.paths_from(state);
+        paths.fold(free, |best, choice| best.max(choice.weight + self.at(Problem::after(state, choice))))
     }
 
     /// The gain from a state that is reached.
-    pub fn at(&self, state: State) -> u64 {
-        self.known(state).expect("a state that decisions reach")
+    pub fn at(&self, (boundary, used): State) -> u64 {
+        self.gain[usize::from(boundary)][usize::from(used)]
     }
 
     /// Each state that is reached, by boundary and then used lanes, with its gain.
     pub fn states(&self) -> impl Iterator<Item = (State, u64)> + '_ {
         (0..=8u8)
-            .flat_map(|boundary| (0..=255u8).map(move |used| (boundary, used)))
-            .filter_map(|state| self.known(state).map(|gain| (state, gain)))
+            .flat_map(|boundary| self.reached[usize::from(boundary)].iter().map(move |used| (boundary, used)))
+            .map(|state| (state, self.at(state)))
     }
 
     /// The first best plan without paths of weight 0 that aren't kept.
@@ -223,6 +235,24 @@ impl Gains {
         }
         plan
     }
+}
+
+/// The states that decisions reach from the start.
+fn reached(problem: &Problem) -> [Bytes; 9] {
+    let mut reached = [Bytes([0; 4]); 9];
+    reached[0].insert(0);
+    for boundary in 0..8 {
+        for used in reached[usize::from(boundary)].iter() {
+            if problem.may_stay_free(boundary) {
+                reached[usize::from(boundary) + 1].insert(used);
+            }
+            for choice in problem.paths_from((boundary, used)) {
+                let (end, used) = Problem::after((boundary, used), choice);
+                reached[usize::from(end)].insert(used);
+            }
+        }
+    }
+    reached
 }
 
 pub fn weight_of(plan: &[Choice]) -> u64 {
